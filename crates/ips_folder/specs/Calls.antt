@@ -1,0 +1,44 @@
+-- What the calls on a folder say, and runs of them.
+use Rattle.std.specs.Prelude.{◌≡◌, ◌⊎◌, ℕ, ◌≤◌, Bool, ◌||◌, IsTrue, List, Option, None, Result, IsErr, OnOk}
+use Rattle.ips_outside.specs.Image.{Entry, Image, is_file, is_dir, has_parent}
+use Rattle.ips_outside.specs.State.{State, MayChange, Within, settled}
+use Rattle.ips_outside.specs.Outside.{Outside, IsCall}
+
+-- A call that writes: at `Ok` the folder has this state. Whatever it answers, nothing, or these paths and modes alone
+-- are changed and touched.
+pub record Writes {F T E : Type 0} (o : Outside F) (free loose : List ℕ → Bool) (to : State) (old new : F) (result : Result T E) : Type 0 where
+  pub call : IsCall o old new (IsErr result)
+  pub done : IsTrue (o.tells old) → OnOk result (o.state new ≡ to)
+  pub only : IsTrue (o.tells old) → MayChange free loose (o.state old) (o.state new)
+
+-- A sync: at `Ok` nothing is touched any more, and the image is as before whatever it answers.
+pub record Syncs {F T E : Type 0} (o : Outside F) (old new : F) (result : Result T E) : Type 0 where
+  pub call : IsCall o old new (IsErr result)
+  pub done : IsTrue (o.tells old) → OnOk result (o.state new ≡ settled (o.state old))
+  pub only : IsTrue (o.tells old) → (o.state new ≡ o.state old) ⊎ (o.state new ≡ settled (o.state old))
+
+-- Nothing stands at the path, and its parent is a directory.
+pub record CanMake (t : Image) (p : List ℕ) : Type 0 where
+  pub absent : t.look p ≡ None
+  pub parent : IsTrue (has_parent t p)
+
+-- A file with one name.
+pub record IsSole (t : Image) (p : List ℕ) : Type 0 where
+  pub file : IsTrue (is_file (t.look p))
+  pub sole : (q : List ℕ) → IsTrue (t.same p q) → q ≡ p
+
+-- What stands there has a mode.
+abbrev pub has_mode : Option Entry → Bool
+has_mode e = is_dir e || is_file e
+
+-- Each state since a run of calls began has P.
+pub record Throughout {F : Type 0} (o : Outside F) (old new : F) (P : State → Type 0) : Type 0 where
+  pub later : o.clock old ≤ o.clock new
+  pub each : (s : State) → o.states new (o.clock old) s → P s
+  -- for a run that began earlier
+  pub before : (t : ℕ) (s : State) → t ≤ o.clock old → o.states new t s → o.states old t s ⊎ P s
+
+-- A run of calls: at every moment since it began, and now, these paths and modes alone are changed and touched.
+pub record Keeps {F : Type 0} (o : Outside F) (free loose : List ℕ → Bool) (old new : F) : Type 0 where
+  pub moments : Throughout o old new (Within free loose (o.state old))
+  pub now : Within free loose (o.state old) (o.state new)

@@ -1,0 +1,7 @@
+//! Folders: what the program asks of the place where it keeps an image, and a folder in memory that tells what a
+//! crash may leave.
+#![tactic(auto)]
+
+mod folder;
+
+pub use folder::Folder;

@@ -1,0 +1,160 @@
+-- A change leaves a well-formed image well formed.
+use Rattle.std.proofs.Common.{◌≡◌, ℕ, Bool, true, false, cond, not, ◌&&◌, ◌||◌, List, Option, Some, None, is_none, refl, sym, ◌∙◌, ap}
+use Rattle.std.proofs.lemmas.Bool.{false_from_ne_true}
+use Rattle.ips_text.specs.Ancestry.{same_path, covers, is_below}
+use Rattle.ips_outside.specs.Image.{Entry, Dir, File, Link, Other, Image, IsImage, is_dir, is_file, with_mode, has_parent, dir_or_none}
+use Rattle.ips_outside.specs.Change.{placed, joined, moded, names}
+use Rattle.ips_text.proofs.Ancestry.{same_path-true, uncovered, covers_trans, above, at_parent_of, same_covers}
+use Rattle.ips_outside.proofs.Agree.{is_dir-mode, is_file-mode}
+use Rattle.ips_outside.proofs.Images.{placed_nodes, joined_nodes, moded_nodes, Twins, names_twins}
+
+dir_not_none : (e f : Option Entry) → is_dir e ≡ true → (is_none e || is_dir f) ≡ true → is_dir f ≡ true
+dir_not_none (Some e) f d h = h
+dir_not_none None f d h = cc
+
+-- what is strictly above a path with a parent is a directory
+pub dirs_above : (a p : List ℕ) (t : Image) → IsImage t → has_parent t p ≡ true → covers a p ≡ true → same_path a p ≡ false → is_dir (t.look a) ≡ true
+dirs_above a p t formed has c s =
+    let up = at_parent_of a p c s in
+    let dir : is_dir (t.look up.dir) ≡ true = ap (dir_or_none t) (sym up.is) ∙ has in
+    go up.dir up.up dir (same_path a up.dir) refl
+  where
+    go : (r : List ℕ) → covers a r ≡ true → is_dir (t.look r) ≡ true → (s : Bool) → same_path a r ≡ s → is_dir (t.look a) ≡ true
+    go r up dir true same = ap (λ (x : List ℕ). is_dir (t.look x)) (same_path-true a r same) ∙ dir
+    go r up dir false same = dir_not_none (t.look r) (t.look a) dir (formed.below_dirs a r up same)
+
+-- below directories, after an entry is put at a path
+put_below : (p : List ℕ) (e : Option Entry) (t : Image) → IsImage t → (is_none e ≡ false → has_parent t p ≡ true) → (a q : List ℕ) → covers a q ≡ true → same_path a q ≡ false
+    → (is_none (cond (same_path p q) e (cond (covers p q) None (t.look q))) || is_dir (cond (same_path p a) e (cond (covers p a) None (t.look a)))) ≡ true
+put_below p e t formed has a q c s = go (same_path p q) refl (covers p q) refl
+  where
+    at_path : (x : Option Entry) → (is_none x ≡ false → is_dir (t.look a) ≡ true) → (is_none x || is_dir (t.look a)) ≡ true
+    at_path (Some x) h = h refl
+    at_path None h = refl
+
+    go : (s' : Bool) → same_path p q ≡ s' → (c' : Bool) → covers p q ≡ c' → (is_none (cond s' e (cond c' None (t.look q))) || is_dir (cond (same_path p a) e (cond (covers p a) None (t.look a)))) ≡ true
+    go true is c' cov =
+        let same : p ≡ q = same_path-true p q is in
+        let up : covers a p ≡ true = ap (covers a) same ∙ c in
+        let apart : same_path a p ≡ false = ap (same_path a) same ∙ s in
+        let off = above a p up apart in
+        rw (uncovered p a off, off) (at_path e (λ some. dirs_above a p t formed (has some) up apart))
+    go false is true cov = refl
+    go false is false cov =
+        let off : covers p a ≡ false = false_from_ne_true _ (λ ca. let all = covers_trans p a q ca c in absurd (cc)) in
+        rw (uncovered p a off, off) (formed.below_dirs a q c s)
+
+module _ (p : List ℕ) (e : Option Entry) (t : Image) (formed : IsImage t) where
+  placed_files : (ca sa cb sb : Bool) (a b : List ℕ) → (sa ≡ true → ca ≡ true) → (sb ≡ true → cb ≡ true) → cond (ca || cb) (sa && (sb && is_file e)) (t.same a b) ≡ true
+      → (is_file (cond sa e (cond ca None (t.look a))) ≡ true) × (cond sa e (cond ca None (t.look a)) ≡ cond sb e (cond cb None (t.look b)))
+  placed_files true true cb true a b ha hb h = (h, refl)
+  placed_files true true cb false a b ha hb h = cc
+  placed_files true false cb sb a b ha hb h = cc
+  placed_files false true cb sb a b ha hb h = absurd (let bad = ha refl in cc)
+  placed_files false false true sb a b ha hb h = cc
+  placed_files false false false true a b ha hb h = absurd (let bad = hb refl in cc)
+  placed_files false false false false a b ha hb h = formed.files a b h
+
+  placed_sym : (ca sa cb sb x y : Bool) → x ≡ y → cond (ca || cb) (sa && (sb && is_file e)) x ≡ cond (cb || ca) (sb && (sa && is_file e)) y
+  placed_sym true true true true x y h = refl
+  placed_sym true true true false x y h = refl
+  placed_sym true true false true x y h = refl
+  placed_sym true true false false x y h = refl
+  placed_sym true false true true x y h = refl
+  placed_sym true false true false x y h = refl
+  placed_sym true false false true x y h = refl
+  placed_sym true false false false x y h = refl
+  placed_sym false true true true x y h = refl
+  placed_sym false true true false x y h = refl
+  placed_sym false false true true x y h = refl
+  placed_sym false false true false x y h = refl
+  placed_sym false sa false sb x y h = h
+
+  placed_trans : (ca sa cb sb cz sz : Bool) (ab az bz : Bool) → (sa ≡ true → ca ≡ true) → (sb ≡ true → cb ≡ true) → (ab ≡ true → az ≡ bz) → cond (ca || cb) (sa && (sb && is_file e)) ab ≡ true
+      → cond (ca || cz) (sa && (sz && is_file e)) az ≡ cond (cb || cz) (sb && (sz && is_file e)) bz
+  placed_trans true true true true cz sz ab az bz ha hb f h = refl
+  placed_trans true true false true cz sz ab az bz ha hb f h = absurd (let bad = hb refl in cc)
+  placed_trans true true cb false cz sz ab az bz ha hb f h = cc
+  placed_trans true false cb sb cz sz ab az bz ha hb f h = cc
+  placed_trans false true cb sb cz sz ab az bz ha hb f h = absurd (let bad = ha refl in cc)
+  placed_trans false false true sb cz sz ab az bz ha hb f h = cc
+  placed_trans false false false true cz sz ab az bz ha hb f h = absurd (let bad = hb refl in cc)
+  placed_trans false false false false true sz ab az bz ha hb f h = refl
+  placed_trans false false false false false sz ab az bz ha hb f h = f h
+
+  pub placed_formed : (is_none e ≡ false → has_parent t p ≡ true) → IsImage (placed p e t)
+  placed_formed has = record {
+    below_dirs = put_below p e t formed has;
+    files = λ a b h. placed_files (covers p a) (same_path p a) (covers p b) (same_path p b) a b (same_covers p a) (same_covers p b) h;
+    self = (placed_nodes p e t (record { self = formed.self })).self;
+    sym = λ a b. placed_sym (covers p a) (same_path p a) (covers p b) (same_path p b) (t.same a b) (t.same b a) (formed.sym a b);
+    trans = λ a b z h. placed_trans (covers p a) (same_path p a) (covers p b) (same_path p b) (covers p z) (same_path p z) (t.same a b) (t.same a z) (t.same b z) (same_covers p a) (same_covers p b) (formed.trans a b z) h;
+  }
+
+module _ (p to : List ℕ) (t : Image) (formed : IsImage t) where
+  joined_look : (s c : Bool) (a : List ℕ) → (c && not s) ≡ false → cond s (t.look to) (cond c None (t.look a)) ≡ t.look (cond s to a)
+  joined_look true c a h = refl
+  joined_look false true a h = cc
+  joined_look false false a h = refl
+
+  joined_files : (a b : List ℕ) (ba bb : Bool) → is_below p a ≡ ba → is_below p b ≡ bb → cond (ba || bb) false (t.same (cond (same_path p a) to a) (cond (same_path p b) to b)) ≡ true
+      → (is_file ((joined p to t).look a) ≡ true) × ((joined p to t).look a ≡ (joined p to t).look b)
+  joined_files a b true bb ea eb h = cc
+  joined_files a b false true ea eb h = cc
+  joined_files a b false false ea eb h =
+      let la = joined_look (same_path p a) (covers p a) a ea in
+      let lb = joined_look (same_path p b) (covers p b) b eb in
+      let both = formed.files (cond (same_path p a) to a) (cond (same_path p b) to b) h in
+      (ap is_file la ∙ both.0, la ∙ both.1 ∙ sym lb)
+
+  joined_sym : (ba bb x y : Bool) → x ≡ y → cond (ba || bb) false x ≡ cond (bb || ba) false y
+  joined_sym true true x y h = refl
+  joined_sym true false x y h = refl
+  joined_sym false true x y h = refl
+  joined_sym false false x y h = h
+
+  joined_trans : (ba bb bz ab az bz' : Bool) → (ab ≡ true → az ≡ bz') → cond (ba || bb) false ab ≡ true → cond (ba || bz) false az ≡ cond (bb || bz) false bz'
+  joined_trans true bb bz ab az bz' f h = cc
+  joined_trans false true bz ab az bz' f h = cc
+  joined_trans false false true ab az bz' f h = refl
+  joined_trans false false false ab az bz' f h = f h
+
+  pub joined_formed : has_parent t p ≡ true → IsImage (joined p to t)
+  joined_formed has = record {
+    below_dirs = put_below p (t.look to) t formed (λ _. has);
+    files = λ a b h. joined_files a b (is_below p a) (is_below p b) refl refl h;
+    self = (joined_nodes p to t (record { self = formed.self })).self;
+    sym = λ a b. joined_sym (is_below p a) (is_below p b) _ _ (formed.sym _ _);
+    trans = λ a b z h. joined_trans (is_below p a) (is_below p b) (is_below p z) _ _ _ (formed.trans _ _ _) h;
+  }
+
+module _ (m : ℕ) (p : List ℕ) (t : Image) (formed : IsImage t) where
+  none_mode : (n : Bool) (x : Option Entry) → is_none (cond n (with_mode m x) x) ≡ is_none x
+  none_mode false x = refl
+  none_mode true (Some (Dir o f)) = refl
+  none_mode true (Some (File o b)) = refl
+  none_mode true (Some (Link g)) = refl
+  none_mode true (Some Other) = refl
+  none_mode true None = refl
+
+  dir_mode : (n : Bool) (x : Option Entry) → is_dir (cond n (with_mode m x) x) ≡ is_dir x
+  dir_mode false x = refl
+  dir_mode true x = is_dir-mode m x
+
+  file_mode : (n : Bool) (x : Option Entry) → is_file (cond n (with_mode m x) x) ≡ is_file x
+  file_mode false x = refl
+  file_mode true x = is_file-mode m x
+
+  twins : (a b : List ℕ) → t.same a b ≡ true → Twins t a b
+  twins a b h = record { alike = λ x. formed.sym x a ∙ formed.trans a b x h ∙ formed.sym b x; there = h; back = formed.sym b a ∙ h }
+
+  pub moded_formed : IsImage (moded m p t)
+  moded_formed = record {
+    below_dirs = λ a q c s. ap (λ (x : Bool). x || is_dir ((moded m p t).look a)) (none_mode (names t p q) (t.look q)) ∙ ap (λ (x : Bool). is_none (t.look q) || x) (dir_mode (names t p a) (t.look a)) ∙ formed.below_dirs a q c s;
+    files = λ a b h.
+        let both = formed.files a b h in
+        (file_mode (names t p a) (t.look a) ∙ both.0, ap (λ (x : Option Entry). cond (names t p a) (with_mode m x) x) both.1 ∙ ap (λ (n : Bool). cond n (with_mode m (t.look b)) (t.look b)) (names_twins p t a b (twins a b h)));
+    self = (moded_nodes m p t (record { self = formed.self })).self;
+    sym = formed.sym;
+    trans = formed.trans;
+  }

@@ -1,0 +1,7 @@
+pub mod Faults
+pub mod Looks
+pub mod Agree
+pub mod Images
+pub mod Formed
+pub mod Placed
+pub mod Moments

@@ -1,0 +1,40 @@
+-- What one change makes of an image.
+use Rattle.std.specs.Prelude.{ℕ, Bool, false, cond, ◌&&◌, ◌||◌, List, ◌++◌, Option, Some, None}
+use Rattle.ips_text.specs.Ancestry.{same_path, covers, is_below}
+use Rattle.ips_outside.specs.Image.{Entry, Dir, File, Link, Other, Image, is_file, with_mode}
+
+-- This entry in place of what stands at and below the path; a file has a node of its own.
+abbrev pub placed : List ℕ → Option Entry → Image → Image
+placed p e t = record {
+  look = λ q. cond (same_path p q) e (cond (covers p q) None (t.look q));
+  same = λ a b. cond (covers p a || covers p b) (same_path p a && (same_path p b && is_file e)) (t.same a b);
+}
+
+-- The file of the second path, also under the first, in place of what stands at and below that.
+abbrev pub joined : List ℕ → List ℕ → Image → Image
+joined p to t = record {
+  look = λ q. cond (same_path p q) (t.look to) (cond (covers p q) None (t.look q));
+  same = λ a b. cond (is_below p a || is_below p b) false (t.same (cond (same_path p a) to a) (cond (same_path p b) to b));
+}
+
+-- the path, or another name of its file
+abbrev pub names : Image → List ℕ → List ℕ → Bool
+names t p q = same_path p q || t.same p q
+
+-- Another mode of what stands at the path, which all names of a file have.
+abbrev pub moded : ℕ → List ℕ → Image → Image
+moded m p t = record {
+  look = λ q. cond (names t p q) (with_mode m (t.look q)) (t.look q);
+  same = t.same;
+}
+
+abbrev pub more_bytes : List ℕ → Option Entry → Option Entry
+more_bytes more (Some (Dir m f)) = Some (Dir m f)
+more_bytes more (Some (File m b)) = Some (File m (b ++ more))
+more_bytes more (Some (Link g)) = Some (Link g)
+more_bytes more (Some Other) = Some Other
+more_bytes more None = None
+
+-- The file at the path, which has no other name, with these bytes at its end.
+abbrev pub appended : List ℕ → List ℕ → Image → Image
+appended p more t = record { look = λ q. cond (same_path p q) (more_bytes more (t.look q)) (t.look q); same = t.same }

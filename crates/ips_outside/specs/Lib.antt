@@ -1,0 +1,5 @@
+pub mod Image
+pub mod Change
+pub mod State
+pub mod Outside
+pub mod Taking

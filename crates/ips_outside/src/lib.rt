@@ -1,0 +1,7 @@
+//! The outside, as the program meets it: sources of files and sinks of bytes, each with a count of faults that never
+//! falls and rises wherever a call fails, and their forms in memory.
+#![tactic(auto)]
+
+mod outside;
+
+pub use outside::{Failed, Look, Sink, Source};
