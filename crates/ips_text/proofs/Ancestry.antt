@@ -1,6 +1,8 @@
 -- Paths at, above and below one another.
-use Rattle.std.proofs.Common.{◌≡◌, ℕ, suc, Bool, true, false, cond, ◌<◌, ◌≤◌, ◌==◌, List, [], ◌∷◌, length, Option, Some, None, refl, sym, ◌∙◌, ap, subst, arith}
-use Rattle.std.proofs.lemmas.Bool.{and_parts, and_from, eqb-true, eq-eqb, false_from_ne_true}
+use Rattle.std.proofs.Common.{◌≡◌, ℕ, suc, Bool, true, false, cond, ◌+◌, ◌-◌, ◌<◌, ◌≤◌, ◌==◌, List, [], ◌∷◌, ◌++◌, length, take, get_or, Option, Some, None, refl, sym, ◌∙◌, ap, subst, arith}
+use Rattle.std.proofs.lemmas.Bool.{and_parts, and_from, eqb-true, eq-eqb, ne_eqb, false_from_ne_true}
+use Rattle.std.proofs.Math.Seq.{take-length}
+use Rattle.std.proofs.lemmas.List.{take_more}
 use Rattle.ips_text.specs.Ancestry.{same_path, covers, parent, behind}
 
 pub same_path-true : (p q : List ℕ) → same_path p q ≡ true → p ≡ q
@@ -90,3 +92,26 @@ at_parent_of (x ∷ a) (y ∷ p) c s =
 -- a path covers itself, under whatever name
 pub same_covers : (p q : List ℕ) → same_path p q ≡ true → covers p q ≡ true
 same_covers p q s = ap (covers p) (sym (same_path-true p q s)) ∙ covers-self p
+
+-- ---- the parent, found from the end
+
+pub parent_cut : (p : List ℕ) → parent (p ++ 47 ∷ []) ≡ Some p
+parent_cut [] = refl
+parent_cut (a ∷ p) = ap (behind a) (parent_cut p)
+
+pub parent_on : (p : List ℕ) (c : ℕ) → (c == 47) ≡ false → parent (p ++ c ∷ []) ≡ parent p
+parent_on [] c e = rw e refl
+parent_on (a ∷ p) c e = ap (behind a) (parent_on p c e)
+
+-- a list is all but its last element, and that
+last_apart : (p : List ℕ) → 0 < length p → p ≡ take (length p - 1) p ++ get_or p (length p - 1) 0 ∷ []
+last_apart p some =
+    let before : length p - 1 < length p = omega arith in
+    let all : length p - 1 + 1 ≡ length p = omega arith in
+    sym (take-length p) ∙ ap (λ (n : ℕ). take n p) (sym all) ∙ take_more p (length p - 1) 0 before
+
+pub parent_here : (p : List ℕ) → 0 < length p → get_or p (length p - 1) 0 ≡ 47 → parent p ≡ Some (take (length p - 1) p)
+parent_here p some e = ap parent (last_apart p some) ∙ ap (λ (b : ℕ). parent (take (length p - 1) p ++ b ∷ [])) e ∙ parent_cut (take (length p - 1) p)
+
+pub parent_before : (p : List ℕ) → 0 < length p → (get_or p (length p - 1) 0 ≡ 47 → ⊥) → parent (take (length p - 1) p) ≡ parent p
+parent_before p some ne = sym (ap parent (last_apart p some) ∙ parent_on (take (length p - 1) p) (get_or p (length p - 1) 0) (ne_eqb (get_or p (length p - 1) 0) 47 ne))
