@@ -1,0 +1,13 @@
+-- An item of the program, as the definitions see it.
+use Rattle.std.specs.Prelude.{Option, Some, None}
+use Rattle.ips_manifest.specs.declared.item.Item.{Item}
+use Rattle.ips_manifest.specs.declared.item.Item.TheVariants as value
+use Rattle.ips_manifest.specs.Line as line
+
+abbrev pub seen : Item → line.Item
+seen (value.Directory mode path) = line.Directory mode path.bytes
+seen (value.File payload mode path) = line.File payload mode path.bytes
+
+abbrev pub seen_option : Option Item → Option line.Item
+seen_option (Some item) = Some (seen item)
+seen_option None = None
