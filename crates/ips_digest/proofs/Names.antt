@@ -1,5 +1,5 @@
 -- Lower-case hex digits and the bytes that they spell.
-use Rattle.std.proofs.Common.{◌≡◌, ℕ, zero, suc, ◌+◌, ◌*◌, ◌/◌, ◌%◌, ◌^◌, ◌<◌, ◌==◌, Bool, true, ◌||◌, not, ◌⊎◌, inl, inr, List, [], ◌∷◌, length, slice_index, Option, Some, None, Ok, unwrap_or, is_some, refl, sym, ap, ◌∙◌, arith}
+use Rattle.std.proofs.Common.{◌≡◌, ℕ, zero, suc, ◌+◌, ◌*◌, ◌/◌, ◌%◌, ◌<◌, ◌==◌, Bool, true, ◌||◌, not, inl, inr, List, [], ◌∷◌, length, slice_index, Option, Some, None, Ok, unwrap_or, refl, sym, ap, ◌∙◌, arith}
 use Rattle.std.specs.Prelude.{◌↔◌, IfSome, IsSome}
 use Rattle.std.specs.Result.{result_ok}
 use Rattle.std.specs.List.{AllPass}
@@ -7,7 +7,7 @@ use Rattle.std.proofs.lemmas.Bool.{agree_below_at, eqb-true}
 use Rattle.std.proofs.lemmas.List.Elements.{All-cons, All-head, All-nil, All-tail}
 use Rattle.hex.specs.Hex.{IsBytes, decode_of, decode_sized, encode_lower, encode_with, hex_digit_value, lower_digits}
 use Rattle.hex.proofs.HexLemmas.{decode_of-encode_lower, decode_of-same, decode_sized-encode_lower, decode_sized-ok, length-encode_with}
-use Rattle.ips_digest.specs.Name.{AreNameDigits, IsName, is_lower_digit, spelling}
+use Rattle.ips_digest.specs.Name.{AreNameDigits, IsName, IsReading, is_lower_digit, spelling}
 use Rattle.ips_digest.specs.declared.name.PayloadName.{PayloadName}
 use Rattle.ips_digest.specs.declared.name.PayloadName.TheVariants.{Sha1, Sha256}
 
@@ -112,7 +112,7 @@ spelled_once (Sha256 x) (Sha1 y) ha hb e =
     absurd (omega (arith, ap length e, encode_lower-length x, encode_lower-length y))
 
 -- a name is spelled in the digits of a name
-pub spelled_digits : (name : PayloadName) → IsName name → AreNameDigits (spelling name)
+spelled_digits : (name : PayloadName) → IsName name → AreNameDigits (spelling name)
 unfolding spelling
 spelled_digits (Sha1 bytes) h = record {
   count = inl (omega (arith, encode_lower-length bytes));
@@ -123,11 +123,9 @@ spelled_digits (Sha256 bytes) h = record {
   digits = encode_lower-digits bytes h.1;
 }
 
--- what reads a text as a name that it spells, and reads each spelling, reads it as that name
-pub read_only : (text : List ℕ) (read : Option PayloadName) → (AreNameDigits text → IsSome read)
-    → IfSome read (λ name. IsName name × (text ≡ spelling name))
+-- the digits that spell a name read as that name
+pub read_only : (text : List ℕ) (read : Option PayloadName) → IsReading text read
     → (name : PayloadName) → IsName name → text ≡ spelling name → read ≡ Some name
-read_only text (Some other) some found name h e =
+read_only text (Some other) found name h e =
     ap (λ (n : PayloadName). Some n) (spelled_once other name found.0 h (sym found.1 ∙ e))
-read_only text None some found name h e =
-    absurd (cc (some (rw e (spelled_digits name h))))
+read_only text None none name h e = absurd (none (rw e (spelled_digits name h)))

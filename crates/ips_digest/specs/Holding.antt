@@ -1,4 +1,4 @@
--- What the state of a hasher holds.
+-- The states of the hash functions, by what they hold.
 use Rattle.std.specs.Prelude.{ℕ, List}
 use Rattle.sha1.specs.Sha1.{Holds}
 use Rattle.sha2.specs.Hashers.{Holds256}
@@ -11,7 +11,7 @@ abbrev pub algorithm_in : State → Algorithm
 algorithm_in (Sha1 hasher) = SHA1
 algorithm_in (Sha256 hasher) = SHA256
 
--- the state holds these bytes
+-- the state is that of its hash function after these bytes
 abbrev pub HoldsIn : State → List ℕ → Type 0
 HoldsIn (Sha1 hasher) bytes = Holds hasher bytes
 HoldsIn (Sha256 hasher) bytes = Holds256 hasher bytes

@@ -1,5 +1,5 @@
 -- Payload names, and how they are spelled.
-use Rattle.std.specs.Prelude.{◌≡◌, ℕ, ◌⊎◌, Bool, ◌&&◌, ◌||◌, nat_le, List, length}
+use Rattle.std.specs.Prelude.{◌≡◌, ℕ, ◌⊎◌, Bool, ◌&&◌, ◌||◌, nat_le, List, length, Option, Some, None}
 use Rattle.std.specs.List.{AllPass}
 use Rattle.hex.specs.Hex.{IsBytes, encode_lower}
 use Rattle.ips_digest.specs.declared.name.PayloadName.{PayloadName}
@@ -28,3 +28,8 @@ is_lower_digit c = (nat_le 48 c && nat_le c 57) || (nat_le 97 c && nat_le c 102)
 pub record AreNameDigits (text : List ℕ) : Type 0 where
   pub count : (length text ≡ 40) ⊎ (length text ≡ 64)
   pub digits : AllPass is_lower_digit text
+
+-- what a text reads as: the name that it spells, or none where it isn't the digits of a name
+abbrev pub IsReading : List ℕ → Option PayloadName → Type 0
+IsReading text (Some name) = IsName name × (text ≡ spelling name)
+IsReading text None = AreNameDigits text → ⊥

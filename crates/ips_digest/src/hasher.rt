@@ -2,6 +2,7 @@
 
 ghost use Rattle.std.specs.Prelude.{◌≡◌, [], ◌++◌};
 ghost use Rattle.ips_digest.specs.Digest.{algorithm_of, digest_of};
+ghost use Rattle.ips_digest.specs.Name.{IsName};
 
 use crate::name::PayloadName;
 use crate::taken::Taken;
@@ -15,7 +16,8 @@ enum State {
     Sha256(Sha256),
 }
 
-/// Computes the digest of bytes that come in pieces, of whatever lengths.
+/// Computes the digest of bytes that come in pieces, however they are cut. It is seen as its hash function and all
+/// bytes so far.
 #[derive(Drop)]
 pub struct Hasher {
     state: State,
@@ -62,7 +64,8 @@ impl Hasher {
 
     /// The digest of all bytes that were taken.
     pub fn finish(self) -> PayloadName
-        ensures { result ≡ digest_of self.algorithm self.bytes }
+        ensures digest { result ≡ digest_of self.algorithm self.bytes }
+        ensures name { IsName result }
     {
         match self.state {
             State::Sha1(hasher) => PayloadName::Sha1(hasher.finalize()),

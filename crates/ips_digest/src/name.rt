@@ -1,9 +1,9 @@
 //! Names of payloads.
 
-ghost use Rattle.std.specs.Prelude.{◌≡◌, ◌*◌, ◌↔◌, IfSome, IsSome, IsTrue, Some, drop, length, take};
+ghost use Rattle.std.specs.Prelude.{◌≡◌, ◌*◌, ◌↔◌, IfSome, IsSome, IsTrue, Option, Some, drop, length, take};
 ghost use Rattle.std.specs.List.{AllPass};
 ghost use Rattle.hex.specs.Hex.{IsBytes, encode_lower};
-ghost use Rattle.ips_digest.specs.Name.{AreNameDigits, IsName, digit_count, is_lower_digit, spelling};
+ghost use Rattle.ips_digest.specs.Name.{AreNameDigits, IsName, IsReading, digit_count, is_lower_digit, spelling};
 ghost use Rattle.ips_digest.specs.declared.name.PayloadName.{PayloadName};
 
 use hex::FromHex;
@@ -21,7 +21,7 @@ impl PayloadName {
     /// The name that a text spells: 40 or 64 lower-case hex digits.
     pub fn parse(text: &str) -> Option<PayloadName>
         ensures digits { IsSome result ↔ AreNameDigits text.now }
-        ensures found { IfSome result (λ name. IsName name × (text.now ≡ spelling name)) }
+        ensures reading { IsReading text.now result }
         ensures only { (name : PayloadName) → IsName name → text.now ≡ spelling name → result ≡ Some name }
     {
         match text.len() {
@@ -82,7 +82,7 @@ pub fn one_spelling()
     ensures { (a b : PayloadName) → IsName a → IsName b → spelling a ≡ spelling b → a ≡ b }
 {}
 
-/// The spelling of a payload name is a text that reads, and then as that name.
+/// A printed name reads back: whatever the reading of its spelling answers is that name.
 pub fn reads_back()
-    ensures { (name : PayloadName) → IsName name → AreNameDigits (spelling name) }
+    ensures { (name : PayloadName) → IsName name → (read : Option PayloadName) → IsReading (spelling name) read → read ≡ Some name }
 {}

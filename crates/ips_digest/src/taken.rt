@@ -3,12 +3,11 @@
 ghost use Rattle.std.specs.Prelude.{◌≡◌, ℕ, List, [], ◌++◌};
 ghost use Rattle.std.specs.Borrow.{ftrue};
 
-use std::marker::{Model, PhantomData};
+use std::marker::Model;
 
-// It takes no memory. What the bytes have to do with anything is said by the struct that holds them.
+// It takes no room at run time. The invariant of `Hasher` ties the bytes to the state of the hash function.
 #[derive(Drop)]
 pub(crate) struct Taken {
-    marker: PhantomData<u8>,
     ghost bytes: { List ℕ },
 }
 
@@ -20,9 +19,7 @@ impl Taken {
     pub(crate) fn new() -> Taken
         ensures { result.bytes ≡ [] }
     {
-        Taken {
-            marker: PhantomData,
-        }
+        Taken {}
     }
 
     pub(crate) fn append(&mut self, _piece: &[u8])

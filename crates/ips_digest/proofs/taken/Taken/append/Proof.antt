@@ -48,7 +48,7 @@ module _ {M : Type 1} {𝓤 : Ura M} (𝓛 : Logic 𝓤) (at_mem : Memory → SP
   x = (record { ref_ptr = (b, o); ghost_name = γ; now = before }, (piece, tt))
 
   abbrev after : Taken
-  after = record { marker = before.marker; bytes = before.bytes ++ piece.now }
+  after = record { bytes = before.bytes ++ piece.now }
 
   abbrev at : List Val × (List Val × Unit {0})
   at = (vptr b o ∷ [], (slice_val piece.ref_ptr (length piece.now) ∷ [], tt))
