@@ -5,3 +5,5 @@ pub mod Images
 pub mod Formed
 pub mod Placed
 pub mod Moments
+pub mod Maps
+pub mod Trees

@@ -3,5 +3,10 @@
 #![tactic(auto)]
 
 mod outside;
+mod refusal;
+mod table;
+mod tree;
 
 pub use outside::{Failed, Look, Sink, Source};
+pub use refusal::TreeFault;
+pub use tree::Tree;
