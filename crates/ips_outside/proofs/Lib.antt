@@ -7,3 +7,4 @@ pub mod Placed
 pub mod Moments
 pub mod Maps
 pub mod Trees
+pub mod Copies

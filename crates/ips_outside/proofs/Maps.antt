@@ -1,7 +1,5 @@
 -- What the map of a tree has at a path, and after an edit.
-use Rattle.std.proofs.Common.{◌≡◌, ℕ, suc, Bool, true, false, cond, ◌&&◌, ◌==◌, List, [], ◌∷◌, ◌++◌, length, take, get_or, Option, Some, None, refl, sym, ◌∙◌, ap, arith}
-use Rattle.std.proofs.Math.Seq.{take-suc}
-use Rattle.std.proofs.lemmas.List.{take_all}
+use Rattle.std.proofs.Common.{◌≡◌, ℕ, Bool, true, false, cond, ◌&&◌, List, [], ◌∷◌, Option, Some, None, refl, sym, ◌∙◌, ap}
 use Rattle.std.specs.Map.{lookup, set_value}
 use Rattle.std.specs.Option.{option_map}
 use Rattle.std.specs.BTreeMap.{is_at, insert_entry}
@@ -14,7 +12,7 @@ use Rattle.std.specs.Cmp.Lexicographic.{slice_cmp}
 use Rattle.std.specs.Str.{bytes_eq}
 use Rattle.std.proofs.lemmas.Map.Text.{is_eq-slice_cmp}
 use Rattle.std.proofs.lemmas.Cmp.{nat_eq_equiv, nat_list_cmp_total, tied_itself}
-use Rattle.ips_text.specs.Ancestry.{same_path, parent, behind}
+use Rattle.ips_text.specs.Ancestry.{same_path}
 use Rattle.ips_text.proofs.Ancestry.{same_path-true, same_path-self}
 use Rattle.ips_outside.specs.Table.{kind_at}
 use Rattle.ips_outside.specs.declared.table.Kind.{Kind}
@@ -62,10 +60,10 @@ module _ (v : Kind) (q : List ℕ) where
           ∙ ap (λ (p : List ℕ). cond (same_path k.items q) (Some v) (cond (same_path p q) (Some e.1) (kind_at rest q))) (sym one)
       go Greater is ih = behind_other (same_path e.0.items q) (same_path k.items q) e.1 (kind_at rest q) _
           (λ at here.
-              let one : e.0.items ≡ k.items = same_path-true e.0.items q at ∙ sym (same_path-true k.items q here) in
-              let tied : slice_cmp nat_cmp k.items e.0.items ≡ Equal = ap (slice_cmp nat_cmp k.items) one ∙ tied_itself nat_list_cmp_total k.items in
-              let bad : Greater ≡ Equal = sym is ∙ tied in
-              cc)
+          let one : e.0.items ≡ k.items = same_path-true e.0.items q at ∙ sym (same_path-true k.items q here) in
+          let tied : slice_cmp nat_cmp k.items e.0.items ≡ Equal = ap (slice_cmp nat_cmp k.items) one ∙ tied_itself nat_list_cmp_total k.items in
+          let bad : Greater ≡ Equal = sym is ∙ tied in
+          cc)
           ih
 
   -- another value at a path that the map has
@@ -83,30 +81,14 @@ module _ (v : Kind) (q : List ℕ) where
           ∙ ap (λ (x : List ℕ). cond (same_path p q) (Some v) (cond (same_path x q) (Some e.1) (kind_at rest q))) (sym one)
       go false at is ih = behind_other (same_path e.0.items q) (same_path p q) e.1 (kind_at rest q) _
           (λ here there.
-              let one : e.0.items ≡ p = same_path-true e.0.items q here ∙ sym (same_path-true p q there) in
-              let self : same_path e.0.items p ≡ true = ap (same_path e.0.items) (sym one) ∙ same_path-self e.0.items in
-              cc)
+          let one : e.0.items ≡ p = same_path-true e.0.items q here ∙ sym (same_path-true p q there) in
+          let self : same_path e.0.items p ≡ true = ap (same_path e.0.items) (sym one) ∙ same_path-self e.0.items in
+          cc)
           (ih is)
 
   pub kind_at-set : (p : List ℕ) (entries : List (Vec ℕ Global × Kind)) (k' : Kind) → kind_at entries p ≡ Some k'
       → kind_at (set_value (is_at (λ k. slice_cmp nat_cmp p k.items)) entries v) q ≡ cond (same_path p q) (Some v) (kind_at entries q)
   kind_at-set p entries k' is = ap (λ (test : Vec ℕ Global → Bool). kind_at (set_value test entries v) q) (λ i k. is_eq-path p k.items i) ∙ kind_at-set_here p entries k' is
-
--- the path of one part more
-pub parent-push : (up : List ℕ) (b : ℕ) → parent (up ++ b ∷ []) ≡ cond (b == 47) (Some up) (parent up)
-parent-push [] b = refl
-parent-push (a ∷ up) b = ap (behind a) (parent-push up b) ∙ go (b == 47)
-  where
-    go : (slash : Bool) → behind a (cond slash (Some up) (parent up)) ≡ cond slash (Some (a ∷ up)) (behind a (parent up))
-    go true = refl
-    go false = refl
-
--- by its last byte
-pub parent-last : (p : List ℕ) (n : ℕ) → suc n ≡ length p → parent p ≡ cond (get_or p n 0 == 47) (Some (take n p)) (parent (take n p))
-parent-last p n is =
-    let whole : take (suc n) p ≡ p = take_all (suc n) p (omega arith) in
-    let last : p ≡ take n p ++ get_or p n 0 ∷ [] = sym whole ∙ take-suc p n 0 (omega arith) in
-    ap parent last ∙ parent-push (take n p) (get_or p n 0)
 
 -- what an edit of the value at a path makes of the map
 pub kind_at-edit : (edit : Kind → Kind) (p q : List ℕ) (entries new : List (Vec ℕ Global × Kind)) (k w : Kind) → kind_at entries p ≡ Some k → w ≡ edit k → new ≡ set_value (is_at (λ k. slice_cmp nat_cmp p k.items)) entries w

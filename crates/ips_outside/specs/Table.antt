@@ -1,5 +1,5 @@
 -- The image that a table of paths and a table of nodes stand for.
-use Rattle.std.specs.Prelude.{ℕ, zero, suc, Bool, false, ◌==◌, List, [], ◌∷◌, Option, Some, None}
+use Rattle.std.specs.Prelude.{◌≡◌, ℕ, zero, suc, Bool, false, ◌==◌, List, [], ◌∷◌, Option, Some, None}
 use Rattle.std.specs.Map.{lookup}
 use Rattle.std.specs.declared.alloc.Global.{Global}
 use Rattle.std.specs.declared.vec.Vec.{Vec}
@@ -51,3 +51,13 @@ image_of paths nodes = record {
   look = λ q. entry_of nodes (kind_at paths q);
   same = λ a b. one_node (node_of (kind_at paths a)) (node_of (kind_at paths b));
 }
+
+-- the same kind, with bytes of its own
+pub record IsKindCopy (k l : Kind) : Type 0 where
+  pub entry : entry_of [] (Some l) ≡ entry_of [] (Some k)
+  pub node : node_of (Some l) ≡ node_of (Some k)
+
+-- the same node, with bytes of its own
+pub record IsNodeCopy (n m : Node) : Type 0 where
+  pub mode : m.mode ≡ n.mode
+  pub bytes : m.bytes.items ≡ n.bytes.items

@@ -10,3 +10,6 @@ mod tree;
 pub use outside::{Failed, Look, Sink, Source};
 pub use refusal::TreeFault;
 pub use tree::Tree;
+
+#[cfg(test)]
+mod tests;

@@ -2,8 +2,8 @@
 
 ghost use Rattle.std.specs.Prelude.{◌≡◌, List, ℕ, cond, Option, Some, OnOk, OnErr};
 ghost use Rattle.std.specs.Option.{option_copied, option_map};
-ghost use Rattle.ips_text.specs.Ancestry.{same_path, parent};
-ghost use Rattle.ips_outside.specs.Table.{kind_at, with_dir_mode};
+ghost use Rattle.ips_text.specs.Ancestry.{same_path};
+ghost use Rattle.ips_outside.specs.Table.{kind_at, node_of, with_dir_mode, IsKindCopy, IsNodeCopy};
 
 use std::alloc::AllocError;
 use std::collections::BTreeMap;
@@ -16,6 +16,24 @@ pub enum Kind {
     File { node: usize },
     Link { target: Vec<u8> },
     Other,
+}
+
+impl Clone for Kind {
+    ghost is_clone = { IsKindCopy };
+
+    fn clone(&self) -> Result<Kind, AllocError> {
+        Ok(match self {
+            Kind::Dir { mode, foreign } => Kind::Dir {
+                mode: *mode,
+                foreign: *foreign,
+            },
+            Kind::File { node } => Kind::File { node: *node },
+            Kind::Link { target } => Kind::Link {
+                target: target.clone()?,
+            },
+            Kind::Other => Kind::Other,
+        })
+    }
 }
 
 impl Kind {
@@ -35,26 +53,34 @@ pub struct Node {
     pub bytes: Vec<u8>,
 }
 
-pub type Paths = BTreeMap<Vec<u8>, Kind>;
+impl Clone for Node {
+    ghost is_clone = { IsNodeCopy };
 
-/// The path above, where there is one.
-pub fn path_above(path: &[u8]) -> Option<&[u8]>
-    ensures { option_copied result ≡ parent path.now }
-{
-    let mut rest = path;
-    while let [up @ .., last] = rest {
-        if *last == b'/' {
-            return Some(up);
-        }
-        rest = up;
+    fn clone(&self) -> Result<Node, AllocError> {
+        Ok(Node {
+            mode: self.mode,
+            bytes: self.bytes.clone()?,
+        })
     }
-    None
 }
 
+pub type Paths = BTreeMap<Vec<u8>, Kind>;
+
+/// What stands at a path.
 pub fn find<'a>(paths: &'a Paths, path: &[u8]) -> Option<&'a Kind>
     ensures { option_copied result ≡ kind_at paths.now.entries path.now }
 {
     paths.get(path)
+}
+
+/// The node of the file at a path, where a file stands there.
+pub fn node_at(paths: &Paths, path: &[u8]) -> Option<usize>
+    ensures { result ≡ node_of (kind_at paths.now.entries path.now) }
+{
+    match find(paths, path) {
+        Some(Kind::File { node }) => Some(*node),
+        _ => None,
+    }
 }
 
 /// Puts a kind at a path, in place of what stands there.

@@ -1,6 +1,7 @@
 //! A tree of files in memory.
+#![tactic(auto, unfolding(crate::specs::Tree::tree_image))]
 
-ghost use Rattle.std.specs.Prelude.{◌≡◌, ◌<◌, ◌∷◌, [], ◌++◌, ℕ, Bool, false, IsTrue, IsSome, List, Option, Some, None, OnOk, OnErr};
+ghost use Rattle.std.specs.Prelude.{◌≡◌, ◌<◌, ◌∷◌, [], ◌++◌, ℕ, Bool, false, IsTrue, IsSome, List, Option, Some, None, IfOk, OnOk, OnErr};
 ghost use Rattle.std.specs.Option.{option_copied};
 ghost use Rattle.ips_outside.specs.Image.{Image, IsImage, Entry, Dir, File, nothing, is_file, file_bytes};
 ghost use Rattle.ips_outside.specs.Change.{placed, moded, appended};
@@ -10,8 +11,8 @@ ghost use Rattle.ips_outside.specs.Making.{fault_at, Refuses};
 
 use crate::outside::Look;
 use crate::refusal::TreeFault;
-use crate::table::{Kind, Node, Paths, find, path_above, put, set_dir_mode};
-use ips_text::{Or, RelPath};
+use crate::table::{Kind, Node, Paths, find, node_at, put, set_dir_mode};
+use ips_text::{Or, RelPath, parent};
 use std::alloc::{AllocError, Global};
 use std::collections::BTreeMap;
 
@@ -63,17 +64,15 @@ impl Tree {
     pub fn bytes(&self, path: &RelPath) -> Option<&[u8]>
         ensures { option_copied result ≡ file_bytes ((tree_image self.now).look path.now.bytes) }
     {
-        match find(&self.paths, path.bytes()) {
-            Some(Kind::File { node }) => Some(&self.nodes[*node].bytes),
-            _ => None,
-        }
+        let node = node_at(&self.paths, path.bytes())?;
+        Some(&self.nodes[node].bytes)
     }
 
     // Why nothing can be made at the path.
     fn fault(&self, path: &RelPath) -> Option<TreeFault>
         ensures { result ≡ fault_at (tree_image self.now) path.now.bytes }
     {
-        if let Some(above) = path_above(path.bytes()) {
+        if let Some(above) = parent(path.bytes()) {
             match find(&self.paths, above) {
                 Some(Kind::Dir { .. }) => {}
                 _ => return Some(TreeFault::NoParent),
@@ -146,8 +145,7 @@ impl Tree {
         ensures appended { OnOk result (tree_image self.new ≡ appended path.now.bytes bytes.now (tree_image self.old)) }
         ensures as_before { OnErr result (tree_image self.new ≡ tree_image self.old) }
     {
-        if let Some(Kind::File { node }) = find(&self.paths, path.bytes()) {
-            let node = *node;
+        if let Some(node) = node_at(&self.paths, path.bytes()) {
             self.nodes[node].bytes.extend_from_slice(bytes)?;
         }
         Ok(())
@@ -159,12 +157,19 @@ impl Tree {
         requires { mode < 4096 }
         ensures { tree_image self.new ≡ moded mode path.now.bytes (tree_image self.old) }
     {
-        match find(&self.paths, path.bytes()) {
-            Some(Kind::File { node }) => {
-                let node = *node;
-                self.nodes[node].mode = mode;
-            }
-            _ => set_dir_mode(&mut self.paths, path.bytes(), mode),
+        let name = path.bytes();
+        match node_at(&self.paths, name) {
+            Some(node) => self.nodes[node].mode = mode,
+            None => set_dir_mode(&mut self.paths, name, mode),
         }
+    }
+
+    /// Another tree that holds the same.
+    pub fn copy(&self, alloc: Global) -> Result<Tree, AllocError>
+        ensures { IfOk result (λ copy. tree_image copy ≡ tree_image self.now) }
+    {
+        let paths = self.paths.clone()?;
+        let nodes = self.nodes.to_vec(alloc)?;
+        Ok(Tree { paths, nodes })
     }
 }

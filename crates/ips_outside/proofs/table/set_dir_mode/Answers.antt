@@ -1,4 +1,4 @@
-use Rattle.std.proofs.Common.{◌≡◌, ◌∙◌, ℕ, List, Vec, Global, Some, None, sym, ap}
+use Rattle.std.proofs.Common.{◌≡◌, ◌∙◌, ℕ, Vec, Global, Some, None, sym, ap}
 use Rattle.std.specs.BTreeMap.{BTreeMap}
 use Rattle.ips_outside.specs.Table.{kind_at, with_dir_mode}
 use Rattle.ips_outside.specs.declared.table.Kind.{Kind}

@@ -7,6 +7,7 @@ use Rattle.ips_outside.proofs.Trees.{image_plain, formed_plain}
 use Rattle.ips_outside.proofs.tree.Tree.add.Goals as goal
 
 pub invariant_of-self : goal.invariant_of-self
+unfolding tree_image
 invariant_of-self c =
     let t = c.args.self.now in
     let key = c.in_ok-key.key.items in
@@ -15,6 +16,7 @@ invariant_of-self c =
     record { formed = formed_plain t.paths.entries c.put.new.paths.entries t.nodes.items key c.args.kind t.formed can c.requires c.put.result c.put.ensures.put c.put.ensures.as_before }
 
 pub returns-clause-made : goal.returns-clause-made
+unfolding tree_image
 returns-clause-made c =
     let t = c.args.self.now in
     let key = c.in_ok-key.key.items in

@@ -1,17 +1,17 @@
-use Rattle.std.proofs.Common.{◌≡◌, ◌∙◌, [], ◌∷◌, ◌++◌, ℕ, List, Vec, Global, Option, length, cond, Some, None, sym, ap, subst, arith}
+use Rattle.std.proofs.Common.{◌≡◌, ◌∙◌, [], ◌∷◌, ◌++◌, ℕ, List, length, cond, Some, None, sym, ap, subst, arith}
 use Rattle.ips_text.specs.Ancestry.{same_path}
 use Rattle.ips_outside.specs.Image.{File, IsImage}
 use Rattle.ips_outside.specs.Change.{placed}
-use Rattle.ips_outside.specs.Table.{kind_at, entry_of, image_of}
+use Rattle.ips_outside.specs.Table.{kind_at, image_of}
 use Rattle.ips_outside.specs.Making.{fault_at}
 use Rattle.ips_outside.specs.Tree.{tree_image}
 use Rattle.ips_outside.specs.declared.table.Kind.TheVariants as kind
-use Rattle.ips_outside.specs.declared.table.Kind.{Kind}
 use Rattle.ips_outside.specs.declared.table.Node.{Node}
 use Rattle.ips_outside.proofs.Trees.{image_file, formed_file}
 use Rattle.ips_outside.proofs.tree.Tree.file.Goals as goal
 
 pub invariant_of-self-2 : goal.invariant_of-self-2
+unfolding tree_image
 invariant_of-self-2 c =
     let t = c.args.self.now in
     let key = c.in_ok-key.key.items in
@@ -25,6 +25,7 @@ invariant_of-self-2 c =
     record { formed = subst (λ (nodes : List Node). IsImage (image_of c.put.new.paths.entries nodes)) (sym pushed) (formed_file t.paths.entries c.put.new.paths.entries t.nodes.items key node t.formed can put) }
 
 pub returns-clause-made : goal.returns-clause-made
+unfolding tree_image
 returns-clause-made c =
     let t = c.args.self.now in
     let key = c.in_ok-key.key.items in

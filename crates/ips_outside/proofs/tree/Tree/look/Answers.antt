@@ -1,14 +1,15 @@
-use Rattle.std.proofs.Common.{◌≡◌, ◌∙◌, ℕ, Some, length, sym, ap, arith}
-use Rattle.ips_outside.specs.Image.{File}
-use Rattle.ips_outside.specs.Table.{kind_at, entry_of}
+use Rattle.std.proofs.Common.{◌≡◌, ◌∙◌, Some, length, sym, ap, arith}
+use Rattle.ips_outside.specs.Table.{kind_at}
 use Rattle.ips_outside.specs.Outside.{look_of}
 use Rattle.ips_outside.specs.declared.outside.Look.TheVariants as look
 use Rattle.ips_outside.specs.declared.table.Kind.{Kind}
 use Rattle.ips_outside.specs.declared.table.Kind.TheVariants as kind
 use Rattle.ips_outside.proofs.Trees.{node_within, entry_of-file}
+use Rattle.ips_outside.specs.Tree.{tree_image}
 use Rattle.ips_outside.proofs.tree.Tree.look.Goals as goal
 
 pub index-node-requires : goal.index-node-requires
+unfolding tree_image
 index-node-requires c =
     let t = c.args.self.now in
     let at : kind_at t.paths.entries c.args.path.now.bytes ≡ Some (kind.File c.in-File.node) = ap (kind_at t.paths.entries) (sym c.bytes.ensures.value) ∙ sym c.in-Some.ensures ∙ ap (λ (k : Kind). Some k) c.in-File.is in
@@ -16,6 +17,7 @@ index-node-requires c =
     omega (arith, t.nodes.ok)
 
 pub returns-in-File-clause-found : goal.returns-in-File-clause-found
+unfolding tree_image
 returns-in-File-clause-found c =
     let t = c.args.self.now in
     let node = c.index-node.result.now in
