@@ -8,3 +8,4 @@ pub mod Moments
 pub mod Maps
 pub mod Trees
 pub mod Copies
+pub mod Tallies

@@ -1,7 +1,10 @@
-use crate::outside::Look;
+use crate::outside::{Failed, Look, Sink, Source};
 use crate::refusal::TreeFault;
+use crate::sink::MemSink;
+use crate::source::{MemSource, SureSource};
 use crate::tree::Tree;
 use ips_text::{Or, RelPath};
+use std::alloc::Global;
 use std::test::Fail;
 
 #[test]
@@ -77,5 +80,77 @@ fn appends(rt: HostRuntime) -> Result<(), Fail> {
     tree.file(alloc, &path, 0o600, b"one ")?;
     tree.append(&path, b"two")?;
     assert!(rt; tree.bytes(&path) == Some(b"one two".as_slice()));
+    Ok(())
+}
+
+fn sample(alloc: Global) -> Result<Tree, Fail> {
+    let mut tree = Tree::new(alloc);
+    tree.dir(alloc, &RelPath::parse(alloc, b"etc")?, 0o755)?;
+    tree.file(alloc, &RelPath::parse(alloc, b"etc/motd")?, 0o644, b"hello")?;
+    Ok(tree)
+}
+
+fn size<S: Source>(source: &mut S, path: &RelPath) -> Result<Option<u64>, Failed> {
+    match source.look(path)? {
+        Look::File { size, .. } => Ok(Some(size)),
+        _ => Ok(None),
+    }
+}
+
+#[test]
+fn sources_read(rt: HostRuntime) -> Result<(), Fail> {
+    let alloc = rt.alloc();
+    let mut source = SureSource::new(sample(alloc)?);
+    for (path, at, want) in [
+        ("etc/motd", 0, "hell"),
+        ("etc/motd", 3, "lo"),
+        // the end, and places past it
+        ("etc/motd", 5, ""),
+        ("etc/motd", u64::MAX, ""),
+        // no files
+        ("etc", 0, ""),
+        ("usr", 0, ""),
+    ] {
+        let path = RelPath::parse(alloc, path.as_bytes())?;
+        let mut buf = [0u8; 4];
+        let count = source.read(&path, at, &mut buf)?;
+        assert!(rt; count <= buf.len());
+        assert!(rt; &buf[..count] == want.as_bytes(), "{path:?} {at}");
+    }
+    assert_eq!(rt;
+        size(&mut source, &RelPath::parse(alloc, b"etc/motd")?),
+        Ok(Some(5))
+    );
+    Ok(())
+}
+
+#[test]
+fn listed_calls_fail(rt: HostRuntime) -> Result<(), Fail> {
+    let alloc = rt.alloc();
+    let path = RelPath::parse(alloc, b"etc/motd")?;
+    let mut source = MemSource::new(sample(alloc)?, Vec::from_slice(alloc, &[2, 3, 5])?);
+    for fails in [false, true, true, false, true, false] {
+        assert_eq!(rt; size(&mut source, &path).is_err(), fails);
+    }
+    Ok(())
+}
+
+#[test]
+fn a_sink_fills(rt: HostRuntime) -> Result<(), Fail> {
+    let alloc = rt.alloc();
+    let mut sink = MemSink::new(alloc, 5, Vec::from_slice(alloc, &[2])?)?;
+    for (bytes, want) in [
+        ("abc", Ok(3)),
+        // listed
+        ("x", Err(Failed)),
+        // room for two
+        ("defg", Ok(2)),
+        ("", Ok(0)),
+        // full
+        ("h", Err(Failed)),
+    ] {
+        assert_eq!(rt; sink.write(bytes.as_bytes()), want, "{bytes}");
+    }
+    assert!(rt; sink.taken() == b"abcde".as_slice());
     Ok(())
 }

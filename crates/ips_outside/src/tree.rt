@@ -1,11 +1,11 @@
 //! A tree of files in memory.
 #![tactic(auto, unfolding(crate::specs::Tree::tree_image))]
 
-ghost use Rattle.std.specs.Prelude.{◌≡◌, ◌<◌, ◌∷◌, [], ◌++◌, ℕ, Bool, false, IsTrue, IsSome, List, Option, Some, None, IfOk, OnOk, OnErr};
+ghost use Rattle.std.specs.Prelude.{◌≡◌, ◌<◌, ◌∷◌, [], ◌++◌, ℕ, Bool, false, IsTrue, IsSome, List, Option, Some, None, IfOk, OnOk, OnErr, ◌≤◌, length};
 ghost use Rattle.std.specs.Option.{option_copied};
 ghost use Rattle.ips_outside.specs.Image.{Image, IsImage, Entry, Dir, File, nothing, is_file, file_bytes};
 ghost use Rattle.ips_outside.specs.Change.{placed, moded, appended};
-ghost use Rattle.ips_outside.specs.Outside.{look_of};
+ghost use Rattle.ips_outside.specs.Outside.{look_of, readable, IsRead};
 ghost use Rattle.ips_outside.specs.Table.{image_of, entry_of, node_of};
 ghost use Rattle.ips_outside.specs.Making.{fault_at, Refuses};
 
@@ -66,6 +66,18 @@ impl Tree {
     {
         let node = node_at(&self.paths, path.bytes())?;
         Some(&self.nodes[node].bytes)
+    }
+
+    /// Reads the file's bytes from the place `at` on into the front of the buffer, and answers how many, as
+    /// `Source::read` does.
+    pub fn read(&self, path: &RelPath, at: u64, buf: &mut [u8]) -> usize
+        ensures fits { result ≤ length buf.old }
+        ensures found { IsRead (readable ((tree_image self.now).look path.now.bytes)) at buf.new result }
+    {
+        match self.bytes(path) {
+            Some(bytes) => read_from(bytes, at, buf),
+            None => 0,
+        }
     }
 
     // Why nothing can be made at the path.
@@ -172,4 +184,17 @@ impl Tree {
         let nodes = self.nodes.to_vec(alloc)?;
         Ok(Tree { paths, nodes })
     }
+}
+
+// Copies the bytes from a place on into the front of the buffer, as many as there are and fit.
+fn read_from(bytes: &[u8], at: u64, buf: &mut [u8]) -> usize
+    ensures fits { result ≤ length buf.old }
+    ensures found { IsRead bytes.now at buf.new result }
+{
+    let Some(rest) = bytes.get(at as usize..) else {
+        return 0;
+    };
+    let count = rest.len().min(buf.len());
+    buf[..count].copy_from_slice(&rest[..count]);
+    count
 }
