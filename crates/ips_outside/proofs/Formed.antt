@@ -3,8 +3,8 @@ use Rattle.std.proofs.Common.{◌≡◌, ℕ, Bool, true, false, cond, not, ◌&
 use Rattle.std.proofs.lemmas.Bool.{false_from_ne_true}
 use Rattle.ips_text.specs.Ancestry.{same_path, covers, is_below}
 use Rattle.ips_outside.specs.Image.{Entry, Dir, File, Link, Other, Image, IsImage, is_dir, is_file, with_mode, has_parent, dir_or_none}
-use Rattle.ips_outside.specs.Change.{placed, joined, moded, names}
-use Rattle.ips_text.proofs.Ancestry.{same_path-true, uncovered, covers_trans, above, at_parent_of, same_covers}
+use Rattle.ips_outside.specs.Change.{placed, joined, moded, names, appended, more_bytes}
+use Rattle.ips_text.proofs.Ancestry.{same_path-true, same_path-self, uncovered, covers_trans, above, at_parent_of, same_covers}
 use Rattle.ips_outside.proofs.Agree.{is_dir-mode, is_file-mode}
 use Rattle.ips_outside.proofs.Images.{placed_nodes, joined_nodes, moded_nodes, Twins, names_twins}
 
@@ -155,6 +155,52 @@ module _ (m : ℕ) (p : List ℕ) (t : Image) (formed : IsImage t) where
         let both = formed.files a b h in
         (file_mode (names t p a) (t.look a) ∙ both.0, ap (λ (x : Option Entry). cond (names t p a) (with_mode m x) x) both.1 ∙ ap (λ (n : Bool). cond n (with_mode m (t.look b)) (t.look b)) (names_twins p t a b (twins a b h)));
     self = (moded_nodes m p t (record { self = formed.self })).self;
+    sym = formed.sym;
+    trans = formed.trans;
+  }
+
+module _ (p more : List ℕ) (t : Image) (formed : IsImage t) (sole : (q : List ℕ) → t.same p q ≡ true → q ≡ p) where
+  none_longer : (n : Bool) (x : Option Entry) → is_none (cond n (more_bytes more x) x) ≡ is_none x
+  none_longer false x = refl
+  none_longer true (Some (Dir o f)) = refl
+  none_longer true (Some (File o b)) = refl
+  none_longer true (Some (Link g)) = refl
+  none_longer true (Some Other) = refl
+  none_longer true None = refl
+
+  dir_longer : (n : Bool) (x : Option Entry) → is_dir (cond n (more_bytes more x) x) ≡ is_dir x
+  dir_longer false x = refl
+  dir_longer true (Some (Dir o f)) = refl
+  dir_longer true (Some (File o b)) = refl
+  dir_longer true (Some (Link g)) = refl
+  dir_longer true (Some Other) = refl
+  dir_longer true None = refl
+
+  file_longer : (n : Bool) (x : Option Entry) → is_file (cond n (more_bytes more x) x) ≡ is_file x
+  file_longer false x = refl
+  file_longer true (Some (Dir o f)) = refl
+  file_longer true (Some (File o b)) = refl
+  file_longer true (Some (Link g)) = refl
+  file_longer true (Some Other) = refl
+  file_longer true None = refl
+
+  alike_longer : (a b : List ℕ) → t.same a b ≡ true → (sa : Bool) → same_path p a ≡ sa → (sb : Bool) → same_path p b ≡ sb → (appended p more t).look a ≡ (appended p more t).look b
+  alike_longer a b h true ea sb eb =
+      let here : p ≡ a = same_path-true p a ea in
+      let one : b ≡ p = sole b (ap (λ (x : List ℕ). t.same x b) here ∙ h) in
+      ap (appended p more t).look (sym here ∙ sym one)
+  alike_longer a b h false ea true eb =
+      let here : p ≡ b = same_path-true p b eb in
+      let one : a ≡ p = sole a (formed.sym p a ∙ ap (t.same a) here ∙ h) in
+      let self : same_path p a ≡ true = ap (same_path p) one ∙ same_path-self p in
+      cc
+  alike_longer a b h false ea false eb = rw (ea, eb) (formed.files a b h).1
+
+  pub appended_formed : IsImage (appended p more t)
+  appended_formed = record {
+    below_dirs = λ a q c s. ap (λ (x : Bool). x || is_dir ((appended p more t).look a)) (none_longer (same_path p q) (t.look q)) ∙ ap (λ (x : Bool). is_none (t.look q) || x) (dir_longer (same_path p a) (t.look a)) ∙ formed.below_dirs a q c s;
+    files = λ a b h. (file_longer (same_path p a) (t.look a) ∙ (formed.files a b h).0, alike_longer a b h (same_path p a) refl (same_path p b) refl);
+    self = λ a h. formed.self a (sym (file_longer (same_path p a) (t.look a)) ∙ h);
     sym = formed.sym;
     trans = formed.trans;
   }

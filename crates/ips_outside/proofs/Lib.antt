@@ -5,3 +5,7 @@ pub mod Images
 pub mod Formed
 pub mod Placed
 pub mod Moments
+pub mod Maps
+pub mod Trees
+pub mod Copies
+pub mod Tallies

@@ -3,3 +3,9 @@ pub mod Change
 pub mod State
 pub mod Outside
 pub mod Taking
+pub mod Tally
+pub mod Table
+pub mod Making
+pub mod Tree
+pub mod Memory
+pub mod Filling

@@ -2,6 +2,19 @@
 //! falls and rises wherever a call fails, and their forms in memory.
 #![tactic(auto)]
 
+mod calls;
 mod outside;
+mod refusal;
+mod sink;
+mod source;
+mod table;
+mod tree;
 
 pub use outside::{Failed, Look, Sink, Source};
+pub use refusal::TreeFault;
+pub use sink::MemSink;
+pub use source::{MemSource, SureSource};
+pub use tree::Tree;
+
+#[cfg(test)]
+mod tests;

@@ -1,0 +1,346 @@
+-- The image that the tables stand for, and what an edit of them makes of it.
+use Rattle.std.proofs.Common.{◌≡◌, ℕ, zero, suc, ◌<◌, Bool, true, false, cond, ◌&&◌, ◌||◌, ◌==◌, List, [], ◌∷◌, ◌++◌, length, get_or, set, Vec, Global, Option, Some, None, is_none, is_some, Result, Ok, Err, OnOk, OnErr, refl, sym, ◌∙◌, ap, subst, arith}
+use Rattle.std.proofs.lemmas.Bool.{false_from_ne_true, ne_eqb, eq-eqb, eqb-true, eqb-false}
+use Rattle.std.specs.Option.{option_map}
+use Rattle.ips_text.specs.Ancestry.{same_path, covers}
+use Rattle.ips_text.proofs.Ancestry.{same_path-true, same_path-self, same_covers}
+use Rattle.ips_outside.specs.Image.{Entry, File, Image, IsImage, is_dir, is_file, has_parent, with_mode}
+use Rattle.ips_outside.specs.Change.{placed, moded, appended, more_bytes}
+use Rattle.ips_outside.specs.Table.{kind_at, file_of, entry_of, node_of, one_node, image_of, with_dir_mode}
+use Rattle.ips_outside.specs.Making.{fault_at}
+use Rattle.ips_outside.specs.declared.table.Kind.{Kind}
+use Rattle.ips_outside.specs.declared.table.Kind.TheVariants as kind
+use Rattle.ips_outside.specs.declared.table.Node.{Node}
+use Rattle.ips_outside.specs.declared.refusal.TreeFault.TheVariants.{NoParent, Taken}
+use Rattle.ips_outside.proofs.Images.{image_ext}
+use Rattle.ips_outside.proofs.Formed.{placed_formed, moded_formed, appended_formed}
+
+pub on_err : {T E P : Type 0} (r : Result T E) → P → OnErr r P
+on_err (Ok x) p = tt
+on_err (Err e) p = p
+
+-- ---- nodes
+
+file_within : (nodes : List Node) (n : ℕ) → is_file (file_of nodes n) ≡ true → n < length nodes
+file_within [] n h = cc
+file_within (node ∷ nodes) zero h = omega arith
+file_within (node ∷ nodes) (suc n) h = omega (arith, file_within nodes n h)
+
+one_node-self : (n : ℕ) → one_node (Some n) (Some n) ≡ true
+one_node-self n = eq-eqb n n refl
+
+-- the node of each file is in the table
+pub node_within : (paths : List (Vec ℕ Global × Kind)) (nodes : List Node) (q : List ℕ) (n : ℕ) → IsImage (image_of paths nodes) → kind_at paths q ≡ Some (kind.File n) → n < length nodes
+node_within paths nodes q n formed is =
+    let own : one_node (node_of (kind_at paths q)) (node_of (kind_at paths q)) ≡ true = ap (λ (k : Option Kind). one_node (node_of k) (node_of k)) is ∙ one_node-self n in
+    let file : is_file (entry_of nodes (kind_at paths q)) ≡ true = (formed.files q q own).0 in
+    file_within nodes n (ap (λ (k : Option Kind). is_file (entry_of nodes k)) (sym is) ∙ file)
+
+pub file_of-get : (nodes : List Node) (n : ℕ) (d : Node) → n < length nodes → file_of nodes n ≡ Some (File (get_or nodes n d).mode (get_or nodes n d).bytes.items)
+file_of-get [] n d lt = absurd (omega arith)
+file_of-get (node ∷ nodes) zero d lt = refl
+file_of-get (node ∷ nodes) (suc n) d lt = file_of-get nodes n d (omega arith)
+
+file_at-node : (k : Option Kind) (n : ℕ) → node_of k ≡ Some n → k ≡ Some (kind.File n)
+file_at-node (Some (kind.Dir m foreign)) n is = cc
+file_at-node (Some (kind.File m)) n is = let one : m ≡ n = cc in ap (λ (x : ℕ). Some (kind.File x)) one
+file_at-node (Some (kind.Link target)) n is = cc
+file_at-node (Some kind.Other) n is = cc
+file_at-node None n is = cc
+
+-- what the map has where there is a node
+pub file_at : (paths : List (Vec ℕ Global × Kind)) (p : List ℕ) (read : List ℕ) (n : ℕ) → read ≡ p → Some n ≡ node_of (kind_at paths read) → kind_at paths p ≡ Some (kind.File n)
+file_at paths p read n same is = ap (kind_at paths) (sym same) ∙ file_at-node (kind_at paths read) n (sym is)
+
+-- a file shows its node
+pub entry_of-file : (paths : List (Vec ℕ Global × Kind)) (nodes : List Node) (q : List ℕ) (n : ℕ) (node : Node) → IsImage (image_of paths nodes) → kind_at paths q ≡ Some (kind.File n) → node ≡ get_or nodes n node
+    → entry_of nodes (kind_at paths q) ≡ Some (File node.mode node.bytes.items)
+entry_of-file paths nodes q n node formed is at =
+    let lt : n < length nodes = node_within paths nodes q n formed is in
+    ap (entry_of nodes) is ∙ file_of-get nodes n node lt ∙ ap (λ (x : Node). Some (File x.mode x.bytes.items)) (sym at)
+
+-- ---- an entry where none stood
+
+-- where nothing can be made there is a fault
+pub no_fault : (t : Image) (p : List ℕ) → fault_at t p ≡ None → (has_parent t p ≡ true) × (t.look p ≡ None)
+no_fault t p h = go (has_parent t p) (t.look p) h
+  where
+    go : (above : Bool) (e : Option Entry) → cond above (cond (is_some e) (Some Taken) None) (Some NoParent) ≡ None → (above ≡ true) × (e ≡ None)
+    go true (Some e) h = cc
+    go true None h = (refl, refl)
+    go false e h = cc
+
+none_of : (x y : Option Entry) → (is_none x || is_dir y) ≡ true → y ≡ None → x ≡ None
+none_of (Some x) y h e = let no : is_dir y ≡ false = ap is_dir e in cc
+none_of None y h e = refl
+
+module _ (t : Image) (p : List ℕ) (formed : IsImage t) (absent : t.look p ≡ None) where
+  -- nothing stands at or below the path
+  nothing_below : (q : List ℕ) → covers p q ≡ true → t.look q ≡ None
+  nothing_below q c = go (same_path p q) refl
+    where
+      go : (s : Bool) → same_path p q ≡ s → t.look q ≡ None
+      go true s = ap t.look (sym (same_path-true p q s)) ∙ absent
+      go false s = none_of (t.look q) (t.look p) (formed.below_dirs p q c s) absent
+
+  alone : (q x : List ℕ) → covers p q ≡ true → t.same q x ≡ false
+  alone q x c = false_from_ne_true _ (λ one. let file = (formed.files q x one).0 in let none : is_file (t.look q) ≡ false = ap is_file (nothing_below q c) in cc)
+
+  alone-back : (q x : List ℕ) → covers p q ≡ true → t.same x q ≡ false
+  alone-back q x c = formed.sym x q ∙ alone q x c
+
+look_put : (s c : Bool) (e x : Option Entry) → (s ≡ true → c ≡ true) → (c ≡ true → x ≡ None) → cond s e x ≡ cond s e (cond c None x)
+look_put true c e x sc h = refl
+look_put false true e x sc h = h refl
+look_put false false e x sc h = refl
+
+same_put : (sa ca sb cb f : Bool) (k a b : Option ℕ) → (sa ≡ true → ca ≡ true) → (sb ≡ true → cb ≡ true) → one_node k k ≡ f → one_node k b ≡ false → one_node a k ≡ false
+    → (ca ≡ true → one_node a b ≡ false) → (cb ≡ true → one_node a b ≡ false)
+    → one_node (cond sa k a) (cond sb k b) ≡ cond (ca || cb) (sa && (sb && f)) (one_node a b)
+same_put true true true true f k a b ha hb kk kb ak na nb = kk
+same_put true true true false f k a b ha hb kk kb ak na nb = absurd (let bad = hb refl in cc)
+same_put true true false cb f k a b ha hb kk kb ak na nb = kb
+same_put true false sb cb f k a b ha hb kk kb ak na nb = absurd (let bad = ha refl in cc)
+same_put false true true true f k a b ha hb kk kb ak na nb = ak
+same_put false true true false f k a b ha hb kk kb ak na nb = absurd (let bad = hb refl in cc)
+same_put false true false cb f k a b ha hb kk kb ak na nb = na refl
+same_put false false true true f k a b ha hb kk kb ak na nb = ak
+same_put false false true false f k a b ha hb kk kb ak na nb = absurd (let bad = hb refl in cc)
+same_put false false false true f k a b ha hb kk kb ak na nb = nb refl
+same_put false false false false f k a b ha hb kk kb ak na nb = refl
+
+node_of-cond : (s : Bool) (k x : Option Kind) → node_of (cond s k x) ≡ cond s (node_of k) (node_of x)
+node_of-cond true k x = refl
+node_of-cond false k x = refl
+
+entry_of-cond : (nodes : List Node) (s : Bool) (k x : Option Kind) → entry_of nodes (cond s k x) ≡ cond s (entry_of nodes k) (entry_of nodes x)
+entry_of-cond nodes true k x = refl
+entry_of-cond nodes false k x = refl
+
+module _ (old new : List (Vec ℕ Global × Kind)) (nodes more : List Node) (p : List ℕ) (k : Kind) (formed : IsImage (image_of old nodes))
+    (put : (q : List ℕ) → kind_at new q ≡ cond (same_path p q) (Some k) (kind_at old q)) (absent : entry_of nodes (kind_at old p) ≡ None)
+    (kept : (q : List ℕ) → entry_of more (kind_at old q) ≡ entry_of nodes (kind_at old q))
+    (own : one_node (node_of (Some k)) (node_of (Some k)) ≡ is_file (entry_of more (Some k)))
+    (apart : (q : List ℕ) → (one_node (node_of (Some k)) (node_of (kind_at old q)) ≡ false) × (one_node (node_of (kind_at old q)) (node_of (Some k)) ≡ false)) where
+  pub image_put : image_of new more ≡ placed p (entry_of more (Some k)) (image_of old nodes)
+  image_put = image_ext _ _ looks sames
+    where
+      looks : (q : List ℕ) → entry_of more (kind_at new q) ≡ (placed p (entry_of more (Some k)) (image_of old nodes)).look q
+      looks q =
+          ap (entry_of more) (put q) ∙ entry_of-cond more (same_path p q) (Some k) (kind_at old q)
+          ∙ ap (λ (x : Option Entry). cond (same_path p q) (entry_of more (Some k)) x) (kept q)
+          ∙ look_put (same_path p q) (covers p q) (entry_of more (Some k)) (entry_of nodes (kind_at old q)) (same_covers p q) (nothing_below (image_of old nodes) p formed absent q)
+
+      sames : (a b : List ℕ) → one_node (node_of (kind_at new a)) (node_of (kind_at new b)) ≡ (placed p (entry_of more (Some k)) (image_of old nodes)).same a b
+      sames a b =
+          ap (λ (x : Option Kind). one_node (node_of x) (node_of (kind_at new b))) (put a)
+          ∙ ap (λ (x : Option ℕ). one_node x (node_of (kind_at new b))) (node_of-cond (same_path p a) (Some k) (kind_at old a))
+          ∙ ap (λ (x : Option Kind). one_node (cond (same_path p a) (node_of (Some k)) (node_of (kind_at old a))) (node_of x)) (put b)
+          ∙ ap (λ (x : Option ℕ). one_node (cond (same_path p a) (node_of (Some k)) (node_of (kind_at old a))) x) (node_of-cond (same_path p b) (Some k) (kind_at old b))
+          ∙ same_put (same_path p a) (covers p a) (same_path p b) (covers p b) (is_file (entry_of more (Some k))) (node_of (Some k)) (node_of (kind_at old a)) (node_of (kind_at old b))
+          (same_covers p a) (same_covers p b) own (apart b).0 (apart a).1
+          (λ c. alone (image_of old nodes) p formed absent a b c) (λ c. alone-back (image_of old nodes) p formed absent b a c)
+
+plain_entry : (nodes : List Node) (k : Kind) → node_of (Some k) ≡ None → entry_of nodes (Some k) ≡ entry_of [] (Some k)
+plain_entry nodes (kind.Dir m foreign) h = refl
+plain_entry nodes (kind.File n) h = cc
+plain_entry nodes (kind.Link target) h = refl
+plain_entry nodes kind.Other h = refl
+
+plain_file : (k : Kind) → node_of (Some k) ≡ None → is_file (entry_of [] (Some k)) ≡ false
+plain_file (kind.Dir m foreign) h = refl
+plain_file (kind.File n) h = cc
+plain_file (kind.Link target) h = refl
+plain_file kind.Other h = refl
+
+one_node-none : (x : Option ℕ) → one_node x None ≡ false
+one_node-none (Some n) = refl
+one_node-none None = refl
+
+-- what was added has a directory above it
+added_formed : (t u : Image) (p : List ℕ) (e : Option Entry) → IsImage t → has_parent t p ≡ true → u ≡ placed p e t → IsImage u
+added_formed t u p e formed above is = subst IsImage (sym is) (placed_formed p e t formed (λ _. above))
+
+module _ (old new : List (Vec ℕ Global × Kind)) (nodes : List Node) (p : List ℕ) (k : Kind) (formed : IsImage (image_of old nodes)) (can : fault_at (image_of old nodes) p ≡ None)
+    (plain : node_of (Some k) ≡ None) where
+  -- what is no file
+  pub image_plain : ((q : List ℕ) → kind_at new q ≡ cond (same_path p q) (Some k) (kind_at old q)) → image_of new nodes ≡ placed p (entry_of [] (Some k)) (image_of old nodes)
+  image_plain put =
+      let same : entry_of nodes (Some k) ≡ entry_of [] (Some k) = plain_entry nodes k plain in
+      image_put old new nodes nodes p k formed put (no_fault (image_of old nodes) p can).1 (λ q. refl)
+      (ap (λ (x : Option ℕ). one_node x x) plain ∙ sym (ap is_file same ∙ plain_file k plain))
+      (λ q. (ap (λ (x : Option ℕ). one_node x (node_of (kind_at old q))) plain, ap (one_node (node_of (kind_at old q))) plain ∙ one_node-none (node_of (kind_at old q))))
+      ∙ ap (λ (e : Option Entry). placed p e (image_of old nodes)) same
+
+  -- whatever `put` answers
+  pub formed_plain : {E : Type 0} (r : Result (Unit {0}) E) → OnOk r ((q : List ℕ) → kind_at new q ≡ cond (same_path p q) (Some k) (kind_at old q)) → OnErr r (new ≡ old) → IsImage (image_of new nodes)
+  formed_plain (Ok u) put stays = added_formed (image_of old nodes) (image_of new nodes) p (entry_of [] (Some k)) formed (no_fault (image_of old nodes) p can).0 (image_plain put)
+  formed_plain (Err e) put stays = subst (λ (entries : List (Vec ℕ Global × Kind)). IsImage (image_of entries nodes)) (sym stays) formed
+
+file_of-more : (nodes : List Node) (node : Node) (n : ℕ) → n < length nodes → file_of (nodes ++ node ∷ []) n ≡ file_of nodes n
+file_of-more [] node n lt = absurd (omega arith)
+file_of-more (x ∷ nodes) node zero lt = refl
+file_of-more (x ∷ nodes) node (suc n) lt = file_of-more nodes node n (omega arith)
+
+file_of-last : (nodes : List Node) (node : Node) → file_of (nodes ++ node ∷ []) (length nodes) ≡ Some (File node.mode node.bytes.items)
+file_of-last [] node = refl
+file_of-last (x ∷ nodes) node = file_of-last nodes node
+
+module _ (old new : List (Vec ℕ Global × Kind)) (nodes : List Node) (p : List ℕ) (node : Node) (formed : IsImage (image_of old nodes)) (can : fault_at (image_of old nodes) p ≡ None)
+    (put : (q : List ℕ) → kind_at new q ≡ cond (same_path p q) (Some (kind.File (length nodes))) (kind_at old q)) where
+  still : (q : List ℕ) (k : Option Kind) → kind_at old q ≡ k → entry_of (nodes ++ node ∷ []) k ≡ entry_of nodes k
+  still q (Some (kind.Dir m foreign)) is = refl
+  still q (Some (kind.File n)) is = file_of-more nodes node n (node_within old nodes q n formed is)
+  still q (Some (kind.Link target)) is = refl
+  still q (Some kind.Other) is = refl
+  still q None is = refl
+
+  new_node : (q : List ℕ) (k : Option Kind) → kind_at old q ≡ k → (one_node (Some (length nodes)) (node_of k) ≡ false) × (one_node (node_of k) (Some (length nodes)) ≡ false)
+  new_node q (Some (kind.Dir m foreign)) is = (refl, refl)
+  new_node q (Some (kind.File n)) is =
+      let lt = node_within old nodes q n formed is in
+      (ne_eqb (length nodes) n (λ e. omega (arith, e)), ne_eqb n (length nodes) (λ e. omega (arith, e)))
+  new_node q (Some (kind.Link target)) is = (refl, refl)
+  new_node q (Some kind.Other) is = (refl, refl)
+  new_node q None is = (refl, refl)
+
+  -- a file with a node of its own
+  pub image_file : image_of new (nodes ++ node ∷ []) ≡ placed p (Some (File node.mode node.bytes.items)) (image_of old nodes)
+  image_file =
+      let shown : file_of (nodes ++ node ∷ []) (length nodes) ≡ Some (File node.mode node.bytes.items) = file_of-last nodes node in
+      image_put old new nodes (nodes ++ node ∷ []) p (kind.File (length nodes)) formed put (no_fault (image_of old nodes) p can).1 (λ q. still q (kind_at old q) refl)
+      (one_node-self (length nodes) ∙ sym (ap is_file shown)) (λ q. new_node q (kind_at old q) refl)
+      ∙ ap (λ (e : Option Entry). placed p e (image_of old nodes)) shown
+
+  pub formed_file : IsImage (image_of new (nodes ++ node ∷ []))
+  formed_file = added_formed (image_of old nodes) (image_of new (nodes ++ node ∷ [])) p (Some (File node.mode node.bytes.items)) formed (no_fault (image_of old nodes) p can).0 image_file
+
+-- ---- one node changed
+
+or_true : (b : Bool) → (b || true) ≡ true
+or_true true = refl
+or_true false = refl
+
+file_of-set_here : (nodes : List Node) (n : ℕ) (node : Node) → n < length nodes → file_of (set nodes n node) n ≡ Some (File node.mode node.bytes.items)
+file_of-set_here [] n node lt = absurd (omega arith)
+file_of-set_here (x ∷ nodes) zero node lt = refl
+file_of-set_here (x ∷ nodes) (suc n) node lt = file_of-set_here nodes n node (omega arith)
+
+file_of-set_other : (nodes : List Node) (n m : ℕ) (node : Node) → (n ≡ m → ⊥) → file_of (set nodes n node) m ≡ file_of nodes m
+file_of-set_other [] n m node apart = refl
+file_of-set_other (x ∷ nodes) zero zero node apart = absurd (apart refl)
+file_of-set_other (x ∷ nodes) zero (suc m) node apart = refl
+file_of-set_other (x ∷ nodes) (suc n) zero node apart = refl
+file_of-set_other (x ∷ nodes) (suc n) (suc m) node apart = file_of-set_other nodes n m node (λ e. apart (ap suc e))
+
+file_of-set : (nodes : List Node) (n m : ℕ) (node : Node) → n < length nodes → file_of (set nodes n node) m ≡ cond (n == m) (Some (File node.mode node.bytes.items)) (file_of nodes m)
+file_of-set nodes n m node lt = go (n == m) refl
+  where
+    go : (b : Bool) → (n == m) ≡ b → file_of (set nodes n node) m ≡ cond b (Some (File node.mode node.bytes.items)) (file_of nodes m)
+    go true is = ap (file_of (set nodes n node)) (sym (eqb-true n m is)) ∙ file_of-set_here nodes n node lt
+    go false is = file_of-set_other nodes n m node (eqb-false n m is)
+
+module _ (paths : List (Vec ℕ Global × Kind)) (nodes : List Node) (p : List ℕ) (n : ℕ) (node : Node) (formed : IsImage (image_of paths nodes)) (at : kind_at paths p ≡ Some (kind.File n)) where
+  -- every name of the node shows it, and nothing else changes
+  look_of-set : (q : List ℕ) → entry_of (set nodes n node) (kind_at paths q) ≡ cond (one_node (node_of (kind_at paths p)) (node_of (kind_at paths q))) (Some (File node.mode node.bytes.items)) (entry_of nodes (kind_at paths q))
+  look_of-set q = go (kind_at paths q) ∙ ap (λ (k : Option Kind). cond (one_node (node_of k) (node_of (kind_at paths q))) (Some (File node.mode node.bytes.items)) (entry_of nodes (kind_at paths q))) (sym at)
+    where
+      go : (k : Option Kind) → entry_of (set nodes n node) k ≡ cond (one_node (Some n) (node_of k)) (Some (File node.mode node.bytes.items)) (entry_of nodes k)
+      go (Some (kind.Dir m foreign)) = refl
+      go (Some (kind.File m)) = file_of-set nodes n m node (node_within paths nodes p n formed at)
+      go (Some (kind.Link target)) = refl
+      go (Some kind.Other) = refl
+      go None = refl
+
+  same_of-at : (q : List ℕ) → same_path p q ≡ true → (image_of paths nodes).same p q ≡ true
+  same_of-at q s = ap ((image_of paths nodes).same p) (sym (same_path-true p q s)) ∙ ap (λ (k : Option Kind). one_node (node_of k) (node_of k)) at ∙ one_node-self n
+
+  shown : (q : List ℕ) → (image_of paths nodes).same p q ≡ true → (image_of paths nodes).look q ≡ file_of nodes n
+  shown q one = sym (formed.files p q one).1 ∙ ap (entry_of nodes) at
+
+  -- the node has another mode
+  pub image_moded : (d : Node) → node.bytes.items ≡ (get_or nodes n d).bytes.items → image_of paths (set nodes n node) ≡ moded node.mode p (image_of paths nodes)
+  image_moded d kept = image_ext _ _ (λ q. look_of-set q ∙ go q (same_path p q) refl ((image_of paths nodes).same p q) refl) (λ a b. refl)
+    where
+      turned : (q : List ℕ) → (image_of paths nodes).same p q ≡ true → Some (File node.mode node.bytes.items) ≡ with_mode node.mode ((image_of paths nodes).look q)
+      turned q one =
+          ap (λ (bytes : List ℕ). Some (File node.mode bytes)) kept
+          ∙ ap (with_mode node.mode) (sym (shown q one ∙ file_of-get nodes n d (node_within paths nodes p n formed at)))
+
+      go : (q : List ℕ) (s : Bool) → same_path p q ≡ s → (one : Bool) → (image_of paths nodes).same p q ≡ one
+          → cond one (Some (File node.mode node.bytes.items)) ((image_of paths nodes).look q) ≡ cond (s || one) (with_mode node.mode ((image_of paths nodes).look q)) ((image_of paths nodes).look q)
+      go q s is true one = turned q one ∙ ap (λ (b : Bool). cond b (with_mode node.mode ((image_of paths nodes).look q)) ((image_of paths nodes).look q)) (sym (or_true s))
+      go q true is false one = let own = same_of-at q is in cc
+      go q false is false one = refl
+
+  -- the node has more bytes, and no other name
+  pub image_appended : (d : Node) (more : List ℕ) → node.mode ≡ (get_or nodes n d).mode → node.bytes.items ≡ (get_or nodes n d).bytes.items ++ more
+      → ((q : List ℕ) → (image_of paths nodes).same p q ≡ true → q ≡ p) → image_of paths (set nodes n node) ≡ appended p more (image_of paths nodes)
+  image_appended d more kept longer sole = image_ext _ _ (λ q. look_of-set q ∙ go q (same_path p q) refl ((image_of paths nodes).same p q) refl) (λ a b. refl)
+    where
+      turned : (q : List ℕ) → (image_of paths nodes).same p q ≡ true → Some (File node.mode node.bytes.items) ≡ more_bytes more ((image_of paths nodes).look q)
+      turned q one =
+          ap (λ (m : ℕ). Some (File m node.bytes.items)) kept ∙ ap (λ (bytes : List ℕ). Some (File (get_or nodes n d).mode bytes)) longer
+          ∙ ap (more_bytes more) (sym (shown q one ∙ file_of-get nodes n d (node_within paths nodes p n formed at)))
+
+      go : (q : List ℕ) (s : Bool) → same_path p q ≡ s → (one : Bool) → (image_of paths nodes).same p q ≡ one
+          → cond one (Some (File node.mode node.bytes.items)) ((image_of paths nodes).look q) ≡ cond s (more_bytes more ((image_of paths nodes).look q)) ((image_of paths nodes).look q)
+      go q true is true one = turned q one
+      go q false is true one = let same : same_path p q ≡ true = ap (same_path p) (sole q one) ∙ same_path-self p in cc
+      go q true is false one = let own = same_of-at q is in cc
+      go q false is false one = refl
+
+  -- the node is as before
+  pub image_unchanged : (d : Node) → node.mode ≡ (get_or nodes n d).mode → node.bytes.items ≡ (get_or nodes n d).bytes.items → image_of paths (set nodes n node) ≡ image_of paths nodes
+  image_unchanged d kept same = image_ext _ _ (λ q. look_of-set q ∙ go q ((image_of paths nodes).same p q) refl) (λ a b. refl)
+    where
+      go : (q : List ℕ) (one : Bool) → (image_of paths nodes).same p q ≡ one → cond one (Some (File node.mode node.bytes.items)) ((image_of paths nodes).look q) ≡ (image_of paths nodes).look q
+      go q true one =
+          ap (λ (m : ℕ). Some (File m node.bytes.items)) kept ∙ ap (λ (bytes : List ℕ). Some (File (get_or nodes n d).mode bytes)) same
+          ∙ sym (shown q one ∙ file_of-get nodes n d (node_within paths nodes p n formed at))
+      go q false one = refl
+
+  -- whether or not there was memory
+  pub formed_appended : (d : Node) (more : List ℕ) (done : Bool) → node.mode ≡ (get_or nodes n d).mode → node.bytes.items ≡ cond done ((get_or nodes n d).bytes.items ++ more) (get_or nodes n d).bytes.items
+      → ((q : List ℕ) → (image_of paths nodes).same p q ≡ true → q ≡ p) → IsImage (image_of paths (set nodes n node))
+  formed_appended d more true kept longer sole = subst IsImage (sym (image_appended d more kept longer sole)) (appended_formed p more (image_of paths nodes) formed sole)
+  formed_appended d more false kept same sole = subst IsImage (sym (image_unchanged d kept same)) formed
+
+  pub formed_moded : (d : Node) → node.bytes.items ≡ (get_or nodes n d).bytes.items → IsImage (image_of paths (set nodes n node))
+  formed_moded d kept = subst IsImage (sym (image_moded d kept)) (moded_formed node.mode p (image_of paths nodes) formed)
+
+-- ---- one directory changed
+
+module _ (old new : List (Vec ℕ Global × Kind)) (nodes : List Node) (p : List ℕ) (mode : ℕ) (formed : IsImage (image_of old nodes)) (no_file : node_of (kind_at old p) ≡ None)
+    (edited : (q : List ℕ) → kind_at new q ≡ cond (same_path p q) (option_map (with_dir_mode mode) (kind_at old q)) (kind_at old q)) where
+  entry_edited : (k : Option Kind) → node_of k ≡ None → entry_of nodes (option_map (with_dir_mode mode) k) ≡ with_mode mode (entry_of nodes k)
+  entry_edited (Some (kind.Dir m foreign)) none = refl
+  entry_edited (Some (kind.File n)) none = cc
+  entry_edited (Some (kind.Link target)) none = refl
+  entry_edited (Some kind.Other) none = refl
+  entry_edited None none = refl
+
+  node_edited : (s : Bool) (k : Option Kind) → node_of (cond s (option_map (with_dir_mode mode) k) k) ≡ node_of k
+  node_edited false k = refl
+  node_edited true (Some (kind.Dir m foreign)) = refl
+  node_edited true (Some (kind.File n)) = refl
+  node_edited true (Some (kind.Link target)) = refl
+  node_edited true (Some kind.Other) = refl
+  node_edited true None = refl
+
+  pub image_dir_moded : image_of new nodes ≡ moded mode p (image_of old nodes)
+  image_dir_moded = image_ext _ _ (λ q. ap (entry_of nodes) (edited q) ∙ looks q (same_path p q) refl) (λ a b. λ i. one_node (same_node a i) (same_node b i))
+    where
+      same_node : (q : List ℕ) → node_of (kind_at new q) ≡ node_of (kind_at old q)
+      same_node q = ap node_of (edited q) ∙ node_edited (same_path p q) (kind_at old q)
+
+      apart : (q : List ℕ) → (image_of old nodes).same p q ≡ false
+      apart q = ap (λ (x : Option ℕ). one_node x (node_of (kind_at old q))) no_file
+
+      looks : (q : List ℕ) (s : Bool) → same_path p q ≡ s
+          → entry_of nodes (cond s (option_map (with_dir_mode mode) (kind_at old q)) (kind_at old q)) ≡ cond (s || (image_of old nodes).same p q) (with_mode mode ((image_of old nodes).look q)) ((image_of old nodes).look q)
+      looks q true s = entry_edited (kind_at old q) (ap (λ (x : List ℕ). node_of (kind_at old x)) (sym (same_path-true p q s)) ∙ no_file)
+      looks q false s = sym (ap (λ (one : Bool). cond one (with_mode mode ((image_of old nodes).look q)) ((image_of old nodes).look q)) (apart q))
+
+  pub formed_dir_moded : IsImage (image_of new nodes)
+  formed_dir_moded = subst IsImage (sym image_dir_moded) (moded_formed mode p (image_of old nodes) formed)
