@@ -1,5 +1,5 @@
 -- Attributes are read in their order, and so in one way.
-use Rattle.std.proofs.Common.{◌≡◌, ℕ, ◌<◌, ◌≤◌, true, ltb, List, [], ◌∷◌, ◌++◌, length, refl, sym, ◌∙◌, ap, subst, append_assoc, arith}
+use Rattle.std.proofs.Common.{◌≡◌, ℕ, ◌<◌, true, ltb, List, [], ◌∷◌, ◌++◌, length, refl, sym, ◌∙◌, ap, subst, append_assoc, arith}
 use Rattle.std.proofs.lemmas.Bool.{and_from}
 use Rattle.std.proofs.lemmas.Bool.Decides.{nat_tests}
 use Rattle.std.proofs.lemmas.List.{append-nil}
@@ -15,11 +15,8 @@ use Rattle.ips_manifest.proofs.WordEnds.{keyed_once}
 
 -- ---- octal digits are a word
 
-digit_low : (b : ℕ) → digit_value b < 8 → (48 ≤ b) × (b ≤ 55)
-digit_low b h = (grind arith, grind arith)
-
 digit_in_words : (b : ℕ) → digit_value b < 8 → is_word_byte b ≡ true
-digit_in_words b h = let within = digit_low b h in grind (arith, nat_tests)
+digit_in_words b h = grind (arith, nat_tests)
 
 digits_in_words : (digits : List ℕ) → AllDigits 8 digits → list_all is_word_byte digits ≡ true
 digits_in_words [] h = refl

@@ -11,20 +11,20 @@ use Rattle.ips_manifest.proofs.WordEnds.{keyed_once}
 use Rattle.ips_manifest.proofs.AttributeOrder.{group_first}
 
 -- a payload's name is a word
-digit_in_words : (b : ℕ) → is_hex_digit b ≡ true → is_word_byte b ≡ true
-digit_in_words b h = grind (arith, nat_tests)
+hex_digit_in_words : (b : ℕ) → is_hex_digit b ≡ true → is_word_byte b ≡ true
+hex_digit_in_words b h = grind (arith, nat_tests)
 
-digits_in_words : (name : List ℕ) → list_all is_hex_digit name ≡ true → list_all is_word_byte name ≡ true
-digits_in_words [] h = refl
-digits_in_words (b ∷ name) h =
+hex_digits_in_words : (name : List ℕ) → list_all is_hex_digit name ≡ true → list_all is_word_byte name ≡ true
+hex_digits_in_words [] h = refl
+hex_digits_in_words (b ∷ name) h =
     let parts = and_parts (is_hex_digit b) (list_all is_hex_digit name) h in
-    and_from (is_word_byte b) (list_all is_word_byte name) (digit_in_words b parts.0) (digits_in_words name parts.1)
+    and_from (is_word_byte b) (list_all is_word_byte name) (hex_digit_in_words b parts.0) (hex_digits_in_words name parts.1)
 
 name_is_word : (name : List ℕ) → is_payload_name name ≡ true → is_word name ≡ true
 name_is_word name h =
     let parts = and_parts (eqb (length name) 40) (list_all is_hex_digit name) h in
     let length_is : length name ≡ 40 = eqb-true (length name) 40 parts.0 in
-    and_from (ltb 0 (length name)) (list_all is_word_byte name) (rw length_is refl) (digits_in_words name parts.1)
+    and_from (ltb 0 (length name)) (list_all is_word_byte name) (rw length_is refl) (hex_digits_in_words name parts.1)
 
 -- the payload's name behind `file `
 pub file_keyed : {text payload path : List ℕ} {mode : ℕ} (h : IsFileLine text payload mode path) → IsKeyed (codes "file ") text payload h.rest

@@ -14,11 +14,13 @@ use crate::words::{payload_name, word_behind};
 use ips_text::{Or, Text};
 use std::alloc::Global;
 
-/// The line has no form that is known.
+/// The line has none of the forms that are known.
 #[derive(Clone, Copy, Debug, PartialEq, Eq, Drop)]
 pub struct UnknownForm;
 
-/// What a line delivers; a `set` line, which only describes the package, delivers nothing.
+/// What a line of a manifest (pkg(7)) delivers. The forms that are known are `dir` and `file` with their attributes in the
+/// order group, mode, owner, path, and `set`, which only describes the package and delivers nothing. `Bad` comes exactly
+/// where the line has none of these.
 pub fn read_line(alloc: Global, text: &[u8]) -> Result<Option<Item>, Or<UnknownForm>>
     ensures found { IfOk result (λ item. Means text.now (seen_option item)) }
     ensures mode { IfOk result (λ item. IfSome (seen_option item) (λ i. item_mode i < 4096)) }
