@@ -1,2 +1,4 @@
 pub mod Line
+pub mod Word
 pub mod Seen
+pub mod Law
