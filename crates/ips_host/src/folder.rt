@@ -72,3 +72,6 @@ impl<R: Runtime + Processes> Folder for HostFolder<R> {
         counted(&mut self.faults, answer)
     }
 }
+
+#[cfg(test)]
+mod tests;

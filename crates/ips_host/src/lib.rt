@@ -14,6 +14,3 @@ mod standing;
 pub use folder::HostFolder;
 pub use sink::HostSink;
 pub use source::HostSource;
-
-#[cfg(test)]
-mod tests;

@@ -70,7 +70,7 @@ impl<R: Runtime + Processes> Root<R> {
     /// Makes a directory of just this mode, whatever the process's umask.
     pub fn make_dir(&mut self, path: &RelPath, mode: u16) -> io::Result<()> {
         self.close();
-        let place = self.free_place(path)?;
+        let place = self.place_or_error(path)?;
         DirBuilder::new()
             .mode(u32::from(mode))
             .create(&self.rt, place.as_str())?;
@@ -80,7 +80,7 @@ impl<R: Runtime + Processes> Root<R> {
     /// Makes an empty file of mode 0600, whatever the process's umask, and leaves it open for `append`.
     pub fn make_file(&mut self, path: &RelPath) -> io::Result<()> {
         self.close();
-        let place = self.free_place(path)?;
+        let place = self.place_or_error(path)?;
         let mut how = OpenOptions::new();
         how.append(true).create_new(true).mode(0o600);
         let file = how.open(&self.rt, place.as_str())?;
@@ -104,7 +104,7 @@ impl<R: Runtime + Processes> Root<R> {
     /// Gives a directory or file just this mode.
     pub fn set_mode(&mut self, path: &RelPath, mode: u16) -> io::Result<()> {
         self.close();
-        let place = self.free_place(path)?;
+        let place = self.place_or_error(path)?;
         match standing(&self.rt, place.as_str())? {
             Some(metadata) if metadata.is_dir() || metadata.is_file() => {
                 give_mode(&self.rt, place.as_str(), mode)
@@ -158,7 +158,7 @@ impl<R: Runtime + Processes> Root<R> {
     }
 
     // The same, for a call that can't be made where there is none.
-    fn free_place(&self, path: &RelPath) -> io::Result<String<R::A>> {
+    fn place_or_error(&self, path: &RelPath) -> io::Result<String<R::A>> {
         match self.place(path)? {
             Some(place) => Ok(place),
             None => Err(nothing_there()),

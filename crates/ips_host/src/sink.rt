@@ -49,3 +49,6 @@ fn write_some<R: Print>(rt: &R, bytes: &[u8]) -> io::Result<usize>
     output.flush()?;
     Ok(count)
 }
+
+#[cfg(test)]
+mod tests;

@@ -43,3 +43,6 @@ impl<R: Runtime + Processes> Source for HostSource<R> {
         counted(&mut self.faults, answer)
     }
 }
+
+#[cfg(test)]
+mod tests;

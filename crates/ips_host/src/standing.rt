@@ -45,9 +45,9 @@ pub fn look_of(metadata: &Metadata) -> Look {
     }
 }
 
-/// Gives the directory or file at the place just this mode. The host follows a link there, so that none may stand
-/// there. It may take bits away and answer success, as setgid from a caller outside the group, or all on a file system
-/// without modes: that is an error here.
+/// Gives the directory or file at the place just this mode. The host would follow a link, so the caller has looked
+/// that none stands there. The host may answer success and leave bits out (setgid where the caller isn't in the group,
+/// or all of them on a file system without modes), so the mode is looked at again.
 pub fn give_mode<R: Files>(rt: &R, place: &str, mode: u16) -> io::Result<()> {
     fs::set_permissions(rt, place, Permissions::from_mode(u32::from(mode)))?;
     if mode_of(&fs::symlink_metadata(rt, place)?) == mode {
