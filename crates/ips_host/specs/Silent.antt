@@ -1,5 +1,5 @@
 -- What the host tells to proofs: how often it failed, and nothing of what it holds or took.
-use Rattle.std.specs.Prelude.{◌≡◌, ℕ, Bool, false, List, [], refl}
+use Rattle.std.specs.Prelude.{◌≡◌, ℕ, false, [], refl}
 use Rattle.std.proofs.lemmas.Bool.{false≢true}
 use Rattle.ips_outside.specs.Image.{nothing}
 use Rattle.ips_outside.specs.State.{State, untouched}

@@ -1,5 +1,6 @@
 //! A folder of the host that is read and changed.
 
+ghost use Rattle.std.specs.Prelude.{◌≡◌};
 ghost use Rattle.ips_host.specs.Silent.{silent, silent_is_sane};
 
 use crate::fault::counted;
@@ -22,7 +23,9 @@ pub struct HostFolder<R: Runtime + Processes> {
 
 impl<R: Runtime + Processes> HostFolder<R> {
     /// The files below this path of the host.
-    pub fn new(rt: R, root: Text) -> HostFolder<R> {
+    pub fn new(rt: R, root: Text) -> HostFolder<R>
+        ensures { (⟦<HostFolder<R> as Source>⟧.outside).faults result ≡ 0 }
+    {
         HostFolder {
             root: Root::new(rt, root),
             faults: 0,

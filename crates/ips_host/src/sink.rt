@@ -1,6 +1,6 @@
 //! Standard output.
 
-ghost use Rattle.std.specs.Prelude.{IfOk};
+ghost use Rattle.std.specs.Prelude.{◌≡◌, IfOk};
 ghost use Rattle.ips_outside.specs.Taking.{TakesSome};
 ghost use Rattle.ips_host.specs.Silent.{silent_sink};
 
@@ -20,7 +20,9 @@ pub struct HostSink<R: Runtime + Processes> {
 }
 
 impl<R: Runtime + Processes> HostSink<R> {
-    pub fn new(rt: R) -> HostSink<R> {
+    pub fn new(rt: R) -> HostSink<R>
+        ensures { (⟦<HostSink<R> as Sink>⟧.taking).faults result ≡ 0 }
+    {
         HostSink { rt, faults: 0 }
     }
 }

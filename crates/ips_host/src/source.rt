@@ -1,5 +1,6 @@
 //! A folder of the host that is read.
 
+ghost use Rattle.std.specs.Prelude.{◌≡◌};
 ghost use Rattle.ips_host.specs.Silent.{silent, silent_is_sane};
 
 use crate::fault::counted;
@@ -20,7 +21,9 @@ pub struct HostSource<R: Runtime + Processes> {
 
 impl<R: Runtime + Processes> HostSource<R> {
     /// The files below this path of the host.
-    pub fn new(rt: R, root: Text) -> HostSource<R> {
+    pub fn new(rt: R, root: Text) -> HostSource<R>
+        ensures { (⟦<HostSource<R> as Source>⟧.outside).faults result ≡ 0 }
+    {
         HostSource {
             root: Root::new(rt, root),
             faults: 0,

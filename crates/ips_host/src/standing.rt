@@ -1,6 +1,7 @@
 //! What stands at a path of the host, and its permission bits.
 
-ghost use Rattle.std.specs.Prelude.{◌<◌};
+ghost use Rattle.std.specs.Prelude.{◌≡◌, ◌%◌};
+ghost use Rattle.std.specs.Fs.{metadata_mode, metadata_len, file_type, IsDir, IsFile, IsSymlink};
 
 use ips_outside::Look;
 use std::fs::{Files, Metadata, Permissions};
@@ -25,13 +26,18 @@ pub fn is_directory<R: Files>(rt: &R, place: &str) -> io::Result<bool> {
 
 /// The permission bits, with those for setuid, setgid and sticky.
 pub fn mode_of(metadata: &Metadata) -> u16
-    ensures { result < 4096 }
+    ensures { result ≡ metadata_mode metadata.now % 4096 }
 {
     (metadata.mode() % 0o10000) as u16
 }
 
 /// What a look answers where this stands.
-pub fn look_of(metadata: &Metadata) -> Look {
+pub fn look_of(metadata: &Metadata) -> Look
+    ensures dir { IsDir (file_type metadata.now) → result ≡ Look.Dir (metadata_mode metadata.now % 4096) }
+    ensures file { IsFile (file_type metadata.now) → result ≡ Look.File (metadata_mode metadata.now % 4096) (metadata_len metadata.now) }
+    ensures link { IsSymlink (file_type metadata.now) → result ≡ Look.Link }
+    ensures found { result ≡ Look.Absent → ⊥ }
+{
     let mode = mode_of(metadata);
     if metadata.is_dir() {
         Look::Dir { mode }
