@@ -1,0 +1,80 @@
+//! A folder of the host that is read and changed.
+
+ghost use Rattle.std.specs.Prelude.{◌≡◌};
+ghost use Rattle.ips_host.specs.Silent.{silent, silent_is_sane};
+
+use crate::fault::counted;
+use crate::root::Root;
+use ips_folder::Folder;
+use ips_outside::{Failed, Look, Source};
+use ips_text::{RelPath, Text};
+use std::rt::{Processes, Runtime};
+
+/// The files below a root of the host, to be read and changed.
+///
+/// Trusted here, and not proved: that the host's calls do what they answer, that nobody else writes below the root in
+/// the meantime, that the whole folder stands on one file system, and that after `sync -f` of the root a crash loses
+/// nothing of what was written there before.
+#[derive(Drop)]
+pub struct HostFolder<R: Runtime + Processes> {
+    root: Root<R>,
+    faults: u64,
+}
+
+impl<R: Runtime + Processes> HostFolder<R> {
+    /// The files below this path of the host.
+    pub fn new(rt: R, root: Text) -> HostFolder<R>
+        ensures { (⟦<HostFolder<R> as Source>⟧.outside).faults result ≡ 0 }
+    {
+        HostFolder {
+            root: Root::new(rt, root),
+            faults: 0,
+        }
+    }
+}
+
+impl<R: Runtime + Processes> Source for HostFolder<R> {
+    ghost outside = { silent (λ s. s.faults) };
+
+    ghost sane = { silent_is_sane (λ s. s.faults) };
+
+    fn look(&mut self, path: &RelPath) -> Result<Look, Failed> {
+        let answer = self.root.look(path);
+        counted(&mut self.faults, answer)
+    }
+
+    fn read(&mut self, path: &RelPath, at: u64, buf: &mut [u8]) -> Result<usize, Failed> {
+        let answer = self.root.read(path, at, buf);
+        counted(&mut self.faults, answer)
+    }
+}
+
+impl<R: Runtime + Processes> Folder for HostFolder<R> {
+    fn make_dir(&mut self, path: &RelPath, mode: u16) -> Result<(), Failed> {
+        let answer = self.root.make_dir(path, mode);
+        counted(&mut self.faults, answer)
+    }
+
+    fn make_file(&mut self, path: &RelPath) -> Result<(), Failed> {
+        let answer = self.root.make_file(path);
+        counted(&mut self.faults, answer)
+    }
+
+    fn append(&mut self, path: &RelPath, bytes: &[u8]) -> Result<(), Failed> {
+        let answer = self.root.append(path, bytes);
+        counted(&mut self.faults, answer)
+    }
+
+    fn set_mode(&mut self, path: &RelPath, mode: u16) -> Result<(), Failed> {
+        let answer = self.root.set_mode(path, mode);
+        counted(&mut self.faults, answer)
+    }
+
+    fn sync(&mut self) -> Result<(), Failed> {
+        let answer = self.root.sync();
+        counted(&mut self.faults, answer)
+    }
+}
+
+#[cfg(test)]
+mod tests;

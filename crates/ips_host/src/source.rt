@@ -1,0 +1,51 @@
+//! A folder of the host that is read.
+
+ghost use Rattle.std.specs.Prelude.{◌≡◌};
+ghost use Rattle.ips_host.specs.Silent.{silent, silent_is_sane};
+
+use crate::fault::counted;
+use crate::root::Root;
+use ips_outside::{Failed, Look, Source};
+use ips_text::{RelPath, Text};
+use std::rt::{Processes, Runtime};
+
+/// The files below a root of the host, to be read.
+///
+/// Trusted here, and not proved: that a look and a read answer what stands there, and that nobody writes there in the
+/// meantime.
+#[derive(Drop)]
+pub struct HostSource<R: Runtime + Processes> {
+    root: Root<R>,
+    faults: u64,
+}
+
+impl<R: Runtime + Processes> HostSource<R> {
+    /// The files below this path of the host.
+    pub fn new(rt: R, root: Text) -> HostSource<R>
+        ensures { (⟦<HostSource<R> as Source>⟧.outside).faults result ≡ 0 }
+    {
+        HostSource {
+            root: Root::new(rt, root),
+            faults: 0,
+        }
+    }
+}
+
+impl<R: Runtime + Processes> Source for HostSource<R> {
+    ghost outside = { silent (λ s. s.faults) };
+
+    ghost sane = { silent_is_sane (λ s. s.faults) };
+
+    fn look(&mut self, path: &RelPath) -> Result<Look, Failed> {
+        let answer = self.root.look(path);
+        counted(&mut self.faults, answer)
+    }
+
+    fn read(&mut self, path: &RelPath, at: u64, buf: &mut [u8]) -> Result<usize, Failed> {
+        let answer = self.root.read(path, at, buf);
+        counted(&mut self.faults, answer)
+    }
+}
+
+#[cfg(test)]
+mod tests;
