@@ -16,14 +16,14 @@ abbrev pub file_made : List ℕ → State → State
 file_made p s = written p (placed p (Some (File 384 [])) s.held) s
 
 -- with these bytes at the end of the file at the path, which is touched
-abbrev pub bytes_put : List ℕ → List ℕ → State → State
-bytes_put p bytes s = written p (appended p bytes s.held) s
+abbrev pub bytes_appended : List ℕ → List ℕ → State → State
+bytes_appended p bytes s = written p (appended p bytes s.held) s
 
 -- what one call makes of a folder, where it has its whole effect
 abbrev pub effect : Call → State → State
 effect (call.MakeDir path mode) s = dir_made path.bytes mode s
 effect (call.MakeFile path) s = file_made path.bytes s
-effect (call.Append path bytes) s = bytes_put path.bytes bytes.items s
+effect (call.Append path bytes) s = bytes_appended path.bytes bytes.items s
 effect (call.SetMode path mode) s = mode_set mode path.bytes s
 effect call.Sync s = settled s
 

@@ -8,7 +8,7 @@ use Rattle.ips_outside.specs.Image.{Image, IsImage}
 use Rattle.ips_outside.specs.State.{State, untouched}
 use Rattle.ips_outside.specs.Outside.{Outside, IsOutside}
 use Rattle.ips_outside.specs.declared.tree.Tree.{Tree}
-use Rattle.ips_outside.specs.Tree.{tree_image}
+use Rattle.ips_outside.specs.Tree.{tree_image, tree_formed}
 use Rattle.ips_folder.specs.History.{replay}
 use Rattle.ips_folder.specs.declared.call.Call.{Call}
 use Rattle.ips_folder.specs.declared.memory.MemFolder.{MemFolder}
@@ -36,7 +36,7 @@ mem_outside = record {
 
 pub mem_sane : IsOutside mem_outside
 mem_sane = record {
-  formed = λ f told. subst IsImage (sym f.left.held) f.tree.formed;
+  formed = λ f told. subst IsImage (sym f.left.held) (tree_formed f.tree);
   only_now = λ f s was. was.is ∙ ap (λ (l : List Call). replay l (first_state f)) (take_all was.at f.calls.items was.low);
   counts_now = λ f t le. record { at = length f.calls.items; low = le; high = le_refl (length f.calls.items); is = sym (ap (λ (l : List Call). replay l (first_state f)) (take_all (length f.calls.items) f.calls.items (le_refl (length f.calls.items)))) };
 }

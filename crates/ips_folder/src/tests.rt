@@ -12,7 +12,7 @@ use std::alloc::Global;
 use std::process::Abort;
 use std::test::Fail;
 
-// A folder in which two of its calls may fail, with a directory and in it a file with two bytes.
+// A folder of which these calls fail, with a directory and in it a file of two bytes.
 fn folder(alloc: Global, dir: &RelPath, file: &RelPath, fails: &[u64]) -> Result<MemFolder, Fail>
     ensures { IfOk result (λ f. IsSole (mem_outside.state f).held file.now.bytes) }
 {
@@ -42,14 +42,6 @@ fn has_mode(folder: &MemFolder, path: &RelPath) -> bool
     )
 }
 
-fn looked<S: Source>(source: &mut S, path: &RelPath) -> Result<Look, Failed> {
-    source.look(path)
-}
-
-fn synced<F: Folder>(folder: &mut F) -> Result<(), Failed> {
-    folder.sync()
-}
-
 #[derive(Drop)]
 struct Paths {
     file: RelPath,
@@ -74,15 +66,16 @@ fn after(
     ]
 }
 
+fn file(mode: u16, size: u64) -> Look {
+    Look::File { mode, size }
+}
+
 // Calls 1 to 4, of which one may be listed: each has its effect all the same.
 fn change(rt: &impl Abort, alloc: Global, folder: &mut MemFolder, paths: &Paths, listed: u64)
     requires { IsSole (mem_outside.state folder.old).held paths.now.file.bytes }
 {
     let answer = folder.append(&paths.file, b"c").is_ok();
-    let longer = Look::File {
-        mode: 0o644,
-        size: 3,
-    };
+    let longer = file(0o644, 3);
     assert_eq!(rt;
         after(rt, folder, paths, answer, listed != 1),
         [longer, Look::Absent, Look::Absent]
@@ -90,13 +83,10 @@ fn change(rt: &impl Abort, alloc: Global, folder: &mut MemFolder, paths: &Paths,
 
     assert!(rt; has_mode(folder, &paths.file));
     let answer = folder.set_mode(&paths.file, 0o4555).is_ok();
-    let file = Look::File {
-        mode: 0o4555,
-        size: 3,
-    };
+    let known = file(0o4555, 3);
     assert_eq!(rt;
         after(rt, folder, paths, answer, listed != 2),
-        [file, Look::Absent, Look::Absent]
+        [known, Look::Absent, Look::Absent]
     );
 
     assert!(rt; is_free(alloc, folder, &paths.dir));
@@ -104,18 +94,15 @@ fn change(rt: &impl Abort, alloc: Global, folder: &mut MemFolder, paths: &Paths,
     let dir = Look::Dir { mode: 0o750 };
     assert_eq!(rt;
         after(rt, folder, paths, answer, listed != 3),
-        [file, dir, Look::Absent]
+        [known, dir, Look::Absent]
     );
 
     assert!(rt; is_free(alloc, folder, &paths.inner));
     let answer = folder.make_file(&paths.inner).is_ok();
-    let inner = Look::File {
-        mode: 0o600,
-        size: 0,
-    };
+    let inner = file(0o600, 0);
     assert_eq!(rt;
         after(rt, folder, paths, answer, listed != 4),
-        [file, dir, inner]
+        [known, dir, inner]
     );
 }
 

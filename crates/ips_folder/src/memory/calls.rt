@@ -6,7 +6,7 @@ ghost use Rattle.ips_outside.specs.Change.{names};
 ghost use Rattle.ips_outside.specs.State.{nowhere, mode_set, settled};
 ghost use Rattle.ips_outside.specs.Outside.{Reads, look_of, readable, IsRead};
 ghost use Rattle.ips_folder.specs.Calls.{Writes, Syncs, CanMake, IsSole, has_mode};
-ghost use Rattle.ips_folder.specs.History.{dir_made, file_made, bytes_put};
+ghost use Rattle.ips_folder.specs.History.{dir_made, file_made, bytes_appended};
 ghost use Rattle.ips_folder.specs.Memory.{mem_outside, mem_sane, must_fail, Does, Passes};
 
 use crate::call::Call;
@@ -69,8 +69,8 @@ impl Folder for MemFolder {
 
     fn append(&mut self, path: &RelPath, bytes: &[u8]) -> Result<(), Failed>
         requires { IsSole (mem_outside.state self.old).held path.now.bytes }
-        ensures writes { Writes mem_outside (covers path.now.bytes) nowhere (bytes_put path.now.bytes bytes.now (mem_outside.state self.old)) self.old self.new result }
-        ensures does { Does (bytes_put path.now.bytes bytes.now (mem_outside.state self.old)) self.old self.new result }
+        ensures writes { Writes mem_outside (covers path.now.bytes) nowhere (bytes_appended path.now.bytes bytes.now (mem_outside.state self.old)) self.old self.new result }
+        ensures does { Does (bytes_appended path.now.bytes bytes.now (mem_outside.state self.old)) self.old self.new result }
     {
         match (path.copy(self.alloc), Vec::from_slice(self.alloc, bytes)) {
             (Ok(path), Ok(bytes)) => self.act(Call::Append { path, bytes }),

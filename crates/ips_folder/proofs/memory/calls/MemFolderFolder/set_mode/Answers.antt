@@ -11,13 +11,13 @@ pub returns-in-Ok-clause-writes : goal.returns-in-Ok-clause-writes
 returns-in-Ok-clause-writes c =
     let s = mem_outside.state c.args.self.now in
     let p = c.args.path.now.bytes in
-    let is = ap (λ (x : List ℕ). mode_set c.args.mode x s) c.in-Ok.ensures in
+    let is = ap (λ (x : List ℕ). mode_set c.args.mode x s) c.in-Ok.ensures.same in
     writes c.args.self.now c.act.new.self c.act.result _ (call.SetMode c.in-Ok.path c.args.mode) is nowhere (names s.held p) (mode_set_changed c.args.mode p s) c.act.ensures
 
 pub returns-in-Ok-clause-does : goal.returns-in-Ok-clause-does
 returns-in-Ok-clause-does c =
     let s = mem_outside.state c.args.self.now in
-    let is = ap (λ (x : List ℕ). mode_set c.args.mode x s) c.in-Ok.ensures in
+    let is = ap (λ (x : List ℕ). mode_set c.args.mode x s) c.in-Ok.ensures.same in
     does c.args.self.now c.act.new.self c.act.result _ (call.SetMode c.in-Ok.path c.args.mode) is c.act.ensures
 
 pub returns-in-Err-clause-writes : goal.returns-in-Err-clause-writes

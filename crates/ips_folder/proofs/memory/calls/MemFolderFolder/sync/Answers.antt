@@ -1,7 +1,7 @@
-use Rattle.std.proofs.Common.{◌≡◌, Bool, if◌then◌else◌, sym, ◌∙◌, ap}
+use Rattle.std.proofs.Common.{rules, ◌≡◌, Bool, false, if◌then◌else◌, ap}
 use Rattle.ips_outside.specs.State.{settled}
 use Rattle.ips_folder.specs.declared.call.Call.TheVariants as call
-use Rattle.ips_folder.specs.Memory.{mem_outside}
+use Rattle.ips_folder.specs.Memory.{mem_outside, must_fail}
 use Rattle.ips_folder.proofs.Answered.{syncs, does}
 use Rattle.ips_folder.proofs.memory.calls.MemFolderFolder.sync.Goals as goal
 
@@ -11,5 +11,6 @@ returns-clause-syncs c = syncs c.args.self.now c.act.new.self c.act.result (sett
 pub returns-clause-does : goal.returns-clause-does
 returns-clause-does c =
     let s = mem_outside.state c.args.self.now in
-    let is = ap (λ (b : Bool). if b then s else settled s) (sym c.if-must_fail.false ∙ c.must_fail.ensures) in
+    let served : false ≡ must_fail c.args.self.now = search rules in
+    let is = ap (λ (b : Bool). if b then s else settled s) served in
     does c.args.self.now c.act.new.self c.act.result _ call.Sync is c.act.ensures
