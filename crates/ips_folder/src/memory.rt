@@ -1,6 +1,7 @@
 //! A folder in memory, which keeps a record of its calls.
 
-ghost use Rattle.std.specs.Prelude.{◌≡◌, ◌⊎◌, ◌++◌, ◌∷◌, [], Bool, ◌||◌, not, is_err, IfOk, OnOk, OnErr};
+ghost use Rattle.std.specs.Prelude.{◌≡◌, ◌⊎◌, ◌+◌, ◌==◌, ◌++◌, ◌∷◌, [], Bool, ◌||◌, not, is_err, IfOk, OnOk, OnErr};
+ghost use Rattle.std.specs.List.{list_any};
 ghost use Rattle.ips_outside.specs.State.{untouched};
 ghost use Rattle.ips_outside.specs.Tree.{tree_image};
 ghost use Rattle.ips_folder.specs.History.{IsLeft, CanDo, effect};
@@ -20,14 +21,14 @@ pub struct MemFolder {
     tree: Tree,
     calls: Vec<Call>,
     fails: Vec<u64>,
-    count: u64,
+    made: u64,
     faults: u64,
     starved: u64,
     ghost left: { IsLeft (tree_image first) (tree_image tree) calls.items },
 }
 
 impl MemFolder {
-    ghost use Rattle.ips_folder.specs.Memory.{mem_outside, starved, Begins, must_fail, IsCounted, IsRecorded, IsRefused};
+    ghost use Rattle.ips_folder.specs.Memory.{mem_folder, starved, Begins, must_fail, IsCounted, IsRecorded, IsRefused};
 
     /// A folder that holds the tree, of which the calls with the listed numbers fail.
     pub fn new(alloc: Global, tree: Tree, fails: Vec<u64>) -> Result<MemFolder, AllocError>
@@ -39,7 +40,7 @@ impl MemFolder {
             tree,
             calls: Vec::new(alloc),
             fails,
-            count: 0,
+            made: 0,
             faults: 0,
             starved: 0,
         })
@@ -47,7 +48,7 @@ impl MemFolder {
 
     /// What the folder holds.
     pub fn tree(&self) -> &Tree
-        ensures held { tree_image result.now ≡ (mem_outside.state self.now).held }
+        ensures held { tree_image result.now ≡ (mem_folder.state self.now).held }
     {
         &self.tree
     }
@@ -63,7 +64,7 @@ impl MemFolder {
     fn must_fail(&self) -> bool
         ensures { result ≡ must_fail self.now }
     {
-        self.fails.contains(&self.count.saturating_add(1))
+        is_listed(&self.fails, self.made)
     }
 
     // Counts a call, which fails where it must or where memory was refused to it, and its failure.
@@ -76,7 +77,7 @@ impl MemFolder {
         ensures starved { self.new.starved ≡ self.old.starved }
     {
         let fails = self.must_fail() || !served;
-        self.count = self.count.saturating_add(1);
+        self.made = self.made.saturating_add(1);
         if fails {
             self.faults = self.faults.saturating_add(1);
             return Err(Failed);
@@ -116,4 +117,14 @@ fn keep(alloc: Global, tree: &mut Tree, calls: &mut Vec<Call>, call: Call) -> Re
     call.carry_out(alloc, tree)?;
     calls.push_reserved(call);
     Ok(())
+}
+
+// Whether the call after so many is listed. No number past the counter's last value is.
+fn is_listed(listed: &[u64], made: u64) -> bool
+    ensures { result ≡ list_any (λ n. n == made + 1) listed.now }
+{
+    match made.checked_add(1) {
+        Some(number) => listed.contains(&number),
+        None => false,
+    }
 }

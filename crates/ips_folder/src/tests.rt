@@ -2,7 +2,7 @@
 
 ghost use Rattle.std.specs.Prelude.{◌≡◌, IsTrue, IfOk};
 ghost use Rattle.ips_folder.specs.Calls.{CanMake, IsSole, has_mode};
-ghost use Rattle.ips_folder.specs.Memory.{mem_outside};
+ghost use Rattle.ips_folder.specs.Memory.{mem_folder};
 
 use crate::folder::Folder;
 use crate::memory::MemFolder;
@@ -14,7 +14,7 @@ use std::test::Fail;
 
 // A folder of which these calls fail, with a directory and in it a file of two bytes.
 fn folder(alloc: Global, dir: &RelPath, file: &RelPath, fails: &[u64]) -> Result<MemFolder, Fail>
-    ensures { IfOk result (λ f. IsSole (mem_outside.state f).held file.now.bytes) }
+    ensures { IfOk result (λ f. IsSole (mem_folder.state f).held file.now.bytes) }
 {
     let mut tree = Tree::new(alloc);
     tree.dir(alloc, dir, 0o755)?;
@@ -24,7 +24,7 @@ fn folder(alloc: Global, dir: &RelPath, file: &RelPath, fails: &[u64]) -> Result
 
 // Whether something can be made at the path.
 fn is_free(alloc: Global, folder: &MemFolder, path: &RelPath) -> bool
-    ensures { IsTrue result → CanMake (mem_outside.state folder.now).held path.now.bytes }
+    ensures { IsTrue result → CanMake (mem_folder.state folder.now).held path.now.bytes }
 {
     match folder.tree().copy(alloc) {
         Ok(mut tree) => tree.dir(alloc, path, 0).is_ok(),
@@ -34,7 +34,7 @@ fn is_free(alloc: Global, folder: &MemFolder, path: &RelPath) -> bool
 
 // Whether what stands at the path has a mode.
 fn has_mode(folder: &MemFolder, path: &RelPath) -> bool
-    ensures { IsTrue result → IsTrue (has_mode ((mem_outside.state folder.now).held.look path.now.bytes)) }
+    ensures { IsTrue result → IsTrue (has_mode ((mem_folder.state folder.now).held.look path.now.bytes)) }
 {
     matches!(
         folder.tree().look(path),
@@ -72,7 +72,7 @@ fn file(mode: u16, size: u64) -> Look {
 
 // Calls 1 to 4, of which one may be listed: each has its effect all the same.
 fn change(rt: &impl Abort, alloc: Global, folder: &mut MemFolder, paths: &Paths, listed: u64)
-    requires { IsSole (mem_outside.state folder.old).held paths.now.file.bytes }
+    requires { IsSole (mem_folder.state folder.old).held paths.now.file.bytes }
 {
     let answer = folder.append(&paths.file, b"c").is_ok();
     let longer = file(0o644, 3);

@@ -7,7 +7,7 @@ ghost use Rattle.ips_outside.specs.State.{nowhere, mode_set, settled};
 ghost use Rattle.ips_outside.specs.Outside.{Reads, look_of, readable, IsRead};
 ghost use Rattle.ips_folder.specs.Calls.{Writes, Syncs, CanMake, IsSole, has_mode};
 ghost use Rattle.ips_folder.specs.History.{dir_made, file_made, bytes_appended};
-ghost use Rattle.ips_folder.specs.Memory.{mem_outside, mem_sane, must_fail, Does, Passes};
+ghost use Rattle.ips_folder.specs.Memory.{mem_folder, mem_folder_sane, must_fail, Does, Passes};
 
 use crate::call::Call;
 use crate::folder::Folder;
@@ -16,39 +16,36 @@ use ips_outside::{Failed, Look, Source};
 use ips_text::RelPath;
 
 impl Source for MemFolder {
-    ghost outside = { mem_outside };
+    ghost outside = { mem_folder };
 
-    ghost sane = { mem_sane };
+    ghost sane = { mem_folder_sane };
 
     fn look(&mut self, path: &RelPath) -> Result<Look, Failed>
-        ensures reads { Reads mem_outside self.old self.new (IsErr result) }
+        ensures reads { Reads mem_folder self.old self.new (IsErr result) }
         ensures passes { Passes self.old self.new result }
-        ensures found { IfOk result (λ found. found ≡ look_of ((mem_outside.state self.old).held.look path.now.bytes)) }
+        ensures found { IfOk result (λ found. found ≡ look_of ((mem_folder.state self.old).held.look path.now.bytes)) }
     {
         self.answer(true)?;
         Ok(self.tree.look(path))
     }
 
     fn read(&mut self, path: &RelPath, at: u64, buf: &mut [u8]) -> Result<usize, Failed>
-        ensures reads { Reads mem_outside self.old self.new (IsErr result) }
+        ensures reads { Reads mem_folder self.old self.new (IsErr result) }
         ensures passes { Passes self.old self.new result }
         ensures fits { IfOk result (λ count. count ≤ length buf.old) }
-        ensures found { IfOk result (IsRead (readable ((mem_outside.state self.old).held.look path.now.bytes)) at buf.new) }
+        ensures found { IfOk result (IsRead (readable ((mem_folder.state self.old).held.look path.now.bytes)) at buf.new) }
     {
         self.answer(true)?;
-        Ok(match self.tree.bytes(path) {
-            Some(bytes) => copy_from(bytes, at, buf),
-            None => 0,
-        })
+        Ok(self.tree.read(path, at, buf))
     }
 }
 
 impl Folder for MemFolder {
     fn make_dir(&mut self, path: &RelPath, mode: u16) -> Result<(), Failed>
-        requires can { CanMake (mem_outside.state self.old).held path.now.bytes }
+        requires can { CanMake (mem_folder.state self.old).held path.now.bytes }
         requires mode { mode < 4096 }
-        ensures writes { Writes mem_outside (covers path.now.bytes) nowhere (dir_made path.now.bytes mode (mem_outside.state self.old)) self.old self.new result }
-        ensures does { Does (dir_made path.now.bytes mode (mem_outside.state self.old)) self.old self.new result }
+        ensures writes { Writes mem_folder (covers path.now.bytes) nowhere (dir_made path.now.bytes mode (mem_folder.state self.old)) self.old self.new result }
+        ensures does { Does (dir_made path.now.bytes mode (mem_folder.state self.old)) self.old self.new result }
     {
         match path.copy(self.alloc) {
             Ok(path) => self.act(Call::MakeDir { path, mode }),
@@ -57,9 +54,9 @@ impl Folder for MemFolder {
     }
 
     fn make_file(&mut self, path: &RelPath) -> Result<(), Failed>
-        requires { CanMake (mem_outside.state self.old).held path.now.bytes }
-        ensures writes { Writes mem_outside (covers path.now.bytes) nowhere (file_made path.now.bytes (mem_outside.state self.old)) self.old self.new result }
-        ensures does { Does (file_made path.now.bytes (mem_outside.state self.old)) self.old self.new result }
+        requires { CanMake (mem_folder.state self.old).held path.now.bytes }
+        ensures writes { Writes mem_folder (covers path.now.bytes) nowhere (file_made path.now.bytes (mem_folder.state self.old)) self.old self.new result }
+        ensures does { Does (file_made path.now.bytes (mem_folder.state self.old)) self.old self.new result }
     {
         match path.copy(self.alloc) {
             Ok(path) => self.act(Call::MakeFile { path }),
@@ -68,9 +65,9 @@ impl Folder for MemFolder {
     }
 
     fn append(&mut self, path: &RelPath, bytes: &[u8]) -> Result<(), Failed>
-        requires { IsSole (mem_outside.state self.old).held path.now.bytes }
-        ensures writes { Writes mem_outside (covers path.now.bytes) nowhere (bytes_appended path.now.bytes bytes.now (mem_outside.state self.old)) self.old self.new result }
-        ensures does { Does (bytes_appended path.now.bytes bytes.now (mem_outside.state self.old)) self.old self.new result }
+        requires { IsSole (mem_folder.state self.old).held path.now.bytes }
+        ensures writes { Writes mem_folder (covers path.now.bytes) nowhere (bytes_appended path.now.bytes bytes.now (mem_folder.state self.old)) self.old self.new result }
+        ensures does { Does (bytes_appended path.now.bytes bytes.now (mem_folder.state self.old)) self.old self.new result }
     {
         match (path.copy(self.alloc), Vec::from_slice(self.alloc, bytes)) {
             (Ok(path), Ok(bytes)) => self.act(Call::Append { path, bytes }),
@@ -79,10 +76,10 @@ impl Folder for MemFolder {
     }
 
     fn set_mode(&mut self, path: &RelPath, mode: u16) -> Result<(), Failed>
-        requires can { IsTrue (has_mode ((mem_outside.state self.old).held.look path.now.bytes)) }
+        requires can { IsTrue (has_mode ((mem_folder.state self.old).held.look path.now.bytes)) }
         requires mode { mode < 4096 }
-        ensures writes { Writes mem_outside nowhere (names (mem_outside.state self.old).held path.now.bytes) (mode_set mode path.now.bytes (mem_outside.state self.old)) self.old self.new result }
-        ensures does { Does (mode_set mode path.now.bytes (mem_outside.state self.old)) self.old self.new result }
+        ensures writes { Writes mem_folder nowhere (names (mem_folder.state self.old).held path.now.bytes) (mode_set mode path.now.bytes (mem_folder.state self.old)) self.old self.new result }
+        ensures does { Does (mode_set mode path.now.bytes (mem_folder.state self.old)) self.old self.new result }
     {
         match path.copy(self.alloc) {
             Ok(path) => self.act(Call::SetMode { path, mode }),
@@ -91,23 +88,12 @@ impl Folder for MemFolder {
     }
 
     fn sync(&mut self) -> Result<(), Failed>
-        ensures syncs { Syncs mem_outside self.old self.new result }
-        ensures does { Does (if must_fail self.old then mem_outside.state self.old else settled (mem_outside.state self.old)) self.old self.new result }
+        ensures syncs { Syncs mem_folder self.old self.new result }
+        ensures does { Does (if must_fail self.old then mem_folder.state self.old else settled (mem_folder.state self.old)) self.old self.new result }
     {
         if self.must_fail() {
             return self.answer(true);
         }
         self.act(Call::Sync)
     }
-}
-
-// Copies bytes from a place on into the front of the buffer, and answers how many.
-fn copy_from(bytes: &[u8], at: u64, buf: &mut [u8]) -> usize
-    ensures fits { result ≤ length buf.old }
-    ensures read { IsRead bytes.now at buf.new result }
-{
-    let rest = bytes.get(at as usize..).unwrap_or(&[]);
-    let count = rest.len().min(buf.len());
-    buf[..count].copy_from_slice(&rest[..count]);
-    count
 }
