@@ -2,6 +2,12 @@
 //! crash may leave.
 #![tactic(auto)]
 
+mod call;
 mod folder;
+mod memory;
 
 pub use folder::Folder;
+pub use memory::MemFolder;
+
+#[cfg(test)]
+mod tests;

@@ -1,0 +1,56 @@
+//! The calls that change a folder, as a record keeps them.
+
+ghost use Rattle.std.specs.Prelude.{◌≡◌, OnOk, OnErr, Ok, Err};
+ghost use Rattle.ips_text.specs.declared.refusal.Or.TheVariants.{OutOfMemory};
+ghost use Rattle.ips_text.specs.Reading.{IfBad};
+ghost use Rattle.ips_outside.specs.State.{untouched};
+ghost use Rattle.ips_outside.specs.Tree.{tree_image};
+
+use ips_outside::{Tree, TreeFault};
+use ips_text::{Or, RelPath};
+use std::alloc::{AllocError, Global};
+
+/// A call that changes a folder, or makes safe what was changed.
+#[derive(Drop)]
+pub enum Call {
+    MakeDir { path: RelPath, mode: u16 },
+    MakeFile { path: RelPath },
+    Append { path: RelPath, bytes: Vec<u8> },
+    SetMode { path: RelPath, mode: u16 },
+    Sync,
+}
+
+impl Call {
+    ghost use Rattle.ips_folder.specs.History.{effect, CanDo};
+
+    /// Carries the call out on a tree.
+    pub fn carry_out(&self, alloc: Global, tree: &mut Tree) -> Result<(), AllocError>
+        requires { CanDo self.now (tree_image tree.old) }
+        ensures done { OnOk result (tree_image tree.new ≡ (effect self.now (untouched (tree_image tree.old))).held) }
+        ensures refused { OnErr result (tree_image tree.new ≡ tree_image tree.old) }
+    {
+        match self {
+            Call::MakeDir { path, mode } => made(tree.dir(alloc, path, *mode)),
+            Call::MakeFile { path } => made(tree.file(alloc, path, 0o600, &[])),
+            Call::Append { path, bytes } => tree.append(path, bytes),
+            Call::SetMode { path, mode } => {
+                tree.set_mode(path, *mode);
+                Ok(())
+            }
+            Call::Sync => Ok(()),
+        }
+    }
+}
+
+// The answer of a maker of a tree that nothing but want of memory could hinder.
+fn made(answer: Result<(), Or<TreeFault>>) -> Result<(), AllocError>
+    requires { IfBad answer (λ _. ⊥) }
+    ensures done { OnOk result (answer ≡ Ok tt) }
+    ensures refused { OnErr result (answer ≡ Err OutOfMemory) }
+{
+    match answer {
+        Ok(()) => Ok(()),
+        Err(Or::OutOfMemory) => Err(AllocError),
+        Err(Or::Bad(_)) => unreachable!(),
+    }
+}
