@@ -1,5 +1,5 @@
 -- What a call on a folder in memory tells, by what it does to the record.
-use Rattle.std.proofs.Common.{◌≡◌, ◌⊎◌, inl, inr, ⊎_elim, ℕ, Bool, true, List, [], ◌∷◌, ◌++◌, length, Result, Ok, Err, is_err, OnOk, refl, sym, ◌∙◌, ap, subst, arith, length-append}
+use Rattle.std.proofs.Common.{◌≡◌, ◌⊎◌, inl, inr, ⊎_elim, ℕ, Bool, true, false, List, [], ◌∷◌, ◌++◌, length, Result, Ok, Err, is_err, OnOk, OnErr, refl, sym, ◌∙◌, ap, subst, arith, length-append}
 use Rattle.ips_outside.specs.State.{State, Changed, MayChange, untouched}
 use Rattle.ips_outside.specs.Outside.{Elapses, IsCall, Reads}
 use Rattle.ips_outside.specs.declared.tree.Tree.{Tree}
@@ -9,7 +9,7 @@ use Rattle.ips_folder.specs.declared.call.Call.{Call}
 use Rattle.ips_folder.specs.declared.call.Call.TheVariants as call
 use Rattle.ips_folder.specs.declared.memory.MemFolder.{MemFolder}
 use Rattle.ips_folder.specs.History.{effect, replay}
-use Rattle.ips_folder.specs.Memory.{first_state, Since, mem_folder, IsCounted, Does, IsRecorded, IsRefused}
+use Rattle.ips_folder.specs.Memory.{first_state, Since, mem_folder, must_fail, IsCounted, Does, IsRecorded, IsRefused}
 use Rattle.ips_folder.proofs.Replays.{replay_push, since_push}
 
 -- what was said of `Ok` alone
@@ -20,6 +20,15 @@ failed_ok P (Err e) bad = tt
 on_ok : {E : Type 0} {P : Type 0} (r : Result (Unit {0}) E) → P → OnOk r P
 on_ok (Ok u) p = p
 on_ok (Err e) p = tt
+
+-- what was said of `Err` alone
+served_err : {E : Type 0} (P : Type 0) (r : Result (Unit {0}) E) → is_err r ≡ false → OnErr r P
+served_err P (Ok u) good = tt
+served_err P (Err e) good = absurd (cc)
+
+on_err : {E : Type 0} {P : Type 0} (r : Result (Unit {0}) E) → P → OnErr r P
+on_err (Ok u) p = tt
+on_err (Err e) p = p
 
 module _ (f g : MemFolder) where
   -- the record stays
@@ -78,8 +87,8 @@ module _ (f g : MemFolder) where
       does (inl kept) = record { tally = kept.counts.tally; ends = inl (record { answer = kept.answer; starved = kept.starved; state = state_push c kept.first kept.calls ∙ is }) }
       does (inr lost) = record { tally = lost.counts.tally; ends = inr (record { answer = lost.answer; starved = lost.starved; state = state_same lost.first lost.calls }) }
 
-    pub syncs : IsRecorded call.Sync f g (is_err r) ⊎ IsRefused f g (is_err r) → Syncs mem_folder f g r
-    syncs (inl kept) =
+    pub syncs : must_fail f ≡ false → IsRecorded call.Sync f g (is_err r) ⊎ IsRefused f g (is_err r) → Syncs mem_folder f g r
+    syncs served (inl kept) =
         let now = state_push call.Sync kept.first kept.calls in
-        record { call = called_push call.Sync kept.first kept.calls (is_err r) kept.counts; done = λ told. on_ok r now; only = λ told. inr now }
-    syncs (inr lost) = record { call = called_same lost.first lost.calls (is_err r) lost.counts; done = λ told. failed_ok _ r lost.answer; only = λ told. inl (state_same lost.first lost.calls) }
+        record { call = called_push call.Sync kept.first kept.calls (is_err r) kept.counts; done = λ told. on_ok r now; kept = λ told. served_err _ r (kept.answer ∙ served) }
+    syncs served (inr lost) = record { call = called_same lost.first lost.calls (is_err r) lost.counts; done = λ told. failed_ok _ r lost.answer; kept = λ told. on_err r (state_same lost.first lost.calls) }

@@ -1,5 +1,5 @@
 -- What the calls on a folder say, and runs of them.
-use Rattle.std.specs.Prelude.{◌≡◌, ◌⊎◌, ℕ, ◌≤◌, Bool, ◌||◌, IsTrue, List, Option, None, Result, IsErr, OnOk}
+use Rattle.std.specs.Prelude.{◌≡◌, ◌⊎◌, ℕ, ◌≤◌, Bool, ◌||◌, IsTrue, List, Option, None, Result, IsErr, OnOk, OnErr}
 use Rattle.ips_outside.specs.Image.{Entry, Image, is_file, is_dir, has_parent}
 use Rattle.ips_outside.specs.State.{State, MayChange, Within, settled}
 use Rattle.ips_outside.specs.Outside.{Outside, IsCall}
@@ -11,11 +11,11 @@ pub record Writes {F T E : Type 0} (o : Outside F) (free loose : List ℕ → Bo
   pub done : IsTrue (o.tells old) → OnOk result (o.state new ≡ to)
   pub only : IsTrue (o.tells old) → MayChange free loose (o.state old) (o.state new)
 
--- A sync: at `Ok` nothing is touched any more, and the image is as before whatever it answers.
+-- A sync: at `Ok` the same image is held and nothing is touched any more; at `Err` nothing has changed.
 pub record Syncs {F T E : Type 0} (o : Outside F) (old new : F) (result : Result T E) : Type 0 where
   pub call : IsCall o old new (IsErr result)
   pub done : IsTrue (o.tells old) → OnOk result (o.state new ≡ settled (o.state old))
-  pub only : IsTrue (o.tells old) → (o.state new ≡ o.state old) ⊎ (o.state new ≡ settled (o.state old))
+  pub kept : IsTrue (o.tells old) → OnErr result (o.state new ≡ o.state old)
 
 -- Nothing stands at the path, and its parent is a directory.
 pub record CanMake (t : Image) (p : List ℕ) : Type 0 where
