@@ -34,6 +34,7 @@ mem_folder = record {
   faults = λ f. f.faults;
 }
 
+-- a folder in memory is as each folder has to be
 pub mem_folder_sane : IsOutside mem_folder
 mem_folder_sane = record {
   formed = λ f told. subst IsImage (sym f.left.held) (tree_formed f.tree);

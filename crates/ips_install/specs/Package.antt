@@ -54,6 +54,7 @@ pub record CanFollow (t : Image) (earlier : List (List ℕ)) (item : Item) : Typ
   pub absent : t.look (item_path item) ≡ None
   pub dir : HasDir earlier (parent (item_path item))
 
+-- what is delivered, if anything, can be laid behind the earlier lines
 abbrev pub MayFollow : Image → List (List ℕ) → Option Item → Type 0
 MayFollow t earlier (Some item) = CanFollow t earlier item
 MayFollow t earlier None = Unit {0}

@@ -6,6 +6,7 @@ use lib.Chars.{codes}
 use Rattle.ips_text.specs.Path.{IsPath}
 use Rattle.ips_text.specs.Mode.{IsOctal}
 
+-- lines with one byte more at the front of the first
 abbrev pub into_first : ℕ → List (List ℕ) → List (List ℕ)
 into_first b [] = (b ∷ []) ∷ []
 into_first b (line ∷ lines) = (b ∷ line) ∷ lines
@@ -36,6 +37,7 @@ pub data Item : Type 0 where
   Directory : ℕ → List ℕ → Item
   File : List ℕ → ℕ → List ℕ → Item
 
+-- where an item is laid
 abbrev pub item_path : Item → List ℕ
 item_path (Directory mode path) = path
 item_path (File payload mode path) = path

@@ -28,6 +28,7 @@ moded m p t = record {
   same = t.same;
 }
 
+-- a file with these bytes at its end; what is no file stays
 abbrev pub more_bytes : List ℕ → Option Entry → Option Entry
 more_bytes more (Some (Dir m f)) = Some (Dir m f)
 more_bytes more (Some (File m b)) = Some (File m (b ++ more))

@@ -21,6 +21,7 @@ is_full s bytes = (left s == 0) && not (length bytes == 0)
 abbrev pub write_fails : Filled → List ℕ → Bool
 write_fails s bytes = next_fails s.calls || is_full s bytes
 
+-- a sink in memory tells what it took
 abbrev pub mem_taking : Taking Filled
 mem_taking = record {
   tells = λ s. true;

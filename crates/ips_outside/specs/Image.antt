@@ -19,6 +19,7 @@ pub record Image : Type 0 where
 abbrev pub nothing : Image
 nothing = record { look = λ q. None; same = λ a b. false }
 
+-- a directory stands there
 abbrev pub is_dir : Option Entry → Bool
 is_dir (Some (Dir m f)) = true
 is_dir (Some (File m b)) = false
@@ -26,6 +27,7 @@ is_dir (Some (Link g)) = false
 is_dir (Some Other) = false
 is_dir None = false
 
+-- a file stands there
 abbrev pub is_file : Option Entry → Bool
 is_file (Some (Dir m f)) = false
 is_file (Some (File m b)) = true
@@ -49,6 +51,7 @@ with_mode m (Some (Link g)) = Some (Link g)
 with_mode m (Some Other) = Some Other
 with_mode m None = None
 
+-- a directory stands at the path, or no path is asked for
 abbrev pub dir_or_none : Image → Option (List ℕ) → Bool
 dir_or_none t (Some q) = is_dir (t.look q)
 dir_or_none t None = true

@@ -37,8 +37,10 @@ unchanging_sane image faults formed = record {
   counts_now = λ f t le. refl;
 }
 
+-- a source in memory is as each source has to be
 pub mem_sane : IsOutside mem_outside
 mem_sane = unchanging_sane _ _ (λ s. tree_formed s.tree)
 
+-- so is one that never fails
 pub sure_sane : IsOutside sure_outside
 sure_sane = unchanging_sane _ _ (λ s. tree_formed s.tree)

@@ -11,6 +11,7 @@ pub record State : Type 0 where
   pub whole : List ℕ → Bool
   pub modes : List ℕ → Bool
 
+-- at no path
 abbrev pub nowhere : List ℕ → Bool
 nowhere q = false
 

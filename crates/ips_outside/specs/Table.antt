@@ -19,6 +19,7 @@ file_of [] n = None
 file_of (node ∷ nodes) zero = Some (File node.mode node.bytes.items)
 file_of (node ∷ nodes) (suc n) = file_of nodes n
 
+-- what an entry of the table stands for
 abbrev pub entry_of : List Node → Option Kind → Option Entry
 entry_of nodes (Some (kind.Dir m foreign)) = Some (Dir m foreign)
 entry_of nodes (Some (kind.File n)) = file_of nodes n
@@ -34,6 +35,7 @@ node_of (Some (kind.Link target)) = None
 node_of (Some kind.Other) = None
 node_of None = None
 
+-- both are one node
 abbrev pub one_node : Option ℕ → Option ℕ → Bool
 one_node (Some m) (Some n) = m == n
 one_node (Some m) None = false
@@ -46,6 +48,7 @@ with_dir_mode mode (kind.File n) = kind.File n
 with_dir_mode mode (kind.Link target) = kind.Link target
 with_dir_mode mode kind.Other = kind.Other
 
+-- what stands at each path, and which paths are names of one node
 abbrev pub image_of : List (Vec ℕ Global × Kind) → List Node → Image
 image_of paths nodes = record {
   look = λ q. entry_of nodes (kind_at paths q);
