@@ -1,8 +1,8 @@
 //! A sink of bytes in memory.
 
-ghost use Rattle.std.specs.Prelude.{◌≡◌, ◌≤◌, ◌++◌, ℕ, [], Bool, IsTrue, List, IfOk, IsErr, OnErr, is_err, length, take, min};
+ghost use Rattle.std.specs.Prelude.{◌≡◌, ◌≤◌, ◌++◌, [], IsTrue, IfOk, IsErr, OnErr, is_err, length, take, min};
 ghost use Rattle.ips_outside.specs.Outside.{HasCause};
-ghost use Rattle.ips_outside.specs.Taking.{Taking, TakesSome};
+ghost use Rattle.ips_outside.specs.Taking.{TakesSome};
 ghost use Rattle.ips_outside.specs.Tally.{fresh, after_call};
 ghost use Rattle.ips_outside.specs.Filling.{Filled, left, write_fails, mem_taking};
 

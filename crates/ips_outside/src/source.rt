@@ -1,10 +1,10 @@
 //! Sources of files in memory.
 #![tactic(auto, unfolding(crate::specs::Memory::tally_of))]
 
-ghost use Rattle.std.specs.Prelude.{◌≡◌, ◌<◌, ◌≤◌, ℕ, Bool, IsTrue, IfOk, IsErr, IsOk, is_err, length};
-ghost use Rattle.ips_outside.specs.Outside.{Outside, Reads, look_of, readable, IsRead};
+ghost use Rattle.std.specs.Prelude.{◌≡◌, ◌<◌, ◌≤◌, IsTrue, IfOk, IsErr, IsOk, is_err, length};
+ghost use Rattle.ips_outside.specs.Outside.{Reads, look_of, readable, IsRead};
 ghost use Rattle.ips_outside.specs.State.{untouched};
-ghost use Rattle.ips_outside.specs.Tally.{Tally, fresh, next_fails, after_call};
+ghost use Rattle.ips_outside.specs.Tally.{fresh, next_fails, after_call};
 ghost use Rattle.ips_outside.specs.Tree.{tree_image};
 ghost use Rattle.ips_outside.specs.Memory.{mem_outside, mem_sane, sure_outside, sure_sane, tally_of};
 

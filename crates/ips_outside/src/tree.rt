@@ -1,9 +1,9 @@
 //! A tree of files in memory.
 #![tactic(auto, unfolding(crate::specs::Tree::tree_image))]
 
-ghost use Rattle.std.specs.Prelude.{◌≡◌, ◌<◌, ◌∷◌, [], ◌++◌, ℕ, Bool, false, IsTrue, IsSome, List, Option, Some, None, IfOk, OnOk, OnErr, ◌≤◌, length};
+ghost use Rattle.std.specs.Prelude.{◌≡◌, ◌<◌, [], ℕ, false, IsTrue, List, Option, Some, None, IfOk, OnOk, OnErr, ◌≤◌, length};
 ghost use Rattle.std.specs.Option.{option_copied};
-ghost use Rattle.ips_outside.specs.Image.{Image, IsImage, Entry, Dir, File, nothing, is_file, file_bytes};
+ghost use Rattle.ips_outside.specs.Image.{IsImage, Dir, File, nothing, is_file, file_bytes};
 ghost use Rattle.ips_outside.specs.Change.{placed, moded, appended};
 ghost use Rattle.ips_outside.specs.Outside.{look_of, readable, IsRead};
 ghost use Rattle.ips_outside.specs.Table.{image_of, entry_of, node_of};
