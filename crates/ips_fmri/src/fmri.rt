@@ -8,7 +8,7 @@ ghost use Rattle.ips_fmri.specs.Reading.{place_of, placed};
 ghost use Rattle.ips_fmri.specs.declared.fmri.Fmri as declared;
 
 use crate::fault::{FmriFault, Part, fault};
-use crate::names::read_name;
+use crate::names::{copy_text, copy_version, read_name};
 use crate::pattern::Pattern;
 use crate::printing::{push_lead, push_version_part};
 use crate::version::Version;
@@ -43,6 +43,17 @@ impl Fmri {
             Err(Or::Bad(stop)) => Err(Or::Bad(fault(bytes.len(), stop))),
             Err(Or::OutOfMemory) => Err(Or::OutOfMemory),
         }
+    }
+
+    /// An FMRI of the same parts.
+    pub fn copy(&self, alloc: Global) -> Result<Fmri, AllocError>
+        ensures { IfOk result (λ f. f ≡ self.now) }
+    {
+        Ok(Fmri {
+            publisher: copy_text(alloc, &self.publisher)?,
+            stem: self.stem.copy(alloc)?,
+            version: copy_version(alloc, &self.version)?,
+        })
     }
 
     /// The canonical spelling: `pkg://publisher/stem@version`, or `stem@version` where there is no publisher.

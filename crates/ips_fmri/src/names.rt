@@ -143,3 +143,23 @@ fn text_of(alloc: Global, bytes: &[u8]) -> Result<Text, AllocError>
         Err(_) => unreachable!(),
     }
 }
+
+/// A copy of a text, where there is one.
+pub fn copy_text(alloc: Global, text: &Option<Text>) -> Result<Option<Text>, AllocError>
+    ensures { IfOk result (λ t. t ≡ text.now) }
+{
+    match text {
+        Some(text) => Ok(Some(text.copy(alloc)?)),
+        None => Ok(None),
+    }
+}
+
+/// A copy of a version, where there is one.
+pub fn copy_version(alloc: Global, version: &Option<Version>) -> Result<Option<Version>, AllocError>
+    ensures { IfOk result (λ v. v ≡ version.now) }
+{
+    match version {
+        Some(version) => Ok(Some(version.copy(alloc)?)),
+        None => Ok(None),
+    }
+}

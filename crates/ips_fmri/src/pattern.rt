@@ -14,7 +14,7 @@ ghost use Rattle.ips_fmri.specs.declared.pattern.Pattern as declared;
 use crate::components::is_wildcard;
 use crate::fault::{FmriFault, fault};
 use crate::matching::matches_stem;
-use crate::names::read_name;
+use crate::names::{copy_text, copy_version, read_name};
 use crate::printing::{push_lead, push_version_part};
 use crate::version::Version;
 use ips_text::{Or, Text};
@@ -51,6 +51,18 @@ impl Pattern {
         }
     }
 
+    /// A pattern of the same parts.
+    pub fn copy(&self, alloc: Global) -> Result<Pattern, AllocError>
+        ensures { IfOk result (λ p. p ≡ self.now) }
+    {
+        Ok(Pattern {
+            publisher: copy_text(alloc, &self.publisher)?,
+            anchored: self.anchored,
+            stem: self.stem.copy(alloc)?,
+            version: copy_version(alloc, &self.version)?,
+        })
+    }
+
     /// The canonical spelling: `pkg://` and the publisher, or `pkg:/` where it is anchored without one, then stem and version.
     pub fn print(&self, alloc: Global) -> Result<Text, AllocError>
         ensures { IfOk result (λ text. text ≡ pattern_text self.now) }
@@ -63,8 +75,10 @@ impl Pattern {
     }
 
     /// Whether the pattern matches a stem: the whole of it, or, unless it is anchored, what follows one of its `/`. Characters
-    /// are those of UTF-8, so `?` stands for one character of any number of bytes. The publisher plays no part. At each `/` at
-    /// which a match may begin it takes at most as many steps as the length of the pattern times that of the stem.
+    /// are those of UTF-8, so `?` stands for one character of any number of bytes. Publisher and version play no part.
+    ///
+    /// The steps are at most about the length of the pattern times that of the stem, for each component at which a match may
+    /// begin, however many stars there are.
     pub fn matches(&self, stem: &str) -> bool
         ensures { IsTrue result ↔ MatchesStem self.now.anchored (chars self.now.stem) (chars stem.now) }
     {
