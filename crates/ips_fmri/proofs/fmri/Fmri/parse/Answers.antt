@@ -1,0 +1,20 @@
+use Rattle.std.proofs.Common.{ap, sym, subst, Ok}
+use Rattle.ips_fmri.specs.Fmri.{WritesFmri}
+use Rattle.ips_fmri.proofs.Versions.{fault_first, read_one, read_none}
+use Rattle.ips_fmri.proofs.Readings.{judges_fmri}
+use Rattle.ips_fmri.proofs.fmri.Fmri.parse.Goals as goal
+
+pub fault-requires : goal.fault-requires
+fault-requires c = (fault_first judges_fmri _ c.in-Err-Bad.stop (rw c.in-Err-Bad.field-0-is at c.in-Err-Bad.ensures)).0
+
+pub returns-in-Ok-clause-found : goal.returns-in-Ok-clause-found
+returns-in-Ok-clause-found c = rw (← c.as_bytes-bytes.ensures.value) (judges_fmri.found _ _ c.in-Ok.ensures)
+
+pub returns-in-Ok-clause-only : goal.returns-in-Ok-clause-only
+returns-in-Ok-clause-only c = λ v h t. ap Ok (read_one judges_fmri _ _ v c.in-Ok.ensures (h, subst (WritesFmri v) (sym c.as_bytes-bytes.ensures.value) t))
+
+pub returns-in-Err-Bad-clause-only : goal.returns-in-Err-Bad-clause-only
+returns-in-Err-Bad-clause-only c = λ v h t. absurd (read_none judges_fmri _ c.in-Err-Bad.stop v (rw c.in-Err-Bad.field-0-is at c.in-Err-Bad.ensures) (h, subst (WritesFmri v) (sym c.as_bytes-bytes.ensures.value) t))
+
+pub returns-in-Err-Bad-clause-first : goal.returns-in-Err-Bad-clause-first
+returns-in-Err-Bad-clause-first c = rw (← c.as_bytes-bytes.ensures.value, c.fault.ensures) (fault_first judges_fmri _ c.in-Err-Bad.stop (rw c.in-Err-Bad.field-0-is at c.in-Err-Bad.ensures)).1

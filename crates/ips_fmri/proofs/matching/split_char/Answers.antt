@@ -1,0 +1,9 @@
+use Rattle.std.proofs.Common.{ℕ, List, ◌++◌, sym, ap, ◌∙◌}
+use Rattle.std.specs.Char.{encode_utf8}
+use Rattle.std.proofs.lemmas.Str.{chars_past_char}
+use Rattle.ips_fmri.proofs.matching.split_char.Goals as goal
+
+pub returns-clause-some : goal.returns-clause-some
+returns-clause-some c =
+    chars_past_char c.args.text.now c.as_str.result.now c.in_ok-first.first c.utf8.text
+    (sym c.chars-characters.ensures.rest ∙ c.in_ok-first.ensures.steps.0 ∙ ap (λ (l : List ℕ). encode_utf8 c.in_ok-first.first ++ l) (sym c.as_str.ensures))
