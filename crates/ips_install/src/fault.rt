@@ -1,6 +1,7 @@
 //! Why an installation wasn't done.
 
 use ips_text::Text;
+use std::alloc::{AllocError, AllocFailed};
 
 /// Why a package wasn't installed. Every variant but `Source` and an unfinished `Folder` leaves the image as it was.
 #[derive(Debug, Drop)]
@@ -15,4 +16,26 @@ pub enum InstallFault {
     Folder { unfinished: bool },
     /// Memory was refused, before the first change.
     OutOfMemory,
+}
+
+impl From<AllocError> for InstallFault {
+    ghost use Rattle.std.specs.Prelude.{◌≡◌};
+    ghost use Rattle.ips_install.specs.declared.fault.InstallFault.TheVariants.{OutOfMemory};
+
+    ghost from_gives = { λ _ e. e ≡ OutOfMemory };
+
+    fn from(_e: AllocError) -> InstallFault {
+        InstallFault::OutOfMemory
+    }
+}
+
+impl<T: Drop> From<AllocFailed<T>> for InstallFault {
+    ghost use Rattle.std.specs.Prelude.{◌≡◌};
+    ghost use Rattle.ips_install.specs.declared.fault.InstallFault.TheVariants.{OutOfMemory};
+
+    ghost from_gives = { λ _ e. e ≡ OutOfMemory };
+
+    fn from(_e: AllocFailed<T>) -> InstallFault {
+        InstallFault::OutOfMemory
+    }
 }

@@ -1,0 +1,93 @@
+-- What each phase's fault says of the whole.
+use Rattle.std.proofs.Common.{◌≡◌, ℕ, Bool, true, false, List, [], length, get_or, All, ◌∙◌, ap, subst, arith, Result, Err}
+use Rattle.std.proofs.lemmas.Option.{slice_get-get_or}
+use Rattle.ips_outside.specs.Image.{Image}
+use Rattle.ips_outside.specs.Outside.{Outside, IsOutside, Reads}
+use Rattle.ips_folder.specs.Calls.{Keeps}
+use Rattle.ips_folder.proofs.Runs.{one_read, keeps_then}
+use Rattle.ips_manifest.specs.Line.{Directory, File}
+use Rattle.ips_manifest.proofs.OneMeaning.{meant_mode}
+use Rattle.ips_install.specs.Package.{AreReady, CanInstall, ChangesOnly, covered_by}
+use Rattle.ips_install.specs.Fault.{SaysOfLines, is_refusal}
+use Rattle.ips_install.specs.Laying.{IsStepOf, AreStepsOf, paths_of, IsModed, IsLayingFault}
+use Rattle.ips_install.specs.Planning.{SaysOfPlan, IsPlanningFault}
+use Rattle.ips_install.specs.Wanting.{SaysOfPayloads}
+use Rattle.ips_install.specs.declared.fault.InstallFault.{InstallFault}
+use Rattle.ips_install.specs.declared.fault.InstallFault.TheVariants.{NotYet, PayloadMissing, Source, Folder, OutOfMemory}
+use Rattle.ips_install.specs.declared.step.Step.{Step}
+use Rattle.ips_install.specs.declared.step.Step.TheVariants as step
+use Rattle.ips_install.proofs.Stepping.{line_of, paths_named}
+
+module _ (repository t : Image) (lines : List (List ℕ)) where
+  pub says_plan : (why : InstallFault) → IsPlanningFault why → SaysOfPlan t lines why → SaysOfLines repository t lines why
+  says_plan (NotYet line) is says = says
+  says_plan (PayloadMissing name) is says = absurd is
+  says_plan Source is says = tt
+  says_plan (Folder true) is says = cc
+  says_plan (Folder false) is says = tt
+  says_plan OutOfMemory is says = tt
+
+  pub says_payloads : AreReady t lines (length lines) → (why : InstallFault) → SaysOfPayloads repository lines why → SaysOfLines repository t lines why
+  says_payloads ready (NotYet line) says = absurd says
+  says_payloads ready (PayloadMissing name) says = record { ready = ready; first = says }
+  says_payloads ready Source says = tt
+  says_payloads ready (Folder unfinished) says = absurd says
+  says_payloads ready OutOfMemory says = tt
+
+  pub says_laying : CanInstall repository t lines → (why : InstallFault) → IsLayingFault why → SaysOfLines repository t lines why
+  says_laying can (NotYet line) is = absurd is
+  says_laying can (PayloadMissing name) is = absurd is
+  says_laying can Source is = tt
+  says_laying can (Folder true) is = can
+  says_laying can (Folder false) is = tt
+  says_laying can OutOfMemory is = tt
+
+-- no fault while files are laid is a refusal
+pub laying_changes : (why : InstallFault) → IsLayingFault why → is_refusal why ≡ true → ⊥
+laying_changes (NotYet line) is refusal = is
+laying_changes (PayloadMissing name) is refusal = is
+laying_changes Source is refusal = cc
+laying_changes (Folder true) is refusal = cc
+laying_changes (Folder false) is refusal = cc
+laying_changes OutOfMemory is refusal = is
+
+moded_step : (text : List ℕ) (s : Step) → IsStepOf text s → IsModed s
+moded_step text step.Nothing is = tt
+moded_step text (step.Directory mode path) is = meant_mode text (Directory mode path.bytes) is
+moded_step text (step.File mode path payload) is = meant_mode text (File is.0 mode path.bytes) is.1
+
+-- each step's mode is one
+pub all_moded : (lines : List (List ℕ)) (steps : List Step) → AreStepsOf lines steps → All IsModed steps
+all_moded lines steps all = λ k d lt.
+    let line = line_of lines steps k (get_or steps k d) all (slice_get-get_or steps k d lt) in
+    moded_step line.text (get_or steps k d) line.is
+
+-- a run that changes nothing
+pub unchanged : {F : Type 0} (o : Outside F) (sane : IsOutside o) (lines : List (List ℕ)) (old new : F) (failure : Type 0) → Reads o old new failure → ChangesOnly o lines old new
+unchanged o sane lines old new failure reads = record {
+  paths = [];
+  named = λ path has. absurd (omega (arith, has.1));
+  keeps = one_read o sane (covered_by []) (covered_by []) old new failure reads;
+}
+
+-- a fault that was handed on
+pub handed_on : {T U E : Type 0} (from : Result T E) (to : Result U E) (e f : E) → from ≡ Err e → to ≡ Err e → to ≡ Err f → from ≡ Err f
+handed_on from to e f was is given = cc
+
+-- while files are laid, a fault of the image is an unfinished one
+pub folder_unfinished : (e : InstallFault) (unfinished : Bool) → IsLayingFault e → e ≡ Folder unfinished → e ≡ Folder true
+folder_unfinished e unfinished is given =
+    let sure : unfinished ≡ true = subst IsLayingFault given is in
+    given ∙ ap (λ (b : Bool). Folder b) sure
+
+pub err_same : {T E : Type 0} (r : Result T E) (e f : E) → r ≡ Err e → r ≡ Err f → e ≡ f
+err_same r e f is given = cc
+
+-- what is laid behind runs that changed nothing
+pub changed : {F : Type 0} (o : Outside F) (sane : IsOutside o) (lines : List (List ℕ)) (steps : List Step) (old mid new : F) (failure : Type 0) → AreStepsOf lines steps → Reads o old mid failure
+    → Keeps o (covered_by (paths_of steps)) (covered_by (paths_of steps)) mid new → ChangesOnly o lines old new
+changed o sane lines steps old mid new failure steps_of reads keeps = record {
+  paths = paths_of steps;
+  named = λ path has. paths_named lines steps steps_of path has;
+  keeps = keeps_then o (covered_by (paths_of steps)) (covered_by (paths_of steps)) old mid new (one_read o sane (covered_by (paths_of steps)) (covered_by (paths_of steps)) old mid failure reads) keeps;
+}
