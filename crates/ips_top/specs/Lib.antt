@@ -1,3 +1,5 @@
 pub mod Request
 pub mod Answer
 pub mod Report
+pub mod Memory
+pub mod Refused

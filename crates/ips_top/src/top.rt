@@ -1,0 +1,65 @@
+//! The top call.
+
+ghost use Rattle.std.specs.Prelude.{◌≡◌, ◌++◌, ℕ, IsTrue, IsFalse, List, map, take, string_bytes};
+ghost use Rattle.ips_outside.specs.State.{IsSettled};
+ghost use Rattle.ips_outside.specs.Outside.{HasCause};
+ghost use Rattle.ips_manifest.specs.Line.{lines_of};
+ghost use Rattle.ips_install.specs.Package.{IsInstalled, ChangesOnly};
+ghost use Rattle.ips_top.specs.Answer.{SaysOfWords, SaysOfManifest, HasManifest, SaysOfLines, IsFolderFault, is_refusal};
+ghost use Rattle.ips_top.specs.Report.{report_text};
+ghost use Rattle.ips_top.specs.declared.outcome.Outcome.TheVariants.{Done, SourceFault};
+
+use crate::answering::answer;
+use crate::outcome::Status;
+use crate::reporting::with_report;
+use crate::telling::tell;
+use ips_folder::Folder;
+use ips_outside::{Sink, Source};
+use std::alloc::Global;
+
+/// Does what the words say, with the repository and the image that are handed in, and tells it to the sink. The words
+/// are those of the command line without the program's name.
+pub fn run<S: Source, F: Folder, O: Sink>(
+    alloc: Global,
+    words: &[String],
+    repo: &mut S,
+    image: &mut F,
+    out: &mut O,
+) -> Status
+    // Each outcome comes exactly under its cause, a fault and want of memory apart.
+    ensures words { SaysOfWords (map string_bytes words.now) result.outcome }
+    ensures manifest { IsTrue (S.outside.tells repo.old) → SaysOfManifest (map string_bytes words.now) (S.outside.state repo.old).held result.outcome }
+    ensures lines { IsTrue (S.outside.tells repo.old) → IsTrue (F.outside.tells image.old) → (stem manifest : List ℕ)
+        → HasManifest (map string_bytes words.now) (S.outside.state repo.old).held stem manifest
+        → SaysOfLines (S.outside.state repo.old).held (F.outside.state image.old).held (lines_of manifest) result.outcome }
+
+    // Done: the image is the old one with what the manifest says, safe from a crash.
+    ensures installed { IsTrue (S.outside.tells repo.old) → IsTrue (F.outside.tells image.old) → (stem manifest : List ℕ)
+        → HasManifest (map string_bytes words.now) (S.outside.state repo.old).held stem manifest → result.outcome ≡ Done
+        → IsInstalled (S.outside.state repo.old).held (lines_of manifest) (F.outside.state image.old).held (F.outside.state image.new).held }
+    ensures safe { IsTrue (F.outside.tells image.old) → result.outcome ≡ Done → IsSettled (F.outside.state image.new) }
+
+    // A refusal changes nothing, and nothing but the manifest's paths is changed at any moment.
+    ensures refusals { IsTrue (is_refusal result.outcome) → F.outside.state image.new ≡ F.outside.state image.old }
+    ensures any_moment { IsTrue (S.outside.tells repo.old) → IsTrue (F.outside.tells image.old) → (stem manifest : List ℕ)
+        → HasManifest (map string_bytes words.now) (S.outside.state repo.old).held stem manifest
+        → ChangesOnly F.outside (lines_of manifest) image.old image.new }
+    ensures repository_kept { S.outside.state repo.new ≡ S.outside.state repo.old }
+
+    // A fault is answered only where that object's count rose in this run.
+    ensures source_cause { HasCause (S.outside.faults repo.old) (S.outside.faults repo.new) (result.outcome ≡ SourceFault) }
+    ensures folder_cause { HasCause (F.outside.faults image.old) (F.outside.faults image.new) (IsFolderFault result.outcome) }
+    ensures sink_cause { HasCause (O.taking.faults out.old) (O.taking.faults out.new) (IsFalse result.told) }
+
+    // The sink took the report, whole where that is answered.
+    ensures told { IsTrue (O.taking.tells out.old) → IsTrue result.told → O.taking.taken out.new ≡ O.taking.taken out.old ++ report_text result.outcome }
+    ensures not_told { IsTrue (O.taking.tells out.old) → (count : ℕ) × (O.taking.taken out.new ≡ O.taking.taken out.old ++ take count (report_text result.outcome)) }
+
+    ensures same_source { S.outside.tells repo.new ≡ S.outside.tells repo.old }
+    ensures same_folder { F.outside.tells image.new ≡ F.outside.tells image.old }
+    ensures same_sink { O.taking.tells out.new ≡ O.taking.tells out.old }
+{
+    let (outcome, text) = with_report(alloc, answer(alloc, words, repo, image));
+    let told = tell(out, text.as_bytes());
+    Status { outcome, told }
+}
