@@ -10,7 +10,7 @@ use Rattle.ips_folder.specs.declared.call.Call.TheVariants as call
 use Rattle.ips_folder.specs.declared.memory.MemFolder.{MemFolder}
 use Rattle.ips_folder.specs.History.{effect, replay}
 use Rattle.ips_folder.specs.Memory.{first_state, Since, mem_folder, must_fail, IsCounted, Does, IsRecorded, IsRefused}
-use Rattle.ips_folder.proofs.Replays.{replay_push, since_push}
+use Rattle.ips_folder.proofs.Replays.{replay_push, since_push, since_kept}
 
 -- what was said of `Ok` alone
 failed_ok : {E : Type 0} (P : Type 0) (r : Result (Unit {0}) E) → is_err r ≡ true → OnOk r P
@@ -40,6 +40,7 @@ module _ (f g : MemFolder) where
     elapses_same = record {
       later = omega (arith, ap (λ (l : List Call). length l) calls);
       nothing_else = λ t s le was. inl (subst (λ (x : Tree). Since f.calls.items (untouched (tree_image x)) t s) first (subst (λ (l : List Call). Since l (first_state g) t s) calls was));
+      remembers = λ t s le was. subst (λ (l : List Call). Since l (first_state g) t s) (sym calls) (subst (λ (x : Tree). Since f.calls.items (untouched (tree_image x)) t s) (sym first) was);
     }
 
     called_same : (failed : Bool) → IsCounted f g failed → IsCall mem_folder f g (failed ≡ true)
@@ -62,6 +63,8 @@ module _ (f g : MemFolder) where
       later = omega (arith, ap (λ (l : List Call). length l) calls, length-append f.calls.items (c ∷ []));
       nothing_else = λ t s le was. ⊎_elim (λ past. inl past) (λ now. inr (now ∙ replay_push f.calls.items c (first_state f) ∙ sym state_push))
           (since_push f.calls.items c (first_state f) t s (subst (λ (x : Tree). Since (f.calls.items ++ c ∷ []) (untouched (tree_image x)) t s) first (subst (λ (l : List Call). Since l (first_state g) t s) calls was)));
+      remembers = λ t s le was. subst (λ (l : List Call). Since l (first_state g) t s) (sym calls)
+          (subst (λ (x : Tree). Since (f.calls.items ++ c ∷ []) (untouched (tree_image x)) t s) (sym first) (since_kept f.calls.items c (first_state f) t s was));
     }
 
     pub called_push : (failed : Bool) → IsCounted f g failed → IsCall mem_folder f g (failed ≡ true)

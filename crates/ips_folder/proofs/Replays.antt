@@ -38,3 +38,12 @@ since_push calls c first t s was = elim (cases_lt (length calls) was.at) [
   | inl past ↦ let all : length (calls ++ c ∷ []) ≤ was.at = omega (arith, length-append calls (c ∷ [])) in inr (was.is ∙ ap (λ (l : List Call). replay l first) (take_all was.at (calls ++ c ∷ []) all))
   | inr within ↦ inl (record { at = was.at; low = was.low; high = within; is = was.is ∙ ap (λ (l : List Call). replay l first) (take-append-le was.at calls (c ∷ []) within) })
 ]
+
+-- a longer record has the older states
+pub since_kept : (calls : List Call) (c : Call) (first : State) (t : ℕ) (s : State) → Since calls first t s → Since (calls ++ c ∷ []) first t s
+since_kept calls c first t s was = record {
+  at = was.at;
+  low = was.low;
+  high = omega (arith, was.high, length-append calls (c ∷ []));
+  is = was.is ∙ ap (λ (l : List Call). replay l first) (sym (take-append-le was.at calls (c ∷ []) was.high));
+}

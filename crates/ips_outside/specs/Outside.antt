@@ -30,15 +30,17 @@ pub record IsOutside {F : Type 0} (o : Outside F) : Type 0 where
 abbrev pub Rose : ℕ → ℕ → Type 0
 Rose before now = (before < now) ⊎ (2 ^ 64 ≤ now + 1)
 
--- A count never falls, and a failure is told only where it rose.
+-- A count never falls. A failure is told only where it rose, and where nothing failed it stays.
 pub record HasCause (before now : ℕ) (failure : Type 0) : Type 0 where
   pub later : before ≤ now
   pub rose : failure → Rose before now
+  pub steady : (failure → ⊥) → now ≡ before
 
--- Time goes on: the states since a moment are those from before the call, and the one after it.
+-- Time goes on, and nothing is forgotten: the states since a moment are those from before the call, and the one after it.
 pub record Elapses {F : Type 0} (o : Outside F) (old new : F) : Type 0 where
   pub later : o.clock old ≤ o.clock new
   pub nothing_else : (t : ℕ) (s : State) → t ≤ o.clock old → o.states new t s → o.states old t s ⊎ (s ≡ o.state new)
+  pub remembers : (t : ℕ) (s : State) → t ≤ o.clock old → o.states old t s → o.states new t s
 
 -- What each call says.
 pub record IsCall {F : Type 0} (o : Outside F) (old new : F) (failure : Type 0) : Type 0 where
