@@ -70,10 +70,6 @@ unchanged o sane lines old new failure reads = record {
   keeps = one_read o sane (covered_by []) (covered_by []) old new failure reads;
 }
 
--- a fault that was handed on
-pub handed_on : {T U E : Type 0} (from : Result T E) (to : Result U E) (e f : E) → from ≡ Err e → to ≡ Err e → to ≡ Err f → from ≡ Err f
-handed_on from to e f was is given = cc
-
 -- while files are laid, a fault of the image is an unfinished one
 pub folder_unfinished : (e : InstallFault) (unfinished : Bool) → IsLayingFault e → e ≡ Folder unfinished → e ≡ Folder true
 folder_unfinished e unfinished is given =

@@ -8,9 +8,10 @@ use Rattle.ips_install.specs.Laying.{AreStepsOf, IsModed, IsSized, IsLayingFault
 use Rattle.ips_install.specs.declared.fault.InstallFault.{InstallFault}
 use Rattle.ips_install.specs.declared.fault.InstallFault.TheVariants as fault
 use Rattle.ips_install.specs.declared.step.Step.{Step}
-use Rattle.ips_install.proofs.Calls.{cause_then}
+use Rattle.ips_outside.proofs.Faults.{cause_behind}
+use Rattle.ips_install.proofs.Calls.{no_fault, handed_on, cause_handed}
 use Rattle.ips_install.proofs.Wanted.{all_named}
-use Rattle.ips_install.proofs.Outcomes.{says_laying, laying_changes, all_moded, unchanged, changed, handed_on, folder_unfinished, err_same}
+use Rattle.ips_install.proofs.Outcomes.{says_laying, laying_changes, all_moded, unchanged, changed, folder_unfinished, err_same}
 use Rattle.ips_install.proofs.installing.install.Goals as goal
 
 pub returns-in_err-items-clause-any_moment : goal.returns-in_err-items-clause-any_moment
@@ -69,16 +70,16 @@ returns-in_err-lay-clause-any_moment g c = λ told.
 pub returns-in_err-lay-clause-source_cause : goal.returns-in_err-lay-clause-source_cause
 returns-in_err-lay-clause-source_cause g c =
     let left = err_from_is_err_and c.from_residual-in_err-lay.result c.from_residual-in_err-lay.ensures.1 in
-    cause_then (g.S.Source.outside.faults c.args.repo.now) (g.S.Source.outside.faults c.find_payloads.new.repo) (g.S.Source.outside.faults c.lay.new.repo) (c.lay.result ≡ Err fault.Source) _
-    c.find_payloads.ensures.reads.call.cause.later c.lay.ensures.reads.call.cause
-    (λ is. handed_on c.lay.result c.from_residual-in_err-lay.result left.0 fault.Source (c.in_err-lay.was ∙ ap (λ (e : InstallFault). Err e) (sym left.2)) left.1 is)
+    cause_handed (g.S.Source.outside.faults c.args.repo.now) (g.S.Source.outside.faults c.find_payloads.new.repo) (g.S.Source.outside.faults c.lay.new.repo) c.lay.result c.from_residual-in_err-lay.result left.0 fault.Source
+    (c.find_payloads.ensures.reads.call.cause.steady (λ err. no_fault c.find_payloads.result _ _ c.in_ok-steps.was err)) c.lay.ensures.reads.call.cause (c.in_err-lay.was ∙ ap (λ (e : InstallFault). Err e) (sym left.2)) left.1
 
 pub returns-in_err-lay-clause-folder_cause : goal.returns-in_err-lay-clause-folder_cause
 returns-in_err-lay-clause-folder_cause g c =
     let left = err_from_is_err_and c.from_residual-in_err-lay.result c.from_residual-in_err-lay.ensures.1 in
     let laying = subst IsLayingFault (sym left.2) c.in_err-lay.ensures.faults in
-    cause_then (g.F.Source.outside.faults c.args.image.now) (g.F.Source.outside.faults c.plan.new.image) (g.F.Source.outside.faults c.lay.new.image) (c.lay.result ≡ Err (fault.Folder true)) _
-    c.plan.ensures.reads.call.cause.later c.lay.ensures.cause
+    cause_behind (g.F.Source.outside.faults c.args.image.now) (g.F.Source.outside.faults c.plan.new.image) (g.F.Source.outside.faults c.lay.new.image) _ (c.lay.result ≡ Err (fault.Folder true)) _
+    c.plan.ensures.reads.call.cause (λ err. no_fault c.plan.result _ _ c.in_ok-items.was err) c.lay.ensures.cause
+    (λ is. (true, handed_on c.from_residual-in_err-lay.result c.lay.result left.0 (fault.Folder true) left.1 (c.in_err-lay.was ∙ ap (λ (e : InstallFault). Err e) (sym left.2)) is))
     (λ is.
     let one = err_same c.from_residual-in_err-lay.result left.0 (fault.Folder is.0) left.1 is.1 in
     c.in_err-lay.was ∙ ap (λ (e : InstallFault). Err e) (sym left.2 ∙ folder_unfinished left.0 is.0 laying one))
@@ -111,10 +112,10 @@ returns-clause-any_moment g c = λ told.
 
 pub returns-clause-source_cause : goal.returns-clause-source_cause
 returns-clause-source_cause g c =
-    cause_then (g.S.Source.outside.faults c.args.repo.now) (g.S.Source.outside.faults c.find_payloads.new.repo) (g.S.Source.outside.faults c.lay.new.repo) (c.lay.result ≡ Err fault.Source) _
-    c.find_payloads.ensures.reads.call.cause.later c.lay.ensures.reads.call.cause (λ is. absurd (cc))
+    cause_behind (g.S.Source.outside.faults c.args.repo.now) (g.S.Source.outside.faults c.find_payloads.new.repo) (g.S.Source.outside.faults c.lay.new.repo) _ (c.lay.result ≡ Err fault.Source) _
+    c.find_payloads.ensures.reads.call.cause (λ err. no_fault c.find_payloads.result _ _ c.in_ok-steps.was err) c.lay.ensures.reads.call.cause (λ err. absurd (no_fault c.lay.result _ _ c.in_ok-lay.was err)) (λ is. absurd (cc))
 
 pub returns-clause-folder_cause : goal.returns-clause-folder_cause
 returns-clause-folder_cause g c =
-    cause_then (g.F.Source.outside.faults c.args.image.now) (g.F.Source.outside.faults c.plan.new.image) (g.F.Source.outside.faults c.lay.new.image) (c.lay.result ≡ Err (fault.Folder true)) _
-    c.plan.ensures.reads.call.cause.later c.lay.ensures.cause (λ is. let bad = is.1 in absurd (cc))
+    cause_behind (g.F.Source.outside.faults c.args.image.now) (g.F.Source.outside.faults c.plan.new.image) (g.F.Source.outside.faults c.lay.new.image) _ (c.lay.result ≡ Err (fault.Folder true)) _
+    c.plan.ensures.reads.call.cause (λ err. no_fault c.plan.result _ _ c.in_ok-items.was err) c.lay.ensures.cause (λ err. absurd (no_fault c.lay.result _ _ c.in_ok-lay.was err)) (λ is. let bad = is.1 in absurd (cc))

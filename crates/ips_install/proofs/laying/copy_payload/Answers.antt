@@ -4,17 +4,17 @@ use Rattle.ips_outside.specs.State.{State, nowhere}
 use Rattle.ips_outside.specs.Change.{appended}
 use Rattle.ips_outside.specs.Outside.{readable}
 use Rattle.ips_folder.proofs.Runs.{keeps_then, keeps_wider, one_write}
-use Rattle.ips_install.proofs.Calls.{reads_then}
-use Rattle.ips_install.proofs.Parts.{part_more}
+use Rattle.ips_install.proofs.Calls.{answered, reads_none, reads_then, reads_as}
+use Rattle.ips_install.proofs.Parts.{part_more, part_end}
 use Rattle.ips_install.proofs.Laid.{appended_twice}
 use Rattle.ips_install.proofs.laying.copy_payload.Goals as goal
 
 pub loop-at-preserved : goal.loop-at-preserved
 loop-at-preserved g c = record {
   within = c.in-Ok.ensures.within;
-  reads = reads_then g.S.Source.outside c.args.repo.now c.loop-at.repo c.read_part.new.source ⊥ (IsErr c.read_part.result) ⊥ c.loop-at.invariant.reads c.read_part.ensures.reads (λ f. absurd f);
+  reads = reads_then g.S.Source.outside c.args.repo.now c.loop-at.repo c.read_part.new.source (IsErr c.read_part.result) ⊥ c.loop-at.invariant.reads c.read_part.ensures.reads (answered c.read_part.result _ c.in-Ok.is) (λ f. absurd f);
   kind = c.append.ensures.call.same_kind ∙ c.loop-at.invariant.kind;
-  faults = omega (arith, c.append.ensures.call.cause.later, c.loop-at.invariant.faults);
+  faults = c.append.ensures.call.cause.steady (answered c.append.result _ c.in-Ok-append.is) ∙ c.loop-at.invariant.faults;
   copied = λ told.
       let before = c.loop-at.invariant.copied told in
       let part = take c.in-Ok.count c.read_part.new.buffer in (

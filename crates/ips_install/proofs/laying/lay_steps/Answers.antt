@@ -1,12 +1,16 @@
-use Rattle.std.proofs.Common.{◌≡◌, ℕ, ◌+◌, List, length, refl, sym, ◌∙◌, ap, subst, arith}
+use Rattle.std.proofs.Common.{◌≡◌, ℕ, ◌+◌, ◌<◌, ◌≤◌, Bool, true, false, Err, IsTrue, IsErr, List, length, slice_get, Some, refl, sym, ◌∙◌, ap, subst, arith}
 use Rattle.std.proofs.lemmas.Option.{slice_get_read}
+use Rattle.std.proofs.lemmas.Result.{err_from_is_err_and}
 use Rattle.ips_outside.specs.Image.{Image}
 use Rattle.ips_outside.specs.State.{State}
 use Rattle.ips_folder.proofs.Runs.{keeps_then, keeps_wider}
 use Rattle.ips_install.specs.Package.{covered_by}
-use Rattle.ips_install.specs.Laying.{paths_of, step_covers, IsSized}
-use Rattle.ips_install.proofs.Calls.{reads_then}
-use Rattle.ips_install.proofs.Installed.{AreLaid, AreFilled}
+use Rattle.ips_install.specs.Laying.{paths_of, step_covers, IsSized, CanLay}
+use Rattle.ips_install.specs.declared.fault.InstallFault.{InstallFault}
+use Rattle.ips_install.specs.declared.fault.InstallFault.TheVariants as fault
+use Rattle.ips_install.specs.declared.step.Step.{Step}
+use Rattle.ips_install.proofs.Calls.{no_fault, cause_handed, reads_then}
+use Rattle.ips_install.proofs.Installed.{AreLaid, AreFilled, none_laid, none_filled}
 use Rattle.ips_install.proofs.Stepping.{line_of, off_step, step_can, step_laid, step_filled, all_installed}
 use Rattle.ips_install.proofs.laying.lay_steps.Goals as goal
 
@@ -26,14 +30,20 @@ returns-in_err-lay_step-clause-any_moment g c = λ told.
     keeps_then g.F.Source.outside all all c.args.image.now c.loop-step.image c.lay_step.new.image (c.loop-step.invariant.moments told)
     (keeps_wider g.F.Source.outside (step_covers c.step-item.result) (step_covers c.step-item.result) all all c.loop-step.image c.lay_step.new.image off off (c.lay_step.ensures.any_moment (c.loop-step.invariant.kind ∙ told)))
 
+pub returns-in_err-lay_step-clause-cause : goal.returns-in_err-lay_step-clause-cause
+returns-in_err-lay_step-clause-cause g c =
+    let left = err_from_is_err_and c.from_residual.result c.from_residual.ensures.1 in
+    cause_handed (g.F.Source.outside.faults c.args.image.now) (g.F.Source.outside.faults c.loop-step.image) (g.F.Source.outside.faults c.lay_step.new.image) c.lay_step.result c.from_residual.result left.0 (fault.Folder true)
+    c.loop-step.invariant.faults c.lay_step.ensures.cause (c.in_err-lay_step.was ∙ ap (λ (e : InstallFault). Err e) (sym left.2)) left.1
+
 pub loop-step-preserved : goal.loop-step-preserved
 loop-step-preserved g c =
     let place = slice_get_read c.args.steps.now (length c.args.steps.now) c.loop-step.step-index c.step-item.result refl c.loop-step-test.true c.step-item.is in
     let old = (g.F.Source.outside.state c.args.image.now).held in
     record {
-      reads = reads_then g.S.Source.outside c.args.repo.now c.loop-step.repo c.lay_step.new.repo ⊥ _ ⊥ c.loop-step.invariant.reads c.lay_step.ensures.reads (λ f. absurd f);
+      reads = reads_then g.S.Source.outside c.args.repo.now c.loop-step.repo c.lay_step.new.repo _ ⊥ c.loop-step.invariant.reads c.lay_step.ensures.reads (λ err. no_fault c.lay_step.result _ _ c.in_ok-lay_step.was err) (λ f. absurd f);
       kind = c.lay_step.ensures.same_kind ∙ c.loop-step.invariant.kind;
-      faults = omega (arith, c.lay_step.ensures.cause.later, c.loop-step.invariant.faults);
+      faults = c.lay_step.ensures.cause.steady (λ err. no_fault c.lay_step.result _ _ c.in_ok-lay_step.was err) ∙ c.loop-step.invariant.faults;
       laid = λ told lines steps_of ready.
           step_laid lines old ready c.loop-step.step-index (g.F.Source.outside.state c.loop-step.image).held (c.loop-step.invariant.laid told lines steps_of ready)
           (g.met.F.Source.sane.formed c.args.image.now told) (g.S.Source.outside.tells c.loop-step.repo) (g.S.Source.outside.state c.loop-step.repo).held

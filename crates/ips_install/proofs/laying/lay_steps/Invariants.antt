@@ -10,7 +10,7 @@ abbrev pub invariant-loop-step : goal.invariant-loop-step
 invariant-loop-step g l = record {
   reads : Reads g.S.Source.outside l.fn.repo l.repo ⊥;
   kind : g.F.Source.outside.tells l.image ≡ g.F.Source.outside.tells l.fn.image;
-  faults : g.F.Source.outside.faults l.fn.image ≤ g.F.Source.outside.faults l.image;
+  faults : g.F.Source.outside.faults l.image ≡ g.F.Source.outside.faults l.fn.image;
   laid : IsTrue (g.F.Source.outside.tells l.fn.image) → (lines : List (List ℕ)) → AreStepsOf lines l.steps → AreReady (g.F.Source.outside.state l.fn.image).held lines (length lines)
       → AreLaid lines l.step-index (g.F.Source.outside.state l.fn.image).held (g.F.Source.outside.state l.image).held;
   filled : IsTrue (g.S.Source.outside.tells l.fn.repo) → IsTrue (g.F.Source.outside.tells l.fn.image) → (lines : List (List ℕ)) → AreStepsOf lines l.steps → AreReady (g.F.Source.outside.state l.fn.image).held lines (length lines)

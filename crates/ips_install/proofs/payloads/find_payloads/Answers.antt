@@ -8,7 +8,7 @@ use Rattle.ips_manifest.specs.declared.item.Item as value
 use Rattle.ips_install.specs.Package.{ArePresent}
 use Rattle.ips_install.specs.Wanting.{AreStepsFor, HasPayload, AreThere, SaysOfItem, SaysOfPayloads}
 use Rattle.ips_install.specs.declared.step.Step.{Step}
-use Rattle.ips_install.proofs.Calls.{reads_then}
+use Rattle.ips_install.proofs.Calls.{no_fault, reads_then}
 use Rattle.ips_install.proofs.Wanted.{steps_more, there_more, front_more, all_sized, steps_of_lines, present_front, refused_payloads}
 use Rattle.ips_install.proofs.payloads.find_payloads.Goals as goal
 
@@ -41,8 +41,8 @@ loop-item-preserved g c =
           let same = ap (λ (s : State). s.held) c.loop-item.invariant.reads.kept in
           subst (λ (steps : List Step). AreThere held steps) (sym c.in_ok-push.ensures.items)
           (there_more held c.loop-item.steps.items c.in_ok-step.step (c.loop-item.invariant.there told)
-          (subst (λ (t : Image). HasPayload t c.in_ok-step.step) same (c.in_ok-step.ensures.there (c.loop-item.invariant.reads.call.same_kind ∙ told))));
-      reads = reads_then g.S.Source.outside c.args.repo.now c.loop-item.repo c.step_for.new.repo ⊥ _ ⊥ c.loop-item.invariant.reads c.step_for.ensures.reads (λ f. absurd f);
+            (subst (λ (t : Image). HasPayload t c.in_ok-step.step) same (c.in_ok-step.ensures.there (c.loop-item.invariant.reads.call.same_kind ∙ told))));
+      reads = reads_then g.S.Source.outside c.args.repo.now c.loop-item.repo c.step_for.new.repo _ ⊥ c.loop-item.invariant.reads c.step_for.ensures.reads (λ err. no_fault c.step_for.result _ _ c.in_ok-step.was err) (λ f. absurd f);
     }
 
 pub returns-clause-steps : goal.returns-clause-steps

@@ -2,7 +2,7 @@ use Rattle.std.proofs.Common.{◌≡◌, Some, sym, ◌∙◌, ap}
 use Rattle.ips_manifest.specs.declared.item.Item as value
 use Rattle.ips_manifest.specs.Seen.{seen_option}
 use Rattle.ips_install.specs.Package.{payload_path, file_at}
-use Rattle.ips_install.proofs.Calls.{reads_as}
+use Rattle.ips_install.proofs.Calls.{answered, reads_as}
 use Rattle.ips_install.proofs.PayloadPlaces.{no_file_seen}
 use Rattle.ips_install.proofs.payloads.step_for.Goals as goal
 
@@ -20,5 +20,5 @@ returns-in_default-found g c = record {
         missing = ap (file_at held) place ∙ no_file_seen (held.look c.in_ok-place.place.bytes) (λ m n is. c.in_default-found.not-File m n (c.in-Ok.ensures.found told ∙ is));
       };
   faults = tt;
-  reads = reads_as g.S.Source.outside c.args.repo.now c.look.new.self _ _ c.look.ensures.reads (λ is. absurd (cc));
+  reads = reads_as g.S.Source.outside c.args.repo.now c.look.new.self _ _ c.look.ensures.reads (λ err. absurd (answered c.look.result _ c.in-Ok.is err)) (λ is. absurd (cc));
 }

@@ -5,9 +5,11 @@ use Rattle.ips_outside.specs.Image.{Image}
 use Rattle.ips_outside.specs.State.{State}
 use Rattle.ips_manifest.specs.Line.{lines_of}
 use Rattle.ips_install.specs.Package.{IsReady, AreReady}
-use Rattle.ips_install.specs.Planning.{AreItemsOf, SaysOfPlan, SaysOfLine}
-use Rattle.ips_install.proofs.Calls.{reads_then}
-use Rattle.ips_install.proofs.Planned.{next_stands, next_rest, no_rest, ready_more, items_more, refused_plan}
+use Rattle.ips_install.specs.Planning.{AreItemsOf, SaysOfPlan, SaysOfLine, IsLineFault}
+use Rattle.ips_install.specs.declared.fault.InstallFault.TheVariants as fault
+use Rattle.ips_install.proofs.Calls.{no_fault, reads_none, reads_then}
+use Rattle.ips_install.proofs.KindsKept.{kinds_at_first}
+use Rattle.ips_install.proofs.Planned.{next_stands, next_rest, no_rest, ready_more, items_more, refused_plan, no_items, fault_both}
 use Rattle.ips_install.proofs.planning.plan.Goals as goal
 
 pub returns-in_err-item-clause-refused : goal.returns-in_err-item-clause-refused
@@ -41,8 +43,8 @@ loop-text-preserved g c =
           let same = ap (λ (s : State). s.held) c.loop-text.invariant.reads.kept in
           ready_more lines c.loop-text.line c.in-Some.text.now stands (g.F.Source.outside.state c.args.image.now).held (c.loop-text.invariant.ready told)
           (subst (λ (t : Image). IsReady t (take c.loop-text.line lines) c.in-Some.text.now) same
-          (c.in_ok-item.ensures.ready (c.loop-text.invariant.reads.call.same_kind ∙ told) (take c.loop-text.line lines) c.loop-text.invariant.kinds));
-      reads = reads_then g.F.Source.outside c.args.image.now c.loop-text.image c.plan_line.new.image ⊥ _ ⊥ c.loop-text.invariant.reads c.plan_line.ensures.reads (λ f. absurd f);
+            (c.in_ok-item.ensures.ready (c.loop-text.invariant.reads.call.same_kind ∙ told) (take c.loop-text.line lines) c.loop-text.invariant.kinds));
+      reads = reads_then g.F.Source.outside c.args.image.now c.loop-text.image c.plan_line.new.image _ ⊥ c.loop-text.invariant.reads c.plan_line.ensures.reads (λ err. no_fault c.plan_line.result _ _ c.in_ok-item.was err) (λ f. absurd f);
     }
 
 pub returns-clause-items : goal.returns-clause-items

@@ -7,7 +7,7 @@ use Rattle.ips_manifest.specs.Seen.{seen, seen_option}
 use Rattle.ips_install.specs.Delivered.{kind_at}
 use Rattle.ips_install.specs.Planning as plan
 use Rattle.ips_install.proofs.KindsKept.{kinds_none, kinds_more, placed_new, placed_follows, follows_placed, ready_follows, looks_absent}
-use Rattle.ips_install.proofs.Calls.{reads_as}
+use Rattle.ips_install.proofs.Calls.{answered, reads_as}
 use Rattle.ips_install.proofs.planning.plan_line.Goals as goal
 
 pub returns-in-Ok-None-clause-kinds : goal.returns-in-Ok-None-clause-kinds
@@ -37,7 +37,7 @@ returns-in_default-found g c = record {
       let absent : (g.F.Source.outside.state c.args.image.now).held.look c.path_of-path.result.now.bytes ≡ None = ap (g.F.Source.outside.state c.args.image.now).held.look c.path_of-path.ensures ∙ follows.absent in
       c.in_default-found.not-Absent (found ∙ ap look_of absent);
   faults = refl;
-  reads = reads_as g.F.Source.outside c.args.image.now c.look.new.self _ _ c.look.ensures.reads (λ is. absurd (cc));
+  reads = reads_as g.F.Source.outside c.args.image.now c.look.new.self _ _ c.look.ensures.reads (λ err. absurd (answered c.look.result _ c.in-Ok.is err)) (λ is. absurd (cc));
 }
 
 pub returns-clause-kinds : goal.returns-clause-kinds

@@ -1,11 +1,12 @@
 use Rattle.std.proofs.Common.{◌≡◌, ◌+◌, ◌<◌, ◌≤◌, ℕ, IsErr, List, ◌++◌, length, take, take_all, take_at, refl, sym, ◌∙◌, ap, Ok, Err, rules, arith}
 use Rattle.std.proofs.lemmas.Result.{err_from_is_err_and}
 use Rattle.ips_outside.specs.State.{State}
-use Rattle.ips_outside.specs.Outside.{readable}
-use Rattle.ips_install.proofs.Calls.{reads_none, reads_then, reads_as}
+use Rattle.ips_outside.specs.Outside.{Reads, readable, IsRead}
+use Rattle.ips_install.proofs.Calls.{answered, reads_none, reads_then, reads_as}
 use Rattle.ips_install.proofs.Parts.{part_more, part_end}
 use Rattle.ips_install.proofs.reading.read_bytes.Goals as goal
 use Rattle.ips_install.proofs.reading.read_bytes.Goals.{else-loop-at-test, then-loop-at-test+in_ok-count+then-count-eq0}
+use Rattle.ips_install.specs.declared.reading.ReadFault.{ReadFault}
 use Rattle.ips_install.specs.declared.reading.ReadFault.TheVariants as fault
 
 pub loop-at-init : goal.loop-at-init
@@ -18,18 +19,19 @@ loop-at-init g c = record {
 
 pub returns-in_err-count-clause-reads : goal.returns-in_err-count-clause-reads
 returns-in_err-count-clause-reads g c =
-    reads_then g.S.Source.outside c.args.source.now c.loop-at.source c.read_part.new.source ⊥ (IsErr c.read_part.result) _ c.loop-at.invariant.reads c.read_part.ensures.reads (λ _. rw c.in_err-count.was refl)
+    reads_then g.S.Source.outside c.args.source.now c.loop-at.source c.read_part.new.source (IsErr c.read_part.result) _ c.loop-at.invariant.reads c.read_part.ensures.reads
+    (λ _. let left = err_from_is_err_and c.from_residual-in_err-count.result c.from_residual-in_err-count.ensures.1 in left.1 ∙ ap (λ (e : ReadFault). Err e) left.2) (λ _. rw c.in_err-count.was refl)
 
 pub returns-in_err-extend_from_slice-clause-reads : goal.returns-in_err-extend_from_slice-clause-reads
 returns-in_err-extend_from_slice-clause-reads g c =
     let left = err_from_is_err_and c.from_residual-in_err-extend_from_slice.result c.from_residual-in_err-extend_from_slice.ensures.1 in
-    reads_then g.S.Source.outside c.args.source.now c.loop-at.source c.read_part.new.source ⊥ (IsErr c.read_part.result) _ c.loop-at.invariant.reads c.read_part.ensures.reads (λ is. let other = left.1 in let memory = left.2 in absurd (cc))
+    reads_then g.S.Source.outside c.args.source.now c.loop-at.source c.read_part.new.source (IsErr c.read_part.result) _ c.loop-at.invariant.reads c.read_part.ensures.reads (λ err. absurd (answered c.read_part.result _ c.in_ok-count.was err)) (λ is. let other = left.1 in let memory = left.2 in absurd (cc))
 
 pub loop-at-preserved : goal.loop-at-preserved
 loop-at-preserved g c = record {
   within = c.in_ok-count.ensures.within;
   room = search rules;
-  reads = reads_then g.S.Source.outside c.args.source.now c.loop-at.source c.read_part.new.source ⊥ (IsErr c.read_part.result) ⊥ c.loop-at.invariant.reads c.read_part.ensures.reads (λ f. absurd f);
+  reads = reads_then g.S.Source.outside c.args.source.now c.loop-at.source c.read_part.new.source (IsErr c.read_part.result) ⊥ c.loop-at.invariant.reads c.read_part.ensures.reads (answered c.read_part.result _ c.in_ok-count.was) (λ f. absurd f);
   found = λ told.
       let same = ap (λ (s : State). readable (s.held.look c.args.path.now.bytes)) c.loop-at.invariant.reads.kept in
       let file = readable ((g.S.Source.outside.state c.loop-at.source).held.look c.args.path.now.bytes) in
@@ -59,6 +61,6 @@ pub returns-clause-reads : goal.returns-clause-reads
 returns-clause-reads g c =
     let no_failure = λ (is : Ok c.loop-at.bytes ≡ Err fault.Failed). absurd (cc) in
     elim c.loop-at-test.branch [
-      | else-loop-at-test w ↦ rw w.source-is (reads_as g.S.Source.outside c.args.source.now c.loop-at.source ⊥ _ c.loop-at.invariant.reads no_failure)
-      | then-loop-at-test+in_ok-count+then-count-eq0 w ↦ rw w.source-is (reads_then g.S.Source.outside c.args.source.now c.loop-at.source w.read_part.new.source ⊥ (IsErr w.read_part.result) _ c.loop-at.invariant.reads w.read_part.ensures.reads (λ is. absurd (no_failure is)))
+      | else-loop-at-test w ↦ rw w.source-is (reads_as g.S.Source.outside c.args.source.now c.loop-at.source ⊥ _ c.loop-at.invariant.reads (λ f. absurd f) no_failure)
+      | then-loop-at-test+in_ok-count+then-count-eq0 w ↦ rw w.source-is (reads_then g.S.Source.outside c.args.source.now c.loop-at.source w.read_part.new.source (IsErr w.read_part.result) _ c.loop-at.invariant.reads w.read_part.ensures.reads (λ err. absurd (answered w.read_part.result _ w.in_ok-count.was err)) (λ is. absurd (no_failure is)))
     ]
