@@ -10,7 +10,7 @@ pub record IsTold {O : Type 0} (t : Taking O) (text rest : List ℕ) (old new : 
   pub within : count ≤ length text
   pub rest_is : rest ≡ drop count text
   pub taken_is : IsTrue (t.tells old) → t.taken new ≡ t.taken old ++ take count text
-  pub later : t.faults old ≤ t.faults new
+  pub steady : t.faults new ≡ t.faults old
   pub same_kind : t.tells new ≡ t.tells old
 
 pub nothing_told : {O : Type 0} (t : Taking O) (text : List ℕ) (old : O) → IsTold t text text old old
@@ -19,7 +19,7 @@ nothing_told t text old = record {
   within = omega arith;
   rest_is = refl;
   taken_is = λ tells. sym (append-nil (t.taken old));
-  later = omega arith;
+  steady = refl;
   same_kind = refl;
 }
 
@@ -30,9 +30,9 @@ take_two m n text =
     ∙ ap (λ (back : List ℕ). take m text ++ back) (drop-take m n text)
 
 -- one part more
-pub more_told : {O : Type 0} (t : Taking O) (text rest : List ℕ) (old mid new : O) → IsTold t text rest old mid → (n : ℕ) → n ≤ length rest → t.tells new ≡ t.tells mid → t.faults mid ≤ t.faults new
+pub more_told : {O : Type 0} (t : Taking O) (text rest : List ℕ) (old mid new : O) → IsTold t text rest old mid → (n : ℕ) → n ≤ length rest → t.tells new ≡ t.tells mid → t.faults new ≡ t.faults mid
     → (IsTrue (t.tells mid) → t.taken new ≡ t.taken mid ++ take n rest) → IsTold t text (take (length rest - n) (drop n rest)) old new
-more_told t text rest old mid new told n within same later taken = record {
+more_told t text rest old mid new told n within same steady taken = record {
   count = told.count + n;
   within = omega (arith, told.within, within, ap length told.rest_is, length-drop told.count text);
   rest_is = take_rest rest n ∙ ap (λ (r : List ℕ). drop n r) told.rest_is ∙ drop-drop n told.count text;
@@ -42,7 +42,7 @@ more_told t text rest old mid new told n within same later taken = record {
       ∙ append_assoc (t.taken old) (take told.count text) (take n rest)
       ∙ ap (λ (r : List ℕ). t.taken old ++ (take told.count text ++ take n r)) told.rest_is
       ∙ ap (λ (l : List ℕ). t.taken old ++ l) (sym (take_two told.count n text));
-  later = omega (arith, told.later, later);
+  steady = steady ∙ told.steady;
   same_kind = same ∙ told.same_kind;
 }
 
