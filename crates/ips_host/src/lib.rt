@@ -1,7 +1,7 @@
 //! The trusted edge: the host's files, its `sync` program and its standard output, as a source, a folder and a sink.
 //!
-//! Nothing is proved of what the host holds or takes. What is proved: each object counts its faults, and fails only
-//! where that count rose.
+//! Nothing is proved of what the host holds or takes. What is proved: each object counts its faults, and fails
+//! exactly where that count rose.
 #![tactic(auto)]
 
 mod fault;

@@ -40,7 +40,7 @@ pub fn install<S: Source, F: Folder>(
     ensures any_moment { IsTrue (F.outside.tells image.old) → ChangesOnly F.outside (lines_of manifest.now) image.old image.new }
     ensures repository_kept { S.outside.state repo.new ≡ S.outside.state repo.old }
 
-    // A fault is answered only where that object's count rose in this call.
+    // A fault is answered exactly where that object's count rose in this call.
     ensures source_cause { HasCause (S.outside.faults repo.old) (S.outside.faults repo.new) (result ≡ Err fault.Source) }
     ensures folder_cause { HasCause (F.outside.faults image.old) (F.outside.faults image.new) ((unfinished : Bool) × (result ≡ Err (fault.Folder unfinished))) }
     ensures same_source { S.outside.tells repo.new ≡ S.outside.tells repo.old }

@@ -46,7 +46,7 @@ pub fn run<S: Source, F: Folder, O: Sink>(
         → ChangesOnly F.outside (lines_of manifest) image.old image.new }
     ensures repository_kept { S.outside.state repo.new ≡ S.outside.state repo.old }
 
-    // A fault is answered only where that object's count rose in this run.
+    // A fault of the repository, the image or the sink is answered exactly where that object's count rose in this run.
     ensures source_cause { HasCause (S.outside.faults repo.old) (S.outside.faults repo.new) (result.outcome ≡ SourceFault) }
     ensures folder_cause { HasCause (F.outside.faults image.old) (F.outside.faults image.new) (IsFolderFault result.outcome) }
     ensures sink_cause { HasCause (O.taking.faults out.old) (O.taking.faults out.new) (IsFalse result.told) }

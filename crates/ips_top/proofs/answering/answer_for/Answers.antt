@@ -4,7 +4,7 @@ use Rattle.ips_install.specs.Package.{CanInstall, IsInstalled, ChangesOnly, mani
 use Rattle.ips_top.specs.Answer.{SaysOfLines}
 use Rattle.ips_top.specs.Refused.{refused}
 use Rattle.ips_top.proofs.Moments.{unchanged}
-use Rattle.ips_top.proofs.Refusals.{refused_manifest, refused_lines, read_is, read_stands, carried}
+use Rattle.ips_top.proofs.Refusals.{refused_words, folder_cause, refused_manifest, refused_lines, read_is, read_stands, carried}
 use Rattle.ips_top.proofs.answering.answer_for.Goals as goal
 
 pub returns-clause-any_moment : goal.returns-clause-any_moment
@@ -63,3 +63,10 @@ returns-in-Ok-Some-clause-any_moment g c = λ told_repo told_image manifest stan
     let read = rw c.in-Ok-Some.field-0-is at (c.in-Ok-Some.ensures.found told_repo) in
     let same = read_is (g.S.Source.outside.state c.args.repo.now).held c.in-Ok-Ok.path.bytes (manifest_path c.args.stem.now) c.in-Ok-Some.manifest.items manifest read c.in-Ok-Ok.ensures stands in
     subst (λ (bytes : List ℕ). ChangesOnly g.F.Source.outside (lines_of bytes) c.args.image.now c.install.new.image) (c.deref.ensures.value ∙ same) (c.install.ensures.any_moment told_image)
+
+pub returns-in-Ok-Some-clause-words : goal.returns-in-Ok-Some-clause-words
+returns-in-Ok-Some-clause-words g c = λ words asks. rw c.outcome_of.ensures (refused_words words c.args.stem.now c.in-Ok-Ok.fmri c.in-Err.fault asks)
+
+pub returns-in-Ok-Some-clause-folder_cause : goal.returns-in-Ok-Some-clause-folder_cause
+returns-in-Ok-Some-clause-folder_cause g c =
+    folder_cause (g.F.Source.outside.faults c.args.image.now) (g.F.Source.outside.faults c.install.new.image) c.install.result c.in-Err.fault c.in-Ok-Ok.fmri c.outcome_of.result c.in-Err.is c.outcome_of.ensures c.install.ensures.folder_cause

@@ -1,5 +1,4 @@
 use Rattle.std.proofs.Common.{sym, ◌∙◌}
-use Rattle.ips_install.proofs.Calls.{answered}
 use Rattle.ips_top.proofs.Tellings.{nothing_told, more_told, less_left, some_left, all_told}
 use Rattle.ips_top.proofs.telling.tell.Goals as goal
 
@@ -14,7 +13,7 @@ loop-rest-smaller g c =
 pub loop-rest-preserved : goal.loop-rest-preserved
 loop-rest-preserved g c =
     more_told g.O.Sink.taking c.args.text.now c.loop-rest.rest.now c.args.out.now c.loop-rest.out c.write.new.self c.loop-rest.invariant c.in-Ok.count
-    c.in-Ok.ensures.some.within c.in-Ok.ensures.same_kind (c.in-Ok.ensures.cause.steady (answered c.write.result _ c.in-Ok.is)) c.in-Ok.ensures.taken
+    c.in-Ok.ensures.some.within c.in-Ok.ensures.same_kind (c.in-Ok.ensures.cause.steady (λ err. cc)) c.in-Ok.ensures.taken
 
 pub returns-in-Err-clause-front : goal.returns-in-Err-clause-front
 returns-in-Err-clause-front g c = λ tells.
