@@ -1,6 +1,6 @@
 -- What a call on a folder in memory tells, by what it does to the record.
 use Rattle.std.proofs.Common.{◌≡◌, ◌⊎◌, inl, inr, ⊎_elim, ℕ, Bool, true, false, List, [], ◌∷◌, ◌++◌, length, Result, Ok, Err, is_err, OnOk, OnErr, refl, sym, ◌∙◌, ap, subst, arith, length-append}
-use Rattle.ips_outside.specs.State.{State, Changed, MayChange, untouched}
+use Rattle.ips_outside.specs.State.{State, Changed, untouched}
 use Rattle.ips_outside.specs.Outside.{Elapses, IsCall, Reads}
 use Rattle.ips_outside.specs.declared.tree.Tree.{Tree}
 use Rattle.ips_outside.specs.Tree.{tree_image}
@@ -33,7 +33,7 @@ on_err (Err e) p = p
 module _ (f g : MemFolder) where
   -- the record stays
   module _ (first : g.first ≡ f.first) (calls : g.calls.items ≡ f.calls.items) where
-    pub state_same : mem_folder.state g ≡ mem_folder.state f
+    state_same : mem_folder.state g ≡ mem_folder.state f
     state_same = ap (λ (l : List Call). replay l (first_state g)) calls ∙ ap (λ (t : Tree). replay f.calls.items (untouched (tree_image t))) first
 
     elapses_same : Elapses mem_folder f g
@@ -46,7 +46,7 @@ module _ (f g : MemFolder) where
     called_same : (failed : Bool) → IsCounted f g failed → IsCall mem_folder f g (failed ≡ true)
     called_same failed counted = record { same_kind = refl; time = elapses_same; cause = counted.cause }
 
-    pub reads : (failed : Bool) → IsCounted f g failed → Reads mem_folder f g (failed ≡ true)
+    reads : (failed : Bool) → IsCounted f g failed → Reads mem_folder f g (failed ≡ true)
     reads failed counted = record { call = called_same failed counted; kept = state_same }
 
     -- where the failure is told by another answer
@@ -55,7 +55,7 @@ module _ (f g : MemFolder) where
 
   -- the record goes on with a call
   module _ (c : Call) (first : g.first ≡ f.first) (calls : g.calls.items ≡ f.calls.items ++ c ∷ []) where
-    pub state_push : mem_folder.state g ≡ effect c (mem_folder.state f)
+    state_push : mem_folder.state g ≡ effect c (mem_folder.state f)
     state_push = ap (λ (l : List Call). replay l (first_state g)) calls ∙ ap (λ (t : Tree). replay (f.calls.items ++ c ∷ []) (untouched (tree_image t))) first ∙ replay_push f.calls.items c (first_state f)
 
     elapses_push : Elapses mem_folder f g
@@ -67,15 +67,15 @@ module _ (f g : MemFolder) where
           (subst (λ (x : Tree). Since (f.calls.items ++ c ∷ []) (untouched (tree_image x)) t s) (sym first) (since_kept f.calls.items c (first_state f) t s was));
     }
 
-    pub called_push : (failed : Bool) → IsCounted f g failed → IsCall mem_folder f g (failed ≡ true)
+    called_push : (failed : Bool) → IsCounted f g failed → IsCall mem_folder f g (failed ≡ true)
     called_push failed counted = record { same_kind = refl; time = elapses_push; cause = counted.cause }
 
-  module _ {E : Type 0} (r : Result (Unit {0}) E) (to : State) where
+  module _ {E : Type 0} (r : Result (Unit {0}) E) where
     -- memory was refused
-    pub refused : (free loose : List ℕ → Bool) → IsRefused f g (is_err r) → Writes mem_folder free loose to f g r
-    refused free loose lost = record { call = called_same lost.first lost.calls (is_err r) lost.counts; done = λ told. failed_ok _ r lost.answer; only = λ told. inl (state_same lost.first lost.calls) }
+    pub refused : (to : State) (free loose : List ℕ → Bool) → IsRefused f g (is_err r) → Writes mem_folder free loose to f g r
+    refused to free loose lost = record { call = called_same lost.first lost.calls (is_err r) lost.counts; done = λ told. failed_ok _ r lost.answer; only = λ told. inl (state_same lost.first lost.calls) }
 
-    module _ (c : Call) (is : effect c (mem_folder.state f) ≡ to) where
+    module _ (to : State) (c : Call) (is : effect c (mem_folder.state f) ≡ to) where
       pub writes : (free loose : List ℕ → Bool) → Changed free loose (mem_folder.state f) to → IsRecorded c f g (is_err r) ⊎ IsRefused f g (is_err r) → Writes mem_folder free loose to f g r
       writes free loose changed (inl kept) =
           let now : mem_folder.state g ≡ to = state_push c kept.first kept.calls ∙ is in
@@ -84,7 +84,7 @@ module _ (f g : MemFolder) where
             done = λ told. on_ok r now;
             only = λ told. inr (subst (Changed free loose (mem_folder.state f)) (sym now) changed);
           }
-      writes free loose changed (inr lost) = refused free loose lost
+      writes free loose changed (inr lost) = refused to free loose lost
 
       pub does : IsRecorded c f g (is_err r) ⊎ IsRefused f g (is_err r) → Does to f g r
       does (inl kept) = record { tally = kept.counts.tally; ends = inl (record { answer = kept.answer; starved = kept.starved; state = state_push c kept.first kept.calls ∙ is }) }

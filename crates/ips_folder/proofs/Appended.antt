@@ -1,5 +1,5 @@
 -- What bytes at the end of a file change.
-use Rattle.std.proofs.Common.{◌≡◌, ℕ, Bool, true, false, cond, List, Option, refl, ap}
+use Rattle.std.proofs.Common.{◌≡◌, ℕ, Bool, false, cond, List, Option, refl, ap}
 use Rattle.ips_text.specs.Ancestry.{same_path, covers}
 use Rattle.ips_text.proofs.Ancestry.{uncovered}
 use Rattle.ips_outside.specs.Image.{Entry, Image, Agrees, with_mode}

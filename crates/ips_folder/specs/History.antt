@@ -1,5 +1,5 @@
 -- What a record of calls leaves of a folder.
-use Rattle.std.specs.Prelude.{◌≡◌, ℕ, ◌<◌, Bool, false, IsTrue, List, [], ◌∷◌, Some}
+use Rattle.std.specs.Prelude.{◌≡◌, ℕ, ◌<◌, false, IsTrue, List, [], ◌∷◌, Some}
 use Rattle.ips_outside.specs.Image.{Image, Dir, File}
 use Rattle.ips_outside.specs.Change.{placed, appended}
 use Rattle.ips_outside.specs.State.{State, untouched, written, mode_set, settled}

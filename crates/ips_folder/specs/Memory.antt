@@ -3,7 +3,7 @@ use Rattle.std.specs.Prelude.{◌≡◌, ◌⊎◌, ℕ, ◌≤◌, Bool, true, 
 use Rattle.std.proofs.Common.{sym, ap, subst, ◌∙◌}
 use Rattle.std.proofs.Math.Nat.{le_refl}
 use Rattle.std.proofs.lemmas.List.{take_all}
-use Rattle.ips_outside.specs.Image.{Image, IsImage}
+use Rattle.ips_outside.specs.Image.{IsImage}
 use Rattle.ips_outside.specs.State.{State, untouched}
 use Rattle.ips_outside.specs.Outside.{Outside, IsOutside, HasCause}
 use Rattle.ips_outside.specs.Tally.{Tally, fresh, next_fails, counted, after_call}
@@ -32,14 +32,6 @@ mem_folder = record {
   clock = λ f. length f.calls.items;
   states = λ f moment s. Since f.calls.items (first_state f) moment s;
   faults = λ f. f.faults;
-}
-
--- a folder in memory is as each folder has to be
-pub mem_folder_sane : IsOutside mem_folder
-mem_folder_sane = record {
-  formed = λ f told. subst IsImage (sym f.left.held) (tree_formed f.tree);
-  only_now = λ f s was. was.is ∙ ap (λ (l : List Call). replay l (first_state f)) (take_all was.at f.calls.items was.low);
-  counts_now = λ f t le. record { at = length f.calls.items; low = le; high = le_refl (length f.calls.items); is = sym (ap (λ (l : List Call). replay l (first_state f)) (take_all (length f.calls.items) f.calls.items (le_refl (length f.calls.items)))) };
 }
 
 -- how many calls failed because memory was refused to them
@@ -103,3 +95,11 @@ pub record IsRefused (old new : MemFolder) (failed : Bool) : Type 0 where
   pub starved : new.starved ≡ counted old.starved
   pub first : new.first ≡ old.first
   pub calls : new.calls.items ≡ old.calls.items
+
+-- a folder in memory is as each folder has to be
+pub mem_folder_sane : IsOutside mem_folder
+mem_folder_sane = record {
+  formed = λ f told. subst IsImage (sym f.left.held) (tree_formed f.tree);
+  only_now = λ f s was. was.is ∙ ap (λ (l : List Call). replay l (first_state f)) (take_all was.at f.calls.items was.low);
+  counts_now = λ f t le. record { at = length f.calls.items; low = le; high = le_refl (length f.calls.items); is = sym (ap (λ (l : List Call). replay l (first_state f)) (take_all (length f.calls.items) f.calls.items (le_refl (length f.calls.items)))) };
+}

@@ -1,4 +1,4 @@
-use Rattle.std.proofs.Common.{◌≡◌, ℕ, List, ap}
+use Rattle.std.proofs.Common.{ℕ, List, ap}
 use Rattle.ips_outside.specs.Change.{names}
 use Rattle.ips_outside.specs.State.{nowhere, mode_set}
 use Rattle.ips_outside.proofs.Moments.{mode_set_changed}

@@ -8,7 +8,7 @@ use Rattle.ips_folder.proofs.memory.calls.MemFolderFolder.sync.Goals as goal
 pub returns-clause-syncs : goal.returns-clause-syncs
 returns-clause-syncs c =
     let served : must_fail c.args.self.now ≡ false = search rules in
-    syncs c.args.self.now c.act.new.self c.act.result (settled (mem_folder.state c.args.self.now)) served c.act.ensures
+    syncs c.args.self.now c.act.new.self c.act.result served c.act.ensures
 
 pub returns-clause-does : goal.returns-clause-does
 returns-clause-does c =
