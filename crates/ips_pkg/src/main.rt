@@ -47,8 +47,7 @@ fn roots_of(words: &[String]) -> (&str, &str)
 {
     match words {
         [image_option, image, repository_option, repository, ..]
-            if image_option.as_str() == "-R" && repository_option.as_str() == "-s" =>
-        {
+            if image_option.as_str() == "-R" && repository_option.as_str() == "-s" => {
             (image.as_str(), repository.as_str())
         }
         _ => ("", ""),

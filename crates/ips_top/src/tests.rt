@@ -88,11 +88,7 @@ fn tells_each_outcome(rt: HostRuntime) -> Result<(), Fail> {
         ),
         // no word, and a word too few
         ("", 2, "usage: word 0: unknown\n"),
-        (
-            "-R image -s repo install",
-            2,
-            "usage: word 0: unknown\n",
-        ),
+        ("-R image -s repo install", 2, "usage: word 0: unknown\n"),
         // a word too many
         (
             "-R image -s repo install hello lost",
@@ -112,11 +108,7 @@ fn tells_each_outcome(rt: HostRuntime) -> Result<(), Fail> {
             "usage: word 0: unknown\n",
         ),
         // no stems: empty, and with other bytes than letters and digits
-        (
-            "-R image -s repo install ",
-            2,
-            "usage: word 0: unknown\n",
-        ),
+        ("-R image -s repo install ", 2, "usage: word 0: unknown\n"),
         (
             "-R image -s repo install he/llo",
             2,
