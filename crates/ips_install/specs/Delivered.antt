@@ -15,5 +15,6 @@ IsKind lines q None = Names lines q → ⊥
 IsKind lines q (Some true) = NamesDir lines q
 IsKind lines q (Some false) = Names lines q × (NamesDir lines q → ⊥)
 
+-- What is kept of each path is what the lines deliver there.
 abbrev pub AreKinds : List (List ℕ) → Delivered → Type 0
 AreKinds lines d = (q : List ℕ) → IsKind lines q (kind_at d q)

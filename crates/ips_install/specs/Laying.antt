@@ -25,12 +25,13 @@ pub record AreStepsOf (lines : List (List ℕ)) (steps : List Step) : Type 0 whe
   pub same_length : length steps ≡ length lines
   pub each : (k : ℕ) (text : List ℕ) (s : Step) → slice_get lines k ≡ Some text → slice_get steps k ≡ Some s → IsStepOf text s
 
--- the paths at which the steps lay something
+-- the paths, with that at which one more step lays something
 abbrev pub with_path : Step → List (List ℕ) → List (List ℕ)
 with_path step.Nothing paths = paths
 with_path (step.Directory mode path) paths = path.bytes ∷ paths
 with_path (step.File mode path payload) paths = path.bytes ∷ paths
 
+-- the paths at which the steps lay something
 abbrev pub paths_of : List Step → List (List ℕ)
 paths_of [] = []
 paths_of (s ∷ steps) = with_path s (paths_of steps)
@@ -51,6 +52,7 @@ IsModed (step.File mode path payload) = mode < 4096
 abbrev pub IsMeasured : Image → Payload → Type 0
 IsMeasured repository payload = payload.size ≡ length (readable (repository.look payload.place.bytes))
 
+-- the payload of a file has the length that it has in the repository
 abbrev pub IsSized : Image → Step → Type 0
 IsSized repository step.Nothing = Unit {0}
 IsSized repository (step.Directory mode path) = Unit {0}

@@ -11,10 +11,12 @@ use Rattle.ips_install.specs.declared.delivered.Delivered.{Delivered}
 use Rattle.ips_install.specs.declared.fault.InstallFault.{InstallFault}
 use Rattle.ips_install.specs.declared.fault.InstallFault.TheVariants.{NotYet, PayloadMissing, Source, Folder, OutOfMemory}
 
+-- the item is a directory
 abbrev pub is_directory : Item → Bool
 is_directory (Directory mode path) = true
 is_directory (File payload mode path) = false
 
+-- a directory is kept
 abbrev pub is_dir_kept : Option Bool → Bool
 is_dir_kept (Some kind) = kind
 is_dir_kept None = false
@@ -57,6 +59,7 @@ IsLineFault number Source = ⊥
 IsLineFault number (Folder unfinished) = IsFalse unfinished
 IsLineFault number OutOfMemory = Unit {0}
 
+-- what can end the looking at lines: a line, a look at the image that failed, or want of memory
 abbrev pub IsPlanningFault : InstallFault → Type 0
 IsPlanningFault (NotYet line) = Unit {0}
 IsPlanningFault (PayloadMissing name) = ⊥

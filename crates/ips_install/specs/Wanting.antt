@@ -33,6 +33,7 @@ pub record AreStepsFor (items : List (Option value.Item)) (steps : List Step) : 
 abbrev pub IsThere : Image → Payload → Type 0
 IsThere repository payload = (bytes : List ℕ) × (file_at repository payload.place.bytes ≡ Some bytes) × (payload.size ≡ length bytes)
 
+-- the payload of a file is there
 abbrev pub HasPayload : Image → Step → Type 0
 HasPayload repository step.Nothing = Unit {0}
 HasPayload repository (step.Directory mode path) = Unit {0}
@@ -49,6 +50,7 @@ pub record LacksPayloadOf (repository : Image) (item : Option value.Item) (name 
   pub is : seen_option item ≡ Some (File name mode path)
   pub missing : file_at repository (payload_path name) ≡ None
 
+-- PayloadMissing comes exactly where the item's payload isn't there.
 abbrev pub SaysOfItem : Image → Option value.Item → InstallFault → Type 0
 SaysOfItem repository item (NotYet line) = ⊥
 SaysOfItem repository item (PayloadMissing name) = LacksPayloadOf repository item name
@@ -56,6 +58,7 @@ SaysOfItem repository item Source = Unit {0}
 SaysOfItem repository item (Folder unfinished) = ⊥
 SaysOfItem repository item OutOfMemory = Unit {0}
 
+-- PayloadMissing comes exactly at the first payload that isn't there.
 abbrev pub SaysOfPayloads : Image → List (List ℕ) → InstallFault → Type 0
 SaysOfPayloads repository lines (NotYet line) = ⊥
 SaysOfPayloads repository lines (PayloadMissing name) = IsFirstMissing repository lines name

@@ -41,7 +41,7 @@ loop-item-preserved g c =
           let same = ap (λ (s : State). s.held) c.loop-item.invariant.reads.kept in
           subst (λ (steps : List Step). AreThere held steps) (sym c.in_ok-push.ensures.items)
           (there_more held c.loop-item.steps.items c.in_ok-step.step (c.loop-item.invariant.there told)
-            (subst (λ (t : Image). HasPayload t c.in_ok-step.step) same (c.in_ok-step.ensures.there (c.loop-item.invariant.reads.call.same_kind ∙ told))));
+          (subst (λ (t : Image). HasPayload t c.in_ok-step.step) same (c.in_ok-step.ensures.there (c.loop-item.invariant.reads.call.same_kind ∙ told))));
       reads = reads_then g.S.Source.outside c.args.repo.now c.loop-item.repo c.step_for.new.repo _ ⊥ c.loop-item.invariant.reads c.step_for.ensures.reads (λ err. no_fault c.step_for.result _ _ c.in_ok-step.was err) (λ f. absurd f);
     }
 

@@ -43,7 +43,7 @@ loop-text-preserved g c =
           let same = ap (λ (s : State). s.held) c.loop-text.invariant.reads.kept in
           ready_more lines c.loop-text.line c.in-Some.text.now stands (g.F.Source.outside.state c.args.image.now).held (c.loop-text.invariant.ready told)
           (subst (λ (t : Image). IsReady t (take c.loop-text.line lines) c.in-Some.text.now) same
-            (c.in_ok-item.ensures.ready (c.loop-text.invariant.reads.call.same_kind ∙ told) (take c.loop-text.line lines) c.loop-text.invariant.kinds));
+          (c.in_ok-item.ensures.ready (c.loop-text.invariant.reads.call.same_kind ∙ told) (take c.loop-text.line lines) c.loop-text.invariant.kinds));
       reads = reads_then g.F.Source.outside c.args.image.now c.loop-text.image c.plan_line.new.image _ ⊥ c.loop-text.invariant.reads c.plan_line.ensures.reads (λ err. no_fault c.plan_line.result _ _ c.in_ok-item.was err) (λ f. absurd f);
     }
 
