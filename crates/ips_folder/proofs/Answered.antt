@@ -93,5 +93,5 @@ module _ (f g : MemFolder) where
     pub syncs : must_fail f ≡ false → IsRecorded call.Sync f g (is_err r) ⊎ IsRefused f g (is_err r) → Syncs mem_folder f g r
     syncs served (inl kept) =
         let now = state_push call.Sync kept.first kept.calls in
-        record { call = called_push call.Sync kept.first kept.calls (is_err r) kept.counts; done = λ told. on_ok r now; kept = λ told. served_err _ r (kept.answer ∙ served) }
-    syncs served (inr lost) = record { call = called_same lost.first lost.calls (is_err r) lost.counts; done = λ told. failed_ok _ r lost.answer; kept = λ told. on_err r (state_same lost.first lost.calls) }
+        record { call = called_push call.Sync kept.first kept.calls (is_err r) kept.counts; done = λ told. on_ok r now; kept = served_err _ r (kept.answer ∙ served) }
+    syncs served (inr lost) = record { call = called_same lost.first lost.calls (is_err r) lost.counts; done = λ told. failed_ok _ r lost.answer; kept = on_err r (state_same lost.first lost.calls) }

@@ -81,7 +81,7 @@ module _ {F : Type 0} (o : Outside F) where
   one_read sane free loose old new failure r = stays o free loose old old new (begun o free loose old (sane.only_now old)) r.call.time r.kept
 
   pub one_sync : (sane : IsOutside o) (free loose : List ℕ → Bool) (old new : F) {T E : Type 0} (result : Result T E) → o.tells old ≡ true → Syncs o old new result → Keeps o free loose old new
-  one_sync sane free loose old new result told s = syncs o free loose old old new (begun o free loose old (sane.only_now old)) s.call.time (whatever result (s.done told) (s.kept told))
+  one_sync sane free loose old new result told s = syncs o free loose old old new (begun o free loose old (sane.only_now old)) s.call.time (whatever result (s.done told) s.kept)
     where
       whatever : {T E : Type 0} {P Q : Type 0} (r : Result T E) → OnOk r P → OnErr r Q → Q ⊎ P
       whatever (Ok x) done kept = inr done

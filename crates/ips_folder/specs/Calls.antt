@@ -15,7 +15,7 @@ pub record Writes {F T E : Type 0} (o : Outside F) (free loose : List ℕ → Bo
 pub record Syncs {F T E : Type 0} (o : Outside F) (old new : F) (result : Result T E) : Type 0 where
   pub call : IsCall o old new (IsErr result)
   pub done : IsTrue (o.tells old) → OnOk result (o.state new ≡ settled (o.state old))
-  pub kept : IsTrue (o.tells old) → OnErr result (o.state new ≡ o.state old)
+  pub kept : OnErr result (o.state new ≡ o.state old)
 
 -- Nothing stands at the path, and its parent is a directory.
 pub record CanMake (t : Image) (p : List ℕ) : Type 0 where

@@ -1,6 +1,7 @@
 //! The files below a root of the host.
 
 ghost use Rattle.std.specs.Prelude.{◌≤◌, IfOk, length};
+ghost use Rattle.ips_outside.specs.Outside.{IsSmall};
 
 use crate::standing::{give_mode, is_directory, look_of, standing};
 use ips_outside::Look;
@@ -43,7 +44,9 @@ impl<R: Runtime + Processes> Root<R> {
     }
 
     /// What stands at the path.
-    pub fn look(&self, path: &RelPath) -> io::Result<Look> {
+    pub fn look(&self, path: &RelPath) -> io::Result<Look>
+        ensures { IfOk result IsSmall }
+    {
         let Some(place) = self.place(path)? else {
             return Ok(Look::Absent);
         };

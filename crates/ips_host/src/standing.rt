@@ -1,6 +1,7 @@
 //! What stands at a path of the host, and its permission bits.
 
 ghost use Rattle.std.specs.Prelude.{◌≡◌, ◌%◌};
+ghost use Rattle.ips_outside.specs.Outside.{IsSmall};
 ghost use Rattle.std.specs.Fs.{metadata_mode, metadata_len, file_type, IsDir, IsFile, IsSymlink};
 
 use ips_outside::Look;
@@ -37,6 +38,7 @@ pub fn look_of(metadata: &Metadata) -> Look
     ensures file { IsFile (file_type metadata.now) → result ≡ Look.File (metadata_mode metadata.now % 4096) (metadata_len metadata.now) }
     ensures link { IsSymlink (file_type metadata.now) → result ≡ Look.Link }
     ensures found { result ≡ Look.Absent → ⊥ }
+    ensures mode { IsSmall result }
 {
     let mode = mode_of(metadata);
     if metadata.is_dir() {

@@ -1,8 +1,9 @@
 -- A change leaves a well-formed image well formed.
-use Rattle.std.proofs.Common.{◌≡◌, ℕ, Bool, true, false, cond, not, ◌&&◌, ◌||◌, List, Option, Some, None, is_none, refl, sym, ◌∙◌, ap}
-use Rattle.std.proofs.lemmas.Bool.{false_from_ne_true}
+use Rattle.std.proofs.Common.{◌≡◌, ℕ, Bool, true, false, cond, not, ◌&&◌, ◌||◌, ◌<◌, List, Option, Some, None, is_none, is_some, refl, sym, ◌∙◌, ap, subst}
+use Rattle.std.proofs.lemmas.Bool.{false_from_ne_true, lt-ltb}
 use Rattle.ips_text.specs.Ancestry.{same_path, covers, is_below}
-use Rattle.ips_outside.specs.Image.{Entry, Dir, File, Link, Other, Image, IsImage, is_dir, is_file, with_mode, has_parent, dir_or_none}
+use Rattle.ips_text.specs.Path.{IsPath}
+use Rattle.ips_outside.specs.Image.{has_small_mode, Entry, Dir, File, Link, Other, Image, IsImage, is_dir, is_file, with_mode, has_parent, dir_or_none}
 use Rattle.ips_outside.specs.Change.{placed, joined, moded, names, appended, more_bytes}
 use Rattle.ips_text.proofs.Ancestry.{same_path-true, same_path-self, uncovered, covers_trans, above, at_parent_of, same_covers}
 use Rattle.ips_outside.proofs.Agree.{is_dir-mode, is_file-mode}
@@ -45,6 +46,23 @@ put_below p e t formed has a q c s = go (same_path p q) refl (covers p q) refl
         rw (uncovered p a off, off) (formed.below_dirs a q c s)
 
 module _ (p : List ℕ) (e : Option Entry) (t : Image) (formed : IsImage t) where
+  -- something still stands only at paths, with modes of permission bits
+  put_paths : (is_some e ≡ true → IsPath p) → (q : List ℕ) → is_some (cond (same_path p q) e (cond (covers p q) None (t.look q))) ≡ true → IsPath q
+  put_paths path q = go (same_path p q) refl (covers p q)
+    where
+      go : (s : Bool) → same_path p q ≡ s → (c : Bool) → is_some (cond s e (cond c None (t.look q))) ≡ true → IsPath q
+      go true is c some = subst IsPath (same_path-true p q is) (path some)
+      go false is true some = cc
+      go false is false some = formed.paths q some
+
+  put_modes : has_small_mode e ≡ true → (q : List ℕ) → has_small_mode (cond (same_path p q) e (cond (covers p q) None (t.look q))) ≡ true
+  put_modes small q = go (same_path p q) (covers p q)
+    where
+      go : (s c : Bool) → has_small_mode (cond s e (cond c None (t.look q))) ≡ true
+      go true c = small
+      go false true = refl
+      go false false = formed.modes q
+
   placed_files : (ca sa cb sb : Bool) (a b : List ℕ) → (sa ≡ true → ca ≡ true) → (sb ≡ true → cb ≡ true) → cond (ca || cb) (sa && (sb && is_file e)) (t.same a b) ≡ true
       → (is_file (cond sa e (cond ca None (t.look a))) ≡ true) × (cond sa e (cond ca None (t.look a)) ≡ cond sb e (cond cb None (t.look b)))
   placed_files true true cb true a b ha hb h = (h, refl)
@@ -82,8 +100,10 @@ module _ (p : List ℕ) (e : Option Entry) (t : Image) (formed : IsImage t) wher
   placed_trans false false false false true sz ab az bz ha hb f h = refl
   placed_trans false false false false false sz ab az bz ha hb f h = f h
 
-  pub placed_formed : (is_none e ≡ false → has_parent t p ≡ true) → IsImage (placed p e t)
-  placed_formed has = record {
+  pub placed_formed : (is_none e ≡ false → has_parent t p ≡ true) → (is_some e ≡ true → IsPath p) → has_small_mode e ≡ true → IsImage (placed p e t)
+  placed_formed has path small = record {
+    paths = put_paths path;
+    modes = put_modes small;
     below_dirs = put_below p e t formed has;
     files = λ a b h. placed_files (covers p a) (same_path p a) (covers p b) (same_path p b) a b (same_covers p a) (same_covers p b) h;
     self = (placed_nodes p e t (record { self = formed.self })).self;
@@ -119,8 +139,10 @@ module _ (p to : List ℕ) (t : Image) (formed : IsImage t) where
   joined_trans false false true ab az bz' f h = refl
   joined_trans false false false ab az bz' f h = f h
 
-  pub joined_formed : has_parent t p ≡ true → IsImage (joined p to t)
-  joined_formed has = record {
+  pub joined_formed : has_parent t p ≡ true → IsPath p → IsImage (joined p to t)
+  joined_formed has path = record {
+    paths = put_paths p (t.look to) t formed (λ _. path);
+    modes = put_modes p (t.look to) t formed (formed.modes to);
     below_dirs = put_below p (t.look to) t formed (λ _. has);
     files = λ a b h. joined_files a b (is_below p a) (is_below p b) refl refl h;
     self = (joined_nodes p to t (record { self = formed.self })).self;
@@ -148,8 +170,26 @@ module _ (m : ℕ) (p : List ℕ) (t : Image) (formed : IsImage t) where
   twins : (a b : List ℕ) → t.same a b ≡ true → Twins t a b
   twins a b h = record { alike = λ x. formed.sym x a ∙ formed.trans a b x h ∙ formed.sym b x; there = h; back = formed.sym b a ∙ h }
 
-  pub moded_formed : IsImage (moded m p t)
-  moded_formed = record {
+  some_mode : (n : Bool) (x : Option Entry) → is_some (cond n (with_mode m x) x) ≡ is_some x
+  some_mode false x = refl
+  some_mode true (Some (Dir o f)) = refl
+  some_mode true (Some (File o b)) = refl
+  some_mode true (Some (Link g)) = refl
+  some_mode true (Some Other) = refl
+  some_mode true None = refl
+
+  small_moded : m < 4096 → (n : Bool) (x : Option Entry) → has_small_mode x ≡ true → has_small_mode (cond n (with_mode m x) x) ≡ true
+  small_moded small false x h = h
+  small_moded small true (Some (Dir o f)) h = lt-ltb m 4096 small
+  small_moded small true (Some (File o b)) h = lt-ltb m 4096 small
+  small_moded small true (Some (Link g)) h = refl
+  small_moded small true (Some Other) h = refl
+  small_moded small true None h = refl
+
+  pub moded_formed : m < 4096 → IsImage (moded m p t)
+  moded_formed small = record {
+    paths = λ q some. formed.paths q (sym (some_mode (names t p q) (t.look q)) ∙ some);
+    modes = λ q. small_moded small (names t p q) (t.look q) (formed.modes q);
     below_dirs = λ a q c s. ap (λ (x : Bool). x || is_dir ((moded m p t).look a)) (none_mode (names t p q) (t.look q)) ∙ ap (λ (x : Bool). is_none (t.look q) || x) (dir_mode (names t p a) (t.look a)) ∙ formed.below_dirs a q c s;
     files = λ a b h.
         let both = formed.files a b h in
@@ -196,8 +236,26 @@ module _ (p more : List ℕ) (t : Image) (formed : IsImage t) (sole : (q : List 
       cc
   alike_longer a b h false ea false eb = rw (ea, eb) (formed.files a b h).1
 
+  some_longer : (n : Bool) (x : Option Entry) → is_some (cond n (more_bytes more x) x) ≡ is_some x
+  some_longer false x = refl
+  some_longer true (Some (Dir o f)) = refl
+  some_longer true (Some (File o b)) = refl
+  some_longer true (Some (Link g)) = refl
+  some_longer true (Some Other) = refl
+  some_longer true None = refl
+
+  small_longer : (n : Bool) (x : Option Entry) → has_small_mode (cond n (more_bytes more x) x) ≡ has_small_mode x
+  small_longer false x = refl
+  small_longer true (Some (Dir o f)) = refl
+  small_longer true (Some (File o b)) = refl
+  small_longer true (Some (Link g)) = refl
+  small_longer true (Some Other) = refl
+  small_longer true None = refl
+
   pub appended_formed : IsImage (appended p more t)
   appended_formed = record {
+    paths = λ q some. formed.paths q (sym (some_longer (same_path p q) (t.look q)) ∙ some);
+    modes = λ q. small_longer (same_path p q) (t.look q) ∙ formed.modes q;
     below_dirs = λ a q c s. ap (λ (x : Bool). x || is_dir ((appended p more t).look a)) (none_longer (same_path p q) (t.look q)) ∙ ap (λ (x : Bool). is_none (t.look q) || x) (dir_longer (same_path p a) (t.look a)) ∙ formed.below_dirs a q c s;
     files = λ a b h. (file_longer (same_path p a) (t.look a) ∙ (formed.files a b h).0, alike_longer a b h (same_path p a) refl (same_path p b) refl);
     self = λ a h. formed.self a (sym (file_longer (same_path p a) (t.look a)) ∙ h);

@@ -1,7 +1,8 @@
 -- What an answer of `look` tells.
-use Rattle.std.proofs.Common.{◌≡◌, ℕ, Bool, true, false, Option, Some, None, refl}
-use Rattle.ips_outside.specs.Image.{Entry, Dir, File, Link, Other, is_file, with_mode}
-use Rattle.ips_outside.specs.Outside.{look_of}
+use Rattle.std.proofs.Common.{◌≡◌, ℕ, Bool, true, false, List, Option, Some, None, refl, sym, subst}
+use Rattle.std.proofs.lemmas.Bool.{ltb-true}
+use Rattle.ips_outside.specs.Image.{Entry, Dir, File, Link, Other, Image, IsImage, has_small_mode, is_file, with_mode}
+use Rattle.ips_outside.specs.Outside.{look_of, IsSmall}
 use Rattle.ips_outside.specs.declared.outside.Look.{Look}
 use Rattle.ips_outside.specs.declared.outside.Look.TheVariants as look
 
@@ -26,3 +27,14 @@ plain_file (Some (File o b)) h = cc
 plain_file (Some (Link g)) h = refl
 plain_file (Some Other) h = refl
 plain_file None h = refl
+
+small_look : (e : Option Entry) → has_small_mode e ≡ true → IsSmall (look_of e)
+small_look (Some (Dir o f)) h = ltb-true o 4096 h
+small_look (Some (File o b)) h = ltb-true o 4096 h
+small_look (Some (Link g)) h = tt
+small_look (Some Other) h = tt
+small_look None h = tt
+
+-- in a well-formed image a look's mode is small
+pub small_seen : (t : Image) (q : List ℕ) (found : Look) → IsImage t → found ≡ look_of (t.look q) → IsSmall found
+small_seen t q found formed is = subst IsSmall (sym is) (small_look (t.look q) (formed.modes q))

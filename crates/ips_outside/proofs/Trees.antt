@@ -1,10 +1,11 @@
 -- The image that the tables stand for, and what an edit of them makes of it.
 use Rattle.std.proofs.Common.{◌≡◌, ℕ, zero, suc, ◌<◌, Bool, true, false, cond, ◌&&◌, ◌||◌, ◌==◌, List, [], ◌∷◌, ◌++◌, length, get_or, set, Vec, Global, Option, Some, None, is_none, is_some, Result, Ok, Err, OnOk, OnErr, refl, sym, ◌∙◌, ap, subst, arith}
-use Rattle.std.proofs.lemmas.Bool.{false_from_ne_true, ne_eqb, eq-eqb, eqb-true, eqb-false}
+use Rattle.std.proofs.lemmas.Bool.{false_from_ne_true, lt-ltb, ne_eqb, eq-eqb, eqb-true, eqb-false}
 use Rattle.std.specs.Option.{option_map}
 use Rattle.ips_text.specs.Ancestry.{same_path, covers}
 use Rattle.ips_text.proofs.Ancestry.{same_path-true, same_path-self, same_covers}
-use Rattle.ips_outside.specs.Image.{Entry, File, Image, IsImage, is_dir, is_file, has_parent, with_mode}
+use Rattle.ips_text.specs.Path.{IsPath}
+use Rattle.ips_outside.specs.Image.{Entry, File, Image, IsImage, has_small_mode, is_dir, is_file, has_parent, with_mode}
 use Rattle.ips_outside.specs.Change.{placed, moded, appended, more_bytes}
 use Rattle.ips_outside.specs.Table.{kind_at, file_of, entry_of, node_of, one_node, image_of, with_dir_mode}
 use Rattle.ips_outside.specs.Making.{fault_at}
@@ -158,8 +159,8 @@ one_node-none (Some n) = refl
 one_node-none None = refl
 
 -- what was added has a directory above it
-added_formed : (t u : Image) (p : List ℕ) (e : Option Entry) → IsImage t → has_parent t p ≡ true → u ≡ placed p e t → IsImage u
-added_formed t u p e formed above is = subst IsImage (sym is) (placed_formed p e t formed (λ _. above))
+added_formed : (t u : Image) (p : List ℕ) (e : Option Entry) → IsImage t → has_parent t p ≡ true → IsPath p → has_small_mode e ≡ true → u ≡ placed p e t → IsImage u
+added_formed t u p e formed above path small is = subst IsImage (sym is) (placed_formed p e t formed (λ _. above) (λ _. path) small)
 
 module _ (old new : List (Vec ℕ Global × Kind)) (nodes : List Node) (p : List ℕ) (k : Kind) (formed : IsImage (image_of old nodes)) (can : fault_at (image_of old nodes) p ≡ None)
     (plain : node_of (Some k) ≡ None) where
@@ -173,9 +174,9 @@ module _ (old new : List (Vec ℕ Global × Kind)) (nodes : List Node) (p : List
       ∙ ap (λ (e : Option Entry). placed p e (image_of old nodes)) same
 
   -- whatever `put` answers
-  pub formed_plain : {E : Type 0} (r : Result (Unit {0}) E) → OnOk r ((q : List ℕ) → kind_at new q ≡ cond (same_path p q) (Some k) (kind_at old q)) → OnErr r (new ≡ old) → IsImage (image_of new nodes)
-  formed_plain (Ok u) put stays = added_formed (image_of old nodes) (image_of new nodes) p (entry_of [] (Some k)) formed (no_fault (image_of old nodes) p can).0 (image_plain put)
-  formed_plain (Err e) put stays = subst (λ (entries : List (Vec ℕ Global × Kind)). IsImage (image_of entries nodes)) (sym stays) formed
+  pub formed_plain : {E : Type 0} (r : Result (Unit {0}) E) → IsPath p → has_small_mode (entry_of [] (Some k)) ≡ true → OnOk r ((q : List ℕ) → kind_at new q ≡ cond (same_path p q) (Some k) (kind_at old q)) → OnErr r (new ≡ old) → IsImage (image_of new nodes)
+  formed_plain (Ok u) path small put stays = added_formed (image_of old nodes) (image_of new nodes) p (entry_of [] (Some k)) formed (no_fault (image_of old nodes) p can).0 path small (image_plain put)
+  formed_plain (Err e) path small put stays = subst (λ (entries : List (Vec ℕ Global × Kind)). IsImage (image_of entries nodes)) (sym stays) formed
 
 file_of-more : (nodes : List Node) (node : Node) (n : ℕ) → n < length nodes → file_of (nodes ++ node ∷ []) n ≡ file_of nodes n
 file_of-more [] node n lt = absurd (omega arith)
@@ -212,8 +213,8 @@ module _ (old new : List (Vec ℕ Global × Kind)) (nodes : List Node) (p : List
       (one_node-self (length nodes) ∙ sym (ap is_file shown)) (λ q. new_node q (kind_at old q) refl)
       ∙ ap (λ (e : Option Entry). placed p e (image_of old nodes)) shown
 
-  pub formed_file : IsImage (image_of new (nodes ++ node ∷ []))
-  formed_file = added_formed (image_of old nodes) (image_of new (nodes ++ node ∷ [])) p (Some (File node.mode node.bytes.items)) formed (no_fault (image_of old nodes) p can).0 image_file
+  pub formed_file : IsPath p → node.mode < 4096 → IsImage (image_of new (nodes ++ node ∷ []))
+  formed_file path small = added_formed (image_of old nodes) (image_of new (nodes ++ node ∷ [])) p (Some (File node.mode node.bytes.items)) formed (no_fault (image_of old nodes) p can).0 path (lt-ltb node.mode 4096 small) image_file
 
 -- ---- one node changed
 
@@ -306,8 +307,8 @@ module _ (paths : List (Vec ℕ Global × Kind)) (nodes : List Node) (p : List �
   formed_appended d more true kept longer sole = subst IsImage (sym (image_appended d more kept longer sole)) (appended_formed p more (image_of paths nodes) formed sole)
   formed_appended d more false kept same sole = subst IsImage (sym (image_unchanged d kept same)) formed
 
-  pub formed_moded : (d : Node) → node.bytes.items ≡ (get_or nodes n d).bytes.items → IsImage (image_of paths (set nodes n node))
-  formed_moded d kept = subst IsImage (sym (image_moded d kept)) (moded_formed node.mode p (image_of paths nodes) formed)
+  pub formed_moded : (d : Node) → node.bytes.items ≡ (get_or nodes n d).bytes.items → node.mode < 4096 → IsImage (image_of paths (set nodes n node))
+  formed_moded d kept small = subst IsImage (sym (image_moded d kept)) (moded_formed node.mode p (image_of paths nodes) formed small)
 
 -- ---- one directory changed
 
@@ -342,5 +343,5 @@ module _ (old new : List (Vec ℕ Global × Kind)) (nodes : List Node) (p : List
       looks q true s = entry_edited (kind_at old q) (ap (λ (x : List ℕ). node_of (kind_at old x)) (sym (same_path-true p q s)) ∙ no_file)
       looks q false s = sym (ap (λ (one : Bool). cond one (with_mode mode ((image_of old nodes).look q)) ((image_of old nodes).look q)) (apart q))
 
-  pub formed_dir_moded : IsImage (image_of new nodes)
-  formed_dir_moded = subst IsImage (sym image_dir_moded) (moded_formed mode p (image_of old nodes) formed)
+  pub formed_dir_moded : mode < 4096 → IsImage (image_of new nodes)
+  formed_dir_moded small = subst IsImage (sym image_dir_moded) (moded_formed mode p (image_of old nodes) formed small)

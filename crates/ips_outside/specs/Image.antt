@@ -1,6 +1,7 @@
 -- An image: a tree taken up to the naming of its nodes, by what stands at each path and which names share a file.
-use Rattle.std.specs.Prelude.{◌≡◌, ℕ, Bool, true, false, ◌||◌, IsTrue, IsFalse, List, Option, Some, None, is_none}
+use Rattle.std.specs.Prelude.{◌≡◌, ℕ, Bool, true, false, ◌||◌, IsTrue, IsFalse, List, Option, Some, None, is_none, is_some, nat_lt}
 use Rattle.ips_text.specs.Ancestry.{same_path, covers, parent}
+use Rattle.ips_text.specs.Path.{IsPath}
 
 -- A directory has a mode, and a mark where it also holds names that are no paths here. A file has a mode and its
 -- bytes, a symbolic link its target.
@@ -60,9 +61,19 @@ dir_or_none t None = true
 abbrev pub has_parent : Image → List ℕ → Bool
 has_parent t p = dir_or_none t (parent p)
 
--- A well-formed image: what stands above something is a directory, and to share a file is an equivalence among
--- the names of files, which show the same.
+-- its mode, where it has one, is one of permission bits: below 4096
+abbrev pub has_small_mode : Option Entry → Bool
+has_small_mode (Some (Dir m f)) = nat_lt m 4096
+has_small_mode (Some (File m b)) = nat_lt m 4096
+has_small_mode (Some (Link g)) = true
+has_small_mode (Some Other) = true
+has_small_mode None = true
+
+-- A well-formed image: something stands only at paths, what stands above something is a directory, modes are
+-- permission bits, and to share a file is an equivalence among the names of files, which show the same.
 pub record IsImage (t : Image) : Type 0 where
+  pub paths : (q : List ℕ) → IsTrue (is_some (t.look q)) → IsPath q
+  pub modes : (q : List ℕ) → IsTrue (has_small_mode (t.look q))
   pub below_dirs : (p q : List ℕ) → IsTrue (covers p q) → IsFalse (same_path p q) → IsTrue (is_none (t.look q) || is_dir (t.look p))
   pub files : (a b : List ℕ) → IsTrue (t.same a b) → IsTrue (is_file (t.look a)) × (t.look a ≡ t.look b)
   pub self : (a : List ℕ) → IsTrue (is_file (t.look a)) → IsTrue (t.same a a)

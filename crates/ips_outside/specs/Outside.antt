@@ -61,6 +61,14 @@ look_of (Some (Link g)) = look.Link
 look_of (Some Other) = look.Other
 look_of None = look.Absent
 
+-- the mode that a look answers is one of permission bits
+abbrev pub IsSmall : Look → Type 0
+IsSmall look.Absent = Unit {0}
+IsSmall (look.Dir mode) = mode < 4096
+IsSmall (look.File mode size) = mode < 4096
+IsSmall look.Link = Unit {0}
+IsSmall look.Other = Unit {0}
+
 -- the bytes that can be read at a path: none where no file stands
 abbrev pub readable : Option Entry → List ℕ
 readable e = unwrap_or (file_bytes e) []

@@ -1,7 +1,7 @@
 //! Sources of files and sinks of bytes, as the program meets them.
 
 ghost use Rattle.std.specs.Prelude.{◌≡◌, ◌≤◌, ◌++◌, ℕ, Bool, IsTrue, List, IfOk, IsErr, OnErr, length, take};
-ghost use Rattle.ips_outside.specs.Outside.{Outside, IsOutside, HasCause, Reads, look_of, readable, IsRead};
+ghost use Rattle.ips_outside.specs.Outside.{Outside, IsOutside, HasCause, Reads, look_of, IsSmall, readable, IsRead};
 ghost use Rattle.ips_outside.specs.Taking.{Taking, TakesSome};
 
 use ips_text::RelPath;
@@ -32,7 +32,8 @@ pub trait Source {
     /// What stands at the path.
     fn look(&mut self, path: &RelPath) -> Result<Look, Failed>
         ensures reads { Reads outside self.old self.new (IsErr result) }
-        ensures found { IsTrue (outside.tells self.old) → IfOk result (λ found. found ≡ look_of ((outside.state self.old).held.look path.now.bytes)) };
+        ensures found { IsTrue (outside.tells self.old) → IfOk result (λ found. found ≡ look_of ((outside.state self.old).held.look path.now.bytes)) }
+        ensures mode { IfOk result IsSmall };
 
     /// Reads the file's bytes from the place `at` on into the front of the buffer, and answers how many: at least one
     /// where the file goes on there, and 0 at its end and for a path that isn't a file.

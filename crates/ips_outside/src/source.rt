@@ -2,7 +2,7 @@
 #![tactic(auto, unfolding(crate::specs::Memory::tally_of))]
 
 ghost use Rattle.std.specs.Prelude.{◌≡◌, ◌<◌, ◌≤◌, IsTrue, IfOk, IsErr, IsOk, is_err, length};
-ghost use Rattle.ips_outside.specs.Outside.{Reads, look_of, readable, IsRead};
+ghost use Rattle.ips_outside.specs.Outside.{Reads, look_of, IsSmall, readable, IsRead};
 ghost use Rattle.ips_outside.specs.State.{untouched};
 ghost use Rattle.ips_outside.specs.Tally.{fresh, next_fails, after_call};
 ghost use Rattle.ips_outside.specs.Tree.{tree_image};
@@ -41,6 +41,7 @@ impl Source for MemSource {
     fn look(&mut self, path: &RelPath) -> Result<Look, Failed>
         ensures reads { Reads mem_outside self.old self.new (IsErr result) }
         ensures found { IsTrue (mem_outside.tells self.old) → IfOk result (λ found. found ≡ look_of ((mem_outside.state self.old).held.look path.now.bytes)) }
+        ensures mode { IfOk result IsSmall }
         ensures fails { is_err result ≡ next_fails (tally_of self.old) }
         ensures counted { tally_of self.new ≡ after_call (is_err result) (tally_of self.old) }
         ensures rises { IsErr result → (tally_of self.old).failed < (tally_of self.new).failed }
@@ -89,6 +90,7 @@ impl Source for SureSource {
     fn look(&mut self, path: &RelPath) -> Result<Look, Failed>
         ensures reads { Reads sure_outside self.old self.new (IsErr result) }
         ensures found { IsTrue (sure_outside.tells self.old) → IfOk result (λ found. found ≡ look_of ((sure_outside.state self.old).held.look path.now.bytes)) }
+        ensures mode { IfOk result IsSmall }
         ensures never_fails { IsOk result }
     {
         Ok(self.tree.look(path))

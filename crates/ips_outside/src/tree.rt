@@ -3,9 +3,9 @@
 
 ghost use Rattle.std.specs.Prelude.{◌≡◌, ◌<◌, [], ℕ, false, IsTrue, List, Option, Some, None, IfOk, OnOk, OnErr, ◌≤◌, length};
 ghost use Rattle.std.specs.Option.{option_copied};
-ghost use Rattle.ips_outside.specs.Image.{IsImage, Dir, File, nothing, is_file, file_bytes};
+ghost use Rattle.ips_outside.specs.Image.{IsImage, Dir, File, nothing, is_file, file_bytes, has_small_mode};
 ghost use Rattle.ips_outside.specs.Change.{placed, moded, appended};
-ghost use Rattle.ips_outside.specs.Outside.{look_of, readable, IsRead};
+ghost use Rattle.ips_outside.specs.Outside.{look_of, IsSmall, readable, IsRead};
 ghost use Rattle.ips_outside.specs.Table.{image_of, entry_of, node_of};
 ghost use Rattle.ips_outside.specs.Making.{fault_at, Refuses};
 
@@ -17,7 +17,7 @@ use std::alloc::{AllocError, Global};
 use std::collections::BTreeMap;
 
 /// Directories, files, links and others by their paths. What stands above each of them is a directory, and each file
-/// is a name of a node, which has a mode and bytes.
+/// is a name of a node, which has a mode and bytes. Modes are permission bits, below 0o10000.
 #[derive(Drop)]
 pub struct Tree {
     paths: Paths,
@@ -41,6 +41,7 @@ impl Tree {
     /// What stands at the path.
     pub fn look(&self, path: &RelPath) -> Look
         ensures found { result ≡ look_of ((tree_image self.now).look path.now.bytes) }
+        ensures mode { IsSmall result }
         ensures formed { IsImage (tree_image self.now) }
     {
         match find(&self.paths, path.bytes()) {
@@ -98,7 +99,8 @@ impl Tree {
 
     // Adds what is no file.
     fn add(&mut self, alloc: Global, path: &RelPath, kind: Kind) -> Result<(), Or<TreeFault>>
-        requires { node_of (Some kind) ≡ None }
+        requires plain { node_of (Some kind) ≡ None }
+        requires mode { IsTrue (has_small_mode (entry_of [] (Some kind))) }
         ensures made { OnOk result (tree_image self.new ≡ placed path.now.bytes (entry_of [] (Some kind)) (tree_image self.old)) }
         ensures as_before { OnErr result (tree_image self.new ≡ tree_image self.old) }
         ensures refused { Refuses (fault_at (tree_image self.old) path.now.bytes) result }

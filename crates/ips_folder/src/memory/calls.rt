@@ -4,7 +4,7 @@ ghost use Rattle.std.specs.Prelude.{◌≡◌, ◌<◌, ◌≤◌, List, IfOk, I
 ghost use Rattle.ips_text.specs.Ancestry.{covers};
 ghost use Rattle.ips_outside.specs.Change.{names};
 ghost use Rattle.ips_outside.specs.State.{nowhere, mode_set, settled};
-ghost use Rattle.ips_outside.specs.Outside.{Reads, look_of, readable, IsRead};
+ghost use Rattle.ips_outside.specs.Outside.{Reads, look_of, IsSmall, readable, IsRead};
 ghost use Rattle.ips_folder.specs.Calls.{Writes, Syncs, CanMake, IsSole, has_mode};
 ghost use Rattle.ips_folder.specs.History.{dir_made, file_made, bytes_appended};
 ghost use Rattle.ips_folder.specs.Memory.{mem_folder, mem_folder_sane, must_fail, Does, Passes};
@@ -24,6 +24,7 @@ impl Source for MemFolder {
         ensures reads { Reads mem_folder self.old self.new (IsErr result) }
         ensures passes { Passes self.old self.new result }
         ensures found { IfOk result (λ found. found ≡ look_of ((mem_folder.state self.old).held.look path.now.bytes)) }
+        ensures mode { IfOk result IsSmall }
     {
         self.answer(true)?;
         Ok(self.tree.look(path))

@@ -1,4 +1,5 @@
-use Rattle.std.proofs.Common.{◌≡◌, ◌∙◌, [], ℕ, List, Some, None, sym, ap}
+use Rattle.std.proofs.Common.{◌≡◌, ◌∙◌, [], ℕ, List, Some, None, sym, ap, subst}
+use Rattle.ips_text.specs.Path.{IsPath}
 use Rattle.ips_outside.specs.Change.{placed}
 use Rattle.ips_outside.specs.Table.{entry_of}
 use Rattle.ips_outside.specs.Making.{fault_at}
@@ -13,7 +14,7 @@ invariant_of-self c =
     let key = c.in_ok-key.key.items in
     let same : key ≡ c.args.path.now.bytes = c.in_ok-key.ensures.items ∙ c.bytes.ensures.value in
     let can : fault_at (tree_image t) key ≡ None = ap (fault_at (tree_image t)) same ∙ sym c.in_default.ensures in
-    record { formed = formed_plain t.paths.entries c.put.new.paths.entries t.nodes.items key c.args.kind t.formed can c.requires c.put.result c.put.ensures.put c.put.ensures.as_before }
+    record { formed = formed_plain t.paths.entries c.put.new.paths.entries t.nodes.items key c.args.kind t.formed can c.requires.plain c.put.result (subst IsPath (sym same) c.bytes.ensures.path) c.requires.mode c.put.ensures.put c.put.ensures.as_before }
 
 pub returns-clause-made : goal.returns-clause-made
 unfolding tree_image
@@ -22,5 +23,5 @@ returns-clause-made c =
     let key = c.in_ok-key.key.items in
     let same : key ≡ c.args.path.now.bytes = c.in_ok-key.ensures.items ∙ c.bytes.ensures.value in
     let can : fault_at (tree_image t) key ≡ None = ap (fault_at (tree_image t)) same ∙ sym c.in_default.ensures in
-    image_plain t.paths.entries c.put.new.paths.entries t.nodes.items key c.args.kind t.formed can c.requires c.in_ok-put.ensures.put
+    image_plain t.paths.entries c.put.new.paths.entries t.nodes.items key c.args.kind t.formed can c.requires.plain c.in_ok-put.ensures.put
     ∙ ap (λ (p : List ℕ). placed p (entry_of [] (Some c.args.kind)) (tree_image t)) same

@@ -1,6 +1,7 @@
 use Rattle.std.proofs.Common.{◌≡◌, ◌∙◌, [], ◌∷◌, ◌++◌, ℕ, List, length, cond, Some, None, sym, ap, subst, arith}
 use Rattle.ips_text.specs.Ancestry.{same_path}
 use Rattle.ips_outside.specs.Image.{File, IsImage}
+use Rattle.ips_text.specs.Path.{IsPath}
 use Rattle.ips_outside.specs.Change.{placed}
 use Rattle.ips_outside.specs.Table.{kind_at, image_of}
 use Rattle.ips_outside.specs.Making.{fault_at}
@@ -22,7 +23,7 @@ invariant_of-self-2 c =
     let pushed : c.push_reserved.new.self.items ≡ t.nodes.items ++ node ∷ [] = c.push_reserved.ensures.items ∙ ap (λ (nodes : List Node). nodes ++ node ∷ []) c.reserve.ensures.items in
     let put : (q : List ℕ) → kind_at c.put.new.paths.entries q ≡ cond (same_path key q) (Some (kind.File (length t.nodes.items))) (kind_at t.paths.entries q) =
     λ q. c.in_ok-put.ensures.put q ∙ ap (λ (n : ℕ). cond (same_path key q) (Some (kind.File n)) (kind_at t.paths.entries q)) number in
-    record { formed = subst (λ (nodes : List Node). IsImage (image_of c.put.new.paths.entries nodes)) (sym pushed) (formed_file t.paths.entries c.put.new.paths.entries t.nodes.items key node t.formed can put) }
+    record { formed = subst (λ (nodes : List Node). IsImage (image_of c.put.new.paths.entries nodes)) (sym pushed) (formed_file t.paths.entries c.put.new.paths.entries t.nodes.items key node t.formed can put (subst IsPath (sym same) c.bytes.ensures.path) c.requires) }
 
 pub returns-clause-made : goal.returns-clause-made
 unfolding tree_image

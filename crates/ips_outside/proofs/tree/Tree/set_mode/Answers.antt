@@ -20,13 +20,13 @@ invariant_of-self c =
     let old = c.index_mut.result.now in
     let node : Node = record { mode = c.args.mode; bytes = old.bytes } in
     let at = file_at t.paths.entries c.args.path.now.bytes c.bytes-name.result.now c.in-Some.node c.bytes-name.ensures.value c.in-Some.ensures in
-    record { formed = formed_moded t.paths.entries t.nodes.items c.args.path.now.bytes c.in-Some.node node t.formed at old (ap (λ (x : Node). x.bytes.items) c.index_mut.ensures.value) }
+    record { formed = formed_moded t.paths.entries t.nodes.items c.args.path.now.bytes c.in-Some.node node t.formed at old (ap (λ (x : Node). x.bytes.items) c.index_mut.ensures.value) c.requires }
 
 pub invariant_of-self-in-None : goal.invariant_of-self-in-None
 unfolding tree_image
 invariant_of-self-in-None c =
     let t = c.args.self.now in
-    record { formed = formed_dir_moded t.paths.entries c.set_dir_mode.new.paths.entries t.nodes.items c.bytes-name.result.now c.args.mode t.formed (sym c.in-None.ensures) c.set_dir_mode.ensures }
+    record { formed = formed_dir_moded t.paths.entries c.set_dir_mode.new.paths.entries t.nodes.items c.bytes-name.result.now c.args.mode t.formed (sym c.in-None.ensures) c.set_dir_mode.ensures c.requires }
 
 pub returns-in-Some : goal.returns-in-Some
 unfolding tree_image
