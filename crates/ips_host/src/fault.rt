@@ -10,6 +10,7 @@ use std::io;
 pub fn counted<T: Drop>(faults: &mut u64, answer: io::Result<T>) -> Result<T, Failed>
     ensures cause { HasCause faults.old faults.new (IsErr result) }
     ensures same { IfOk result (λ value. answer ≡ Ok value) }
+    ensures exact { IsErr result → IsErr answer }
     ensures kept { OnOk result (faults.new ≡ faults.old) }
 {
     match answer {

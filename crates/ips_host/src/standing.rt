@@ -37,6 +37,7 @@ pub fn look_of(metadata: &Metadata) -> Look
     ensures dir { IsDir (file_type metadata.now) → result ≡ Look.Dir (metadata_mode metadata.now % 4096) }
     ensures file { IsFile (file_type metadata.now) → result ≡ Look.File (metadata_mode metadata.now % 4096) (metadata_len metadata.now) }
     ensures link { IsSymlink (file_type metadata.now) → result ≡ Look.Link }
+    ensures other { (IsDir (file_type metadata.now) → ⊥) → (IsFile (file_type metadata.now) → ⊥) → (IsSymlink (file_type metadata.now) → ⊥) → result ≡ Look.Other }
     ensures found { result ≡ Look.Absent → ⊥ }
     ensures mode { IsSmall result }
 {

@@ -198,7 +198,7 @@ fn reads_whole_files(rt: HostRuntime) -> Result<(), Fail> {
     let dir = RelPath::parse(alloc, b"publisher/test")?;
     let place = format!(in alloc; "publisher/test/file/a9/{ABC}")?;
     let file = RelPath::parse(alloc, place.as_bytes())?;
-    let mut repo = repository(alloc, &long, &[5, 6])?;
+    let mut repo = repository(alloc, &long, &[5, 8])?;
     assert!(rt; matches!(read_file(alloc, &mut repo, &dir), Ok(None)));
     let bytes = read_file(alloc, &mut repo, &file).expect(&rt, "read");
     assert!(rt; bytes.expect(&rt, "a file").as_slice() == long.as_slice());

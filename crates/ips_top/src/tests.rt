@@ -141,28 +141,46 @@ fn tells_each_outcome(rt: HostRuntime) -> Result<(), Fail> {
     Ok(())
 }
 
+// A folder whose listed calls fail: an empty one, or one at which `usr` stands.
+fn image(alloc: Global, has_usr: bool, fails: Vec<u64>) -> Result<MemFolder, Fail> {
+    let mut tree = Tree::new(alloc);
+    if has_usr {
+        tree.dir(alloc, &RelPath::parse(alloc, b"usr")?, 0o755)?;
+    }
+    Ok(MemFolder::new(alloc, tree, fails)?)
+}
+
+// The words, whether `usr` stands in the image before, and the calls on the repository and on the image of such a run:
+// each manifest that stands and each payload is looked at and read; each line that delivers something is looked at,
+// two directories are made, the file is made, filled and given its mode, and all is synced.
+const RUNS: [(&str, bool, u64, u64); 4] = [
+    ("-R image -s repo install hello", false, 4, 9),
+    ("-R image -s repo install hello", true, 2, 1),
+    ("-R image -s repo install nope", false, 1, 0),
+    ("-R image -s repo install lost", false, 3, 1),
+];
+
 // Each call on the repository fails in turn, until a run has no such call.
 #[test]
 fn repository_faults(rt: HostRuntime) -> Result<(), Fail> {
     let alloc = rt.alloc();
-    let usr = RelPath::parse(alloc, b"usr")?;
-    let mut failed = 0u64;
-    for call in 1..=100u64 {
-        let mut repo = MemSource::new(repository(alloc)?, vec![in alloc; call]?);
-        let mut image = MemFolder::new(alloc, Tree::new(alloc), Vec::new(alloc))?;
-        let (status, taken) = run_line(alloc, INSTALL_HELLO, &mut repo, &mut image)?;
-        if let Outcome::Done = status.outcome {
-            break;
+    let share = RelPath::parse(alloc, b"usr/share")?;
+    for (line, has_usr, calls, _) in RUNS {
+        for call in 1..=calls + 1 {
+            let mut repo = MemSource::new(repository(alloc)?, vec![in alloc; call]?);
+            let mut image = image(alloc, has_usr, Vec::new(alloc))?;
+            let (status, taken) = run_line(alloc, line, &mut repo, &mut image)?;
+            let is_fault = matches!(&status.outcome, Outcome::SourceFault);
+            assert_eq!(rt; is_fault, call <= calls, "{line} {call}");
+            if is_fault {
+                assert_eq!(rt; status.number(), 1, "{line} {call}");
+                assert_eq!(rt; taken.as_str(), "source fault\n", "{line} {call}");
+                // only the payload's read, the fourth, comes behind the first change
+                let is_changed = image.tree().look(&share) != Look::Absent;
+                assert_eq!(rt; is_changed, call == 4, "{line} {call}");
+            }
         }
-        failed = call;
-        assert!(rt; matches!(&status.outcome, Outcome::SourceFault), "{call}");
-        assert_eq!(rt; status.number(), 1, "{call}");
-        assert_eq!(rt; taken.as_str(), "source fault\n", "{call}");
-        // the first is a look at the manifest
-        assert!(rt; call > 1 || image.tree().look(&usr) == Look::Absent);
     }
-    // the manifest and the payload are each looked at and read
-    assert!(rt; 4 <= failed && failed < 100, "{failed}");
     Ok(())
 }
 
@@ -171,50 +189,48 @@ fn repository_faults(rt: HostRuntime) -> Result<(), Fail> {
 fn image_faults(rt: HostRuntime) -> Result<(), Fail> {
     let alloc = rt.alloc();
     let usr = RelPath::parse(alloc, b"usr")?;
-    let mut failed = 0u64;
-    for call in 1..=100u64 {
-        let mut repo = MemSource::new(repository(alloc)?, Vec::new(alloc));
-        let mut image = MemFolder::new(alloc, Tree::new(alloc), vec![in alloc; call]?)?;
-        let (status, taken) = run_line(alloc, INSTALL_HELLO, &mut repo, &mut image)?;
-        if let Outcome::Done = status.outcome {
-            break;
+    for (line, has_usr, _, calls) in RUNS {
+        for call in 1..=calls + 1 {
+            let mut repo = MemSource::new(repository(alloc)?, Vec::new(alloc));
+            let mut image = image(alloc, has_usr, vec![in alloc; call]?)?;
+            let (status, taken) = run_line(alloc, line, &mut repo, &mut image)?;
+            let is_fault = matches!(&status.outcome, Outcome::FolderFault { .. });
+            assert_eq!(rt; is_fault, call <= calls, "{line} {call}");
+            if is_fault {
+                let is_changed = !has_usr && image.tree().look(&usr) != Look::Absent;
+                let report = if is_changed {
+                    "folder fault: unfinished\n"
+                } else {
+                    "folder fault: unchanged\n"
+                };
+                assert_eq!(rt; status.number(), 1, "{line} {call}");
+                assert_eq!(rt; taken.as_str(), report, "{line} {call}");
+            }
         }
-        failed = call;
-        let is_changed = image.tree().look(&usr) != Look::Absent;
-        assert!(rt;
-            matches!(&status.outcome, Outcome::FolderFault { unfinished } if *unfinished == is_changed),
-            "{call}"
-        );
-        assert_eq!(rt; status.number(), 1, "{call}");
-        let report = if is_changed {
-            "folder fault: unfinished\n"
-        } else {
-            "folder fault: unchanged\n"
-        };
-        assert_eq!(rt; taken.as_str(), report, "{call}");
     }
-    // three looks, two directories, and the file made, filled and given its mode
-    assert!(rt; 8 <= failed && failed < 100, "{failed}");
     Ok(())
 }
 
 #[test]
 fn sink_faults(rt: HostRuntime) -> Result<(), Fail> {
     let alloc = rt.alloc();
-    let words = words_of(alloc, INSTALL_HELLO)?;
-    // room for so many bytes, and the call that fails
-    for (room, call, number, report) in [
-        (0, 9, 1, ""),
-        (3, 9, 1, "don"),
-        (80, 1, 1, ""),
-        (80, 2, 0, "done\n"),
+    // whether `usr` stands before, room for so many bytes, the call that fails, and what is then told
+    for (has_usr, room, call, number, report) in [
+        (false, 0, 9, 1, ""),
+        (false, 3, 9, 1, "don"),
+        (false, 80, 1, 1, ""),
+        (false, 80, 2, 0, "done\n"),
+        (true, 80, 1, 1, ""),
+        (true, 5, 9, 1, "not y"),
     ] {
+        let words = words_of(alloc, INSTALL_HELLO)?;
         let mut repo = MemSource::new(repository(alloc)?, Vec::new(alloc));
-        let mut image = MemFolder::new(alloc, Tree::new(alloc), Vec::new(alloc))?;
+        let mut image = image(alloc, has_usr, Vec::new(alloc))?;
         let mut out = MemSink::new(alloc, room, vec![in alloc; call]?)?;
         let status = run(alloc, &words, &mut repo, &mut image, &mut out);
         // what happened stays the outcome
-        assert!(rt; matches!(&status.outcome, Outcome::Done), "{room} {call}");
+        let is_done = matches!(&status.outcome, Outcome::Done);
+        assert_eq!(rt; is_done, !has_usr, "{room} {call}");
         assert_eq!(rt; status.told, number == 0, "{room} {call}");
         assert_eq!(rt; status.number(), number, "{room} {call}");
         assert!(rt; out.taken() == report.as_bytes(), "{room} {call}");
