@@ -1,5 +1,5 @@
 -- What each phase's fault says of the whole.
-use Rattle.std.proofs.Common.{◌≡◌, ℕ, Bool, true, false, List, [], length, get_or, All, ◌∙◌, ap, subst, arith, Result, Err}
+use Rattle.std.proofs.Common.{◌≡◌, ℕ, Bool, true, false, List, [], length, get_or, All, ◌∙◌, ap, subst, arith, Result, Err, IsOk, is_ok, sym, refl}
 use Rattle.std.proofs.lemmas.Option.{slice_get-get_or}
 use Rattle.ips_outside.specs.Image.{Image}
 use Rattle.ips_outside.specs.Outside.{Outside, IsOutside, Reads}
@@ -9,7 +9,7 @@ use Rattle.ips_manifest.specs.Line.{Directory, File}
 use Rattle.ips_manifest.proofs.OneMeaning.{meant_mode}
 use Rattle.ips_install.specs.Package.{AreReady, CanInstall, ChangesOnly, covered_by}
 use Rattle.ips_install.specs.Fault.{SaysOfLines, is_refusal}
-use Rattle.ips_install.specs.Laying.{IsStepOf, AreStepsOf, paths_of, IsModed, IsLayingFault}
+use Rattle.ips_install.specs.Laying.{IsStepOf, AreStepsOf, paths_of, IsModed, IsLayingFault, IsFaultOfLaying}
 use Rattle.ips_install.specs.Planning.{SaysOfPlan, IsPlanningFault}
 use Rattle.ips_install.specs.Wanting.{SaysOfPayloads}
 use Rattle.ips_install.specs.declared.fault.InstallFault.{InstallFault}
@@ -34,22 +34,40 @@ module _ (repository t : Image) (lines : List (List ℕ)) where
   says_payloads ready (Folder unfinished) says = absurd says
   says_payloads ready OutOfMemory says = tt
 
-  pub says_laying : CanInstall repository t lines → (why : InstallFault) → IsLayingFault why → SaysOfLines repository t lines why
-  says_laying can (NotYet line) is = absurd is
-  says_laying can (PayloadMissing name) is = absurd is
-  says_laying can Source is = tt
-  says_laying can (Folder true) is = can
-  says_laying can (Folder false) is = tt
-  says_laying can OutOfMemory is = tt
+  pub says_laying : CanInstall repository t lines → (any : Bool) (why : InstallFault) → IsFaultOfLaying any why → SaysOfLines repository t lines why
+  says_laying can any (NotYet line) is = absurd is
+  says_laying can any (PayloadMissing name) is = absurd is
+  says_laying can any Source is = tt
+  says_laying can any (Folder true) is = can
+  says_laying can any (Folder false) is = tt
+  says_laying can any OutOfMemory is = absurd is
 
--- no fault while files are laid is a refusal
-pub laying_changes : (why : InstallFault) → IsLayingFault why → is_refusal why ≡ true → ⊥
-laying_changes (NotYet line) is refusal = is
-laying_changes (PayloadMissing name) is refusal = is
-laying_changes Source is refusal = cc
-laying_changes (Folder true) is refusal = cc
-laying_changes (Folder false) is refusal = cc
-laying_changes OutOfMemory is refusal = is
+-- a fault while files are laid is a refusal only where no step lays anything
+pub laying_changes : (any : Bool) (why : InstallFault) → IsFaultOfLaying any why → is_refusal why ≡ true → any ≡ false
+laying_changes any (NotYet line) is refusal = absurd is
+laying_changes any (PayloadMissing name) is refusal = absurd is
+laying_changes any Source is refusal = cc
+laying_changes any (Folder true) is refusal = cc
+laying_changes any (Folder false) is refusal = sym is
+laying_changes any OutOfMemory is refusal = absurd is
+
+-- and it is unfinished only where one does
+pub laying_unfinished : (any : Bool) (why : InstallFault) → IsFaultOfLaying any why → why ≡ Folder true → any ≡ true
+laying_unfinished any (NotYet line) is folder = absurd is
+laying_unfinished any (PayloadMissing name) is folder = absurd is
+laying_unfinished any Source is folder = cc
+laying_unfinished any (Folder true) is folder = sym is
+laying_unfinished any (Folder false) is folder = cc
+laying_unfinished any OutOfMemory is folder = absurd is
+
+-- a fault of a step is one of laying, since a step that lays nothing doesn't fail
+pub step_fault : {T : Type 0} (any : Bool) (r : Result T InstallFault) (why : InstallFault) → r ≡ Err why → (any ≡ false → IsOk r) → IsLayingFault why → IsFaultOfLaying any why
+step_fault false r why was ok is = absurd (let fine : is_ok r ≡ true = ok refl in let bad : is_ok r ≡ false = ap is_ok was in cc)
+step_fault true r (NotYet line) was ok is = is
+step_fault true r (PayloadMissing name) was ok is = is
+step_fault true r Source was ok is = tt
+step_fault true r (Folder unfinished) was ok is = is
+step_fault true r OutOfMemory was ok is = is
 
 moded_step : (text : List ℕ) (s : Step) → IsStepOf text s → IsModed s
 moded_step text step.Nothing is = tt

@@ -1,5 +1,7 @@
 -- Steps laid, one after another.
-use Rattle.std.proofs.Common.{◌≡◌, ℕ, zero, suc, ◌+◌, ◌<◌, Bool, true, false, IsTrue, List, [], ◌∷◌, length, take, take_all, get_or, slice_get, Contains, Option, Some, None, unwrap_or, refl, sym, ◌∙◌, ap, subst, arith}
+use Rattle.std.proofs.Common.{◌≡◌, ℕ, zero, suc, ◌+◌, ◌<◌, Bool, true, false, IsTrue, List, [], ◌∷◌, length, take, take_all, get_or, slice_get, Contains, Option, Some, None, unwrap_or, refl, sym, ◌∙◌, ap, subst, arith, ◌||◌}
+use Rattle.std.specs.List.{list_any}
+use Rattle.std.proofs.lemmas.Bool.{or_parts}
 use Rattle.std.proofs.lemmas.Bool.{or_parts}
 use Rattle.std.proofs.lemmas.Option.{slice_get_within}
 use Rattle.ips_text.specs.Ancestry.{parent}
@@ -8,7 +10,7 @@ use Rattle.ips_outside.specs.Image as image
 use Rattle.ips_folder.specs.Calls.{CanMake}
 use Rattle.ips_manifest.specs.Line.{Item, Directory, File, item_path, Means}
 use Rattle.ips_install.specs.Package.{Names, HasDir, AreReady, IsInstalled, file_at, covered_by}
-use Rattle.ips_install.specs.Laying.{IsStepOf, AreStepsOf, paths_of, step_covers, IsSized, CanLay, Lays}
+use Rattle.ips_install.specs.Laying.{IsStepOf, AreStepsOf, paths_of, step_covers, IsSized, CanLay, Lays, lays_something}
 use Rattle.ips_install.specs.declared.step.Step.{Step}
 use Rattle.ips_install.specs.declared.step.Step.TheVariants as step
 use Rattle.ips_install.proofs.Lines.{front_at, follows_at}
@@ -130,3 +132,38 @@ all_installed repository lines t u laid filled =
       other_paths = λ path off. laid.other_paths path (λ named. off (subst (λ (l : List (List ℕ)). Names l path) whole named));
       other_nodes = λ a b offa offb. laid.other_nodes a b (λ named. offa (subst (λ (l : List (List ℕ)). Names l a) whole named)) (λ named. offb (subst (λ (l : List (List ℕ)). Names l b) whole named));
     }
+
+-- where no step lays anything, none at a place does
+pub none_lays : (steps : List Step) (k : ℕ) (s : Step) → slice_get steps k ≡ Some s → list_any lays_something steps ≡ false → lays_something s ≡ false
+none_lays [] k s is none = cc
+none_lays (x ∷ steps) zero s is none = let one : x ≡ s = cc in subst (λ (y : Step). lays_something y ≡ false) one (or_parts (lays_something x) (list_any lays_something steps) none).0
+none_lays (x ∷ steps) (suc k) s is none = none_lays steps k s is (or_parts (lays_something x) (list_any lays_something steps) none).1
+
+-- a step that lays something, at its place
+record Laying (steps : List Step) : Type 0 where
+  at : ℕ
+  s : Step
+  stands : slice_get steps at ≡ Some s
+  lays : lays_something s ≡ true
+
+laying_at : (steps : List Step) → list_any lays_something steps ≡ true → Laying steps
+laying_at [] some = cc
+laying_at (x ∷ steps) some = go (lays_something x) refl (λ others. laying_at steps others)
+  where
+    go : (b : Bool) → lays_something x ≡ b → (list_any lays_something steps ≡ true → Laying steps) → Laying (x ∷ steps)
+    go true is behind = record { at = 0; s = x; stands = refl; lays = is }
+    go false is behind =
+        let rest = behind (ap (λ (b : Bool). b || list_any lays_something steps) (sym is) ∙ some) in
+        record { at = suc rest.at; s = rest.s; stands = rest.stands; lays = rest.lays }
+
+-- where the lines name no path, no step lays anything
+pub nothing_named : (lines : List (List ℕ)) (steps : List Step) → AreStepsOf lines steps → ((path : List ℕ) → Names lines path → ⊥) → list_any lays_something steps ≡ true → ⊥
+nothing_named lines steps all none some =
+    let here = laying_at steps some in
+    let line = line_of lines steps here.at here.s all here.stands in
+    go here.s here.lays line.text here.at line.stands line.is
+  where
+    go : (s : Step) → lays_something s ≡ true → (text : List ℕ) (k : ℕ) → slice_get lines k ≡ Some text → IsStepOf text s → ⊥
+    go step.Nothing is text k stands means = cc
+    go (step.Directory mode path) is text k stands means = none path.bytes (record { at = k; text = text; stands = stands; item = Directory mode path.bytes; means = means; path_is = refl })
+    go (step.File mode path payload) is text k stands means = none path.bytes (record { at = k; text = text; stands = stands; item = File means.0 mode path.bytes; means = means.1; path_is = refl })

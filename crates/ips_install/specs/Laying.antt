@@ -1,5 +1,5 @@
 -- What is laid, step by step.
-use Rattle.std.specs.Prelude.{◌≡◌, ℕ, ◌<◌, Bool, false, IsTrue, List, [], ◌∷◌, length, slice_get, Some, None}
+use Rattle.std.specs.Prelude.{◌≡◌, ℕ, ◌<◌, Bool, true, false, IsTrue, List, [], ◌∷◌, length, slice_get, Some, None}
 use Rattle.ips_text.specs.Ancestry.{covers}
 use Rattle.ips_outside.specs.Image.{Image, Dir}
 use Rattle.ips_outside.specs.Image as image
@@ -35,6 +35,12 @@ with_path (step.File mode path payload) paths = path.bytes ∷ paths
 abbrev pub paths_of : List Step → List (List ℕ)
 paths_of [] = []
 paths_of (s ∷ steps) = with_path s (paths_of steps)
+
+-- the step lays something
+abbrev pub lays_something : Step → Bool
+lays_something step.Nothing = false
+lays_something (step.Directory mode path) = true
+lays_something (step.File mode path payload) = true
 
 -- at or below the step's path
 abbrev pub step_covers : Step → List ℕ → Bool
@@ -95,3 +101,12 @@ IsLayingFault (PayloadMissing name) = ⊥
 IsLayingFault Source = Unit {0}
 IsLayingFault (Folder unfinished) = IsTrue unfinished
 IsLayingFault OutOfMemory = ⊥
+
+-- While files are laid and made safe: a fault of either side, and that of the image is unfinished exactly where a
+-- step lays something.
+abbrev pub IsFaultOfLaying : Bool → InstallFault → Type 0
+IsFaultOfLaying any (NotYet line) = ⊥
+IsFaultOfLaying any (PayloadMissing name) = ⊥
+IsFaultOfLaying any Source = Unit {0}
+IsFaultOfLaying any (Folder unfinished) = unfinished ≡ any
+IsFaultOfLaying any OutOfMemory = ⊥

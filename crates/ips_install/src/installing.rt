@@ -1,10 +1,10 @@
 //! A package laid on an image.
 
-ghost use Rattle.std.specs.Prelude.{◌≡◌, ℕ, Bool, IsTrue, List, Err, IfErr, OnOk};
+ghost use Rattle.std.specs.Prelude.{◌≡◌, ℕ, Bool, true, IsTrue, List, Err, IfErr, OnOk};
 ghost use Rattle.ips_outside.specs.State.{IsSettled};
 ghost use Rattle.ips_outside.specs.Outside.{HasCause};
 ghost use Rattle.ips_manifest.specs.Line.{lines_of};
-ghost use Rattle.ips_install.specs.Package.{CanInstall, IsInstalled, ChangesOnly};
+ghost use Rattle.ips_install.specs.Package.{Names, CanInstall, IsInstalled, ChangesOnly};
 ghost use Rattle.ips_install.specs.Fault.{SaysOfLines, IsFolderFault, is_refusal};
 ghost use Rattle.ips_install.specs.declared.fault.InstallFault.TheVariants as fault;
 
@@ -35,6 +35,9 @@ pub fn install<S: Source, F: Folder>(
     ensures refused { IsTrue (S.outside.tells repo.old) → IsTrue (F.outside.tells image.old)
         → IfErr result (SaysOfLines (S.outside.state repo.old).held (F.outside.state image.old).held (lines_of manifest.now)) }
     ensures refusals { IfErr result (λ why. IsTrue (is_refusal why) → F.outside.state image.new ≡ F.outside.state image.old) }
+
+    // Where the manifest's lines deliver nothing, no fault of the image is unfinished.
+    ensures idle { ((path : List ℕ) → Names (lines_of manifest.now) path → ⊥) → IfErr result (λ why. why ≡ fault.Folder true → ⊥) }
 
     // At every moment paths that the manifest names are all that is changed and touched.
     ensures any_moment { IsTrue (F.outside.tells image.old) → ChangesOnly F.outside (lines_of manifest.now) image.old image.new }

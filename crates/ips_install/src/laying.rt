@@ -1,14 +1,14 @@
 //! Directories and files laid on an image.
 
-ghost use Rattle.std.specs.Prelude.{◌≡◌, ◌<◌, ℕ, Bool, true, false, IsTrue, List, Some, Err, IfErr, OnOk, length};
-ghost use Rattle.std.specs.List.{All};
+ghost use Rattle.std.specs.Prelude.{◌≡◌, ◌<◌, ℕ, Bool, true, false, IsTrue, IsFalse, IsOk, List, Some, Err, IfErr, OnOk, OnErr, length};
+ghost use Rattle.std.specs.List.{All, list_any};
 ghost use Rattle.ips_text.specs.Ancestry.{covers};
 ghost use Rattle.ips_outside.specs.Image.{Dir};
 ghost use Rattle.ips_outside.specs.Change.{placed};
 ghost use Rattle.ips_outside.specs.State.{IsSettled};
 ghost use Rattle.ips_outside.specs.Outside.{HasCause, Reads};
 ghost use Rattle.ips_folder.specs.Calls.{CanMake, IsSole, Keeps};
-ghost use Rattle.ips_install.specs.Laying.{AreStepsOf, paths_of, step_covers, IsModed, IsSized, CanLay, Copies, LaysFile, Lays, AreLayable, IsLayingFault};
+ghost use Rattle.ips_install.specs.Laying.{AreStepsOf, paths_of, step_covers, IsModed, IsSized, CanLay, Copies, LaysFile, Lays, AreLayable, IsLayingFault, IsFaultOfLaying, lays_something};
 ghost use Rattle.ips_install.specs.Package.{AreReady, IsInstalled, covered_by};
 ghost use Rattle.ips_install.specs.declared.fault.InstallFault.TheVariants as fault;
 
@@ -116,6 +116,7 @@ fn lay_step<S: Source, F: Folder>(
     ensures cause { HasCause (F.outside.faults image.old) (F.outside.faults image.new) (result ≡ Err (fault.Folder true)) }
     ensures same_kind { F.outside.tells image.new ≡ F.outside.tells image.old }
     ensures faults { IfErr result IsLayingFault }
+    ensures idle { IsFalse (lays_something step.now) → IsOk result × (F.outside.state image.new ≡ F.outside.state image.old) }
 {
     match step {
         Step::Nothing => Ok(()),
@@ -146,6 +147,7 @@ fn lay_steps<S: Source, F: Folder>(
     ensures cause { HasCause (F.outside.faults image.old) (F.outside.faults image.new) (result ≡ Err (fault.Folder true)) }
     ensures same_kind { F.outside.tells image.new ≡ F.outside.tells image.old }
     ensures faults { IfErr result IsLayingFault }
+    ensures idle { IsFalse (list_any lays_something steps.now) → IsOk result × (F.outside.state image.new ≡ F.outside.state image.old) }
 {
     for step in steps {
         lay_step(repo, image, step, buffer)?;
@@ -153,8 +155,15 @@ fn lay_steps<S: Source, F: Folder>(
     Ok(())
 }
 
-/// Lays each step in turn, and syncs. A fault of the sync counts as unfinished even where no step lays anything, since
-/// it may have made safe what was touched before.
+/// Whether one of the steps lays something.
+fn lay_something(steps: &[Step]) -> bool
+    ensures { result ≡ list_any lays_something steps.now }
+{
+    steps.iter().any(|step| step.lays())
+}
+
+/// Lays each step in turn, and syncs. A sync that fails changes nothing, so where no step lays anything its fault
+/// leaves the image as it was.
 pub(crate) fn lay<S: Source, F: Folder>(
     repo: &mut S,
     image: &mut F,
@@ -170,13 +179,15 @@ pub(crate) fn lay<S: Source, F: Folder>(
     ensures safe { IsTrue (F.outside.tells image.old) → OnOk result (IsSettled (F.outside.state image.new)) }
     ensures any_moment { IsTrue (F.outside.tells image.old) → Keeps F.outside (covered_by (paths_of steps.now)) (covered_by (paths_of steps.now)) image.old image.new }
     ensures reads { Reads S.outside repo.old repo.new (result ≡ Err fault.Source) }
-    ensures cause { HasCause (F.outside.faults image.old) (F.outside.faults image.new) (result ≡ Err (fault.Folder true)) }
+    ensures cause { HasCause (F.outside.faults image.old) (F.outside.faults image.new) ((unfinished : Bool) × (result ≡ Err (fault.Folder unfinished))) }
     ensures same_kind { F.outside.tells image.new ≡ F.outside.tells image.old }
-    ensures faults { IfErr result IsLayingFault }
+    ensures faults { IfErr result (IsFaultOfLaying (list_any lays_something steps.now)) }
+    ensures idle { IsFalse (list_any lays_something steps.now) → OnErr result (F.outside.state image.new ≡ F.outside.state image.old) }
 {
     lay_steps(repo, image, steps, buffer)?;
     let Ok(()) = image.sync() else {
-        return Err(InstallFault::Folder { unfinished: true });
+        let unfinished = lay_something(steps);
+        return Err(InstallFault::Folder { unfinished });
     };
     Ok(())
 }

@@ -1,5 +1,8 @@
 //! What is laid, line by line.
 
+ghost use Rattle.std.specs.Prelude.{◌≡◌};
+ghost use Rattle.ips_install.specs.Laying.{lays_something};
+
 use ips_text::RelPath;
 
 /// A payload of the repository: where it stands, and its length in bytes.
@@ -23,4 +26,13 @@ pub(crate) enum Step {
         path: RelPath,
         payload: Payload,
     },
+}
+
+impl Step {
+    /// Whether it lays something.
+    pub(crate) fn lays(&self) -> bool
+        ensures { result ≡ lays_something self.now }
+    {
+        !matches!(self, Step::Nothing)
+    }
 }

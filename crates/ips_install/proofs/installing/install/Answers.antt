@@ -1,17 +1,19 @@
-use Rattle.std.proofs.Common.{◌≡◌, true, List, length, All, Err, sym, ◌∙◌, ap, subst}
+use Rattle.std.proofs.Common.{◌≡◌, true, List, length, All, Err, sym, ◌∙◌, ap, subst, Bool, false}
 use Rattle.std.proofs.lemmas.Result.{err_from_is_err_and}
 use Rattle.ips_outside.specs.Image.{Image}
 use Rattle.ips_outside.specs.State.{State}
 use Rattle.ips_manifest.specs.Line.{lines_of}
 use Rattle.ips_install.specs.Package.{AreReady, CanInstall, IsInstalled}
-use Rattle.ips_install.specs.Laying.{AreStepsOf, IsModed, IsSized, IsLayingFault}
+use Rattle.ips_install.specs.Laying.{AreStepsOf, IsModed, IsSized, IsFaultOfLaying, lays_something}
 use Rattle.ips_install.specs.declared.fault.InstallFault.{InstallFault}
 use Rattle.ips_install.specs.declared.fault.InstallFault.TheVariants as fault
 use Rattle.ips_install.specs.declared.step.Step.{Step}
 use Rattle.ips_outside.proofs.Faults.{cause_behind}
 use Rattle.ips_install.proofs.Calls.{no_fault, handed_on, cause_handed}
 use Rattle.ips_install.proofs.Wanted.{all_named}
-use Rattle.ips_install.proofs.Outcomes.{says_laying, laying_changes, all_moded, unchanged, changed, folder_unfinished, err_same}
+use Rattle.ips_install.proofs.Outcomes.{says_laying, laying_changes, all_moded, unchanged, changed, laying_unfinished}
+use Rattle.std.specs.List.{list_any}
+use Rattle.ips_install.proofs.Stepping.{nothing_named}
 use Rattle.ips_install.proofs.installing.install.Goals as goal
 
 pub returns-in_err-items-clause-any_moment : goal.returns-in_err-items-clause-any_moment
@@ -51,14 +53,24 @@ returns-in_err-lay-clause-refused g c = λ telling told.
     let lines = lines_of c.args.manifest.now in
     let repo = (g.S.Source.outside.state c.args.repo.now).held in
     let image = (g.F.Source.outside.state c.args.image.now).held in
+    let any = list_any lays_something c.as_slice.result.now in
     let can : CanInstall repo image lines = record { ready = c.in_ok-items.ensures.ready told; present = c.in_ok-steps.ensures.present telling lines c.in_ok-items.ensures.items } in
     let left = err_from_is_err_and c.from_residual-in_err-lay.result c.from_residual-in_err-lay.ensures.1 in
-    rw left.1 (says_laying repo image lines can left.0 (subst IsLayingFault (sym left.2) c.in_err-lay.ensures.faults))
+    rw left.1 (says_laying repo image lines can any left.0 (subst (IsFaultOfLaying any) (sym left.2) c.in_err-lay.ensures.faults))
 
 pub returns-in_err-lay-clause-refusals : goal.returns-in_err-lay-clause-refusals
 returns-in_err-lay-clause-refusals g c =
     let left = err_from_is_err_and c.from_residual-in_err-lay.result c.from_residual-in_err-lay.ensures.1 in
-    rw left.1 (λ refusal. absurd (laying_changes left.0 (subst IsLayingFault (sym left.2) c.in_err-lay.ensures.faults) refusal))
+    let any = list_any lays_something c.as_slice.result.now in
+    rw left.1 (λ refusal. c.in_err-lay.ensures.idle (laying_changes any left.0 (subst (IsFaultOfLaying any) (sym left.2) c.in_err-lay.ensures.faults) refusal) ∙ c.plan.ensures.reads.kept)
+
+pub returns-in_err-lay-clause-idle : goal.returns-in_err-lay-clause-idle
+returns-in_err-lay-clause-idle g c = λ none.
+    let lines = lines_of c.args.manifest.now in
+    let steps_of = subst (AreStepsOf lines) (sym c.as_slice.ensures.value) (c.in_ok-steps.ensures.steps lines c.in_ok-items.ensures.items) in
+    let left = err_from_is_err_and c.from_residual-in_err-lay.result c.from_residual-in_err-lay.ensures.1 in
+    let any = list_any lays_something c.as_slice.result.now in
+    rw left.1 (λ folder. nothing_named lines c.as_slice.result.now steps_of none (laying_unfinished any left.0 (subst (IsFaultOfLaying any) (sym left.2) c.in_err-lay.ensures.faults) folder))
 
 pub returns-in_err-lay-clause-any_moment : goal.returns-in_err-lay-clause-any_moment
 returns-in_err-lay-clause-any_moment g c = λ told.
@@ -76,13 +88,11 @@ returns-in_err-lay-clause-source_cause g c =
 pub returns-in_err-lay-clause-folder_cause : goal.returns-in_err-lay-clause-folder_cause
 returns-in_err-lay-clause-folder_cause g c =
     let left = err_from_is_err_and c.from_residual-in_err-lay.result c.from_residual-in_err-lay.ensures.1 in
-    let laying = subst IsLayingFault (sym left.2) c.in_err-lay.ensures.faults in
-    cause_behind (g.F.Source.outside.faults c.args.image.now) (g.F.Source.outside.faults c.plan.new.image) (g.F.Source.outside.faults c.lay.new.image) _ (c.lay.result ≡ Err (fault.Folder true)) _
+    let was = c.in_err-lay.was ∙ ap (λ (e : InstallFault). Err e) (sym left.2) in
+    cause_behind (g.F.Source.outside.faults c.args.image.now) (g.F.Source.outside.faults c.plan.new.image) (g.F.Source.outside.faults c.lay.new.image) _ ((unfinished : Bool) × (c.lay.result ≡ Err (fault.Folder unfinished))) _
     c.plan.ensures.reads.call.cause (λ err. no_fault c.plan.result _ _ c.in_ok-items.was err) c.lay.ensures.cause
-    (λ is. (true, handed_on c.from_residual-in_err-lay.result c.lay.result left.0 (fault.Folder true) left.1 (c.in_err-lay.was ∙ ap (λ (e : InstallFault). Err e) (sym left.2)) is))
-    (λ is.
-    let one = err_same c.from_residual-in_err-lay.result left.0 (fault.Folder is.0) left.1 is.1 in
-    c.in_err-lay.was ∙ ap (λ (e : InstallFault). Err e) (sym left.2 ∙ folder_unfinished left.0 is.0 laying one))
+    (λ is. (is.0, handed_on c.from_residual-in_err-lay.result c.lay.result left.0 (fault.Folder is.0) left.1 was is.1))
+    (λ is. (is.0, handed_on c.lay.result c.from_residual-in_err-lay.result left.0 (fault.Folder is.0) was left.1 is.1))
 
 pub returns-clause-could : goal.returns-clause-could
 returns-clause-could g c = λ telling told. record {
@@ -117,5 +127,5 @@ returns-clause-source_cause g c =
 
 pub returns-clause-folder_cause : goal.returns-clause-folder_cause
 returns-clause-folder_cause g c =
-    cause_behind (g.F.Source.outside.faults c.args.image.now) (g.F.Source.outside.faults c.plan.new.image) (g.F.Source.outside.faults c.lay.new.image) _ (c.lay.result ≡ Err (fault.Folder true)) _
-    c.plan.ensures.reads.call.cause (λ err. no_fault c.plan.result _ _ c.in_ok-items.was err) c.lay.ensures.cause (λ err. absurd (no_fault c.lay.result _ _ c.in_ok-lay.was err)) (λ is. let bad = is.1 in absurd (cc))
+    cause_behind (g.F.Source.outside.faults c.args.image.now) (g.F.Source.outside.faults c.plan.new.image) (g.F.Source.outside.faults c.lay.new.image) _ ((unfinished : Bool) × (c.lay.result ≡ Err (fault.Folder unfinished))) _
+    c.plan.ensures.reads.call.cause (λ err. no_fault c.plan.result _ _ c.in_ok-items.was err) c.lay.ensures.cause (λ err. absurd (no_fault c.lay.result _ _ c.in_ok-lay.was err.1)) (λ is. let bad = is.1 in absurd (cc))

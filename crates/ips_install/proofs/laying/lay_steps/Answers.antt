@@ -1,4 +1,4 @@
-use Rattle.std.proofs.Common.{◌≡◌, ℕ, ◌+◌, ◌<◌, ◌≤◌, Bool, true, false, Err, IsTrue, IsErr, List, length, slice_get, Some, refl, sym, ◌∙◌, ap, subst, arith}
+use Rattle.std.proofs.Common.{◌≡◌, ℕ, ◌+◌, ◌<◌, ◌≤◌, Bool, true, false, Err, is_ok, IsTrue, IsErr, List, length, slice_get, Some, refl, sym, ◌∙◌, ap, subst, arith}
 use Rattle.std.proofs.lemmas.Option.{slice_get_read}
 use Rattle.std.proofs.lemmas.Result.{err_from_is_err_and}
 use Rattle.ips_outside.specs.Image.{Image}
@@ -11,7 +11,7 @@ use Rattle.ips_install.specs.declared.fault.InstallFault.TheVariants as fault
 use Rattle.ips_install.specs.declared.step.Step.{Step}
 use Rattle.ips_install.proofs.Calls.{no_fault, cause_handed, reads_then}
 use Rattle.ips_install.proofs.Installed.{AreLaid, AreFilled, none_laid, none_filled}
-use Rattle.ips_install.proofs.Stepping.{line_of, off_step, step_can, step_laid, step_filled, all_installed}
+use Rattle.ips_install.proofs.Stepping.{line_of, off_step, step_can, step_laid, step_filled, all_installed, none_lays}
 use Rattle.ips_install.proofs.laying.lay_steps.Goals as goal
 
 pub lay_step-requires-clause-can : goal.lay_step-requires-clause-can
@@ -36,6 +36,13 @@ returns-in_err-lay_step-clause-cause g c =
     cause_handed (g.F.Source.outside.faults c.args.image.now) (g.F.Source.outside.faults c.loop-step.image) (g.F.Source.outside.faults c.lay_step.new.image) c.lay_step.result c.from_residual.result left.0 (fault.Folder true)
     c.loop-step.invariant.faults c.lay_step.ensures.cause (c.in_err-lay_step.was ∙ ap (λ (e : InstallFault). Err e) (sym left.2)) left.1
 
+pub returns-in_err-lay_step-clause-idle : goal.returns-in_err-lay_step-clause-idle
+returns-in_err-lay_step-clause-idle g c = λ none.
+    let place = slice_get_read c.args.steps.now (length c.args.steps.now) c.loop-step.step-index c.step-item.result refl c.loop-step-test.true c.step-item.is in
+    let fine = (c.lay_step.ensures.idle (none_lays c.args.steps.now c.loop-step.step-index c.step-item.result place none)).0 in
+    let bad : is_ok c.lay_step.result ≡ false = ap is_ok c.in_err-lay_step.was in
+    absurd (cc)
+
 pub loop-step-preserved : goal.loop-step-preserved
 loop-step-preserved g c =
     let place = slice_get_read c.args.steps.now (length c.args.steps.now) c.loop-step.step-index c.step-item.result refl c.loop-step-test.true c.step-item.is in
@@ -44,6 +51,7 @@ loop-step-preserved g c =
       reads = reads_then g.S.Source.outside c.args.repo.now c.loop-step.repo c.lay_step.new.repo _ ⊥ c.loop-step.invariant.reads c.lay_step.ensures.reads (λ err. no_fault c.lay_step.result _ _ c.in_ok-lay_step.was err) (λ f. absurd f);
       kind = c.lay_step.ensures.same_kind ∙ c.loop-step.invariant.kind;
       faults = c.lay_step.ensures.cause.steady (λ err. no_fault c.lay_step.result _ _ c.in_ok-lay_step.was err) ∙ c.loop-step.invariant.faults;
+      idle = λ none. (c.lay_step.ensures.idle (none_lays c.args.steps.now c.loop-step.step-index c.step-item.result place none)).1 ∙ c.loop-step.invariant.idle none;
       laid = λ told lines steps_of ready.
           step_laid lines old ready c.loop-step.step-index (g.F.Source.outside.state c.loop-step.image).held (c.loop-step.invariant.laid told lines steps_of ready)
           (g.met.F.Source.sane.formed c.args.image.now told) (g.S.Source.outside.tells c.loop-step.repo) (g.S.Source.outside.state c.loop-step.repo).held
