@@ -7,9 +7,9 @@ use Rattle.ips_outside.specs.Image.{Entry, Dir, Image, IsImage, is_dir, is_file}
 use Rattle.ips_outside.specs.Image as image
 use Rattle.ips_outside.specs.Change.{placed}
 use Rattle.ips_outside.proofs.Placed.{look_placed}
-use Rattle.ips_manifest.specs.Line.{Item, Directory, File, item_path, Means}
+use Rattle.ips_plain.specs.Line.{Item, Directory, File, item_path, Means}
 use Rattle.ips_install.specs.Package.{Names, AreReady, file_at, payload_path}
-use Rattle.ips_manifest.proofs.OneMeaning.{means_one_thing}
+use Rattle.ips_plain.proofs.OneMeaning.{means_one_thing}
 use Rattle.ips_install.proofs.Lines.{below_or_last, names_at, names_wider, names_above, follows_at}
 
 -- so many of the first lines are laid, their files with some bytes

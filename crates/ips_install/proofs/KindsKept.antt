@@ -7,8 +7,8 @@ use Rattle.ips_outside.specs.Image.{Entry, Dir, Link, Other, Image}
 use Rattle.ips_outside.specs.Image as image
 use Rattle.ips_outside.specs.Outside.{look_of}
 use Rattle.ips_outside.specs.declared.outside.Look.TheVariants as look
-use Rattle.ips_manifest.specs.Line.{Item, Directory, File, item_path, Means}
-use Rattle.ips_manifest.proofs.OneMeaning.{means_one_thing}
+use Rattle.ips_plain.specs.Line.{Item, Directory, File, item_path, Means}
+use Rattle.ips_plain.proofs.OneMeaning.{means_one_thing}
 use Rattle.ips_install.specs.Package.{Names, NamesDir, HasDir, CanFollow, MayFollow, IsReady}
 use Rattle.ips_install.specs.Delivered.{kind_at, IsKind, AreKinds}
 use Rattle.ips_install.specs.Planning.{is_directory, is_dir_kept, has_dir_kept, is_placed}

@@ -4,9 +4,9 @@ use Rattle.std.proofs.lemmas.Bool.{cases_lt}
 use Rattle.ips_text.specs.Ancestry.{same_path, covers, parent}
 use Rattle.ips_text.proofs.Ancestry.{same_path-true, at_parent_of}
 use Rattle.ips_outside.specs.Image.{Image}
-use Rattle.ips_manifest.specs.Line.{Item, Directory, item_path, Means}
+use Rattle.ips_plain.specs.Line.{Item, Directory, item_path, Means}
 use Rattle.ips_install.specs.Package.{Names, NamesDir, HasDir, CanFollow, MayFollow, AreReady}
-use Rattle.ips_manifest.proofs.OneMeaning.{means_one_thing}
+use Rattle.ips_plain.proofs.OneMeaning.{means_one_thing}
 
 -- an element of the first ones
 pub front_at : {X : Type 0} (xs : List X) (n j : ℕ) (x : X) → slice_get (take n xs) j ≡ Some x → (j < n) × (slice_get xs j ≡ Some x)

@@ -5,8 +5,8 @@ use Rattle.ips_outside.specs.Image.{Image}
 use Rattle.ips_outside.specs.Outside.{Outside, IsOutside, Reads}
 use Rattle.ips_folder.specs.Calls.{Keeps}
 use Rattle.ips_folder.proofs.Runs.{one_read, keeps_then}
-use Rattle.ips_manifest.specs.Line.{Directory, File}
-use Rattle.ips_manifest.proofs.OneMeaning.{meant_mode}
+use Rattle.ips_plain.specs.Line.{Directory, File}
+use Rattle.ips_plain.proofs.OneMeaning.{meant_mode}
 use Rattle.ips_install.specs.Package.{AreReady, CanInstall, ChangesOnly, covered_by}
 use Rattle.ips_install.specs.Fault.{SaysOfLines, is_refusal}
 use Rattle.ips_install.specs.Laying.{IsStepOf, AreStepsOf, paths_of, IsModed, IsLayingFault, IsFaultOfLaying}

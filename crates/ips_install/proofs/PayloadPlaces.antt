@@ -14,7 +14,7 @@ use Rattle.std.proofs.lemmas.List.Sums.{AllPass-from_list_all}
 use Rattle.std.proofs.lemmas.Str.{IsUtf8-append, IsUtf8-from_ascii}
 use Rattle.ips_text.specs.Path.{IsPath, parts, is_dots, is_nothing, is_long}
 use Rattle.ips_text.specs.declared.path.PathFault.TheVariants.{Empty, Absolute, DotPart, EmptyPart, NulByte, NotText, TooLong}
-use Rattle.ips_manifest.specs.Line.{is_hex_digit, is_payload_name}
+use Rattle.ips_plain.specs.Line.{is_hex_digit, is_payload_name}
 use Rattle.ips_outside.specs.Image.{Entry, Dir, File, Link, Other, file_bytes}
 use Rattle.ips_outside.specs.Outside.{look_of}
 use Rattle.ips_outside.specs.declared.outside.Look.TheVariants as look

@@ -1,9 +1,9 @@
 -- Lines looked at, one after another.
 use Rattle.std.proofs.Common.{◌≡◌, ◌⊎◌, ⊎_elim, inl, inr, ℕ, zero, suc, ◌+◌, ◌<◌, ◌≤◌, Result, Ok, Err, IfErr, List, [], ◌∷◌, ◌++◌, length, take, drop, slice_get, Option, Some, refl, sym, ◌∙◌, ap, subst, arith, length-append}
 use Rattle.ips_outside.specs.Image.{Image}
-use Rattle.ips_manifest.specs.declared.item.Item as value
-use Rattle.ips_manifest.specs.Line.{Means}
-use Rattle.ips_manifest.specs.Seen.{seen_option}
+use Rattle.ips_plain.specs.declared.item.Item as value
+use Rattle.ips_plain.specs.Line.{Means}
+use Rattle.ips_plain.specs.Seen.{seen_option}
 use Rattle.ips_install.specs.Package.{IsReady, AreReady}
 use Rattle.ips_install.specs.Planning.{AreItemsOf, SaysOfLine, SaysOfPlan, IsLineFault}
 use Rattle.ips_install.specs.declared.fault.InstallFault.{InstallFault}

@@ -8,7 +8,7 @@ use Rattle.ips_text.specs.Ancestry.{parent}
 use Rattle.ips_outside.specs.Image.{Entry, Dir, Image, IsImage, is_dir, has_parent, dir_or_none, file_bytes}
 use Rattle.ips_outside.specs.Image as image
 use Rattle.ips_folder.specs.Calls.{CanMake}
-use Rattle.ips_manifest.specs.Line.{Item, Directory, File, item_path, Means}
+use Rattle.ips_plain.specs.Line.{Item, Directory, File, item_path, Means}
 use Rattle.ips_install.specs.Package.{Names, HasDir, AreReady, IsInstalled, file_at, covered_by}
 use Rattle.ips_install.specs.Laying.{IsStepOf, AreStepsOf, paths_of, step_covers, IsSized, CanLay, Lays, lays_something}
 use Rattle.ips_install.specs.declared.step.Step.{Step}

@@ -3,11 +3,11 @@ use Rattle.std.proofs.Common.{◌≡◌, ⊎_elim, ℕ, ◌+◌, ◌<◌, List, 
 use Rattle.std.proofs.lemmas.List.{take_more}
 use Rattle.std.proofs.lemmas.Option.{slice_get_within, slice_get_read, slice_get-get_or}
 use Rattle.ips_outside.specs.Image.{Image}
-use Rattle.ips_manifest.specs.declared.item.Item as value
-use Rattle.ips_manifest.specs.declared.item.Item.TheVariants as variant
-use Rattle.ips_manifest.specs.Line.{Directory, File, Means}
-use Rattle.ips_manifest.specs.Seen.{seen_option}
-use Rattle.ips_manifest.proofs.OneMeaning.{means_one_thing}
+use Rattle.ips_plain.specs.declared.item.Item as value
+use Rattle.ips_plain.specs.declared.item.Item.TheVariants as variant
+use Rattle.ips_plain.specs.Line.{Directory, File, Means}
+use Rattle.ips_plain.specs.Seen.{seen_option}
+use Rattle.ips_plain.proofs.OneMeaning.{means_one_thing}
 use Rattle.ips_install.specs.Package.{payload_path, file_at, ArePresent}
 use Rattle.ips_install.specs.Laying.{IsStepOf, AreStepsOf, IsSized}
 use Rattle.ips_install.specs.Planning.{AreItemsOf}

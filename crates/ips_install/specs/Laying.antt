@@ -6,7 +6,7 @@ use Rattle.ips_outside.specs.Image as image
 use Rattle.ips_outside.specs.Change.{placed, appended}
 use Rattle.ips_outside.specs.Outside.{readable}
 use Rattle.ips_folder.specs.Calls.{CanMake}
-use Rattle.ips_manifest.specs.Line.{Directory, File, Means}
+use Rattle.ips_plain.specs.Line.{Directory, File, Means}
 use Rattle.ips_install.specs.Package.{payload_path, AreReady}
 use Rattle.ips_install.specs.declared.fault.InstallFault.{InstallFault}
 use Rattle.ips_install.specs.declared.fault.InstallFault.TheVariants.{NotYet, PayloadMissing, Source, Folder, OutOfMemory}

@@ -7,7 +7,7 @@ use Rattle.ips_outside.specs.Image.{Image, Dir, file_bytes}
 use Rattle.ips_outside.specs.Image as image
 use Rattle.ips_outside.specs.Outside.{Outside}
 use Rattle.ips_folder.specs.Calls.{Keeps}
-use Rattle.ips_manifest.specs.Line.{Item, Directory, File, item_path, Means}
+use Rattle.ips_plain.specs.Line.{Item, Directory, File, item_path, Means}
 
 -- where the manifest of a stem's version 1 stands
 abbrev pub manifest_path : List ℕ → List ℕ

@@ -2,9 +2,9 @@
 use Rattle.std.specs.Prelude.{◌≡◌, ℕ, Bool, true, false, IsFalse, not, is_some, ◌&&◌, List, length, slice_get, Option, Some, None}
 use Rattle.ips_text.specs.Ancestry.{parent}
 use Rattle.ips_outside.specs.Image.{Image}
-use Rattle.ips_manifest.specs.declared.item.Item as value
-use Rattle.ips_manifest.specs.Line.{Item, Directory, File, Means}
-use Rattle.ips_manifest.specs.Seen.{seen_option}
+use Rattle.ips_plain.specs.declared.item.Item as value
+use Rattle.ips_plain.specs.Line.{Item, Directory, File, Means}
+use Rattle.ips_plain.specs.Seen.{seen_option}
 use Rattle.ips_install.specs.Package.{IsReady, IsFirstUnready}
 use Rattle.ips_install.specs.Delivered.{kind_at}
 use Rattle.ips_install.specs.declared.delivered.Delivered.{Delivered}

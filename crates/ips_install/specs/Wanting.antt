@@ -1,10 +1,10 @@
 -- Payloads looked for, one after another.
 use Rattle.std.specs.Prelude.{◌≡◌, ℕ, IsTrue, List, length, slice_get, Option, Some, None}
 use Rattle.ips_outside.specs.Image.{Image}
-use Rattle.ips_manifest.specs.declared.item.Item as value
-use Rattle.ips_manifest.specs.declared.item.Item.TheVariants as variant
-use Rattle.ips_manifest.specs.Line.{Directory, File, is_payload_name}
-use Rattle.ips_manifest.specs.Seen.{seen_option}
+use Rattle.ips_plain.specs.declared.item.Item as value
+use Rattle.ips_plain.specs.declared.item.Item.TheVariants as variant
+use Rattle.ips_plain.specs.Line.{Directory, File, is_payload_name}
+use Rattle.ips_plain.specs.Seen.{seen_option}
 use Rattle.ips_install.specs.Package.{payload_path, file_at, IsFirstMissing}
 use Rattle.ips_install.specs.declared.fault.InstallFault.{InstallFault}
 use Rattle.ips_install.specs.declared.fault.InstallFault.TheVariants.{NotYet, PayloadMissing, Source, Folder, OutOfMemory}

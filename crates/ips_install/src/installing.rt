@@ -3,7 +3,7 @@
 ghost use Rattle.std.specs.Prelude.{◌≡◌, ℕ, Bool, true, IsTrue, List, Err, IfErr, OnOk};
 ghost use Rattle.ips_outside.specs.State.{IsSettled};
 ghost use Rattle.ips_outside.specs.Outside.{HasCause};
-ghost use Rattle.ips_manifest.specs.Line.{lines_of};
+ghost use Rattle.ips_plain.specs.Line.{lines_of};
 ghost use Rattle.ips_install.specs.Package.{Names, CanInstall, IsInstalled, ChangesOnly};
 ghost use Rattle.ips_install.specs.Fault.{SaysOfLines, IsFolderFault, is_refusal};
 ghost use Rattle.ips_install.specs.declared.fault.InstallFault.TheVariants as fault;

@@ -3,7 +3,7 @@
 ghost use Rattle.std.specs.Prelude.{◌≡◌, ℕ, IsTrue, List, Option, Err, IfOk, IfErr, OnOk, length};
 ghost use Rattle.std.specs.List.{All};
 ghost use Rattle.ips_outside.specs.Outside.{Reads};
-ghost use Rattle.ips_manifest.specs.Line.{is_payload_name};
+ghost use Rattle.ips_plain.specs.Line.{is_payload_name};
 ghost use Rattle.ips_install.specs.Package.{payload_path, ArePresent};
 ghost use Rattle.ips_install.specs.Laying.{AreStepsOf, IsSized};
 ghost use Rattle.ips_install.specs.Planning.{AreItemsOf};
@@ -12,7 +12,7 @@ ghost use Rattle.ips_install.specs.declared.fault.InstallFault.TheVariants as fa
 
 use crate::fault::InstallFault;
 use crate::step::{Payload, Step};
-use ips_manifest::Item;
+use ips_plain::Item;
 use ips_outside::{Look, Source};
 use ips_text::{Or, RelPath};
 use std::alloc::{AllocError, Global};

@@ -3,9 +3,9 @@
 ghost use Rattle.std.specs.Prelude.{◌≡◌, ◌+◌, ◌<◌, ℕ, Bool, false, IsTrue, List, Option, Some, None, Err, IfOk, IfErr, OnOk, IfSome, length, take, slice_get};
 ghost use Rattle.ips_text.specs.Reading.{IfBad};
 ghost use Rattle.ips_outside.specs.Outside.{Reads};
-ghost use Rattle.ips_manifest.specs.Line.{Means, lines_of};
-ghost use Rattle.ips_manifest.specs.Line as manifest;
-ghost use Rattle.ips_manifest.specs.Seen.{seen, seen_option};
+ghost use Rattle.ips_plain.specs.Line.{Means, lines_of};
+ghost use Rattle.ips_plain.specs.Line as manifest;
+ghost use Rattle.ips_plain.specs.Seen.{seen, seen_option};
 ghost use Rattle.ips_install.specs.Package.{IsReady, AreReady};
 ghost use Rattle.ips_install.specs.Delivered.{AreKinds};
 ghost use Rattle.ips_install.specs.Planning as plan;
@@ -15,7 +15,7 @@ ghost use Rattle.ips_install.specs.declared.fault.InstallFault.TheVariants as fa
 use crate::delivered::Delivered;
 use crate::fault::InstallFault;
 use ips_folder::Folder;
-use ips_manifest::{Item, next_line, read_line};
+use ips_plain::{Item, next_line, read_line};
 use ips_outside::Look;
 use ips_text::{Or, RelPath, parent};
 use std::alloc::Global;

@@ -3,7 +3,7 @@
 ghost use Rattle.std.specs.Prelude.{◌≡◌, ℕ, IsTrue, List, Some, map, string_bytes};
 ghost use Rattle.ips_outside.specs.State.{IsSettled};
 ghost use Rattle.ips_outside.specs.Outside.{HasCause};
-ghost use Rattle.ips_manifest.specs.Line.{lines_of};
+ghost use Rattle.ips_plain.specs.Line.{lines_of};
 ghost use Rattle.ips_install.specs.Package.{IsInstalled, ChangesOnly, file_at, manifest_path as place_of};
 ghost use Rattle.ips_top.specs.Request.{AsksFor, is_stem as can_be_stem};
 ghost use Rattle.ips_top.specs.Answer.{SaysOfWords, SaysOfManifest, HasManifest, SaysOfLines, IsFolderFault, is_refusal};

@@ -3,7 +3,7 @@
 ghost use Rattle.std.specs.Prelude.{◌≡◌, ◌++◌, ℕ, IsTrue, IsFalse, List, map, take, string_bytes};
 ghost use Rattle.ips_outside.specs.State.{IsSettled};
 ghost use Rattle.ips_outside.specs.Outside.{HasCause};
-ghost use Rattle.ips_manifest.specs.Line.{lines_of};
+ghost use Rattle.ips_plain.specs.Line.{lines_of};
 ghost use Rattle.ips_install.specs.Package.{IsInstalled, ChangesOnly};
 ghost use Rattle.ips_top.specs.Answer.{SaysOfWords, SaysOfManifest, HasManifest, SaysOfLines, IsFolderFault, is_refusal};
 ghost use Rattle.ips_top.specs.Report.{report_text};

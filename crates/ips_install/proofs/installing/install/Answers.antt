@@ -2,7 +2,7 @@ use Rattle.std.proofs.Common.{◌≡◌, true, List, length, All, Err, sym, ◌�
 use Rattle.std.proofs.lemmas.Result.{err_from_is_err_and}
 use Rattle.ips_outside.specs.Image.{Image}
 use Rattle.ips_outside.specs.State.{State}
-use Rattle.ips_manifest.specs.Line.{lines_of}
+use Rattle.ips_plain.specs.Line.{lines_of}
 use Rattle.ips_install.specs.Package.{AreReady, CanInstall, IsInstalled}
 use Rattle.ips_install.specs.Laying.{AreStepsOf, IsModed, IsSized, IsFaultOfLaying, lays_something}
 use Rattle.ips_install.specs.declared.fault.InstallFault.{InstallFault}

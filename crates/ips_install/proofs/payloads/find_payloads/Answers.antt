@@ -4,7 +4,7 @@ use Rattle.std.proofs.lemmas.Iterator.Adapters.{YieldsList-from_vec}
 use Rattle.std.proofs.lemmas.Iterator.Consumers.{YieldsList-turn, YieldsList-end}
 use Rattle.ips_outside.specs.Image.{Image}
 use Rattle.ips_outside.specs.State.{State}
-use Rattle.ips_manifest.specs.declared.item.Item as value
+use Rattle.ips_plain.specs.declared.item.Item as value
 use Rattle.ips_install.specs.Package.{ArePresent}
 use Rattle.ips_install.specs.Wanting.{AreStepsFor, HasPayload, AreThere, SaysOfItem, SaysOfPayloads}
 use Rattle.ips_install.specs.declared.step.Step.{Step}

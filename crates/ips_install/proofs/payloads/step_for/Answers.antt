@@ -1,6 +1,6 @@
 use Rattle.std.proofs.Common.{◌≡◌, Some, sym, ◌∙◌, ap}
-use Rattle.ips_manifest.specs.declared.item.Item as value
-use Rattle.ips_manifest.specs.Seen.{seen_option}
+use Rattle.ips_plain.specs.declared.item.Item as value
+use Rattle.ips_plain.specs.Seen.{seen_option}
 use Rattle.ips_install.specs.Package.{payload_path, file_at}
 use Rattle.ips_install.proofs.Calls.{answered, reads_as}
 use Rattle.ips_install.proofs.PayloadPlaces.{no_file_seen}

@@ -3,7 +3,7 @@ use Rattle.std.proofs.lemmas.Option.{slice_get_within}
 use Rattle.std.proofs.lemmas.Result.{err_from_is_err_and}
 use Rattle.ips_outside.specs.Image.{Image}
 use Rattle.ips_outside.specs.State.{State}
-use Rattle.ips_manifest.specs.Line.{lines_of}
+use Rattle.ips_plain.specs.Line.{lines_of}
 use Rattle.ips_install.specs.Package.{IsReady, AreReady}
 use Rattle.ips_install.specs.Planning.{AreItemsOf, SaysOfPlan, SaysOfLine, IsLineFault}
 use Rattle.ips_install.specs.declared.fault.InstallFault.TheVariants as fault

@@ -1,6 +1,6 @@
 use Rattle.std.proofs.Common.{◌≡◌, ◌+◌, ◌≤◌, IsTrue, length, take, drop}
 use Rattle.ips_outside.specs.Outside.{Reads}
-use Rattle.ips_manifest.specs.Line.{lines_of}
+use Rattle.ips_plain.specs.Line.{lines_of}
 use Rattle.ips_install.specs.Package.{AreReady}
 use Rattle.ips_install.specs.Delivered.{AreKinds}
 use Rattle.ips_install.specs.Planning.{AreItemsOf}

@@ -1,9 +1,9 @@
 use Rattle.std.proofs.Common.{◌≡◌, ℕ, Bool, true, false, cond, List, take, Option, Some, None, refl, sym, ◌∙◌, ap, subst}
 use Rattle.ips_text.specs.Ancestry.{same_path}
 use Rattle.ips_outside.specs.Outside.{look_of}
-use Rattle.ips_manifest.specs.declared.item.Item as value
-use Rattle.ips_manifest.specs.Line.{item_path, Means}
-use Rattle.ips_manifest.specs.Seen.{seen, seen_option}
+use Rattle.ips_plain.specs.declared.item.Item as value
+use Rattle.ips_plain.specs.Line.{item_path, Means}
+use Rattle.ips_plain.specs.Seen.{seen, seen_option}
 use Rattle.ips_install.specs.Delivered.{kind_at}
 use Rattle.ips_install.specs.Planning as plan
 use Rattle.ips_install.proofs.KindsKept.{kinds_none, kinds_more, placed_new, placed_follows, follows_placed, ready_follows, looks_absent}

@@ -1,4 +1,4 @@
-use Rattle.ips_manifest.specs.Line.{lines_of}
+use Rattle.ips_plain.specs.Line.{lines_of}
 use Rattle.ips_top.proofs.Asking.{its_manifest}
 use Rattle.ips_top.proofs.Moments.{unchanged}
 use Rattle.ips_top.proofs.answering.answer.Goals as goal

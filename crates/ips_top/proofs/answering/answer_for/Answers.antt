@@ -1,5 +1,5 @@
 use Rattle.std.proofs.Common.{ℕ, List, subst, ◌∙◌}
-use Rattle.ips_manifest.specs.Line.{lines_of}
+use Rattle.ips_plain.specs.Line.{lines_of}
 use Rattle.ips_install.specs.Package.{CanInstall, IsInstalled, ChangesOnly, manifest_path}
 use Rattle.ips_top.specs.Answer.{SaysOfLines}
 use Rattle.ips_top.specs.Refused.{refused}
