@@ -1,5 +1,5 @@
 -- Reading to the end of a text, in steps: what each step reads, and the first place at which a text goes wrong.
-use Rattle.std.proofs.Common.{◌≡◌, ℕ, suc, ◌+◌, ◌-◌, ◌<◌, ◌≤◌, Bool, true, false, cond, eqb, List, [], ◌∷◌, ◌++◌, length, take, drop, Result, Ok, Err, refl, sym, ap, subst, ◌∙◌, append_assoc, arith, inl, inr, ◌⊎◌}
+use Rattle.std.proofs.Common.{◌≡◌, ℕ, suc, ◌-◌, ◌<◌, ◌≤◌, Bool, true, false, cond, eqb, List, [], ◌∷◌, ◌++◌, length, take, drop, Result, Ok, Err, refl, sym, ap, subst, ◌∙◌, append_assoc, arith, inl, inr, ◌⊎◌}
 use Rattle.std.proofs.lemmas.List.{append-nil, length-append, take_at}
 use Rattle.std.proofs.lemmas.Bool.{eqb-true, eqb-false, eq-eqb, true≢false, false_from_ne_true}
 use Rattle.std.proofs.lemmas.Bool.Decides.{Decides-eqb}
@@ -8,7 +8,7 @@ use Rattle.std.proofs.Math.Seq.{drop-append_seam}
 use Rattle.std.specs.List.{starts_with}
 use Rattle.ips_text.specs.declared.refusal.Stop.{Stop}
 use Rattle.ips_text.specs.Reading.{◌>>=◌, Reader, next_is, whole, Begins, IsFirstBad}
-use Rattle.ips_text.proofs.Readers.{Reads, SameBefore, Stops, bind_ok, bind_err, ok_is, ok_not_err, chosen, next_parts, NoText, whole_found, whole_only, whole_stops}
+use Rattle.ips_text.proofs.Readers.{Reads, SameBefore, bind_ok, bind_err, ok_is, ok_not_err, chosen, next_parts, NoText, whole_found, whole_only, whole_stops}
 use Rattle.ips_text.specs.Quote.{fits_name}
 use Rattle.ips_fmri.specs.declared.fault.Part.{Part}
 use Rattle.ips_fmri.specs.Reading.{expected, limited}

@@ -1,8 +1,8 @@
 -- Names are read as they are written, and go wrong at the first place that no name continues.
-use Rattle.std.proofs.Common.{◌≡◌, ℕ, ◌<◌, Bool, true, false, cond, ◌&&◌, eqb, List, [], ◌∷◌, ◌++◌, length, drop, Option, Some, None, Result, Ok, Err, refl, sym, ap, subst, ◌∙◌, append_assoc, arith, inl, inr, ◌⊎◌}
+use Rattle.std.proofs.Common.{◌≡◌, ℕ, ◌<◌, Bool, true, false, eqb, List, [], ◌∷◌, ◌++◌, length, Option, Some, None, Result, Ok, Err, refl, sym, ap, subst, ◌∙◌, append_assoc, arith, inl, inr, ◌⊎◌}
 use Rattle.std.specs.Prelude.{codes}
 use Rattle.std.proofs.lemmas.List.{append-nil, length-append, nil_from_length}
-use Rattle.std.proofs.lemmas.Bool.{eqb-true, eqb-false, true≢false, false_from_ne_true}
+use Rattle.std.proofs.lemmas.Bool.{eqb-true, eqb-false, true≢false}
 use Rattle.ips_text.specs.declared.refusal.Stop.{Stop}
 use Rattle.ips_text.specs.Reading.{◌>>=◌, next_is, Begins, separated}
 use Rattle.ips_text.specs.Quote.{fits_name}
@@ -11,9 +11,9 @@ use Rattle.ips_fmri.specs.declared.fault.Part.{Part}
 use Rattle.ips_fmri.specs.declared.fault.Part.TheVariants as part
 use Rattle.ips_fmri.specs.declared.fmri.Fmri.{Fmri}
 use Rattle.ips_fmri.specs.declared.pattern.Pattern.{Pattern}
-use Rattle.ips_fmri.specs.Version.{Parts, version_text, AreParts, IsVersion, IfVersion, HasVersionForm}
-use Rattle.ips_fmri.specs.Name.{may_begin, may_go_on, IsComponent, HasStemForm, IsStem, IsPublisher}
-use Rattle.ips_fmri.specs.Fmri.{version_part_text, lead_text, IsLead, IfPublisher, IsName, Writes, as_name, IsFmri, WritesFmri, fmri_text, MayFollow, EndsWithPublisher, EndsWithName, EndsWithPart}
+use Rattle.ips_fmri.specs.Version.{Parts, version_text, IfVersion, HasVersionForm}
+use Rattle.ips_fmri.specs.Name.{may_go_on, IsComponent, HasStemForm, IsStem, IsPublisher}
+use Rattle.ips_fmri.specs.Fmri.{version_part_text, lead_text, IsLead, IfPublisher, IsName, Writes, as_name, IsFmri, WritesFmri, fmri_text, MayFollow, EndsWithName, EndsWithPart}
 use Rattle.ips_fmri.specs.Pattern.{IfAnchored, IsPattern, pattern_text}
 use Rattle.ips_fmri.specs.Reading.{read_version, read_version_part, stem_at, component_at, limited, expected, read_stem, read_publisher, read_anchored, read_plain, read_name, read_fmri}
 use Rattle.ips_fmri.proofs.Judges.{GoesWrong, Judges, Behind, BehindIn, MadeOf, Marked, UnlessLong, EitherWay, Literal, judges_behind, judges_made, judges_like, judges_expected, judges_limited, judges_either, judges_literal, behind_mark, not_nothing, left_of, overlap}

@@ -1,8 +1,8 @@
 -- Components and stems are read as they are written.
-use Rattle.std.proofs.Common.{◌≡◌, ℕ, zero, suc, ◌+◌, ◌-◌, ◌<◌, ◌≤◌, Bool, true, false, cond, ◌&&◌, ◌||◌, eqb, List, [], ◌∷◌, ◌++◌, length, take, drop, get_or, Result, Ok, Err, refl, sym, ap, subst, ◌∙◌, append_assoc, arith, inl, inr, ◌⊎◌}
+use Rattle.std.proofs.Common.{◌≡◌, ℕ, zero, suc, ◌-◌, ◌<◌, ◌≤◌, Bool, true, false, ◌&&◌, eqb, List, [], ◌∷◌, ◌++◌, length, take, drop, get_or, Result, Ok, Err, refl, sym, ap, subst, ◌∙◌, append_assoc, arith, inl, inr, ◌⊎◌}
 use Rattle.std.specs.Prelude.{map}
-use Rattle.std.specs.List.{All, AllByRecursion, list_all, slice_split, join_with_byte}
-use Rattle.std.proofs.lemmas.Bool.{eqb-true, eq-eqb, and_parts, false_from_ne_true, true≢false}
+use Rattle.std.specs.List.{All, AllByRecursion, list_all, join_with_byte}
+use Rattle.std.proofs.lemmas.Bool.{eqb-true, and_parts, false_from_ne_true, true≢false}
 use Rattle.std.proofs.lemmas.List.{length-append}
 use Rattle.std.proofs.Math.Seq.{take-append_seam, drop-append_seam}
 use Rattle.std.specs.Str.{IsAscii, IsUtf8}
@@ -17,7 +17,7 @@ use Rattle.ips_text.proofs.Readers.{Stops, Reads, SameBefore, AllFollow, Reads-o
 use Rattle.ips_text.proofs.Loops.{with_front, reads_on, reads_stop, reads_end}
 use Rattle.ips_fmri.specs.declared.fault.Part.{Part}
 use Rattle.ips_fmri.specs.declared.fault.Part.TheVariants as part
-use Rattle.ips_fmri.specs.Name.{is_wildcard, may_begin, may_go_on, IsComponent, HasStemForm}
+use Rattle.ips_fmri.specs.Name.{may_begin, may_go_on, IsComponent, HasStemForm}
 use Rattle.ips_fmri.specs.Reading.{run, component_at, stem_at}
 
 -- ---- the longest run

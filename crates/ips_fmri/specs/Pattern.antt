@@ -19,16 +19,24 @@ pub record IsPattern (p : Pattern) : Type 0 where
 abbrev pub pattern_text : Pattern → List ℕ
 pattern_text p = lead_text p.publisher p.anchored ++ p.stem ++ version_part_text p.version
 
--- a character of a pattern, `?` or the same, meets a character of a text
-abbrev pub Meets : ℕ → ℕ → Type 0
-Meets c d = (c ≡ 63) ⊎ (c ≡ d)
+-- a character of a pattern meets a character of a text: the same one, and `?` each one where marks are wildcards too
+abbrev pub Meets : Bool → ℕ → ℕ → Type 0
+Meets marks c d = ((marks ≡ true) × (c ≡ 63)) ⊎ (c ≡ d)
 
--- characters match: `*` stands for some text, `?` for some one character, any other character for itself
+-- characters match: `*` stands for some text, `?` for some one character where marks are wildcards too, any other character for itself
+abbrev pub MatchesBy : Bool → List ℕ → List ℕ → Type 0
+MatchesBy marks [] text = text ≡ []
+MatchesBy marks (c ∷ pattern) text =
+    ((c ≡ 42) × ((some : List ℕ) × (rest : List ℕ) × (text ≡ some ++ rest) × MatchesBy marks pattern rest))
+    ⊎ ((c ≢ 42) × ((one : ℕ) × (rest : List ℕ) × (text ≡ one ∷ rest) × Meets marks c one × MatchesBy marks pattern rest))
+
+-- a pattern in which `*` stands for some text and `?` for some one character
 abbrev pub Matches : List ℕ → List ℕ → Type 0
-Matches [] text = text ≡ []
-Matches (c ∷ pattern) text =
-    ((c ≡ 42) × ((some : List ℕ) × (rest : List ℕ) × (text ≡ some ++ rest) × Matches pattern rest))
-    ⊎ ((c ≢ 42) × ((one : ℕ) × (rest : List ℕ) × (text ≡ one ∷ rest) × Meets c one × Matches pattern rest))
+Matches pattern text = MatchesBy true pattern text
+
+-- a pattern in which `*` alone is a wildcard
+abbrev pub MatchesStars : List ℕ → List ℕ → Type 0
+MatchesStars pattern text = MatchesBy false pattern text
 
 -- the pattern matches what follows one of the stem's `/`
 abbrev pub MatchesBehindSlash : List ℕ → List ℕ → Type 0

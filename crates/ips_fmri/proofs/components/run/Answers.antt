@@ -1,4 +1,4 @@
-use Rattle.std.proofs.Common.{◌≡◌, true, take, length, refl, sym, ap, subst, ◌∙◌, inl, inr, arith, ℕ}
+use Rattle.std.proofs.Common.{◌≡◌, true, take, length, refl, sym, subst, ◌∙◌, inl, inr, arith, ℕ}
 use Rattle.std.specs.List.{list_all}
 use Rattle.ips_fmri.specs.Name as name
 use Rattle.ips_fmri.proofs.Stems.{run_at}

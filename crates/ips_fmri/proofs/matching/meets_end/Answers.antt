@@ -7,7 +7,7 @@ use Rattle.ips_fmri.proofs.matching.meets_end.Goals as goal
 pub loop-left-preserved : goal.loop-left-preserved
 loop-left-preserved c = (
   search rules,
-  end_step (chars c.args.pattern.now) (chars c.loop-left.left.now) (chars c.in-Some.more.now) (chars c.args.text.now) c.in-Some.field-0-0 c.in-Some.ensures.some
+  end_step c.args.marks (chars c.args.pattern.now) (chars c.loop-left.left.now) (chars c.in-Some.more.now) (chars c.args.text.now) c.in-Some.field-0-0 c.in-Some.ensures.some
       (λ h. true≢false (sym (c.meets_all.ensures.1 h) ∙ c.if-meets_all.false))
       c.loop-left.invariant.1,
 )

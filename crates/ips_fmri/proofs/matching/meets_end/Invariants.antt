@@ -7,7 +7,7 @@ use Rattle.ips_fmri.specs.Matching.{MeetsEnd}
 use Rattle.ips_fmri.proofs.matching.meets_end.Given as goal
 
 abbrev pub invariant-loop-left : goal.invariant-loop-left
-invariant-loop-left l = shadow (Utf8 l.left) × (MeetsEnd (chars l.pattern) (chars l.left) ↔ MeetsEnd (chars l.pattern) (chars l.text))
+invariant-loop-left l = shadow (Utf8 l.left) × (MeetsEnd l.marks (chars l.pattern) (chars l.left) ↔ MeetsEnd l.marks (chars l.pattern) (chars l.text))
 
 abbrev pub decreases-loop-left : goal.decreases-loop-left
 decreases-loop-left l = length (chars l.left)
