@@ -5,6 +5,7 @@ pub mod Outside
 pub mod Taking
 pub mod Tally
 pub mod Table
+pub mod Order
 pub mod Making
 pub mod Tree
 pub mod Memory

@@ -7,6 +7,7 @@ mod outside;
 mod refusal;
 mod sink;
 mod source;
+mod subtree;
 mod table;
 mod tree;
 
