@@ -3,6 +3,7 @@
 #![tactic(auto)]
 
 mod calls;
+mod listing;
 mod outside;
 mod refusal;
 mod sink;
