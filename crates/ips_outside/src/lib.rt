@@ -12,6 +12,7 @@ mod subtree;
 mod table;
 mod tree;
 
+pub use calls::Calls;
 pub use outside::{Failed, Look, Sink, Source};
 pub use refusal::TreeFault;
 pub use sink::MemSink;
