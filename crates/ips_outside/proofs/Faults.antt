@@ -1,5 +1,5 @@
 -- Counts of faults, from call to call.
-use Rattle.std.proofs.Common.{◌≡◌, ◌⊎◌, ℕ, ◌≤◌, ⊎_elim, inl, inr, refl, ◌∙◌, arith}
+use Rattle.std.proofs.Common.{◌⊎◌, ℕ, ◌≤◌, ⊎_elim, inl, inr, refl, ◌∙◌, arith}
 use Rattle.ips_outside.specs.Outside.{Rose, HasCause}
 
 pub rose_later : (a b c : ℕ) → Rose a b → b ≤ c → Rose a c

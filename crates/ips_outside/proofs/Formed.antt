@@ -4,7 +4,7 @@ use Rattle.std.proofs.lemmas.Bool.{false_from_ne_true, lt-ltb}
 use Rattle.ips_text.specs.Ancestry.{same_path, covers, is_below}
 use Rattle.ips_text.specs.Path.{IsPath}
 use Rattle.ips_outside.specs.Image.{has_small_mode, Entry, Dir, File, Link, Other, Image, IsImage, is_dir, is_file, with_mode, has_parent, dir_or_none}
-use Rattle.ips_outside.specs.Change.{placed, joined, moded, names, appended, more_bytes}
+use Rattle.ips_outside.specs.Change.{placed, joined, moded, names, appended, more_bytes, marked, with_mark}
 use Rattle.ips_text.proofs.Ancestry.{same_path-true, same_path-self, uncovered, covers_trans, above, at_parent_of, same_covers}
 use Rattle.ips_outside.proofs.Agree.{is_dir-mode, is_file-mode}
 use Rattle.ips_outside.proofs.Images.{placed_nodes, joined_nodes, moded_nodes, Twins, names_twins}
@@ -259,6 +259,73 @@ module _ (p more : List ℕ) (t : Image) (formed : IsImage t) (sole : (q : List 
     below_dirs = λ a q c s. ap (λ (x : Bool). x || is_dir ((appended p more t).look a)) (none_longer (same_path p q) (t.look q)) ∙ ap (λ (x : Bool). is_none (t.look q) || x) (dir_longer (same_path p a) (t.look a)) ∙ formed.below_dirs a q c s;
     files = λ a b h. (file_longer (same_path p a) (t.look a) ∙ (formed.files a b h).0, alike_longer a b h (same_path p a) refl (same_path p b) refl);
     self = λ a h. formed.self a (sym (file_longer (same_path p a) (t.look a)) ∙ h);
+    sym = formed.sym;
+    trans = formed.trans;
+  }
+
+module _ (p : List ℕ) (t : Image) (formed : IsImage t) where
+  none_marked : (n : Bool) (x : Option Entry) → is_none (cond n (with_mark x) x) ≡ is_none x
+  none_marked false x = refl
+  none_marked true (Some (Dir o f)) = refl
+  none_marked true (Some (File o b)) = refl
+  none_marked true (Some (Link g)) = refl
+  none_marked true (Some Other) = refl
+  none_marked true None = refl
+
+  some_marked : (n : Bool) (x : Option Entry) → is_some (cond n (with_mark x) x) ≡ is_some x
+  some_marked false x = refl
+  some_marked true (Some (Dir o f)) = refl
+  some_marked true (Some (File o b)) = refl
+  some_marked true (Some (Link g)) = refl
+  some_marked true (Some Other) = refl
+  some_marked true None = refl
+
+  dir_marked : (n : Bool) (x : Option Entry) → is_dir (cond n (with_mark x) x) ≡ is_dir x
+  dir_marked false x = refl
+  dir_marked true (Some (Dir o f)) = refl
+  dir_marked true (Some (File o b)) = refl
+  dir_marked true (Some (Link g)) = refl
+  dir_marked true (Some Other) = refl
+  dir_marked true None = refl
+
+  small_marked : (n : Bool) (x : Option Entry) → has_small_mode (cond n (with_mark x) x) ≡ has_small_mode x
+  small_marked false x = refl
+  small_marked true (Some (Dir o f)) = refl
+  small_marked true (Some (File o b)) = refl
+  small_marked true (Some (Link g)) = refl
+  small_marked true (Some Other) = refl
+  small_marked true None = refl
+
+  -- a file has no mark
+  file_unmarked : (n : Bool) (x : Option Entry) → is_file x ≡ true → cond n (with_mark x) x ≡ x
+  file_unmarked false x h = refl
+  file_unmarked true (Some (Dir o f)) h = cc
+  file_unmarked true (Some (File o b)) h = refl
+  file_unmarked true (Some (Link g)) h = cc
+  file_unmarked true (Some Other) h = cc
+  file_unmarked true None h = cc
+
+  file_marked : (n : Bool) (x : Option Entry) → is_file (cond n (with_mark x) x) ≡ is_file x
+  file_marked false x = refl
+  file_marked true (Some (Dir o f)) = refl
+  file_marked true (Some (File o b)) = refl
+  file_marked true (Some (Link g)) = refl
+  file_marked true (Some Other) = refl
+  file_marked true None = refl
+
+  marked_files : (a b : List ℕ) → t.same a b ≡ true → (is_file ((marked p t).look a) ≡ true) × ((marked p t).look a ≡ (marked p t).look b)
+  marked_files a b h =
+      let both = formed.files a b h in
+      let other : is_file (t.look b) ≡ true = ap is_file (sym both.1) ∙ both.0 in
+      (file_marked (same_path p a) (t.look a) ∙ both.0, file_unmarked (same_path p a) (t.look a) both.0 ∙ both.1 ∙ sym (file_unmarked (same_path p b) (t.look b) other))
+
+  pub marked_formed : IsImage (marked p t)
+  marked_formed = record {
+    paths = λ q some. formed.paths q (sym (some_marked (same_path p q) (t.look q)) ∙ some);
+    modes = λ q. small_marked (same_path p q) (t.look q) ∙ formed.modes q;
+    below_dirs = λ a q c s. ap (λ (x : Bool). x || is_dir ((marked p t).look a)) (none_marked (same_path p q) (t.look q)) ∙ ap (λ (x : Bool). is_none (t.look q) || x) (dir_marked (same_path p a) (t.look a)) ∙ formed.below_dirs a q c s;
+    files = marked_files;
+    self = λ a h. formed.self a (sym (file_marked (same_path p a) (t.look a)) ∙ h);
     sym = formed.sym;
     trans = formed.trans;
   }

@@ -6,6 +6,9 @@ pub mod Formed
 pub mod Placed
 pub mod Moments
 pub mod Maps
+pub mod Order
 pub mod Trees
+pub mod Rooms
+pub mod Children
 pub mod Copies
 pub mod Tallies

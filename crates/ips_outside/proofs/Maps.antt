@@ -1,8 +1,8 @@
 -- What the map of a tree has at a path, and after an edit.
-use Rattle.std.proofs.Common.{◌≡◌, ℕ, Bool, true, false, cond, ◌&&◌, List, [], ◌∷◌, Option, Some, None, refl, sym, ◌∙◌, ap}
-use Rattle.std.specs.Map.{lookup, set_value}
+use Rattle.std.proofs.Common.{◌≡◌, ◌+◌, ◌<◌, if◌then◌else◌, arith, ℕ, Bool, true, false, cond, ◌&&◌, List, [], ◌∷◌, Option, Some, None, refl, sym, ◌∙◌, ap}
+use Rattle.std.specs.Map.{lookup, set_value, KeepsOthers}
 use Rattle.std.specs.Option.{option_map}
-use Rattle.std.specs.BTreeMap.{is_at, insert_entry}
+use Rattle.std.specs.BTreeMap.{BTreeMap, is_at, insert_entry, UpdatesBy}
 use Rattle.std.specs.Ordering.{nat_cmp, is_eq, match_ordering}
 use Rattle.std.specs.declared.cmp.Ordering.{Ordering}
 use Rattle.std.specs.declared.cmp.Ordering.TheVariants.{Less, Equal, Greater}
@@ -31,7 +31,7 @@ pub kind_at-get : (entries : List (Vec ℕ Global × Kind)) (q : List ℕ) → l
 kind_at-get entries q = λ i. lookup (λ k. is_eq-path q k.items i) entries
 
 -- where the order says so, two keys are one path or two
-one_path : (p q : List ℕ) → slice_cmp nat_cmp p q ≡ Equal → q ≡ p
+pub one_path : (p q : List ℕ) → slice_cmp nat_cmp p q ≡ Equal → q ≡ p
 one_path p q e = same_path-true q p (sym (is_eq-path p q) ∙ ap is_eq e)
 
 module _ (v : Kind) (q : List ℕ) where
@@ -106,3 +106,28 @@ kind_at-no_edit edit p q entries none = go (same_path p q) refl
     go : (s : Bool) → same_path p q ≡ s → kind_at entries q ≡ cond s (option_map edit (kind_at entries q)) (kind_at entries q)
     go true s = let at : kind_at entries q ≡ None = ap (kind_at entries) (sym (same_path-true p q s)) ∙ none in at ∙ sym (ap (option_map edit) at)
     go false s = refl
+
+-- ---- what stands at a path, taken away
+
+module _ (old new : BTreeMap (Vec ℕ Global) Kind) (p : List ℕ) (after : UpdatesBy (λ x y. slice_cmp nat_cmp x.items y.items) (λ k. slice_cmp nat_cmp p k.items) old new None) where
+  others_kept : (q : List ℕ) → same_path p q ≡ false → kind_at new.entries q ≡ kind_at old.entries q
+  unfolding KeepsOthers
+  others_kept q apart = after.3 (λ k. same_path k.items q)
+      (λ x y at.
+      let one : x.items ≡ q = same_path-true x.items q at in
+      ap (same_path y.items) (sym one) ∙ sym (is_eq-path x.items y.items))
+      (λ k at.
+      let one : k.items ≡ p = same_path-true k.items p (sym (is_eq-path p k.items) ∙ at) in
+      ap (λ (x : List ℕ). same_path x q) one ∙ apart)
+
+  pub kind_at-taken : (q : List ℕ) → kind_at new.entries q ≡ cond (same_path p q) None (kind_at old.entries q)
+  kind_at-taken q = go (same_path p q) refl
+    where
+      go : (s : Bool) → same_path p q ≡ s → kind_at new.entries q ≡ cond s None (kind_at old.entries q)
+      go true s = ap (kind_at new.entries) (sym (same_path-true p q s)) ∙ sym (kind_at-get new.entries p) ∙ after.1
+      go false s = others_kept q s
+
+-- one entry less
+pub fewer : (b : Bool) (m n : ℕ) → b ≡ true → m + (if b then 1 else 0) ≡ n → m < n
+fewer true m n is len = omega arith
+fewer false m n is len = cc

@@ -1,24 +1,28 @@
 -- The image that the tables stand for, and what an edit of them makes of it.
-use Rattle.std.proofs.Common.{◌≡◌, ℕ, zero, suc, ◌<◌, Bool, true, false, cond, ◌&&◌, ◌||◌, ◌==◌, List, [], ◌∷◌, ◌++◌, length, get_or, set, Vec, Global, Option, Some, None, is_none, is_some, Result, Ok, Err, OnOk, OnErr, refl, sym, ◌∙◌, ap, subst, arith}
-use Rattle.std.proofs.lemmas.Bool.{false_from_ne_true, lt-ltb, ne_eqb, eq-eqb, eqb-true, eqb-false}
+use Rattle.std.proofs.Common.{◌≡◌, ℕ, zero, suc, ◌<◌, Bool, true, false, cond, not, ◌&&◌, ◌||◌, ◌==◌, List, [], ◌∷◌, ◌++◌, length, get_or, set, Vec, Global, Option, Some, None, is_none, is_some, Result, Ok, Err, OnOk, OnErr, refl, sym, ◌∙◌, ap, subst, arith}
+use Rattle.std.proofs.lemmas.Bool.{and_parts, false_from_ne_true, lt-ltb, ne_eqb, eq-eqb, eqb-true, eqb-false}
 use Rattle.std.specs.Option.{option_map}
-use Rattle.ips_text.specs.Ancestry.{same_path, covers}
+use Rattle.ips_text.specs.Ancestry.{same_path, covers, is_below}
 use Rattle.ips_text.proofs.Ancestry.{same_path-true, same_path-self, same_covers}
 use Rattle.ips_text.specs.Path.{IsPath}
-use Rattle.ips_outside.specs.Image.{Entry, File, Image, IsImage, has_small_mode, is_dir, is_file, has_parent, with_mode}
-use Rattle.ips_outside.specs.Change.{placed, moded, appended, more_bytes}
-use Rattle.ips_outside.specs.Table.{kind_at, file_of, entry_of, node_of, one_node, image_of, with_dir_mode}
+use Rattle.ips_outside.specs.Image.{Entry, Dir, File, Link, Other, Image, IsImage, has_small_mode, is_dir, is_file, has_parent, with_mode}
+use Rattle.ips_outside.specs.Change.{placed, joined, moded, appended, more_bytes, marked, with_mark}
+use Rattle.ips_outside.specs.Table.{kind_at, file_of, entry_of, node_of, one_node, image_of, with_dir_mode, with_dir_mark, has_dir}
 use Rattle.ips_outside.specs.Making.{fault_at}
 use Rattle.ips_outside.specs.declared.table.Kind.{Kind}
 use Rattle.ips_outside.specs.declared.table.Kind.TheVariants as kind
 use Rattle.ips_outside.specs.declared.table.Node.{Node}
 use Rattle.ips_outside.specs.declared.refusal.TreeFault.TheVariants.{NoParent, Taken}
 use Rattle.ips_outside.proofs.Images.{image_ext}
-use Rattle.ips_outside.proofs.Formed.{placed_formed, moded_formed, appended_formed}
+use Rattle.ips_outside.proofs.Formed.{placed_formed, joined_formed, moded_formed, appended_formed, marked_formed}
 
 pub on_err : {T E P : Type 0} (r : Result T E) → P → OnErr r P
 on_err (Ok x) p = tt
 on_err (Err e) p = p
+
+pub on_ok_to : {T E P : Type 0} (r : Result T E) (Q : Type 0) → (P → Q) → OnOk r P → OnOk r Q
+on_ok_to (Ok x) Q f p = f p
+on_ok_to (Err e) Q f p = tt
 
 -- ---- nodes
 
@@ -27,7 +31,7 @@ file_within [] n h = cc
 file_within (node ∷ nodes) zero h = omega arith
 file_within (node ∷ nodes) (suc n) h = omega (arith, file_within nodes n h)
 
-one_node-self : (n : ℕ) → one_node (Some n) (Some n) ≡ true
+pub one_node-self : (n : ℕ) → one_node (Some n) (Some n) ≡ true
 one_node-self n = eq-eqb n n refl
 
 -- the node of each file is in the table
@@ -345,3 +349,157 @@ module _ (old new : List (Vec ℕ Global × Kind)) (nodes : List Node) (p : List
 
   pub formed_dir_moded : mode < 4096 → IsImage (image_of new nodes)
   formed_dir_moded small = subst IsImage (sym image_dir_moded) (moded_formed mode p (image_of old nodes) formed small)
+
+-- ---- one directory marked
+
+module _ (old new : List (Vec ℕ Global × Kind)) (nodes : List Node) (p : List ℕ) (formed : IsImage (image_of old nodes))
+    (edited : (q : List ℕ) → kind_at new q ≡ cond (same_path p q) (option_map with_dir_mark (kind_at old q)) (kind_at old q)) where
+  file_mark : (nodes : List Node) (n : ℕ) → file_of nodes n ≡ with_mark (file_of nodes n)
+  file_mark [] n = refl
+  file_mark (node ∷ nodes) zero = refl
+  file_mark (node ∷ nodes) (suc n) = file_mark nodes n
+
+  entry_mark : (s : Bool) (k : Option Kind) → entry_of nodes (cond s (option_map with_dir_mark k) k) ≡ cond s (with_mark (entry_of nodes k)) (entry_of nodes k)
+  entry_mark false k = refl
+  entry_mark true (Some (kind.Dir m foreign)) = refl
+  entry_mark true (Some (kind.File n)) = file_mark nodes n
+  entry_mark true (Some (kind.Link target)) = refl
+  entry_mark true (Some kind.Other) = refl
+  entry_mark true None = refl
+
+  node_mark : (s : Bool) (k : Option Kind) → node_of (cond s (option_map with_dir_mark k) k) ≡ node_of k
+  node_mark false k = refl
+  node_mark true (Some (kind.Dir m foreign)) = refl
+  node_mark true (Some (kind.File n)) = refl
+  node_mark true (Some (kind.Link target)) = refl
+  node_mark true (Some kind.Other) = refl
+  node_mark true None = refl
+
+  pub image_marked : image_of new nodes ≡ marked p (image_of old nodes)
+  image_marked = image_ext _ _ (λ q. ap (entry_of nodes) (edited q) ∙ entry_mark (same_path p q) (kind_at old q)) (λ a b. λ i. one_node (same_node a i) (same_node b i))
+    where
+      same_node : (q : List ℕ) → node_of (kind_at new q) ≡ node_of (kind_at old q)
+      same_node q = ap node_of (edited q) ∙ node_mark (same_path p q) (kind_at old q)
+
+  pub formed_marked : IsImage (image_of new nodes)
+  formed_marked = subst IsImage (sym image_marked) (marked_formed p (image_of old nodes) formed)
+
+-- where no directory stands nothing is marked
+pub marked_none : (p : List ℕ) (t : Image) → is_dir (t.look p) ≡ false → marked p t ≡ t
+marked_none p t none = image_ext _ _ (λ q. at q (same_path p q) refl) (λ a b. refl)
+  where
+    unmarked : (x : Option Entry) → is_dir x ≡ false → with_mark x ≡ x
+    unmarked (Some (Dir m f)) h = cc
+    unmarked (Some (File m b)) h = refl
+    unmarked (Some (Link g)) h = refl
+    unmarked (Some Other) h = refl
+    unmarked None h = refl
+
+    at : (q : List ℕ) (s : Bool) → same_path p q ≡ s → cond s (with_mark (t.look q)) (t.look q) ≡ t.look q
+    at q true s = unmarked (t.look q) (ap (λ (x : List ℕ). is_dir (t.look x)) (sym (same_path-true p q s)) ∙ none)
+    at q false s = refl
+
+-- ---- a further name of a file
+
+module _ (old new : List (Vec ℕ Global × Kind)) (nodes : List Node) (p to : List ℕ) (n : ℕ) (formed : IsImage (image_of old nodes)) (can : fault_at (image_of old nodes) p ≡ None)
+    (at : kind_at old to ≡ Some (kind.File n)) (put : (q : List ℕ) → kind_at new q ≡ cond (same_path p q) (Some (kind.File n)) (kind_at old q)) where
+  name_node : (q : List ℕ) (s : Bool) → node_of (cond s (Some (kind.File n)) (kind_at old q)) ≡ node_of (kind_at old (cond s to q))
+  name_node q true = ap node_of (sym at)
+  name_node q false = refl
+
+  names_node : (q : List ℕ) → node_of (kind_at new q) ≡ node_of (kind_at old (cond (same_path p q) to q))
+  names_node q = ap node_of (put q) ∙ name_node q (same_path p q)
+
+  absent : (image_of old nodes).look p ≡ None
+  absent = (no_fault (image_of old nodes) p can).1
+
+  off : (q : List ℕ) → is_below p q ≡ true → (covers p q ≡ true) × (same_path p q ≡ false)
+  off q below = let parts = and_parts (covers p q) (not (same_path p q)) below in (parts.0, let other = parts.1 in false_from_ne_true (same_path p q) (λ same. absurd (cc)))
+
+  joined_nodes : (a b : List ℕ) (ba bb : Bool) → is_below p a ≡ ba → is_below p b ≡ bb
+      → (image_of old nodes).same (cond (same_path p a) to a) (cond (same_path p b) to b) ≡ cond (ba || bb) false ((image_of old nodes).same (cond (same_path p a) to a) (cond (same_path p b) to b))
+  joined_nodes a b true bb ea eb =
+      let parts = off a ea in
+      ap (λ (s : Bool). (image_of old nodes).same (cond s to a) (cond (same_path p b) to b)) parts.1 ∙ alone (image_of old nodes) p formed absent a (cond (same_path p b) to b) parts.0
+  joined_nodes a b false true ea eb =
+      let parts = off b eb in
+      ap (λ (s : Bool). (image_of old nodes).same (cond (same_path p a) to a) (cond s to b)) parts.1 ∙ alone-back (image_of old nodes) p formed absent b (cond (same_path p a) to a) parts.0
+  joined_nodes a b false false ea eb = refl
+
+  pub image_joined : image_of new nodes ≡ joined p to (image_of old nodes)
+  image_joined = image_ext _ _
+      (λ q. ap (entry_of nodes) (put q) ∙ entry_of-cond nodes (same_path p q) (Some (kind.File n)) (kind_at old q)
+      ∙ ap (λ (e : Option Entry). cond (same_path p q) e ((image_of old nodes).look q)) (sym (ap (entry_of nodes) at))
+      ∙ look_put (same_path p q) (covers p q) ((image_of old nodes).look to) ((image_of old nodes).look q) (same_covers p q) (nothing_below (image_of old nodes) p formed absent q))
+      (λ a b. (λ i. one_node (names_node a i) (names_node b i)) ∙ joined_nodes a b (is_below p a) (is_below p b) refl refl)
+
+  pub formed_joined : IsPath p → IsImage (image_of new nodes)
+  formed_joined path = subst IsImage (sym image_joined) (joined_formed p to (image_of old nodes) formed (no_fault (image_of old nodes) p can).0 path)
+
+-- whatever `put` answers
+pub formed_named : {E : Type 0} (old new : List (Vec ℕ Global × Kind)) (nodes : List Node) (p to : List ℕ) (n : ℕ) → IsImage (image_of old nodes) → fault_at (image_of old nodes) p ≡ None
+    → kind_at old to ≡ Some (kind.File n) → (r : Result (Unit {0}) E) → IsPath p → OnOk r ((q : List ℕ) → kind_at new q ≡ cond (same_path p q) (Some (kind.File n)) (kind_at old q)) → OnErr r (new ≡ old) → IsImage (image_of new nodes)
+formed_named old new nodes p to n formed can at (Ok u) path put stays = formed_joined old new nodes p to n formed can at put path
+formed_named old new nodes p to n formed can at (Err e) path put stays = subst (λ (entries : List (Vec ℕ Global × Kind)). IsImage (image_of entries nodes)) (sym stays) formed
+
+-- ---- what stands at and below a path, taken away
+
+module _ (old new : List (Vec ℕ Global × Kind)) (nodes : List Node) (p : List ℕ) (formed : IsImage (image_of old nodes)) (taken : (q : List ℕ) → kind_at new q ≡ cond (covers p q) None (kind_at old q)) where
+  look_taken : (s c : Bool) (k : Option Kind) → (s ≡ true → c ≡ true) → entry_of nodes (cond c None k) ≡ cond s None (cond c None (entry_of nodes k))
+  look_taken true true k h = refl
+  look_taken true false k h = absurd (let bad = h refl in cc)
+  look_taken false true k h = refl
+  look_taken false false k h = refl
+
+  never : (x y : Bool) → (x && (y && false)) ≡ false
+  never true true = refl
+  never true false = refl
+  never false y = refl
+
+  same_taken : (ca cb sa sb : Bool) (a b : Option Kind) → one_node (node_of (cond ca None a)) (node_of (cond cb None b)) ≡ cond (ca || cb) (sa && (sb && false)) (one_node (node_of a) (node_of b))
+  same_taken true cb sa sb a b = sym (never sa sb)
+  same_taken false true sa sb a b = one_node-none (node_of a) ∙ sym (never sa sb)
+  same_taken false false sa sb a b = refl
+
+  pub image_taken : image_of new nodes ≡ placed p None (image_of old nodes)
+  image_taken = image_ext _ _ (λ q. ap (entry_of nodes) (taken q) ∙ look_taken (same_path p q) (covers p q) (kind_at old q) (same_covers p q))
+      (λ a b. (λ i. one_node (node_of (taken a i)) (node_of (taken b i))) ∙ same_taken (covers p a) (covers p b) (same_path p a) (same_path p b) (kind_at old a) (kind_at old b))
+
+  pub formed_taken : IsImage (image_of new nodes)
+  formed_taken = subst IsImage (sym image_taken) (placed_formed p None (image_of old nodes) formed (λ some. absurd (cc)) (λ some. absurd (cc)) refl)
+
+-- where nothing stands nothing goes
+pub none_taken : (p : List ℕ) (t : Image) → IsImage t → t.look p ≡ None → t ≡ placed p None t
+none_taken p t formed absent = image_ext _ _ (λ q. look_none (same_path p q) (covers p q) (t.look q) (same_covers p q) (nothing_below t p formed absent q))
+    (λ a b. same_none (covers p a) (covers p b) (same_path p a) (same_path p b) (t.same a b) (alone t p formed absent a b) (alone-back t p formed absent b a))
+  where
+    look_none : (s c : Bool) (x : Option Entry) → (s ≡ true → c ≡ true) → (c ≡ true → x ≡ None) → x ≡ cond s None (cond c None x)
+    look_none true c x sc h = h (sc refl)
+    look_none false true x sc h = h refl
+    look_none false false x sc h = refl
+
+    none : (x y : Bool) → false ≡ (x && (y && false))
+    none true true = refl
+    none true false = refl
+    none false y = refl
+
+    same_none : (ca cb sa sb x : Bool) → (ca ≡ true → x ≡ false) → (cb ≡ true → x ≡ false) → x ≡ cond (ca || cb) (sa && (sb && false)) x
+    same_none true cb sa sb x ha hb = ha refl ∙ none sa sb
+    same_none false true sa sb x ha hb = hb refl ∙ none sa sb
+    same_none false false sa sb x ha hb = refl
+
+file_no_dir : (nodes : List Node) (n : ℕ) → false ≡ is_dir (file_of nodes n)
+file_no_dir [] n = refl
+file_no_dir (node ∷ nodes) zero = refl
+file_no_dir (node ∷ nodes) (suc n) = file_no_dir nodes n
+
+pub has_dir-at : (nodes : List Node) (k : Option Kind) → has_dir k ≡ is_dir (entry_of nodes k)
+has_dir-at nodes (Some (kind.Dir m foreign)) = refl
+has_dir-at nodes (Some (kind.File n)) = file_no_dir nodes n
+has_dir-at nodes (Some (kind.Link target)) = refl
+has_dir-at nodes (Some kind.Other) = refl
+has_dir-at nodes None = refl
+
+pub look_none : (nodes : List Node) (k : Option Kind) → is_some k ≡ false → entry_of nodes k ≡ None
+look_none nodes (Some k) h = cc
+look_none nodes None h = refl

@@ -1,5 +1,5 @@
 -- What one change makes of an image.
-use Rattle.std.specs.Prelude.{ℕ, Bool, false, cond, ◌&&◌, ◌||◌, List, ◌++◌, Option, Some, None}
+use Rattle.std.specs.Prelude.{ℕ, Bool, true, false, cond, ◌&&◌, ◌||◌, List, ◌++◌, Option, Some, None}
 use Rattle.ips_text.specs.Ancestry.{same_path, covers, is_below}
 use Rattle.ips_outside.specs.Image.{Entry, Dir, File, Link, Other, Image, is_file, with_mode}
 
@@ -39,3 +39,15 @@ more_bytes more None = None
 -- The file at the path, which has no other name, with these bytes at its end.
 abbrev pub appended : List ℕ → List ℕ → Image → Image
 appended p more t = record { look = λ q. cond (same_path p q) (more_bytes more (t.look q)) (t.look q); same = t.same }
+
+-- a directory with the mark of names that are no paths; what is none stays
+abbrev pub with_mark : Option Entry → Option Entry
+with_mark (Some (Dir m f)) = Some (Dir m true)
+with_mark (Some (File m b)) = Some (File m b)
+with_mark (Some (Link g)) = Some (Link g)
+with_mark (Some Other) = Some Other
+with_mark None = None
+
+-- The directory at the path marked as one that also holds names that are no paths.
+abbrev pub marked : List ℕ → Image → Image
+marked p t = record { look = λ q. cond (same_path p q) (with_mark (t.look q)) (t.look q); same = t.same }

@@ -44,6 +44,14 @@ file_bytes (Some (Link g)) = None
 file_bytes (Some Other) = None
 file_bytes None = None
 
+-- the target of a symbolic link
+abbrev pub link_target : Option Entry → Option (List ℕ)
+link_target (Some (Dir m f)) = None
+link_target (Some (File m b)) = None
+link_target (Some (Link target)) = Some target
+link_target (Some Other) = None
+link_target None = None
+
 -- the entry with another mode; what has none stays
 abbrev pub with_mode : ℕ → Option Entry → Option Entry
 with_mode m (Some (Dir old f)) = Some (Dir m f)

@@ -5,6 +5,8 @@ pub mod Outside
 pub mod Taking
 pub mod Tally
 pub mod Table
+pub mod Order
+pub mod Children
 pub mod Making
 pub mod Tree
 pub mod Memory

@@ -1,5 +1,5 @@
 -- The image that a table of paths and a table of nodes stand for.
-use Rattle.std.specs.Prelude.{◌≡◌, ℕ, zero, suc, Bool, false, ◌==◌, List, [], ◌∷◌, Option, Some, None}
+use Rattle.std.specs.Prelude.{◌≡◌, ℕ, zero, suc, Bool, true, false, ◌==◌, List, [], ◌∷◌, Option, Some, None}
 use Rattle.std.specs.Map.{lookup}
 use Rattle.std.specs.declared.alloc.Global.{Global}
 use Rattle.std.specs.declared.vec.Vec.{Vec}
@@ -47,6 +47,21 @@ with_dir_mode mode (kind.Dir m foreign) = kind.Dir mode foreign
 with_dir_mode mode (kind.File n) = kind.File n
 with_dir_mode mode (kind.Link target) = kind.Link target
 with_dir_mode mode kind.Other = kind.Other
+
+-- a directory with the mark of names that are no paths; what is none stays
+abbrev pub with_dir_mark : Kind → Kind
+with_dir_mark (kind.Dir m foreign) = kind.Dir m true
+with_dir_mark (kind.File n) = kind.File n
+with_dir_mark (kind.Link target) = kind.Link target
+with_dir_mark kind.Other = kind.Other
+
+-- the table has a directory there
+abbrev pub has_dir : Option Kind → Bool
+has_dir (Some (kind.Dir m foreign)) = true
+has_dir (Some (kind.File n)) = false
+has_dir (Some (kind.Link target)) = false
+has_dir (Some kind.Other) = false
+has_dir None = false
 
 -- what stands at each path, and which paths are names of one node
 abbrev pub image_of : List (Vec ℕ Global × Kind) → List Node → Image

@@ -1,9 +1,9 @@
 //! What a tree in memory is kept in: a map from paths to what stands there, and the nodes of the files by number.
 
-ghost use Rattle.std.specs.Prelude.{◌≡◌, List, ℕ, cond, Option, Some, OnOk, OnErr};
+ghost use Rattle.std.specs.Prelude.{◌≡◌, ◌<◌, List, ℕ, cond, Option, Some, None, OnOk, OnErr, IsTrue, is_some, length};
 ghost use Rattle.std.specs.Option.{option_copied, option_map};
 ghost use Rattle.ips_text.specs.Ancestry.{same_path};
-ghost use Rattle.ips_outside.specs.Table.{kind_at, node_of, with_dir_mode, IsKindCopy, IsNodeCopy};
+ghost use Rattle.ips_outside.specs.Table.{kind_at, node_of, with_dir_mode, with_dir_mark, has_dir, IsKindCopy, IsNodeCopy};
 
 use std::alloc::AllocError;
 use std::collections::BTreeMap;
@@ -42,6 +42,20 @@ impl Kind {
     {
         if let Kind::Dir { mode: old, .. } = self {
             *old = mode;
+        }
+    }
+
+    // Marks a directory, and answers whether it is one.
+    fn mark(&mut self) -> bool
+        ensures marked { self.new ≡ with_dir_mark self.old }
+        ensures found { result ≡ has_dir (Some self.old) }
+    {
+        match self {
+            Kind::Dir { foreign, .. } => {
+                *foreign = true;
+                true
+            }
+            _ => false,
         }
     }
 }
@@ -92,11 +106,30 @@ pub fn put(paths: &mut Paths, path: Vec<u8>, kind: Kind) -> Result<(), AllocErro
     Ok(())
 }
 
+/// Takes away what stands at a path.
+pub fn take(paths: &mut Paths, path: &[u8])
+    ensures taken { (q : List ℕ) → kind_at paths.new.entries q ≡ cond (same_path path.now q) None (kind_at paths.old.entries q) }
+    ensures fewer { IsTrue (is_some (kind_at paths.old.entries path.now)) → length paths.new.entries < length paths.old.entries }
+{
+    paths.remove(path);
+}
+
 /// Sets the mode of the directory at a path, where one stands.
 pub fn set_dir_mode(paths: &mut Paths, path: &[u8], mode: u16)
     ensures { (q : List ℕ) → kind_at paths.new.entries q ≡ cond (same_path path.now q) (option_map (with_dir_mode mode) (kind_at paths.old.entries q)) (kind_at paths.old.entries q) }
 {
     if let Some(kind) = paths.get_mut(path) {
         kind.set_dir_mode(mode);
+    }
+}
+
+/// Marks the directory at a path as one that also holds names that are no paths, and answers whether one stands there.
+pub fn mark_dir(paths: &mut Paths, path: &[u8]) -> bool
+    ensures marked { (q : List ℕ) → kind_at paths.new.entries q ≡ cond (same_path path.now q) (option_map with_dir_mark (kind_at paths.old.entries q)) (kind_at paths.old.entries q) }
+    ensures found { result ≡ has_dir (kind_at paths.old.entries path.now) }
+{
+    match paths.get_mut(path) {
+        Some(kind) => kind.mark(),
+        None => false,
     }
 }

@@ -1,17 +1,21 @@
 //! A tree of files in memory.
 #![tactic(auto, unfolding(crate::specs::Tree::tree_image))]
 
-ghost use Rattle.std.specs.Prelude.{◌≡◌, ◌<◌, [], ℕ, false, IsTrue, List, Option, Some, None, IfOk, OnOk, OnErr, ◌≤◌, length};
+ghost use Rattle.std.specs.Prelude.{◌≡◌, ◌<◌, [], ℕ, false, IsTrue, IsFalse, List, Option, Some, None, IfOk, OnOk, OnErr, ◌≤◌, length};
 ghost use Rattle.std.specs.Option.{option_copied};
-ghost use Rattle.ips_outside.specs.Image.{IsImage, Dir, File, nothing, is_file, file_bytes, has_small_mode};
-ghost use Rattle.ips_outside.specs.Change.{placed, moded, appended};
+ghost use Rattle.ips_outside.specs.Image.{IsImage, Dir, File, Link, Other, nothing, is_dir, is_file, file_bytes, link_target, has_small_mode};
+ghost use Rattle.ips_outside.specs.Change.{placed, joined, moded, appended, marked};
 ghost use Rattle.ips_outside.specs.Outside.{look_of, IsSmall, readable, IsRead};
 ghost use Rattle.ips_outside.specs.Table.{image_of, entry_of, node_of};
-ghost use Rattle.ips_outside.specs.Making.{fault_at, Refuses};
+ghost use Rattle.ips_outside.specs.Order.{HasRoom};
+ghost use Rattle.ips_outside.specs.Children.{is_foreign, AreChildren, bytes_of};
+ghost use Rattle.ips_outside.specs.Making.{fault_at, hard_fault_at, Refuses};
 
+use crate::listing::children;
 use crate::outside::Look;
 use crate::refusal::TreeFault;
-use crate::table::{Kind, Node, Paths, find, node_at, put, set_dir_mode};
+use crate::subtree::{key, spare, take_away};
+use crate::table::{Kind, Node, Paths, find, mark_dir, node_at, put, set_dir_mode};
 use ips_text::{Or, RelPath, parent};
 use std::alloc::{AllocError, Global};
 use std::collections::BTreeMap;
@@ -21,7 +25,11 @@ use std::collections::BTreeMap;
 #[derive(Drop)]
 pub struct Tree {
     paths: Paths,
+    // A node whose names are all gone stays until the tree goes.
     nodes: Vec<Node>,
+    // What `remove` goes by, so that it takes no memory.
+    spare: Vec<u8>,
+    ghost room: { HasRoom paths.entries spare },
     ghost formed: { IsImage (image_of paths.entries nodes.items) },
 }
 
@@ -35,6 +43,7 @@ impl Tree {
         Tree {
             paths: BTreeMap::new(alloc),
             nodes: Vec::new(alloc),
+            spare: Vec::new(alloc),
         }
     }
 
@@ -81,6 +90,48 @@ impl Tree {
         }
     }
 
+    /// The target of the symbolic link at the path, where a link stands there.
+    pub fn target(&self, path: &RelPath) -> Option<&[u8]>
+        ensures { option_copied result ≡ link_target ((tree_image self.now).look path.now.bytes) }
+    {
+        match find(&self.paths, path.bytes()) {
+            Some(Kind::Link { target }) => Some(target),
+            _ => None,
+        }
+    }
+
+    /// Whether both paths are names of one file.
+    pub fn same(&self, a: &RelPath, b: &RelPath) -> bool
+        ensures { result ≡ (tree_image self.now).same a.now.bytes b.now.bytes }
+    {
+        match (
+            node_at(&self.paths, a.bytes()),
+            node_at(&self.paths, b.bytes()),
+        ) {
+            (Some(first), Some(second)) => first == second,
+            _ => false,
+        }
+    }
+
+    /// Whether the directory at the path is marked as one that also holds names that are no paths; false where no
+    /// directory stands.
+    pub fn is_foreign(&self, path: &RelPath) -> bool
+        ensures { result ≡ is_foreign ((tree_image self.now).look path.now.bytes) }
+    {
+        match find(&self.paths, path.bytes()) {
+            Some(Kind::Dir { foreign, .. }) => *foreign,
+            _ => false,
+        }
+    }
+
+    /// The paths of all that stands right below the directory at the path, each once, in the order of their bytes; none
+    /// where no directory stands.
+    pub fn children(&self, alloc: Global, dir: &RelPath) -> Result<Vec<RelPath>, AllocError>
+        ensures { IfOk result (λ paths. AreChildren (tree_image self.now) dir.now.bytes (bytes_of paths.items)) }
+    {
+        children(alloc, &self.paths, dir.bytes())
+    }
+
     // Why nothing can be made at the path.
     fn fault(&self, path: &RelPath) -> Option<TreeFault>
         ensures { result ≡ fault_at (tree_image self.now) path.now.bytes }
@@ -97,6 +148,18 @@ impl Tree {
         }
     }
 
+    // Puts what is no file where nothing stands.
+    fn put_plain(&mut self, alloc: Global, path: &RelPath, kind: Kind) -> Result<(), AllocError>
+        requires free { fault_at (tree_image self.old) path.now.bytes ≡ None }
+        requires plain { node_of (Some kind) ≡ None }
+        requires mode { IsTrue (has_small_mode (entry_of [] (Some kind))) }
+        ensures made { OnOk result (tree_image self.new ≡ placed path.now.bytes (entry_of [] (Some kind)) (tree_image self.old)) }
+        ensures as_before { OnErr result (tree_image self.new ≡ tree_image self.old) }
+    {
+        let key = key(alloc, path, &mut self.spare)?;
+        put(&mut self.paths, key, kind)
+    }
+
     // Adds what is no file.
     fn add(&mut self, alloc: Global, path: &RelPath, kind: Kind) -> Result<(), Or<TreeFault>>
         requires plain { node_of (Some kind) ≡ None }
@@ -108,8 +171,7 @@ impl Tree {
         if let Some(fault) = self.fault(path) {
             return Err(Or::Bad(fault));
         }
-        let key = Vec::from_slice(alloc, path.bytes())?;
-        put(&mut self.paths, key, kind)?;
+        self.put_plain(alloc, path, kind)?;
         Ok(())
     }
 
@@ -143,13 +205,80 @@ impl Tree {
         if let Some(fault) = self.fault(path) {
             return Err(Or::Bad(fault));
         }
-        let key = Vec::from_slice(alloc, path.bytes())?;
+        let key = key(alloc, path, &mut self.spare)?;
         let bytes = Vec::from_slice(alloc, bytes)?;
         self.nodes.reserve(1)?;
         let node = self.nodes.len();
         put(&mut self.paths, key, Kind::File { node })?;
         self.nodes.push_reserved(Node { mode, bytes });
         Ok(())
+    }
+
+    /// Adds a symbolic link. Its target may be any bytes.
+    pub fn link(
+        &mut self,
+        alloc: Global,
+        path: &RelPath,
+        target: &[u8],
+    ) -> Result<(), Or<TreeFault>>
+        ensures made { OnOk result (tree_image self.new ≡ placed path.now.bytes (Some (Link target.now)) (tree_image self.old)) }
+        ensures as_before { OnErr result (tree_image self.new ≡ tree_image self.old) }
+        ensures refused { Refuses (fault_at (tree_image self.old) path.now.bytes) result }
+    {
+        if let Some(fault) = self.fault(path) {
+            return Err(Or::Bad(fault));
+        }
+        let target = Vec::from_slice(alloc, target)?;
+        self.put_plain(alloc, path, Kind::Link { target })?;
+        Ok(())
+    }
+
+    /// Adds what is neither a directory nor a file nor a symbolic link, as a device or a named pipe.
+    pub fn other(&mut self, alloc: Global, path: &RelPath) -> Result<(), Or<TreeFault>>
+        ensures made { OnOk result (tree_image self.new ≡ placed path.now.bytes (Some Other) (tree_image self.old)) }
+        ensures as_before { OnErr result (tree_image self.new ≡ tree_image self.old) }
+        ensures refused { Refuses (fault_at (tree_image self.old) path.now.bytes) result }
+    {
+        self.add(alloc, path, Kind::Other)
+    }
+
+    /// Adds a further name, `path`, of the file at `to`: a hard link. Both names have one mode and the same bytes.
+    pub fn hard(&mut self, alloc: Global, path: &RelPath, to: &RelPath) -> Result<(), Or<TreeFault>>
+        ensures made { OnOk result (tree_image self.new ≡ joined path.now.bytes to.now.bytes (tree_image self.old)) }
+        ensures as_before { OnErr result (tree_image self.new ≡ tree_image self.old) }
+        ensures refused { Refuses (hard_fault_at (tree_image self.old) path.now.bytes to.now.bytes) result }
+    {
+        let file = node_at(&self.paths, to.bytes());
+        if let Some(fault) = self.fault(path) {
+            return Err(Or::Bad(fault));
+        }
+        let Some(node) = file else {
+            return Err(Or::Bad(TreeFault::NoFile));
+        };
+        let key = key(alloc, path, &mut self.spare)?;
+        let name = Kind::File { node };
+        put(&mut self.paths, key, name)?;
+        Ok(())
+    }
+
+    /// Marks the directory at the path as one that also holds names that are no paths. It answers false, and changes
+    /// nothing, exactly where no directory stands there. It takes no memory.
+    pub fn mark_foreign(&mut self, path: &RelPath) -> bool
+        ensures marked { tree_image self.new ≡ marked path.now.bytes (tree_image self.old) }
+        ensures found { result ≡ is_dir ((tree_image self.old).look path.now.bytes) }
+        ensures as_before { IsFalse result → tree_image self.new ≡ tree_image self.old }
+    {
+        mark_dir(&mut self.paths, path.bytes())
+    }
+
+    /// Takes away what stands at the path, with all below it, and does nothing where nothing stands. It takes no memory.
+    pub fn remove(&mut self, path: &RelPath)
+        ensures { tree_image self.new ≡ placed path.now.bytes None (tree_image self.old) }
+    {
+        let name = path.bytes();
+        if find(&self.paths, name).is_some() {
+            take_away(&mut self.paths, &mut self.spare, name);
+        }
     }
 
     /// Puts bytes at the end of a file that has no other name.
@@ -184,7 +313,12 @@ impl Tree {
     {
         let paths = self.paths.clone()?;
         let nodes = self.nodes.to_vec(alloc)?;
-        Ok(Tree { paths, nodes })
+        let spare = spare(alloc)?;
+        Ok(Tree {
+            paths,
+            nodes,
+            spare,
+        })
     }
 }
 

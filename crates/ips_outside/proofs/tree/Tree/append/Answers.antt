@@ -20,6 +20,7 @@ invariant_of-self c =
     let node : Node = record { mode = old.mode; bytes = c.extend_from_slice.new.self } in
     let at = file_at t.paths.entries c.args.path.now.bytes c.bytes.result.now c.in-Some.node c.bytes.ensures.value c.in-Some.ensures in
     record {
+      room = t.room;
       formed = formed_appended t.paths.entries t.nodes.items c.args.path.now.bytes c.in-Some.node node t.formed at old c.args.bytes.now (is_ok c.extend_from_slice.result) (ap (λ (x : Node). x.mode) c.index_mut.ensures.value)
           (c.extend_from_slice.ensures.items ∙ ap (λ (x : Node). cond (is_ok c.extend_from_slice.result) (x.bytes.items ++ c.args.bytes.now) x.bytes.items) c.index_mut.ensures.value) c.requires.sole;
     }
