@@ -5,7 +5,7 @@ use Rattle.std.specs.List.Sorted.{IsStrictlySortedBy}
 use Rattle.std.specs.Map.{keys_of}
 use Rattle.std.specs.Cmp.{IsTotalOrder}
 use Rattle.std.specs.Cmp.Lexicographic.{slice_cmp}
-use Rattle.std.specs.Ordering.{nat_cmp, match_ordering, ordering_reverse}
+use Rattle.std.specs.Ordering.{nat_cmp, match_ordering, ordering_reverse, is_eq}
 use Rattle.std.specs.BTreeSet.{insert_key}
 use Rattle.std.specs.Fmt.{decimal}
 use Rattle.serde_json.specs.Data.{Data, Items, no_items, item, Members, member}
@@ -18,7 +18,7 @@ use Rattle.ips_fmri.specs.Version.{Parts, version_text}
 use Rattle.ips_fmri.specs.Order.{version_cmp, version_total}
 use Rattle.ips_catalog.specs.declared.fault.CatalogFault.{CatalogFault}
 use Rattle.ips_catalog.specs.declared.fault.CatalogFault.TheVariants.{WrongShape, Repeated}
-use Rattle.ips_catalog.specs.Listed.{Listed, StemsAscend, VersionsAscend, IsInOrder}
+use Rattle.ips_catalog.specs.Listed.{Listed, StemsAscend, VersionsAscend, IsInOrder, versions_of}
 use Rattle.ips_catalog.specs.Pointer.{pointer}
 use Rattle.ips_catalog.specs.Stem.{is_stem}
 use Rattle.ips_catalog.specs.Reading.{shaped, text_at, version_in, is_among, with_next, entry_at, versions_at, package_at, packages_at}
@@ -172,3 +172,13 @@ in_order publisher es packages up e = record {
 pub nothing_in_order : IsInOrder []
 unfolding IsStrictlySortedBy
 nothing_in_order = record { stems = tt; versions = tt }
+
+-- so are the versions of each stem
+pub versions_in_order : (catalog : List Listed) (stem : List ℕ) → VersionsAscend catalog → IsStrictlySortedBy version_cmp (versions_of catalog stem)
+unfolding IsStrictlySortedBy
+versions_in_order [] stem up = tt
+versions_in_order (listed ∷ catalog) stem up = by (is_eq (slice_cmp nat_cmp listed.stem stem)) (versions_in_order catalog stem up.1)
+  where
+    by : (b : Bool) → IsStrictlySortedBy version_cmp (versions_of catalog stem) → IsStrictlySortedBy version_cmp (cond b listed.versions (versions_of catalog stem))
+    by true more = up.0
+    by false more = more

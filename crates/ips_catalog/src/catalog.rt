@@ -1,7 +1,9 @@
 //! Catalogs.
 
 ghost use Rattle.std.specs.Prelude.{◌≡◌, ◌<◌, List, [], Ok, IfOk, OnErr, length, map, option_map, slice_get, slice_index_or};
+ghost use Rattle.std.specs.List.Sorted.{IsStrictlySortedBy};
 ghost use Rattle.std.specs.Ordering.{nat_cmp};
+ghost use Rattle.ips_fmri.specs.Order.{version_cmp};
 ghost use Rattle.std.specs.Cmp.Lexicographic.{slice_cmp};
 ghost use Rattle.serde_json.specs.View.{view};
 ghost use Rattle.ips_text.specs.Reading.{Gives};
@@ -12,7 +14,7 @@ ghost use Rattle.ips_catalog.specs.Reading as reading;
 ghost use Rattle.ips_catalog.specs.Reading.{read_catalog, catalog_of, published_at};
 
 use crate::fault::CatalogFault;
-use crate::packages::{Listing, packages};
+use crate::packages::{Listing, read_packages};
 use crate::pointers::{publisher_pointer, top_pointer};
 use ips_fmri::Version;
 use ips_text::Or;
@@ -42,8 +44,12 @@ impl Model for Catalog {
 }
 
 impl Catalog {
-    /// Reads the catalog of a publisher, which is empty where the publisher's key isn't there. Keys beside it aren't looked at.
-    /// Of two equal keys of an object the later value counts.
+    /// Reads the catalog of a publisher. It is a JSON object that has at the publisher's key an object, in which an array stands
+    /// at each stem, of objects with a text `version` (the catalog of pkgrepo(1) and the IPS Developer Guide). Without the
+    /// publisher's key it is empty. Other keys aren't looked at, and of two equal keys of an object the later one counts.
+    ///
+    /// The fault is the first where the stems are read by their bytes and the entries of each in their order, and at each entry
+    /// first its shape is judged, then its version, then whether that was there before.
     pub fn read(alloc: Global, bytes: &[u8], publisher: &str) -> Result<Catalog, Or<CatalogFault>>
         ensures found { IfOk result (λ catalog. IsCatalogText publisher.now bytes.now catalog) }
         ensures only { (catalog : List Listed) → IsCatalogText publisher.now bytes.now catalog → Gives (λ c. c) result (Ok catalog) }
@@ -57,9 +63,10 @@ impl Catalog {
         }
     }
 
-    /// How many packages it lists.
+    /// How many packages it lists. Their stems ascend by bytes.
     pub fn stems(&self) -> usize
-        ensures { result ≡ length self.now }
+        ensures number { result ≡ length self.now }
+        ensures ordered { IsInOrder self.now }
     {
         self.packages.len()
     }
@@ -83,7 +90,8 @@ impl Catalog {
 
     /// The versions of a stem, ascending; none where the stem isn't listed.
     pub fn versions(&self, stem: &str) -> &[Version]
-        ensures { result.now ≡ versions_of self.now stem.now }
+        ensures listed { result.now ≡ versions_of self.now stem.now }
+        ensures ascending { IsStrictlySortedBy version_cmp result.now }
     {
         match self.search(stem) {
             Ok(place) => &self.packages[place].versions,
@@ -136,7 +144,7 @@ fn read_published(
         let pointer = publisher_pointer(alloc, publisher)?;
         return Err(Or::Bad(CatalogFault::WrongShape { pointer }));
     };
-    let packages = packages(alloc, publisher, members)?;
+    let packages = read_packages(alloc, publisher, members)?;
     let count = total(&packages)?;
     Ok(Catalog { packages, count })
 }

@@ -15,7 +15,7 @@ use std::alloc::{AllocError, Global};
 use std::collections::BTreeSet;
 
 /// The versions of a package, ascending.
-pub fn versions(
+pub fn read_versions(
     alloc: Global,
     publisher: &str,
     stem: &str,
@@ -50,7 +50,7 @@ fn add_entry(
     ensures { Gives (λ _. versions.new.keys) result (entry_at publisher.now stem.now index versions.old.keys (view entry.now)) }
 {
     let text = version_text(alloc, publisher, stem, index, entry)?;
-    let version = version(alloc, stem, text)?;
+    let version = read_version(alloc, stem, text)?;
     add_version(alloc, stem, version, versions)
 }
 
@@ -80,7 +80,7 @@ fn version_text<'a>(
 
 // The version that a text of a package's entry spells.
 #[tactic(auto, unfolding(crate::specs::Reading::version_in))]
-fn version(alloc: Global, stem: &str, text: &str) -> Result<Version, Or<CatalogFault>>
+fn read_version(alloc: Global, stem: &str, text: &str) -> Result<Version, Or<CatalogFault>>
     ensures { Gives (λ v. v) result (version_in stem.now text.now) }
 {
     match Version::parse(alloc, text) {

@@ -8,7 +8,7 @@ use ips_text::Text;
 
 /// What is wrong with a catalog: its first fault, where the packages are read by the bytes of their stems and the entries of
 /// each in their order.
-#[derive(Debug, PartialEq, Drop)]
+#[derive(Debug, PartialEq, Eq, Drop)]
 pub enum CatalogFault {
     /// The bytes aren't a JSON text (RFC 8259) in UTF-8, or it nests too deep.
     NotJson,

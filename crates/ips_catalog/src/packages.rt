@@ -7,10 +7,10 @@ ghost use Rattle.ips_catalog.specs.Seen.{seen};
 ghost use Rattle.ips_catalog.specs.Listed.{IsInOrder};
 ghost use Rattle.ips_catalog.specs.Reading.{package_at, packages_at};
 
-use crate::entries::versions;
+use crate::entries::read_versions;
 use crate::fault::CatalogFault;
 use crate::pointers::package_pointer;
-use crate::stems::stem;
+use crate::stems::read_stem;
 use ips_fmri::Version;
 use ips_text::{Or, Text};
 use serde_json::{Map, Value};
@@ -24,7 +24,7 @@ pub struct Listing {
 }
 
 /// The packages that an object holds by their stems.
-pub fn packages(
+pub fn read_packages(
     alloc: Global,
     publisher: &str,
     members: &Map<String, Value>,
@@ -34,7 +34,7 @@ pub fn packages(
 {
     let mut packages = Vec::new(alloc);
     for (key, value) in members.iter() {
-        let package = package(alloc, publisher, key.as_str(), value)?;
+        let package = read_package(alloc, publisher, key.as_str(), value)?;
         packages.push(package)?;
     }
     Ok(packages)
@@ -42,7 +42,7 @@ pub fn packages(
 
 // The package that stands at a key.
 #[tactic(auto, unfolding(crate::specs::Reading::package_at))]
-fn package(
+fn read_package(
     alloc: Global,
     publisher: &str,
     key: &str,
@@ -50,9 +50,9 @@ fn package(
 ) -> Result<Listing, Or<CatalogFault>>
     ensures { Gives (λ l. seen l) result (package_at publisher.now key.now (view value.now)) }
 {
-    match (stem(alloc, key)?, value.as_array()) {
+    match (read_stem(alloc, key)?, value.as_array()) {
         (Some(stem), Some(entries)) => {
-            let versions = versions(alloc, publisher, key, entries)?;
+            let versions = read_versions(alloc, publisher, key, entries)?;
             Ok(Listing { stem, versions })
         }
         _ => {

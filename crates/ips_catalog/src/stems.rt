@@ -8,7 +8,7 @@ use ips_text::{Or, Text};
 use std::alloc::{AllocError, Global};
 
 /// The key as a stem, where it is one: a name of a package without publisher and version.
-pub fn stem(alloc: Global, key: &str) -> Result<Option<Text>, AllocError>
+pub fn read_stem(alloc: Global, key: &str) -> Result<Option<Text>, AllocError>
     ensures { IfOk result (λ found. found ≡ (if is_stem key.now then Some key.now else None)) }
 {
     let fmri = match Fmri::parse(alloc, key) {

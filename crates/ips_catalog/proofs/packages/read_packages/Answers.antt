@@ -5,7 +5,7 @@ use Rattle.ips_catalog.specs.Seen.{seen}
 use Rattle.ips_catalog.specs.Reading.{packages_at}
 use Rattle.ips_catalog.proofs.Walks.{package_fails, package_more, packages_end, behind_nothing}
 use Rattle.ips_catalog.proofs.Orders.{in_order}
-use Rattle.ips_catalog.proofs.packages.packages.Goals as goal
+use Rattle.ips_catalog.proofs.packages.read_packages.Goals as goal
 
 pub returns-in_err-package-clause-read : goal.returns-in_err-package-clause-read
 returns-in_err-package-clause-read c =

@@ -1,7 +1,7 @@
 use Rattle.std.proofs.Common.{◌≡◌, [], drop}
 use Rattle.serde_json.specs.View.{items_view}
 use Rattle.ips_catalog.specs.Reading.{versions_at}
-use Rattle.ips_catalog.proofs.entries.versions.Given as goal
+use Rattle.ips_catalog.proofs.entries.read_versions.Given as goal
 
 abbrev pub invariant-loop-index : goal.invariant-loop-index
 invariant-loop-index l =

@@ -3,7 +3,7 @@ use Rattle.serde_json.specs.View.{members_view}
 use Rattle.ips_catalog.specs.Seen.{seen}
 use Rattle.ips_catalog.specs.Reading.{packages_at}
 use Rattle.ips_catalog.proofs.Walks.{behind}
-use Rattle.ips_catalog.proofs.packages.packages.Given as goal
+use Rattle.ips_catalog.proofs.packages.read_packages.Given as goal
 
 abbrev pub invariant-loop-key : goal.invariant-loop-key
 invariant-loop-key l =

@@ -6,7 +6,7 @@ use Rattle.ips_fmri.specs.Version.{Parts}
 use Rattle.ips_catalog.specs.declared.fault.CatalogFault.{CatalogFault}
 use Rattle.ips_catalog.specs.Reading.{entry_at, versions_at}
 use Rattle.ips_catalog.proofs.Walks.{fails_then, entry_first, entries_end}
-use Rattle.ips_catalog.proofs.entries.versions.Goals as goal
+use Rattle.ips_catalog.proofs.entries.read_versions.Goals as goal
 
 pub returns-in_err-add_entry : goal.returns-in_err-add_entry
 returns-in_err-add_entry c =

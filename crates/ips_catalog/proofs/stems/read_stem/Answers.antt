@@ -1,6 +1,6 @@
 use Rattle.std.proofs.Common.{ap, ◌∙◌}
 use Rattle.ips_catalog.proofs.StemKeys.{same_stem, other_stem, no_stem}
-use Rattle.ips_catalog.proofs.stems.stem.Goals as goal
+use Rattle.ips_catalog.proofs.stems.read_stem.Goals as goal
 
 pub returns-then-eq : goal.returns-then-eq
 returns-then-eq c = same_stem c.in-Ok.fmri c.args.key.now c.eq.result (rw (← c.as_str.ensures) c.eq.ensures) c.if-eq.true c.in-Ok.ensures.found.0
