@@ -1,5 +1,5 @@
 -- A list of steps laid on two images that agree but at its own paths, and perhaps at paths that it doesn't read.
-use Rattle.std.proofs.Common.{◌≡◌, ℕ, Bool, true, false, not, ◌&&◌, ◌||◌, List, [], ◌∷◌, Option, Some, None, refl, sym, ◌∙◌}
+use Rattle.std.proofs.Common.{◌≡◌, ℕ, Bool, true, false, ◌||◌, List, [], ◌∷◌, Option, Some, None, refl, sym, ◌∙◌}
 use Rattle.std.proofs.lemmas.Bool.{and_parts, and_from, or_parts, or_from, not-true}
 use Rattle.ips_text.specs.Ancestry.{covers, parent}
 use Rattle.ips_outside.specs.Image.{Image, Agrees}

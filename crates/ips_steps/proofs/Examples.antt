@@ -1,10 +1,10 @@
 -- Lists of steps on a small image, computed.
-use Rattle.std.proofs.Common.{◌≡◌, ℕ, Bool, true, false, cond, ◌&&◌, ◌||◌, ◌==◌, List, [], ◌∷◌, Option, Some, None, refl}
+use Rattle.std.proofs.Common.{◌≡◌, ℕ, Bool, true, false, cond, ◌&&◌, ◌||◌, ◌==◌, List, [], ◌∷◌, Some, None, refl}
 use lib.Chars.{codes}
 use Rattle.std.specs.Fmt.{digits}
 use Rattle.ips_text.specs.Ancestry.{same_path}
 use Rattle.ips_outside.specs.Image.{Dir, File, Image}
-use Rattle.ips_steps.specs.Steps.{Step, Gone, Fresh, Mode, Put, Symlink, Hard, Stage, stage_name, stage_path, all_laid, possible, sound}
+use Rattle.ips_steps.specs.Steps.{Gone, Fresh, Mode, Put, Symlink, Hard, Stage, stage_name, stage_path, all_laid, possible, sound}
 use Rattle.ips_steps.specs.Private.{records_name, journal_name, gate_name, mark_front, mark_name, is_private}
 use Rattle.ips_steps.specs.Journal.{may_name, allowed, numbered}
 

@@ -1,5 +1,5 @@
 -- A first fault is a fault, and what has none fits.
-use Rattle.std.proofs.Common.{◌≡◌, ◌≤◌, ℕ, List, [], ◌∷◌, length, Option, None, Some, MatchOption, IfNone, IsNone, inl, inr, refl}
+use Rattle.std.proofs.Common.{◌≤◌, ℕ, List, [], ◌∷◌, length, Option, None, Some, MatchOption, IfNone, IsNone, inl, inr, refl}
 use Rattle.std.proofs.lemmas.Bool.{cases_lt}
 use Rattle.ips_steps.specs.Targets.{IsTarget, IsFirstFault, faults_in_order}
 use Rattle.ips_steps.specs.declared.target.TargetFault.{TargetFault}

@@ -1,9 +1,9 @@
 -- One step on two images that agree, and on names that share a file.
-use Rattle.std.proofs.Common.{◌≡◌, ℕ, Bool, true, false, cond, not, ◌&&◌, ◌||◌, List, [], ◌∷◌, Option, Some, None, refl, sym, ◌∙◌, ap}
+use Rattle.std.proofs.Common.{◌≡◌, ℕ, Bool, true, false, cond, not, ◌&&◌, ◌||◌, List, [], ◌∷◌, Option, Some, None, refl, ◌∙◌, ap}
 use Rattle.std.proofs.lemmas.Bool.{and_parts, and_from, or_parts, or_from, not-true}
 use Rattle.ips_text.specs.Ancestry.{same_path, covers, parent}
 use Rattle.ips_outside.specs.Image.{Entry, Image, Agrees, is_file, has_parent, dir_or_none}
-use Rattle.ips_outside.specs.Change.{placed, joined, names}
+use Rattle.ips_outside.specs.Change.{placed, joined}
 use Rattle.ips_steps.specs.Steps.{Step, Gone, Fresh, Mode, Put, Symlink, Hard, Stage, laid, frees, freed, at_parent, meets, met}
 use Rattle.ips_text.proofs.Ancestry.{uncovered, covers-parent}
 use Rattle.ips_outside.proofs.Agree.{is_dir-alike, is_file-alike}

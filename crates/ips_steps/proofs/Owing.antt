@@ -1,8 +1,8 @@
 -- What a folder owes while its own names are written, while steps are laid, and as the gate opens and closes.
-use Rattle.std.proofs.Common.{◌≡◌, ◌≢◌, ℕ, zero, suc, ◌+◌, ◌*◌, ◌<◌, Bool, true, false, cond, not, ◌&&◌, ◌||◌, List, [], ◌∷◌, drop, Option, Some, None, refl, sym, ◌∙◌, ap, subst}
-use Rattle.std.proofs.lemmas.Bool.{and_parts, or_parts, or_from, or_left, false_from_ne_true}
+use Rattle.std.proofs.Common.{◌≡◌, ℕ, zero, suc, ◌+◌, Bool, true, false, ◌||◌, List, [], ◌∷◌, drop, Option, Some, None, refl, sym, ◌∙◌, subst}
+use Rattle.std.proofs.lemmas.Bool.{and_parts, or_parts, or_from, false_from_ne_true}
 use Rattle.ips_text.specs.Ancestry.{covers}
-use Rattle.ips_outside.specs.Image.{Entry, Dir, File, Link, Other, Image, IsImage, Agrees, with_mode, file_bytes}
+use Rattle.ips_outside.specs.Image.{Entry, Dir, File, Link, Other, Image, Agrees, with_mode, file_bytes}
 use Rattle.ips_outside.specs.Change.{placed}
 use Rattle.ips_outside.specs.State.{State, MayLeave, Within, IsSettled, nowhere}
 use Rattle.ips_steps.specs.Steps.{Step, Stage, stage_name, stage_path, stage_of, all_laid, after, possible, sound, sound_before, freed, met}
@@ -13,7 +13,7 @@ use Rattle.ips_outside.proofs.Images.{HasNodes}
 use Rattle.ips_outside.proofs.Moments.{agrees_less, within_crash, placed_within}
 use Rattle.ips_steps.proofs.Again.{again, again_but}
 use Rattle.ips_steps.proofs.Lists.{clash}
-use Rattle.ips_steps.proofs.PrivateNames.{gate_private, content_kept, journal_kept, gate_kept, marks_kept, all_clear, same_bytes, same_stage, visible_alike, visible_agrees}
+use Rattle.ips_steps.proofs.PrivateNames.{gate_private, journal_kept, gate_kept, marks_kept, all_clear, same_bytes, same_stage, visible_alike, visible_agrees}
 
 -- ---- a list that a journal can have, laid again with its own contents
 

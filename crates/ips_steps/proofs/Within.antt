@@ -1,8 +1,7 @@
 -- Where a list of steps changes an image, and that it leaves a well-formed image well formed.
-use Rattle.std.proofs.Common.{◌≡◌, ℕ, Bool, true, not, ◌&&◌, List, [], ◌∷◌, Option, Some, None, is_none, refl}
+use Rattle.std.proofs.Common.{◌≡◌, true, List, [], ◌∷◌, None, refl}
 use Rattle.std.proofs.lemmas.Bool.{and_parts, or_parts, lt-ltb}
-use Rattle.ips_text.specs.Ancestry.{covers}
-use Rattle.ips_outside.specs.Image.{Image, IsImage, Agrees, is_file, has_parent}
+use Rattle.ips_outside.specs.Image.{Image, IsImage, Agrees, has_parent}
 use Rattle.ips_steps.specs.Steps.{Step, Gone, Fresh, Mode, Put, Symlink, Hard, Stage, laid, all_laid, can_lay, possible, frees, freed, meets, met}
 use Rattle.ips_steps.specs.Journal.{IsProper, AllProper}
 use Rattle.ips_outside.proofs.Images.{HasNodes}

@@ -1,5 +1,5 @@
 -- Which steps a journal can list.
-use Rattle.std.specs.Prelude.{◌≡◌, ℕ, ◌+◌, ◌<◌, Bool, true, not, ◌&&◌, ◌==◌, IsTrue, List, [], ◌∷◌}
+use Rattle.std.specs.Prelude.{ℕ, ◌+◌, ◌<◌, Bool, true, not, ◌&&◌, ◌==◌, IsTrue, List, [], ◌∷◌}
 use Rattle.ips_text.specs.Ancestry.{covers}
 use Rattle.ips_text.specs.Path.{IsPath}
 use Rattle.ips_steps.specs.Targets.{IsTarget}

@@ -1,9 +1,9 @@
 -- The steps of a plan, and what they make of an image.
-use Rattle.std.specs.Prelude.{◌≡◌, ℕ, Bool, true, false, cond, not, ◌&&◌, ◌||◌, List, [], ◌∷◌, ◌++◌, Option, Some, None, is_some}
+use Rattle.std.specs.Prelude.{ℕ, Bool, true, false, not, ◌&&◌, ◌||◌, List, [], ◌∷◌, ◌++◌, Option, Some, None, is_some}
 use Rattle.std.specs.Fmt.{decimal}
 use lib.Chars.{codes}
 use Rattle.ips_text.specs.Ancestry.{same_path, covers, parent}
-use Rattle.ips_outside.specs.Image.{Entry, Dir, File, Link, Image, is_file, file_bytes, has_parent}
+use Rattle.ips_outside.specs.Image.{Dir, File, Link, Image, is_file, file_bytes, has_parent}
 use Rattle.ips_outside.specs.Change.{placed, joined, moded, names}
 
 -- A step takes away what is at and below its path, makes a directory, sets a mode, puts a file with a numbered

@@ -1,6 +1,6 @@
 use crate::step::{Sort, Step};
 use crate::target::{Target, TargetFault};
-use ips_text::{Or, RelPath};
+use ips_text::{Or, PathFault, RelPath};
 use std::alloc::{AllocError, Global};
 use std::test::Fail;
 
@@ -32,7 +32,9 @@ fn reads_targets_and_tells_the_first_fault(rt: HostRuntime) -> Result<(), Fail> 
         (b"a\0".as_slice(), TargetFault::NulByte),
     ] {
         assert!(rt; matches!(Target::parse(alloc, bytes), Err(Or::Bad(found)) if found == fault));
-        assert!(rt; matches!(Target::with_room(alloc, bytes), Err(Or::Bad(found)) if found == fault));
+        assert!(rt;
+            matches!(Target::with_room(alloc, bytes), Err(Or::Bad(found)) if found == fault)
+        );
     }
     Ok(())
 }
@@ -43,9 +45,19 @@ fn bounds_targets(rt: HostRuntime) -> Result<(), Fail> {
     let longest = long(alloc, 4095)?;
     assert!(rt; Target::parse(alloc, &longest)?.bytes() == longest.as_slice());
     let mut longer = long(alloc, 4096)?;
-    assert!(rt; matches!(Target::parse(alloc, &longer), Err(Or::Bad(TargetFault::TooLong))));
+    assert!(rt;
+        matches!(
+            Target::parse(alloc, &longer),
+            Err(Or::Bad(TargetFault::TooLong))
+        )
+    );
     longer.push(0)?;
-    assert!(rt; matches!(Target::parse(alloc, &longer), Err(Or::Bad(TargetFault::NulByte))));
+    assert!(rt;
+        matches!(
+            Target::parse(alloc, &longer),
+            Err(Or::Bad(TargetFault::NulByte))
+        )
+    );
     Ok(())
 }
 
@@ -62,56 +74,53 @@ fn sets_a_target_that_keeps_room(rt: HostRuntime) -> Result<(), Fail> {
     Ok(())
 }
 
+fn bin(alloc: Global) -> Result<RelPath, Or<PathFault>> {
+    RelPath::parse(alloc, b"usr/bin")
+}
+
+// The step is about that path, and of this sort.
+fn is_one(step: Step, sort: Sort) -> bool {
+    step.path().bytes() == b"usr/bin".as_slice() && step.sort() == sort
+}
+
 #[test]
 fn steps_tell_their_path_and_sort(rt: HostRuntime) -> Result<(), Fail> {
     let alloc = rt.alloc();
-    let path = RelPath::parse(alloc, b"usr/bin")?;
-    for (step, sort) in [
-        (
-            Step::Gone {
-                path: path.copy(alloc)?,
-            },
-            Sort::Gone,
-        ),
-        (
-            Step::Fresh {
-                path: path.copy(alloc)?,
-                mode: 0o755,
-            },
-            Sort::Fresh,
-        ),
-        (
-            Step::Mode {
-                path: path.copy(alloc)?,
-                mode: 0o700,
-            },
-            Sort::Mode,
-        ),
-        (
-            Step::Put {
-                path: path.copy(alloc)?,
-                mode: 0o644,
-                stage: 0,
-            },
-            Sort::Put,
-        ),
-        (
-            Step::Link {
-                path: path.copy(alloc)?,
-                target: Target::parse(alloc, b"../sbin")?,
-            },
-            Sort::Link,
-        ),
-        (
-            Step::Hard {
-                path: path.copy(alloc)?,
-                to: RelPath::parse(alloc, b"usr/sbin")?,
-            },
-            Sort::Hard,
-        ),
-    ] {
-        assert!(rt; step.path().bytes() == b"usr/bin".as_slice(), "{step:?}");
-        assert_eq!(rt; step.sort(), sort, "{step:?}");
-    }
+    let gone = Step::Gone { path: bin(alloc)? };
+    assert!(rt; is_one(gone, Sort::Gone));
+    let fresh = Step::Fresh {
+        path: bin(alloc)?,
+        mode: 0o755,
+    };
+    assert!(rt; is_one(fresh, Sort::Fresh));
+    let mode = Step::Mode {
+        path: bin(alloc)?,
+        mode: 0o700,
+    };
+    assert!(rt; is_one(mode, Sort::Mode));
+    Ok(())
+}
+
+#[test]
+fn steps_of_files_and_links_tell_their_path_and_sort(rt: HostRuntime) -> Result<(), Fail> {
+    let alloc = rt.alloc();
+    let put = Step::Put {
+        path: bin(alloc)?,
+        mode: 0o644,
+        stage: 0,
+    };
+    assert!(rt; is_one(put, Sort::Put));
+    let target = Target::parse(alloc, b"../sbin")?;
+    let link = Step::Link {
+        path: bin(alloc)?,
+        target,
+    };
+    assert!(rt; is_one(link, Sort::Link));
+    let to = RelPath::parse(alloc, b"usr/sbin")?;
+    let hard = Step::Hard {
+        path: bin(alloc)?,
+        to,
+    };
+    assert!(rt; is_one(hard, Sort::Hard));
     Ok(())
 }
