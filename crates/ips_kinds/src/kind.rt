@@ -1,9 +1,11 @@
 //! What a kind is.
 
-ghost use Rattle.std.specs.Prelude.{◌≡◌, ◌↔◌, ℕ, ◌+◌, ◌<◌, Bool, IsTrue, Some, length, slice_get};
+ghost use Rattle.std.specs.Prelude.{◌≡◌, ◌≢◌, ℕ, ◌+◌, ◌-◌, ◌^◌, ◌<◌, min, Bool, IsTrue, Some, length, slice_get};
 ghost use Rattle.ips_steps.specs.View.{step_of, sort_of};
 ghost use Rattle.ips_steps.specs.declared.step.Sort.{Sort};
 ghost use Rattle.ips_kinds.specs.Acts.{acts, tally_after};
+ghost use Rattle.ips_kinds.specs.declared.kind.Act.{Act};
+ghost use Rattle.ips_kinds.specs.declared.kind.Act.TheVariants.{Finished};
 
 use ips_steps::Step;
 
@@ -53,3 +55,18 @@ pub trait Kind: Drop {
     fn tally(&self) -> u64
         ensures { result ≡ finished self.now };
 }
+
+// Counts one more step, and ends it.
+pub(crate) fn finish(tally: &mut u64) -> Act
+    ensures act { result ≡ Act.Finished }
+    ensures more { tally.new ≡ min (tally.old + 1) (2 ^ 64 - 1) }
+{
+    *tally = tally.saturating_add(1);
+    Act::Finished
+}
+
+/// The last act of each sort, and no other, is `Finished`.
+pub fn ends_once()
+    ensures last { (sort : Sort) (turn : ℕ) → slice_get (acts sort) turn ≡ Some Finished → turn + 1 ≡ length (acts sort) }
+    ensures on { (sort : Sort) (turn : ℕ) (act : Act) → slice_get (acts sort) turn ≡ Some act → act ≢ Finished → turn + 1 < length (acts sort) }
+{}

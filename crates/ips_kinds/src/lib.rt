@@ -8,6 +8,8 @@ mod kind;
 mod sorts;
 
 pub use ips_steps::{Sort, Step, Target, TargetFault};
-pub use kind::{Act, Kind};
+pub use kind::{Act, Kind, ends_once};
 pub use sorts::{FreshKind, GoneKind, HardKind, LinkKind, ModeKind, PutKind};
 
+#[cfg(test)]
+mod tests;
