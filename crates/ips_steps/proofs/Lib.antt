@@ -1,0 +1,10 @@
+pub mod Faults
+pub mod Laying
+pub mod Again
+pub mod Lists
+pub mod Laid
+pub mod Within
+pub mod ByPath
+pub mod PrivateNames
+pub mod Owing
+pub mod Examples

@@ -1,0 +1,7 @@
+pub mod Targets
+pub mod Steps
+pub mod Private
+pub mod Journal
+pub mod Outcome
+pub mod Owed
+pub mod View

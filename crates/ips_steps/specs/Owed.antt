@@ -1,0 +1,49 @@
+-- What a folder owes: the image before a request, or the one that the request means.
+use Rattle.std.specs.Prelude.{◌≡◌, ◌≢◌, ℕ, ◌+◌, ◌*◌, ◌<◌, Bool, false, IsTrue, List, drop, Option, Some, None}
+use Rattle.ips_outside.specs.Image.{Image, file_bytes}
+use Rattle.ips_outside.specs.State.{State, MayLeave}
+use Rattle.ips_steps.specs.Steps.{Step, stage_of, after, possible, sound}
+use Rattle.ips_steps.specs.Private.{journal_name, gate_name, mark_name, is_private, visible}
+use Rattle.ips_steps.specs.Journal.{IsJournal}
+
+-- This number of marks stands: the first of them without a gap, and not the next.
+pub record AreMarks (t : Image) (count : ℕ) : Type 0 where
+  pub stand : (i : ℕ) → i < count → t.look (mark_name (i + 1)) ≢ None
+  pub last : t.look (mark_name (count + 1)) ≡ None
+
+-- the steps that are left where this number of marks stands, each of which tells that a thousand more are laid
+abbrev pub steps_left : ℕ → List Step → List Step
+steps_left marks steps = drop (1000 * marks) steps
+
+-- The journal is the text of a sound list, and the steps that the marks leave can be laid; then this image is seen.
+pub record IsReady (text : List Step → List ℕ) (a : Image) (t : Image) : Type 0 where
+  pub steps : List Step
+  pub marks : ℕ
+  pub lists : IsJournal steps
+  pub is_sound : IsTrue (sound steps)
+  pub journal : file_bytes (t.look journal_name) ≡ Some (text steps)
+  pub marked : AreMarks t marks
+  pub can : IsTrue (possible (stage_of t) (steps_left marks steps) t)
+  pub means : visible (after (steps_left marks steps) t) ≡ a
+
+-- It is ready, and something stands at the gate.
+pub record IsOpen (text : List Step → List ℕ) (a : Image) (t : Image) : Type 0 where
+  pub gate : t.look gate_name ≢ None
+  pub ready : IsReady text a t
+
+-- An image owes the one before a request and the one that it means, which is due or not: with a closed gate it shows the
+-- first, where the second isn't due, or the second; with an open one it is ready to become the second.
+pub data Owes (text : List Step → List ℕ) : Image → Option Image → Bool → Image → Type 0 where
+  Old : {b : Image} {a : Option Image} {t : Image} → t.look gate_name ≡ None → visible t ≡ b → Owes text b a false t
+  Open : {b : Image} {a : Image} {due : Bool} {t : Image} → IsOpen text a t → Owes text b (Some a) due t
+  New : {b : Image} {a : Image} {due : Bool} {t : Image} → t.look gate_name ≡ None → visible t ≡ a → Owes text b (Some a) due t
+
+-- A folder owes what its held image owes, and each image that a crash now may leave.
+pub record FolderOwes (text : List Step → List ℕ) (b : Image) (a : Option Image) (due : Bool) (s : State) : Type 0 where
+  pub now : Owes text b a due s.held
+  pub left : (c : Image) → MayLeave s c → Owes text b a due c
+
+-- Only private names are touched, whole or in their modes.
+pub record IsPrivate (s : State) : Type 0 where
+  pub whole : (q : List ℕ) → IsTrue (s.whole q) → IsTrue (is_private q)
+  pub modes : (q : List ℕ) → IsTrue (s.modes q) → IsTrue (is_private q)

@@ -1,0 +1,72 @@
+//! Laws of steps, each the contract of a function that does nothing.
+
+ghost use Rattle.std.specs.Prelude.{◌≡◌, ℕ, List, Bool, false, ◌||◌, IsTrue, IsFalse, Option, Some, None};
+ghost use Rattle.ips_text.specs.Ancestry.{covers};
+ghost use Rattle.ips_outside.specs.Image.{Image, IsImage, Agrees};
+ghost use Rattle.ips_outside.specs.State.{State, MayLeave, Within, IsSettled, nowhere};
+ghost use Rattle.ips_steps.specs.Steps.{Step, Stage, laid, all_laid, can_lay, possible, sound, freed, met, all_clear_of, distinct, stage_of, after};
+ghost use Rattle.ips_steps.specs.Private.{gate_name, visible};
+ghost use Rattle.ips_steps.specs.Journal.{IsProper, AllProper, allowed};
+ghost use Rattle.ips_steps.specs.Outcome.{outcome, all_fit, IsLaidByPath};
+ghost use Rattle.ips_steps.specs.Owed.{steps_left, IsReady, IsOpen, Owes, FolderOwes, IsPrivate};
+
+/// Laying again gives the same image: a sound list of a journal that is possible on an image is possible on each image
+/// that agrees with it but at the list's own paths and in the modes that it sets, and leaves the same there.
+pub fn laid_again()
+    ensures { (steps : List Step) (t u : Image) → IsImage t → IsTrue (allowed steps) → IsTrue (sound steps) → IsTrue (possible (stage_of t) steps t)
+        → Agrees (freed steps) (met (stage_of t) steps t) t u → IsTrue (possible (stage_of u) steps u) × (after steps u ≡ after steps t) }
+{}
+
+/// The same for images that differ also apart from that, at paths that the list doesn't read; they then differ only there.
+pub fn laid_again_apart()
+    ensures { (apart : List ℕ → Bool) (stage : Stage) (steps : List Step) (t u : Image) → IsImage t → IsTrue (sound steps)
+        → IsTrue (all_clear_of apart steps) → IsTrue (possible stage steps t)
+        → Agrees (λ q. freed steps q || apart q) (met stage steps t) t u
+        → IsTrue (possible stage steps u) × Agrees apart nowhere (all_laid stage steps t) (all_laid stage steps u) }
+{}
+
+/// A sound list without two steps at one path, possible on an image, leaves what it says of each path, and it is
+/// possible where each of its steps could be laid on that.
+pub fn laid_by_path()
+    ensures each { (stage : Stage) (steps : List Step) (t : Image) → IsImage t → IsTrue (sound steps) → IsTrue (distinct steps)
+        → IsTrue (possible stage steps t) → IsLaidByPath stage steps t (all_laid stage steps t) }
+    ensures whole { (stage : Stage) (steps : List Step) (t : Image) → IsImage t → IsTrue (sound steps) → IsTrue (distinct steps)
+        → IsTrue (possible stage steps t) → all_laid stage steps t ≡ outcome stage steps t }
+    ensures fits { (stage : Stage) (steps : List Step) (t : Image) → IsImage t → IsTrue (sound steps) → IsTrue (distinct steps)
+        → IsTrue (all_fit stage steps (outcome stage steps t)) → IsTrue (possible stage steps t) }
+{}
+
+/// A step with proper parts that can be laid leaves a well-formed image well formed, and so does a possible list of them.
+pub fn stays_formed()
+    ensures step { (stage : Stage) (s : Step) (t : Image) → IsImage t → IsProper s → IsTrue (can_lay stage s t) → IsImage (laid stage s t) }
+    ensures list { (stage : Stage) (steps : List Step) (t : Image) → IsImage t → AllProper steps → IsTrue (possible stage steps t)
+        → IsImage (all_laid stage steps t) }
+{}
+
+/// Changes at the updater's own names don't show. Where they alone are touched, each image that a crash may leave looks
+/// like the held one; where its gate is closed it owes that image as the old one and as the new one, and so does the
+/// folder, where its gate is closed and not touched.
+pub fn private_touched()
+    ensures seen { (s : State) (left : Image) → IsPrivate s → MayLeave s left → visible left ≡ visible s.held }
+    ensures old { (text : List Step → List ℕ) (s : State) (left : Image) (a : Option Image) → IsPrivate s → MayLeave s left
+        → left.look gate_name ≡ None → Owes text (visible s.held) a false left }
+    ensures new { (text : List Step → List ℕ) (s : State) (left : Image) (b : Image) (due : Bool) → IsPrivate s → MayLeave s left
+        → left.look gate_name ≡ None → Owes text b (Some (visible s.held)) due left }
+    ensures folder_old { (text : List Step → List ℕ) (s : State) (a : Option Image) → IsPrivate s → s.held.look gate_name ≡ None
+        → IsFalse (s.whole gate_name) → FolderOwes text (visible s.held) a false s }
+    ensures folder_new { (text : List Step → List ℕ) (s : State) (b : Image) (due : Bool) → IsPrivate s → s.held.look gate_name ≡ None
+        → IsFalse (s.whole gate_name) → FolderOwes text b (Some (visible s.held)) due s }
+{}
+
+/// From a well-formed image with nothing touched: while the steps that are left are laid behind an open gate, the folder
+/// owes the same; while the gate opens it owes the old image or the new one; and while the gate closes, where the new
+/// image is already seen, it owes that.
+pub fn still_owed()
+    ensures laying { (text : List Step → List ℕ) (b a : Image) (due : Bool) (old s : State) (o : IsOpen text a old.held) → IsImage old.held → IsSettled old
+        → Within (freed (steps_left o.ready.marks o.ready.steps)) (met (stage_of old.held) (steps_left o.ready.marks o.ready.steps) old.held) old s
+        → FolderOwes text b (Some a) due s }
+    ensures opening { (text : List Step → List ℕ) (a : Image) (old s : State) → IsReady text a old.held → IsImage old.held → IsSettled old
+        → Within (covers gate_name) nowhere old s → FolderOwes text (visible old.held) (Some a) false s }
+    ensures closing { (text : List Step → List ℕ) (b a : Image) (due : Bool) (old s : State) → IsReady text a old.held → IsImage old.held → IsSettled old
+        → visible old.held ≡ a → Within (covers gate_name) nowhere old s → FolderOwes text b (Some a) due s }
+{}

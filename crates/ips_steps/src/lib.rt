@@ -1,0 +1,19 @@
+//! The steps of a plan: what each makes of an image, what a list of them leaves, and what a folder owes while they are
+//! laid.
+//!
+//! A step names a path and what is to stand there. A sound list can be laid again over whatever a stop left of it, and
+//! leaves the same image; what it leaves is told path by path.
+#![tactic(auto)]
+
+mod laws;
+mod step;
+mod target;
+
+pub use laws::{
+    laid_again, laid_again_apart, laid_by_path, private_touched, stays_formed, still_owed,
+};
+pub use step::{Sort, Step};
+pub use target::{Target, TargetFault};
+
+#[cfg(test)]
+mod tests;
