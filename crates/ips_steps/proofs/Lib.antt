@@ -5,6 +5,8 @@ pub mod Lists
 pub mod Laid
 pub mod Within
 pub mod ByPath
+pub mod AtTurn
 pub mod PrivateNames
+pub mod Numbered
 pub mod Owing
 pub mod Examples

@@ -1,6 +1,8 @@
 -- What a folder owes while its own names are written, while steps are laid, and as the gate opens and closes.
-use Rattle.std.proofs.Common.{◌≡◌, ℕ, zero, suc, ◌+◌, Bool, true, false, ◌||◌, List, [], ◌∷◌, drop, Option, Some, None, refl, sym, ◌∙◌, subst}
-use Rattle.std.proofs.lemmas.Bool.{and_parts, or_parts, or_from, false_from_ne_true}
+use Rattle.std.proofs.Common.{◌≡◌, ◌≢◌, ℕ, zero, suc, ◌+◌, ◌*◌, ◌^◌, ◌<◌, Bool, true, false, ◌||◌, List, [], ◌∷◌, take, drop, Option, Some, None, refl, sym, ◌∙◌, ap, subst, arith, inl, inr}
+use Rattle.std.specs.Fmt.{decimal}
+use Rattle.std.proofs.lemmas.Bool.{and_parts, or_parts, or_from, cases_lt, false_from_ne_true}
+use Rattle.std.proofs.lemmas.List.{drop-drop}
 use Rattle.ips_text.specs.Ancestry.{covers}
 use Rattle.ips_outside.specs.Image.{Entry, Dir, File, Link, Other, Image, Agrees, with_mode, file_bytes}
 use Rattle.ips_outside.specs.Change.{placed}
@@ -13,7 +15,10 @@ use Rattle.ips_outside.proofs.Images.{HasNodes}
 use Rattle.ips_outside.proofs.Moments.{agrees_less, within_crash, placed_within}
 use Rattle.ips_steps.proofs.Again.{again, again_but}
 use Rattle.ips_steps.proofs.Lists.{clash}
-use Rattle.ips_steps.proofs.PrivateNames.{gate_private, journal_kept, gate_kept, marks_kept, all_clear, same_bytes, same_stage, visible_alike, visible_agrees}
+use Rattle.ips_steps.proofs.Within.{laid_within}
+use Rattle.ips_steps.proofs.AtTurn.{rest_possible, rest_laid, front_frees}
+use Rattle.ips_steps.proofs.Numbered.{marks_apart}
+use Rattle.ips_steps.proofs.PrivateNames.{private_below, mark_private, begins_front, gate_private, journal_kept, gate_kept, marks_kept, all_clear, same_bytes, same_stage, visible_alike, visible_agrees}
 
 -- ---- a list that a journal can have, laid again with its own contents
 
@@ -162,6 +167,126 @@ module _ (text : List Step → List ℕ) (a : Image) (old s : State) (r : IsRead
 -- the gate gone, the image is seen
 pub closed_seen : (t : Image) → visible (placed gate_name None t) ≡ visible t
 closed_seen t = gate_visible t (placed gate_name None t) (placed_within gate_name None t)
+
+-- ---- as a mark is made
+
+mark_gate_off : (k : ℕ) → covers (mark_name k) gate_name ≡ false
+unfolding mark_front gate_name
+mark_gate_off k = refl
+
+mark_journal_off : (k : ℕ) → covers (mark_name k) journal_name ≡ false
+unfolding mark_front journal_name
+mark_journal_off k = refl
+
+mark_stage_off : (k n : ℕ) → covers (mark_name k) (stage_path n) ≡ false
+unfolding mark_front stage_name
+mark_stage_off k n = refl
+
+at_mark : (k : ℕ) (q : List ℕ) → is_private q ≡ false → covers (mark_name k) q ≡ false
+at_mark k q seen = false_from_ne_true _ (λ c. clash (is_private q) (private_below (mark_name k) q (mark_private (mark_name k) (begins_front mark_front (decimal k))) c) seen)
+
+-- The next thousand steps are laid and safe, and nothing stands at the mark after the next.
+module _ (text : List Step → List ℕ) (a t : Image) (o : IsOpen text a t) (n : HasNodes t) (few : o.ready.marks + 2 < 2 ^ 64)
+    (can : possible (stage_of t) (steps_left (o.ready.marks + 1) o.ready.steps) t ≡ true) (means : visible (after (steps_left (o.ready.marks + 1) o.ready.steps) t) ≡ a)
+    (bare : t.look (mark_name (o.ready.marks + 2)) ≡ None) where
+  abbrev next : ℕ
+  next = o.ready.marks + 1
+
+  -- the list is ready with one more mark, but that the mark doesn't stand yet
+  module _ (u : Image) (h : Agrees (covers (mark_name next)) nowhere t u) where
+    elsewhere : (i : ℕ) → i < 2 ^ 64 → (next ≡ i → ⊥) → u.look (mark_name i) ≡ t.look (mark_name i)
+    elsewhere i lt apart = h.look (mark_name i) (marks_apart next i (omega (arith, few)) lt apart) refl
+
+    open_gate : u.look gate_name ≢ None
+    open_gate gone = o.gate (sym (h.look gate_name (mark_gate_off next) refl) ∙ gone)
+
+    contents : stage_of u ≡ stage_of t
+    contents = λ i k. same_bytes (u.look (stage_path k)) (t.look (stage_path k)) (h.but_mode (stage_path k) (mark_stage_off next k)) i
+
+    journal_bytes : file_bytes (u.look journal_name) ≡ file_bytes (t.look journal_name)
+    journal_bytes = same_bytes _ _ (h.but_mode journal_name (mark_journal_off next))
+
+    wider : (steps : List Step) → Agrees (λ q. freed steps q || is_private q) (met (stage_of t) steps t) t u
+    wider steps = agrees_less _ _ _ _ t u (λ q f. at_mark next q (or_parts (freed steps q) (is_private q) f).1) (λ q l. refl) h
+
+    lower : (i : ℕ) → i < o.ready.marks → u.look (mark_name (i + 1)) ≢ None
+    lower i lt gone = o.ready.marked.stand i lt (sym (elsewhere (i + 1) (omega (arith, few, lt)) (λ e. omega (arith, e, lt))) ∙ gone)
+
+    -- the mark isn't there: as before
+    unmarked : u.look (mark_name next) ≡ None → IsReady text a u
+    unmarked gone = ready_again text a t u o.ready n journal_bytes contents (record { stand = lower; last = gone }) (wider (left_of text a t o.ready))
+
+    -- the mark is there: a thousand steps less are left
+    one_more : u.look (mark_name next) ≢ None → AreMarks u next
+    one_more there = record { stand = at; last = ap (λ (k : ℕ). u.look (mark_name k)) after_next ∙ elsewhere (o.ready.marks + 2) few (λ e. omega (arith, e)) ∙ bare }
+      where
+        after_next : next + 1 ≡ o.ready.marks + 2
+        after_next = omega arith
+
+        at : (i : ℕ) → i < next → u.look (mark_name (i + 1)) ≢ None
+        at i lt = elim (cases_lt i o.ready.marks) [
+          | inl below ↦ lower i below
+          | inr up ↦ let same : next ≡ i + 1 = omega (arith, lt, up) in subst (λ (k : ℕ). u.look (mark_name k) ≢ None) same there
+        ]
+
+    marked : u.look (mark_name next) ≢ None → IsReady text a u
+    marked there =
+        let left = steps_left next o.ready.steps in
+        let may = allowed_left (1000 * next) o.ready.steps o.ready.lists.names in
+        let both = again_but is_private (stage_of t) left t u n (sound_left (1000 * next) o.ready.steps o.ready.is_sound) (all_clear left may) can (wider left) in
+        let Again : Stage → Type 0 = λ stage. (possible stage left u ≡ true) × (visible (all_laid stage left u) ≡ visible (after left t)) in
+        let here : Again (stage_of u) = subst Again (sym contents) (both.0, visible_agrees _ _ both.1) in
+        record {
+          steps = o.ready.steps;
+          marks = next;
+          lists = o.ready.lists;
+          is_sound = o.ready.is_sound;
+          journal = journal_bytes ∙ o.ready.journal;
+          marked = one_more there;
+          can = here.0;
+          means = here.1 ∙ means;
+        }
+
+    pub either_mark : IsOpen text a u
+    either_mark = go (u.look (mark_name next)) refl
+      where
+        go : (e : Option Entry) → u.look (mark_name next) ≡ e → IsOpen text a u
+        go None is = record { gate = open_gate; ready = unmarked is }
+        go (Some e) is = record { gate = open_gate; ready = marked (λ none. cc) }
+
+-- As a mark is made, before its sync, the folder owes the same.
+pub owes_marking : (text : List Step → List ℕ) (b a : Image) (due : Bool) (old s : State) (o : IsOpen text a old.held) → HasNodes old.held → IsSettled old → o.ready.marks + 2 < 2 ^ 64
+    → possible (stage_of old.held) (steps_left (o.ready.marks + 1) o.ready.steps) old.held ≡ true → visible (after (steps_left (o.ready.marks + 1) o.ready.steps) old.held) ≡ a
+    → old.held.look (mark_name (o.ready.marks + 2)) ≡ None → Within (covers (mark_name (o.ready.marks + 1))) nowhere old s → FolderOwes text b (Some a) due s
+owes_marking text b a due old s o n clean few can means bare w = record {
+  now = Open (either_mark text a old.held o n few can means bare s.held w.agrees);
+  left = λ c may. Open (either_mark text a old.held o n few can means bare c
+      (agrees_less _ _ _ _ old.held c (λ q f. or_from _ _ f (clean.whole q)) (λ q l. or_from false _ refl (clean.modes q)) (within_crash _ nowhere old s c w may)));
+}
+
+-- A front of the steps that are left is laid: the rest can be laid, and means the same.
+pub front_laid : (text : List Step → List ℕ) (a t : Image) (r : IsReady text a t) (n : ℕ)
+    → (possible (stage_of (after (take n (left_of text a t r)) t)) (drop n (left_of text a t r)) (after (take n (left_of text a t r)) t) ≡ true)
+    × (visible (after (drop n (left_of text a t r)) (after (take n (left_of text a t r)) t)) ≡ a)
+front_laid text a t r n =
+    let left = left_of text a t r in
+    let u = after (take n left) t in
+    let within = agrees_less _ _ _ (met (stage_of t) (take n left) t) t u (λ q f. front_frees left n q f) (λ q l. l) (laid_within (stage_of t) (take n left) t) in
+    let same : stage_of u ≡ stage_of t = same_stage left _ t u (left_allowed text a t r) within in
+    let P : Stage → Type 0 = λ stage. (possible stage (drop n left) u ≡ true) × (visible (all_laid stage (drop n left) u) ≡ a) in
+    subst P (sym same) (rest_possible (stage_of t) left n t r.can, ap visible (rest_laid (stage_of t) left n t) ∙ r.means)
+
+next_left : (k : ℕ) (steps : List Step) → steps_left (k + 1) steps ≡ drop 1000 (steps_left k steps)
+next_left k steps =
+    let more : 1000 * (k + 1) ≡ 1000 * k + 1000 = omega arith in
+    ap (λ (n : ℕ). drop n steps) more ∙ sym (drop-drop 1000 (1000 * k) steps)
+
+-- So where a thousand of them are laid the next mark can be made.
+pub thousand_laid : (text : List Step → List ℕ) (a t u : Image) (r : IsReady text a t) → u ≡ after (take 1000 (steps_left r.marks r.steps)) t
+    → (possible (stage_of u) (steps_left (r.marks + 1) r.steps) u ≡ true) × (visible (after (steps_left (r.marks + 1) r.steps) u) ≡ a)
+thousand_laid text a t u r is =
+    let Next : Image → List Step → Type 0 = λ v steps. (possible (stage_of v) steps v ≡ true) × (visible (after steps v) ≡ a) in
+    subst (λ (v : Image). Next v (steps_left (r.marks + 1) r.steps)) (sym is) (subst (Next (after (take 1000 (left_of text a t r)) t)) (sym (next_left r.marks r.steps)) (front_laid text a t r 1000))
 
 -- ---- where private names alone are touched
 

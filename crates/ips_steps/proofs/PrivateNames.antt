@@ -84,6 +84,10 @@ begins_below (x ∷ f) (y ∷ p) (z ∷ q) b c =
     let cs = and_parts _ _ c in
     and_from _ _ (eq-eqb x z (eqb-true x y bs.0 ∙ eqb-true y z cs.0)) (begins_below f p q bs.1 cs.1)
 
+pub begins_front : (p d : List ℕ) → begins p (p ++ d) ≡ true
+begins_front [] d = refl
+begins_front (a ∷ p) d = and_from (a == a) _ (eq-eqb a a refl) (begins_front p d)
+
 begins-self : (p : List ℕ) → begins p p ≡ true
 begins-self [] = refl
 begins-self (a ∷ p) = and_from (a == a) _ (eq-eqb a a refl) (begins-self p)

@@ -1,5 +1,5 @@
 -- Which steps a journal can list.
-use Rattle.std.specs.Prelude.{ℕ, ◌+◌, ◌<◌, Bool, true, not, ◌&&◌, ◌==◌, IsTrue, List, [], ◌∷◌}
+use Rattle.std.specs.Prelude.{ℕ, ◌+◌, ◌^◌, ◌<◌, Bool, true, not, ◌&&◌, ◌==◌, IsTrue, List, [], ◌∷◌, length}
 use Rattle.ips_text.specs.Ancestry.{covers}
 use Rattle.ips_text.specs.Path.{IsPath}
 use Rattle.ips_steps.specs.Targets.{IsTarget}
@@ -48,8 +48,10 @@ numbered n (Put k m p ∷ rest) = (k == n) && numbered (n + 1) rest
 numbered n (Symlink p target ∷ rest) = numbered n rest
 numbered n (Hard p to ∷ rest) = numbered n rest
 
--- A journal can list these steps: each has proper parts and may name its paths, and the contents are numbered from 0.
+-- A journal can list these steps: there are fewer than 2^64, each has proper parts and may name its paths, and the
+-- contents are numbered from 0.
 pub record IsJournal (steps : List Step) : Type 0 where
+  pub count : length steps < 2 ^ 64
   pub proper : AllProper steps
   pub names : IsTrue (allowed steps)
   pub numbers : IsTrue (numbered 0 steps)

@@ -1,11 +1,11 @@
 //! Laws of steps, each the contract of a function that does nothing.
 
-ghost use Rattle.std.specs.Prelude.{◌≡◌, ℕ, List, Bool, false, ◌||◌, IsTrue, IsFalse, Option, Some, None};
+ghost use Rattle.std.specs.Prelude.{◌≡◌, ◌≢◌, ℕ, ◌+◌, ◌^◌, ◌<◌, List, take, drop, slice_get, Bool, false, ◌||◌, IsTrue, IsFalse, Option, Some, None};
 ghost use Rattle.ips_text.specs.Ancestry.{covers};
 ghost use Rattle.ips_outside.specs.Image.{Image, IsImage, Agrees};
 ghost use Rattle.ips_outside.specs.State.{State, MayLeave, Within, IsSettled, nowhere};
-ghost use Rattle.ips_steps.specs.Steps.{Step, Stage, laid, all_laid, can_lay, possible, sound, freed, met, all_clear_of, distinct, stage_of, after};
-ghost use Rattle.ips_steps.specs.Private.{gate_name, visible};
+ghost use Rattle.ips_steps.specs.Steps.{Step, Stage, laid, all_laid, can_lay, possible, sound, frees, freed, meets, met, all_clear_of, distinct, stage_path, stage_of, after};
+ghost use Rattle.ips_steps.specs.Private.{gate_name, mark_name, visible};
 ghost use Rattle.ips_steps.specs.Journal.{IsProper, AllProper, allowed};
 ghost use Rattle.ips_steps.specs.Outcome.{outcome, all_fit, IsLaidByPath};
 ghost use Rattle.ips_steps.specs.Owed.{steps_left, IsReady, IsOpen, Owes, FolderOwes, IsPrivate};
@@ -43,6 +43,24 @@ pub fn stays_formed()
         → IsImage (all_laid stage steps t) }
 {}
 
+/// A possible list is laid turn by turn: at its turn each step can be laid on what those before it left, and changes what
+/// the list changes. Behind a front the rest is possible, and leaves what the list leaves.
+pub fn laid_turn_by_turn()
+    ensures can { (stage : Stage) (steps : List Step) (k : ℕ) (s : Step) (t : Image) → slice_get steps k ≡ Some s
+        → IsTrue (possible stage steps t) → IsTrue (can_lay stage s (all_laid stage (take k steps) t)) }
+    ensures next { (stage : Stage) (steps : List Step) (k : ℕ) (s : Step) (t : Image) → slice_get steps k ≡ Some s
+        → all_laid stage (take (k + 1) steps) t ≡ laid stage s (all_laid stage (take k steps) t) }
+    ensures frees { (steps : List Step) (k : ℕ) (s : Step) (q : List ℕ) → slice_get steps k ≡ Some s
+        → IsFalse (freed steps q) → IsFalse (frees s q) }
+    ensures meets { (stage : Stage) (steps : List Step) (k : ℕ) (s : Step) (t : Image) (q : List ℕ) → slice_get steps k ≡ Some s
+        → IsFalse (met stage steps t q) → IsFalse (meets s (all_laid stage (take k steps) t) q) }
+    ensures rest { (stage : Stage) (steps : List Step) (n : ℕ) (t : Image) → IsTrue (possible stage steps t)
+        → IsTrue (possible stage (drop n steps) (all_laid stage (take n steps) t)) }
+    ensures whole { (stage : Stage) (steps : List Step) (n : ℕ) (t : Image)
+        → all_laid stage (drop n steps) (all_laid stage (take n steps) t) ≡ all_laid stage steps t }
+    ensures within { (stage : Stage) (steps : List Step) (t : Image) → Agrees (freed steps) (met stage steps t) t (all_laid stage steps t) }
+{}
+
 /// Changes at the updater's own names don't show. Where they alone are touched, each image that a crash may leave looks
 /// like the held one; where its gate is closed it owes that image as the old one and as the new one, and so does the
 /// folder, where its gate is closed and not touched.
@@ -58,9 +76,15 @@ pub fn private_touched()
         → IsFalse (s.whole gate_name) → FolderOwes text b (Some (visible s.held)) due s }
 {}
 
+/// Different contents, and different marks, have different files, none of which is below another.
+pub fn numbered_apart()
+    ensures contents { (m n : ℕ) → m < 2 ^ 64 → n < 2 ^ 64 → m ≢ n → IsFalse (covers (stage_path m) (stage_path n)) }
+    ensures marks { (m n : ℕ) → m < 2 ^ 64 → n < 2 ^ 64 → m ≢ n → IsFalse (covers (mark_name m) (mark_name n)) }
+{}
+
 /// From a well-formed image with nothing touched: while the steps that are left are laid behind an open gate, the folder
 /// owes the same; while the gate opens it owes the old image or the new one; and while the gate closes, where the new
-/// image is already seen, it owes that.
+/// image is already seen, it owes that. Where a thousand steps are laid and the next mark is made, it owes the same.
 pub fn still_owed()
     ensures laying { (text : List Step → List ℕ) (b a : Image) (due : Bool) (old s : State) (o : IsOpen text a old.held) → IsImage old.held → IsSettled old
         → Within (freed (steps_left o.ready.marks o.ready.steps)) (met (stage_of old.held) (steps_left o.ready.marks o.ready.steps) old.held) old s
@@ -69,4 +93,10 @@ pub fn still_owed()
         → Within (covers gate_name) nowhere old s → FolderOwes text (visible old.held) (Some a) false s }
     ensures closing { (text : List Step → List ℕ) (b a : Image) (due : Bool) (old s : State) → IsReady text a old.held → IsImage old.held → IsSettled old
         → visible old.held ≡ a → Within (covers gate_name) nowhere old s → FolderOwes text b (Some a) due s }
+    ensures thousand { (text : List Step → List ℕ) (a t u : Image) (r : IsReady text a t) → u ≡ after (take 1000 (steps_left r.marks r.steps)) t
+        → IsTrue (possible (stage_of u) (steps_left (r.marks + 1) r.steps) u) × (visible (after (steps_left (r.marks + 1) r.steps) u) ≡ a) }
+    ensures marking { (text : List Step → List ℕ) (b a : Image) (due : Bool) (old s : State) (o : IsOpen text a old.held) → IsImage old.held → IsSettled old
+        → o.ready.marks + 2 < 2 ^ 64 → IsTrue (possible (stage_of old.held) (steps_left (o.ready.marks + 1) o.ready.steps) old.held)
+        → visible (after (steps_left (o.ready.marks + 1) o.ready.steps) old.held) ≡ a → old.held.look (mark_name (o.ready.marks + 2)) ≡ None
+        → Within (covers (mark_name (o.ready.marks + 1))) nowhere old s → FolderOwes text b (Some a) due s }
 {}
