@@ -1,0 +1,128 @@
+-- Leaving pairs out of a set that breaks a test.
+use Rattle.std.proofs.Common.{◌≡◌, ℕ, zero, suc, ◌+◌, ◌-◌, ◌<◌, ◌≤◌, ◌≢◌, ◌⊎◌, inl, inr, true, List, [], ◌∷◌, ◌++◌, length, get_or, take, drop, All, AllPairs, Contains, refl, sym, ap, ◌∙◌, subst, arith, length-append, length-take-le, get_or-take, take_all, append_assoc, append-nil}
+use Rattle.std.proofs.lemmas.Bool.{cases_lt}
+use Rattle.std.proofs.lemmas.List.{length_push, get_or_append_left, get_or-append_right, get_or_push, take_more, get_or_default}
+use Rattle.std.proofs.lemmas.List.Elements.{All-contains, All-append, All-cons, Contains-get_or}
+use Rattle.ips_refute.specs.declared.data.Pair.{Pair}
+use Rattle.ips_refute.specs.declared.data.Nogood.{Nogood}
+use Rattle.ips_refute.specs.declared.data.Reason.TheVariants.{Test}
+use Rattle.ips_refute.specs.Meaning.{Meaning, Within, OnePerStem, IsOffered}
+use Rattle.ips_refute.proofs.Choices.{OnePerStem-cons}
+use Rattle.ips_search.specs.Searching.{Ascends, IsCore}
+use Rattle.ips_search.proofs.Walks.{Ascends-one}
+
+-- the pairs that are kept all come behind the front
+pub record IsKept (m : Meaning) (whole : List Pair) (more : Pair) (test front : ℕ) (kept : List Pair) : Type 0 where
+  pub bounded : front ≤ length whole
+  pub inside : Within kept whole
+  pub ascends : Ascends kept
+  pub behind : (k j : ℕ) (d e : Pair) → k < length kept → j < front → (get_or whole j e).stem < (get_or kept k d).stem
+  pub broken : m.breaks test (more ∷ (take front whole ++ kept)) ≡ true
+
+Ascends-append : (a b : List Pair) → Ascends a → Ascends b → ((i j : ℕ) (d : Pair) → i < length a → j < length b → (get_or a i d).stem < (get_or b j d).stem) → Ascends (a ++ b)
+Ascends-append a b up_a up_b across i j d l h =
+    let n = length-append a b in
+    elim (cases_lt j (length a)) [
+      inl lj ↦
+        let ei = ap (λ (q : Pair). q.stem) (get_or_append_left a b d i (omega arith)) in
+        let ej = ap (λ (q : Pair). q.stem) (get_or_append_left a b d j lj) in
+        let lt = up_a i j d l lj in
+        omega (arith, ei, ej, lt)
+    | inr gj ↦
+        let ej = ap (λ (q : Pair). q.stem) (get_or-append_right a b (length a) j d refl gj) in
+        elim (cases_lt i (length a)) [
+          inl li ↦
+            let ei = ap (λ (q : Pair). q.stem) (get_or_append_left a b d i li) in
+            let lt = across i (j - length a) d li (omega arith) in
+            omega (arith, ei, ej, lt)
+        | inr gi ↦
+            let ei = ap (λ (q : Pair). q.stem) (get_or-append_right a b (length a) i d refl gi) in
+            let lt = up_b (i - length a) (j - length a) d (omega arith) (omega arith) in
+            omega (arith, ei, ej, lt) ] ]
+
+pub all_kept : (m : Meaning) (whole : List Pair) (more : Pair) (test n : ℕ) → n ≡ length whole → m.breaks test (more ∷ whole) ≡ true → IsKept m whole more test n []
+all_kept m whole more test n e b =
+    let same : whole ≡ take n whole ++ [] = sym (append-nil (take n whole) ∙ take_all n whole (omega arith)) in
+    record {
+      bounded = omega arith;
+      inside = λ k d h. absurd (omega arith);
+      ascends = λ i j d l h. absurd (omega arith);
+      behind = λ k j d e h l. absurd (omega arith);
+      broken = subst (λ (s : List Pair). m.breaks test (more ∷ s) ≡ true) same b;
+    }
+
+-- a front and the pairs that are kept
+pub fewer_inside : (m : Meaning) (whole : List Pair) (more : Pair) (test front n : ℕ) (kept : List Pair) → n ≤ front → IsKept m whole more test front kept → Within (take n whole ++ kept) whole
+fewer_inside m whole more test front n kept le h =
+    All-append (λ q. Contains whole q) (take n whole) kept
+        (λ k d l.
+            let lk : k < n = omega (arith, length-take-le n whole (omega (arith, h.bounded))) in
+            let e = get_or-take n whole k d lk in
+            subst (λ (q : Pair). Contains whole q) (sym e) (Contains-get_or whole k d (omega (arith, h.bounded))))
+        h.inside
+
+pub fewer_ascends : (m : Meaning) (whole : List Pair) (more : Pair) (test front n : ℕ) (kept : List Pair) → n ≤ front → Ascends whole → IsKept m whole more test front kept → Ascends (take n whole ++ kept)
+fewer_ascends m whole more test front n kept le up h =
+    let len : length (take n whole) ≡ n = length-take-le n whole (omega (arith, h.bounded)) in
+    Ascends-append (take n whole) kept
+        (λ i j d l x.
+            let ei = ap (λ (q : Pair). q.stem) (get_or-take n whole i d (omega arith)) in
+            let ej = ap (λ (q : Pair). q.stem) (get_or-take n whole j d (omega arith)) in
+            let lt = up i j d l (omega (arith, h.bounded)) in
+            omega (arith, ei, ej, lt))
+        h.ascends
+        (λ i j d l x.
+            let ei = ap (λ (q : Pair). q.stem) (get_or-take n whole i d (omega arith)) in
+            let lt = h.behind j i d d x (omega arith) in
+            omega (arith, ei, lt))
+
+pub fewer_offered : (m : Meaning) (whole : List Pair) (more : Pair) (test front n : ℕ) (kept fewer : List Pair) → n ≤ front → All (IsOffered m) (more ∷ whole) → IsKept m whole more test front kept → fewer ≡ take n whole ++ kept → All (IsOffered m) (more ∷ fewer)
+fewer_offered m whole more test front n kept fewer le ok h e =
+    let rest : All (IsOffered m) whole = λ k d l. ok (suc k) d (omega arith) in
+    let P : List Pair → Type 0 = λ s. All (IsOffered m) (more ∷ s) in
+    subst P (sym e) (All-cons (IsOffered m) more (take n whole ++ kept) (ok 0 more (omega arith))
+        (λ k d l. All-contains (IsOffered m) whole (get_or (take n whole ++ kept) k d) rest (fewer_inside m whole more test front n kept le h k d l)))
+
+pub fewer_one : (m : Meaning) (whole : List Pair) (more : Pair) (test front n : ℕ) (kept fewer : List Pair) → n ≤ front → All (λ q. q.stem ≢ more.stem) whole → Ascends whole → IsKept m whole more test front kept → fewer ≡ take n whole ++ kept → OnePerStem (more ∷ fewer)
+fewer_one m whole more test front n kept fewer le free up h e =
+    let P : List Pair → Type 0 = λ s. OnePerStem (more ∷ s) in
+    subst P (sym e) (OnePerStem-cons more (take n whole ++ kept)
+        (λ k d l. All-contains (λ q. q.stem ≢ more.stem) whole (get_or (take n whole ++ kept) k d) free (fewer_inside m whole more test front n kept le h k d l))
+        (Ascends-one (take n whole ++ kept) (fewer_ascends m whole more test front n kept le up h)))
+
+-- the test does without the last pair of the front
+pub drop_one : (m : Meaning) (whole : List Pair) (more : Pair) (test front n : ℕ) (kept fewer : List Pair) → n ≤ front → IsKept m whole more test front kept → fewer ≡ take n whole ++ kept → m.breaks test (more ∷ fewer) ≡ true → IsKept m whole more test n kept
+drop_one m whole more test front n kept fewer le h e b =
+    record {
+      bounded = omega (arith, h.bounded);
+      inside = h.inside;
+      ascends = h.ascends;
+      behind = λ k j d x l y. h.behind k j d x l (omega arith);
+      broken = subst (λ (s : List Pair). m.breaks test (more ∷ s) ≡ true) e b;
+    }
+
+-- the test needs it
+pub keep_one : (m : Meaning) (whole : List Pair) (more : Pair) (test front n : ℕ) (kept : List Pair) (x : Pair) → front ≡ n + 1 → x ≡ get_or whole n x → Ascends whole → IsKept m whole more test front kept → IsKept m whole more test n (x ∷ kept)
+keep_one m whole more test front n kept x e at up h =
+    let lt : n < length whole = omega (arith, h.bounded) in
+    let same : take front whole ++ kept ≡ take n whole ++ (x ∷ kept) =
+        ap (λ k. take k whole ++ kept) e ∙ ap (λ s. s ++ kept) (take_more whole n x lt) ∙ append_assoc (take n whole) (get_or whole n x ∷ []) kept ∙ ap (λ y. take n whole ++ (y ∷ kept)) (sym at) in
+    let stem : (d : Pair) → (get_or whole n d).stem ≡ x.stem = λ d. ap (λ (q : Pair). q.stem) (get_or_default whole n d x lt ∙ sym at) in
+    record {
+      bounded = omega (arith, h.bounded);
+      inside = All-cons (λ q. Contains whole q) x kept (n, lt, sym at) h.inside;
+      ascends = Ascends-append (x ∷ []) kept (λ i j d l y. absurd (omega arith)) h.ascends (λ i j d l y.
+          let zero_i : i ≡ 0 = omega arith in
+          let lt2 = h.behind j n d d y (omega arith) in
+          let s = stem d in
+          let head : (get_or (x ∷ []) i d).stem ≡ x.stem = ap (λ k. (get_or (x ∷ []) k d).stem) zero_i in
+          omega (arith, lt2, s, head));
+      behind = elim [
+          zero ↦ λ j d y l z. (let r = up j n y z lt in let s = stem y in omega (arith, r, s))
+        | suc k ↦ λ j d y l z. h.behind k j d y (omega arith) (omega arith) ];
+      broken = subst (λ (s : List Pair). m.breaks test (more ∷ s) ≡ true) same h.broken;
+    }
+
+pub core_kept : (m : Meaning) (ns : List Nogood) (whole : List Pair) (more : Pair) (test front : ℕ) (kept : List Pair) → test < m.tests → front ≡ 0 → IsKept m whole more test front kept → IsCore m ns whole more (Test test) kept
+core_kept m ns whole more test front kept lt e h =
+    record { inside = h.inside; ascends = h.ascends; explained = (lt, subst (λ (n : ℕ). m.breaks test (more ∷ (take n whole ++ kept)) ≡ true) e h.broken) }
