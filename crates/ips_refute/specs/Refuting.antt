@@ -4,7 +4,7 @@ use Rattle.ips_refute.specs.declared.nogoods.Pair.{Pair}
 use Rattle.ips_refute.specs.declared.nogoods.Nogood.{Nogood}
 use Rattle.ips_refute.specs.declared.nogoods.Reason.{Reason}
 use Rattle.ips_refute.specs.declared.nogoods.Reason.TheVariants.{Test, Earlier}
-use Rattle.ips_refute.specs.Meaning.{Meaning, Within, OnePerStem, IsOffered}
+use Rattle.ips_refute.specs.Meaning.{Meaning, Within, Ascends, OnePerStem, IsOffered}
 
 -- it contains the set of the earlier nogood of that number
 abbrev pub ContainsEarlier : List Nogood → ℕ → List Pair → Type 0
@@ -39,3 +39,7 @@ EndsEmpty nogoods = (g : Nogood) × (0 < length nogoods) × (slice_get nogoods (
 -- a refutation: nogoods that end with the empty set
 abbrev pub IsRefutation : Meaning → List Nogood → Type 0
 IsRefutation m nogoods = AreNogoods m nogoods × EndsEmpty nogoods
+
+-- a refutation whose sets stand by ascending stem
+abbrev pub IsTidyRefutation : Meaning → List Nogood → Type 0
+IsTidyRefutation m nogoods = IsRefutation m nogoods × All (λ g. Ascends g.set.items) nogoods

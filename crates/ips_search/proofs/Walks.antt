@@ -4,19 +4,21 @@ use Rattle.std.proofs.lemmas.Bool.{false_from_ne_true, both_ways, cases_lt, case
 use Rattle.std.proofs.lemmas.List.{length_push, get_or_push, get_or_append_left, append-nil, take-append-le, take_at, take_more, get_or_default}
 use Rattle.std.proofs.lemmas.List.Elements.{All-contains, All-cons, All-push, Contains-push, Contains-push_cases, Contains-append_left}
 use Rattle.std.proofs.lemmas.Option.{none-some, same_Some, slice_get_within}
-use Rattle.ips_refute.specs.declared.data.Pair.{Pair}
-use Rattle.ips_refute.specs.declared.data.Nogood.{Nogood}
-use Rattle.ips_refute.specs.declared.data.Reason.{Reason}
-use Rattle.ips_refute.specs.declared.data.Reason.TheVariants.{Test, Earlier}
-use Rattle.ips_refute.specs.Meaning.{Meaning, Lawful, Within, OnePerStem, IsOffered, IsBeginning, Solves, BreaksNone, HasNoChoice, pairs_from, pairs}
-use Rattle.ips_refute.specs.Refuting.{Explains, ExplainsEach, IsNogood, AreNogoods, IsRefutation}
+use Rattle.ips_refute.specs.declared.nogoods.Pair.{Pair}
+use Rattle.ips_refute.specs.declared.nogoods.Nogood.{Nogood}
+use Rattle.ips_refute.specs.declared.nogoods.Reason.{Reason}
+use Rattle.ips_refute.specs.declared.nogoods.Reason.TheVariants.{Test, Earlier}
+use Rattle.ips_refute.specs.Meaning.{Meaning, Lawful, Within, Ascends, OnePerStem, IsOffered, IsBeginning, Solves, BreaksNone, HasNoChoice, pairs_from, pairs}
+use Rattle.ips_refute.specs.Refuting.{Explains, ExplainsEach, IsNogood, AreNogoods, IsRefutation, IsTidyRefutation}
 use Rattle.ips_refute.proofs.Choices.{pair, from_pairs, Contains-pairs, OnePerStem-pairs, OnePerStem-cons, Within-trans, Within-cons, length-pairs, get_or-pairs, slice_get-take}
 use Rattle.ips_refute.proofs.Laws.{no_explanation}
+use Rattle.ips_refute.proofs.Checks.{Ascends-one}
+use Rattle.ips_search.specs.Merging.{IsUnion}
 use Rattle.ips_search.specs.declared.state.Level.{Level}
 use Rattle.ips_search.specs.declared.state.State.{State}
 use Rattle.ips_search.specs.Best.{NotLater, IsFirst, IsBest}
 use Rattle.ips_search.specs.Beginnings.{is_late, breaks_below, beginnings}
-use Rattle.ips_search.specs.Searching.{Ascends, IsTidyRefutation, IsLevel, IsCore, IsUnion, Rejected, Settled, Advanced, Restored, Retreated, Moved, KeepsCount, top_nogood, next_pair, passed, place, IsSearching, IsCounted}
+use Rattle.ips_search.specs.Searching.{IsLevel, IsCore, Rejected, Settled, Advanced, Restored, Retreated, Moved, KeepsCount, top_nogood, next_pair, passed, place, IsSearching, IsCounted}
 use Rattle.ips_search.proofs.Order.{Begins, Begins-take, Within-begins, NotLater-prefix, NotLater-down, NotLater-next, later-NotLater}
 use Rattle.ips_search.proofs.Counting.{Passes, IsOpen, breaks_none, passed-next, passed-down, passed-back, passed-spent, own-push}
 
@@ -45,9 +47,6 @@ from_new p c q h = Contains-push_cases (pairs p) (pair (length p) c) q (subst (�
 
 pub Within-push : (p : List ℕ) (c : ℕ) (set : List Pair) → Within set (pairs p) → Within (pair (length p) c ∷ set) (pairs (p ++ c ∷ []))
 Within-push p c set h = Within-cons (pair (length p) c) set (pairs (p ++ c ∷ [])) (Contains-new p c) (λ k d l. Contains-old p c (get_or set k d) (h k d l))
-
-pub Ascends-one : (set : List Pair) → Ascends set → OnePerStem set
-Ascends-one set h i j d l m e = let lt = h i j d l m in omega (arith, lt, e)
 
 pub free_of_top : (p : List ℕ) (set : List Pair) → Within set (pairs p) → All (λ q. q.stem ≢ length p) set
 free_of_top p set h k d l e = let r = from_pairs p (get_or set k d) (h k d l) in omega (arith, r.0, e)
@@ -322,7 +321,7 @@ pub settled_end : (m : Meaning) (s0 s : State) → IsSearching m s → length s.
 settled_end m s0 s h room same keeps at = record { searching = h; room = room; same = same; keeps = keeps; begins = λ e. absurd (both_ways false refl e); ends = λ _. at }
 
 pub advanced : (m : Meaning) (s : State) (choice : Vec ℕ Global) (chosen : Vec Pair Global) (levels : Vec Level Global) (top : Level) → IsSearching m s → length s.choice.items < m.stems → IsBeginning m (place s)
-    → choice.items ≡ place s → chosen.items ≡ s.pairs.items ++ next_pair s ∷ [] → levels.items ≡ s.levels.items ++ s.top ∷ [] → top.set.items ≡ [] → top.reasons.items ≡ []
+    → choice.items ≡ place s → chosen.items ≡ s.pairs.items ++ next_pair s ∷ [] → levels.items ≡ s.levels.items ++ s.top ∷ [] → Within top.set.items chosen.items × Ascends top.set.items → top.reasons.items ≡ []
     → Advanced m s (record { choice = choice; pairs = chosen; levels = levels; top = top; nogoods = s.nogoods })
 advanced m s choice chosen levels top h room begins e1 e2 e3 e4 e5 =
     let p = s.choice.items in
@@ -333,9 +332,10 @@ advanced m s choice chosen levels top h room begins e1 e2 e3 e4 e5 =
     let len3 : length levels.items ≡ length s.levels.items + 1 = ap length e3 ∙ length_push s.levels.items s.top in
     let len5 : length top.reasons.items ≡ 0 = ap length e5 in
     let at : choice.items ++ length top.reasons.items ∷ [] ≡ q ++ 0 ∷ [] = ap (λ l. l ++ length top.reasons.items ∷ []) e1 ∙ ap (λ k. q ++ k ∷ []) len5 in
+    let paired : chosen.items ≡ pairs choice.items = e2 ∙ ap (λ l. l ++ next_pair s ∷ []) h.paired ∙ sym (pairs-push p c) ∙ ap pairs (sym e1) in
     record {
       searching = record {
-        paired = e2 ∙ ap (λ l. l ++ next_pair s ∷ []) h.paired ∙ sym (pairs-push p c) ∙ ap pairs (sym e1);
+        paired = paired;
         begun = subst (λ (x : List ℕ). IsBeginning m x) (sym e1) begins;
         learned = h.learned;
         sorted = h.sorted;
@@ -354,8 +354,8 @@ advanced m s choice chosen levels top h room begins e1 e2 e3 e4 e5 =
               let one : IsLevel m ns p level = subst (λ (l : Level). IsLevel m ns p l) (sym same) h.top in
               (subst (λ (l : List ℕ). IsLevel m ns l level) (sym t) one, ap (λ (l : Level). length l.reasons.items) same ∙ sym x) ];
         top = record {
-          within = λ k d l. absurd (let e = ap length e4 in omega (arith, l, e));
-          ascends = λ i j d l n. absurd (let e = ap length e4 in omega (arith, n, e));
+          within = subst (λ (x : List Pair). Within top.set.items x) paired e4.0;
+          ascends = e4.1;
           explained = λ k r e. absurd (none-some r (subst (λ (x : List Reason). slice_get x k ≡ Some r) e5 e)) };
         tried = λ _. omega (arith, len5);
         ahead = λ w solves. subst (λ (l : List ℕ). NotLater l w) (sym at) (NotLater-down q w (h.ahead w solves));

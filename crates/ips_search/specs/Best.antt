@@ -8,6 +8,7 @@ NotLater [] choice = ⊤
 NotLater (a ∷ beginning) [] = ⊤
 NotLater (a ∷ beginning) (b ∷ choice) = (a < b) ⊎ ((a ≡ b) × NotLater beginning choice)
 
+-- a solution, and each other one stands later
 abbrev pub IsFirst : Meaning → List ℕ → Type 0
 IsFirst m choice = Solves m choice × ((other : List ℕ) → Solves m other → NotLater choice other)
 

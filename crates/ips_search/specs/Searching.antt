@@ -1,22 +1,17 @@
 -- What a search knows as it stands at one candidate of one stem.
-use Rattle.std.specs.Prelude.{◌≡◌, ℕ, zero, suc, ◌+◌, ◌<◌, ◌≤◌, List, [], ◌∷◌, ◌++◌, length, take, slice_get, slice_index, All, AllPairs, Contains, ◌⊎◌, Option, Some, None, Bool, true, IsTrue, IsFalse}
-use Rattle.ips_refute.specs.declared.data.Pair.{Pair}
-use Rattle.ips_refute.specs.declared.data.Nogood.{Nogood}
-use Rattle.ips_refute.specs.Meaning.{Meaning, Within, IsBeginning, BreaksNone, Solves, pairs}
-use Rattle.ips_refute.specs.Refuting.{Explains, ExplainsEach, AreNogoods, IsRefutation}
-use Rattle.ips_refute.specs.declared.data.Reason.{Reason}
+use Rattle.std.specs.Prelude.{◌≡◌, ℕ, zero, suc, ◌+◌, ◌<◌, ◌≤◌, List, [], ◌∷◌, ◌++◌, length, take, get_or, slice_get, slice_index, All, AllPairs, Contains, ◌⊎◌, Option, Some, None, Bool, true, IsTrue, IsFalse}
+use Rattle.ips_refute.specs.declared.nogoods.Pair.{Pair}
+use Rattle.ips_refute.specs.declared.nogoods.Nogood.{Nogood}
+use Rattle.ips_refute.specs.Meaning.{Meaning, Ascends, Within, IsBeginning, BreaksNone, Solves, pairs}
+use Rattle.ips_refute.specs.Refuting.{Explains, ExplainsEach, AreNogoods, IsTidyRefutation}
+use Rattle.ips_refute.specs.declared.nogoods.Reason.{Reason}
 use Rattle.ips_search.specs.declared.state.Failure.{Failure}
 use Rattle.ips_search.specs.declared.state.Level.{Level}
 use Rattle.ips_search.specs.declared.state.State.{State}
+use Rattle.ips_search.specs.declared.state.Guide.{Guide}
+use Rattle.ips_search.specs.Indexing.{IsIndexed}
 use Rattle.ips_search.specs.Best.{NotLater, IsBest}
 use Rattle.ips_search.specs.Beginnings.{own, sum_below, beginnings_from}
-
-abbrev pub Ascends : List Pair → Type 0
-Ascends set = AllPairs (λ p q. p.stem < q.stem) set
-
--- a refutation whose sets stand by ascending stem
-abbrev pub IsTidyRefutation : Meaning → List Nogood → Type 0
-IsTidyRefutation m nogoods = IsRefutation m nogoods × All (λ g. Ascends g.set.items) nogoods
 
 -- why each candidate at a stem that was tried fails, after the choice for the stems before it
 pub record IsLevel (m : Meaning) (nogoods : List Nogood) (choice : List ℕ) (level : Level) : Type 0 where
@@ -34,6 +29,7 @@ passed m best (suc left) choice (c ∷ place) = own choice + sum_below (λ x. be
 abbrev pub place : State → List ℕ
 place s = s.choice.items ++ length s.top.reasons.items ∷ []
 
+-- where a search stands: all that it knows is so, and no solution stands before the place
 pub record IsSearching (m : Meaning) (s : State) : Type 0 where
   pub paired : s.pairs.items ≡ pairs s.choice.items
   pub begun : IsBeginning m s.choice.items
@@ -49,19 +45,6 @@ pub record IsSearching (m : Meaning) (s : State) : Type 0 where
 pub record IsCounted (m : Meaning) (s : State) (count : ℕ) : Type 0 where
   pub counted : (best : Option (List ℕ)) → IsBest m best → count ≤ passed m best m.stems [] (place s)
   pub deep : length s.choice.items ≤ count
-
--- the pairs of the whole that are in one of two sets
-pub record IsUnionOf (whole first second set : List Pair) : Type 0 where
-  pub has : (q : Pair) → Contains whole q → Contains first q ⊎ Contains second q → Contains set q
-  pub inside : Within set whole
-  pub ascends : Ascends set
-
--- a set of pairs of both sets
-pub record IsUnion (whole first second set : List Pair) : Type 0 where
-  pub has_first : Within first set
-  pub has_second : Within second set
-  pub inside : Within set whole
-  pub ascends : Ascends set
 
 -- part of the choice with which the new pair fails for the reason
 pub record IsCore (m : Meaning) (nogoods : List Nogood) (whole : List Pair) (more : Pair) (reason : Reason) (core : List Pair) : Type 0 where
@@ -108,6 +91,7 @@ pub record Moved (m : Meaning) (before after : State) (found : Bool) : Type 0 wh
   pub room : IsTrue found → length after.choice.items < m.stems
   pub keeps : IsTrue found → KeepsCount m before after
 
+-- the candidate that came next is taken
 pub record Advanced (m : Meaning) (before after : State) : Type 0 where
   pub searching : IsSearching m after
   pub counts : (n : ℕ) → IsCounted m before n → IsCounted m after (n + 1)
@@ -128,3 +112,23 @@ pub record Restored (before after : State) (stem : ℕ) : Type 0 where
 abbrev pub IsJudged : Meaning → State → Option Failure → Type 0
 IsJudged m s None = BreaksNone m (pairs (place s))
 IsJudged m s (Some failure) = IsCore m s.nogoods.items s.pairs.items (next_pair s) failure.reason failure.core.items
+
+-- the set is the new pair behind pairs of the choice
+abbrev pub EndsWith : List Pair → List Pair → Pair → Type 0
+EndsWith set chosen more = (rest : List Pair) × (set ≡ rest ++ more ∷ []) × Within rest chosen
+
+-- the choice with the new pair has the set of that nogood, and the new pair ends it
+abbrev pub HasKept : List Nogood → List Pair → Pair → ℕ → Type 0
+HasKept nogoods chosen more n = (g : Nogood) × (slice_get nogoods n ≡ Some g) × EndsWith g.set.items chosen more
+
+-- the test is broken with a front of the choice beside the pairs that are kept, which all come behind it
+pub record IsKept (m : Meaning) (whole : List Pair) (more : Pair) (test front : ℕ) (kept : List Pair) : Type 0 where
+  pub bounded : front ≤ length whole
+  pub inside : Within kept whole
+  pub ascends : Ascends kept
+  pub behind : (k j : ℕ) (d e : Pair) → k < length kept → j < front → (get_or whole j e).stem < (get_or kept k d).stem
+  pub broken : m.breaks test (more ∷ (take front whole ++ kept)) ≡ true
+
+-- a guide that learns finds each test by its last stem
+abbrev pub IsGuide : Meaning → Guide → Type 0
+IsGuide m guide = IsTrue guide.learns → IsIndexed m guide.tests

@@ -1,9 +1,12 @@
+//! The searches.
+
 ghost use Rattle.std.specs.Prelude.{◌≡◌, ℕ, ◌<◌, IfOk};
 ghost use Rattle.ips_refute.specs.Meaning.{Meaning};
-ghost use Rattle.ips_search.specs.Searching.{IsSearching, IsCounted};
+ghost use Rattle.ips_search.specs.Searching.{IsSearching, IsCounted, IsGuide};
 ghost use Rattle.ips_search.specs.Answer.{IsAnswer};
 
-use crate::state::{Found, Level, State};
+use crate::chains::{Chains, index_tests};
+use crate::state::{Found, Guide, Level, State};
 use crate::steps::{advance, proceed};
 use ips_refute::{Puzzle, Refutation};
 use std::alloc::{AllocError, Global};
@@ -38,7 +41,45 @@ fn into_refutation(state: State) -> Refutation
     Refutation { nogoods }
 }
 
+/// The best choice for the puzzle, or a refutation of it: a search that learns.
+///
+/// A beginning is a choice for the first k stems, k at least 1, that breaks no test whose stems are all decided; the search counts
+/// the beginnings that it reaches. `Chosen` is the first choice for all stems in lexicographic order of candidate numbers that
+/// breaks no test; it comes only under a limit of at least as many as there are stems. `Refuted` comes only where there is none,
+/// with a refutation that `check` accepts. `Spent` comes only where the beginnings that stand no later than the best choice's own,
+/// or all of them where there is none, are more than the limit.
 pub fn solve<P: Puzzle>(alloc: Global, puzzle: &P, limit: u64) -> Result<Found, AllocError>
+    ensures { IfOk result (λ found. IsAnswer (P.meaning puzzle.now) limit found) }
+{
+    let guide = Guide {
+        learns: true,
+        tests: index_tests(alloc, puzzle)?,
+    };
+    let learned = Chains::new(alloc, puzzle.stems())?;
+    search(alloc, puzzle, &guide, learned, limit)
+}
+
+/// The same by plain backtracking: all candidates are tried in order, and a stem without a candidate left leads back to the stem
+/// before it. Where this is `Spent`, `solve` may have found an answer.
+pub fn backtrack<P: Puzzle>(alloc: Global, puzzle: &P, limit: u64) -> Result<Found, AllocError>
+    ensures { IfOk result (λ found. IsAnswer (P.meaning puzzle.now) limit found) }
+{
+    let guide = Guide {
+        learns: false,
+        tests: Chains::new(alloc, 0)?,
+    };
+    let learned = Chains::new(alloc, 0)?;
+    search(alloc, puzzle, &guide, learned, limit)
+}
+
+fn search<P: Puzzle>(
+    alloc: Global,
+    puzzle: &P,
+    guide: &Guide,
+    mut learned: Chains,
+    limit: u64,
+) -> Result<Found, AllocError>
+    requires { IsGuide (P.meaning puzzle.now) guide.now }
     ensures { IfOk result (λ found. IsAnswer (P.meaning puzzle.now) limit found) }
 {
     let mut state = start(alloc, puzzle);
@@ -47,16 +88,16 @@ pub fn solve<P: Puzzle>(alloc: Global, puzzle: &P, limit: u64) -> Result<Found, 
         if state.choice.len() == stems {
             return Ok(Found::Chosen(into_choice(state)));
         }
-        let found = proceed(alloc, puzzle, &mut state)?;
+        let found = proceed(alloc, puzzle, guide, &mut learned, &mut state)?;
         if !found {
             return Ok(Found::Refuted(into_refutation(state)));
         }
-        advance(alloc, puzzle, &mut state)?;
+        advance(alloc, puzzle, guide, &mut state)?;
     }
     if state.choice.len() == stems {
         return Ok(Found::Chosen(into_choice(state)));
     }
-    let found = proceed(alloc, puzzle, &mut state)?;
+    let found = proceed(alloc, puzzle, guide, &mut learned, &mut state)?;
     if !found {
         return Ok(Found::Refuted(into_refutation(state)));
     }

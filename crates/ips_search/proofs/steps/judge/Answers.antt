@@ -1,7 +1,7 @@
 use Rattle.std.proofs.Common.{◌≡◌, ap, sym, ◌∙◌, arith, length, subst, List, ℕ, refl}
 use Rattle.std.proofs.lemmas.Option.{slice_get_within}
-use Rattle.ips_refute.specs.declared.data.Pair.{Pair}
-use Rattle.ips_refute.specs.declared.data.Reason.TheVariants.{Test, Earlier}
+use Rattle.ips_refute.specs.declared.nogoods.Pair.{Pair}
+use Rattle.ips_refute.specs.declared.nogoods.Reason.TheVariants.{Test, Earlier}
 use Rattle.ips_search.proofs.Walks.{Ascends-of, offered_more, free_more, judged_none, judged_core}
 use Rattle.ips_search.proofs.steps.judge.Goals as goal
 

@@ -1,6 +1,6 @@
 use Rattle.std.proofs.Common.{arith}
 use Rattle.ips_search.proofs.Walks.{offered_more, one_more_pair, none_fails}
-use Rattle.ips_search.proofs.sets.failing.Goals as goal
+use Rattle.ips_search.proofs.cores.failing_plainly.Goals as goal
 
 pub broken-requires-clause-offered : goal.broken-requires-clause-offered
 broken-requires-clause-offered g c = offered_more (g.P.Puzzle.meaning c.args.puzzle.now) c.args.choice.now c.args.more c.args.chosen.now c.requires.begun c.requires.paired c.requires.room c.requires.offered

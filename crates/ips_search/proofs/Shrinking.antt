@@ -1,23 +1,20 @@
 -- Leaving pairs out of a set that breaks a test.
 use Rattle.std.proofs.Common.{◌≡◌, ℕ, zero, suc, ◌+◌, ◌-◌, ◌<◌, ◌≤◌, ◌≢◌, ◌⊎◌, inl, inr, true, List, [], ◌∷◌, ◌++◌, length, get_or, take, drop, All, AllPairs, Contains, refl, sym, ap, ◌∙◌, subst, arith, length-append, length-take-le, get_or-take, take_all, append_assoc, append-nil}
 use Rattle.std.proofs.lemmas.Bool.{cases_lt}
-use Rattle.std.proofs.lemmas.List.{length_push, get_or_append_left, get_or-append_right, get_or_push, take_more, get_or_default}
+use Rattle.std.proofs.lemmas.List.{length_push, get_or_append_left, get_or-append_right, get_or_push, take_more, get_or_default, take_at}
 use Rattle.std.proofs.lemmas.List.Elements.{All-contains, All-append, All-cons, Contains-get_or}
-use Rattle.ips_refute.specs.declared.data.Pair.{Pair}
-use Rattle.ips_refute.specs.declared.data.Nogood.{Nogood}
-use Rattle.ips_refute.specs.declared.data.Reason.TheVariants.{Test}
-use Rattle.ips_refute.specs.Meaning.{Meaning, Within, OnePerStem, IsOffered}
+use Rattle.ips_refute.specs.declared.nogoods.Pair.{Pair}
+use Rattle.ips_refute.specs.declared.nogoods.Nogood.{Nogood}
+use Rattle.ips_refute.specs.declared.nogoods.Reason.TheVariants.{Test}
+use Rattle.ips_refute.specs.Meaning.{Meaning, Ascends, Within, OnePerStem, IsOffered}
+use Rattle.std.proofs.Common.{Some, slice_get, Bool, ◌∙◌}
+use Rattle.std.proofs.lemmas.Option.{same_Some, none-some}
+use Rattle.std.proofs.lemmas.List.Elements.{All-push, Contains-append_left, Contains-append_right}
+use Rattle.ips_refute.specs.declared.nogoods.Reason.TheVariants.{Earlier}
 use Rattle.ips_refute.proofs.Choices.{OnePerStem-cons}
-use Rattle.ips_search.specs.Searching.{Ascends, IsCore}
-use Rattle.ips_search.proofs.Walks.{Ascends-one}
-
--- the pairs that are kept all come behind the front
-pub record IsKept (m : Meaning) (whole : List Pair) (more : Pair) (test front : ℕ) (kept : List Pair) : Type 0 where
-  pub bounded : front ≤ length whole
-  pub inside : Within kept whole
-  pub ascends : Ascends kept
-  pub behind : (k j : ℕ) (d e : Pair) → k < length kept → j < front → (get_or whole j e).stem < (get_or kept k d).stem
-  pub broken : m.breaks test (more ∷ (take front whole ++ kept)) ≡ true
+use Rattle.ips_search.specs.Searching.{IsCore, IsKept, HasKept}
+use Rattle.ips_refute.proofs.Checks.{Ascends-one}
+use Rattle.ips_search.proofs.Walks.{Within-behind, before_last}
 
 Ascends-append : (a b : List Pair) → Ascends a → Ascends b → ((i j : ℕ) (d : Pair) → i < length a → j < length b → (get_or a i d).stem < (get_or b j d).stem) → Ascends (a ++ b)
 Ascends-append a b up_a up_b across i j d l h =
@@ -126,3 +123,39 @@ keep_one m whole more test front n kept x e at up h =
 pub core_kept : (m : Meaning) (ns : List Nogood) (whole : List Pair) (more : Pair) (test front : ℕ) (kept : List Pair) → test < m.tests → front ≡ 0 → IsKept m whole more test front kept → IsCore m ns whole more (Test test) kept
 core_kept m ns whole more test front kept lt e h =
     record { inside = h.inside; ascends = h.ascends; explained = (lt, subst (λ (n : ℕ). m.breaks test (more ∷ (take n whole ++ kept)) ≡ true) e h.broken) }
+
+-- the test is broken with a shorter front
+pub shorter : (m : Meaning) (whole : List Pair) (more : Pair) (test front n : ℕ) (kept : List Pair) (b : Bool) → n ≤ front → IsKept m whole more test front kept → b ≡ m.breaks test (more ∷ (take n whole ++ kept)) → b ≡ true → IsKept m whole more test n kept
+shorter m whole more test front n kept b le h e t = drop_one m whole more test front n kept (take n whole ++ kept) le h refl (sym e ∙ t)
+
+pub breaks_offered : (m : Meaning) (whole : List Pair) (more : Pair) (test front n : ℕ) (kept : List Pair) → n ≤ front → All (IsOffered m) (more ∷ whole) → IsKept m whole more test front kept → All (IsOffered m) (more ∷ (take n whole ++ kept))
+breaks_offered m whole more test front n kept le ok h = fewer_offered m whole more test front n kept (take n whole ++ kept) le ok h refl
+
+pub breaks_one : (m : Meaning) (whole : List Pair) (more : Pair) (test front n : ℕ) (kept : List Pair) → n ≤ front → All (λ q. q.stem ≢ more.stem) whole → Ascends whole → IsKept m whole more test front kept → OnePerStem (more ∷ (take n whole ++ kept))
+breaks_one m whole more test front n kept le free up h = fewer_one m whole more test front n kept (take n whole ++ kept) le free up h refl
+
+Ascends-left : (a b : List Pair) → Ascends (a ++ b) → Ascends a
+Ascends-left a b up i j d l h =
+    let ei = ap (λ (q : Pair). q.stem) (get_or_append_left a b d i (omega arith)) in
+    let ej = ap (λ (q : Pair). q.stem) (get_or_append_left a b d j h) in
+    let lt = up i j d l (omega (arith, length-append a b)) in
+    omega (arith, ei, ej, lt)
+
+pub all_at : {X : Type 0} (P : X → Type 0) (xs : List X) (n : ℕ) (x : X) → All P xs → slice_get xs n ≡ Some x → P x
+all_at P [] n x h e = absurd (none-some x e)
+all_at P (y ∷ xs) zero x h e = subst P (same_Some y x e) (h 0 y (omega arith))
+all_at P (y ∷ xs) (suc n) x h e = all_at P xs n x (λ k d l. h (suc k) d (omega arith)) e
+
+-- the rest of a kept nogood's set
+pub kept_is_core : (m : Meaning) (ns : List Nogood) (chosen : List Pair) (more : Pair) (n : ℕ) (core : List Pair) → All (λ g. Ascends g.set.items) ns → HasKept ns chosen more n
+    → ((g : Nogood) → slice_get ns n ≡ Some g → core ≡ take (length g.set.items - 1) g.set.items) → IsCore m ns chosen more (Earlier n) core
+kept_is_core m ns chosen more n core up (g, at, (rest, parts, within)) is =
+    let set = g.set.items in
+    let len : length set - 1 ≡ length rest = omega (arith, ap length parts, length_push rest more) in
+    let same : core ≡ rest = is g at ∙ ap (λ k. take k set) len ∙ ap (take (length rest)) parts ∙ take_at rest (more ∷ []) (length rest) refl in
+    let ascends : Ascends set = all_at (λ (x : Nogood). Ascends x.set.items) ns n g up at in
+    let front : Ascends rest = Ascends-left rest (more ∷ []) (subst (λ (s : List Pair). Ascends s) parts ascends) in
+    let ending : Within (rest ++ more ∷ []) (more ∷ rest) = All-push (λ q. Contains (more ∷ rest) q) rest more (Within-behind more rest) (0, omega arith, refl) in
+    let has : Within set (more ∷ rest) = subst (λ (s : List Pair). Within s (more ∷ rest)) (sym parts) ending in
+    let P : List Pair → Type 0 = λ s. IsCore m ns chosen more (Earlier n) s in
+    subst P (sym same) (record { inside = within; ascends = front; explained = (g, at, has) })

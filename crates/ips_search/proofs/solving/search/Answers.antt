@@ -1,6 +1,6 @@
 use Rattle.std.proofs.Common.{arith, length}
 use Rattle.ips_search.proofs.Walks.{chosen_is, refuted_is, spent}
-use Rattle.ips_search.proofs.solving.solve.Goals as goal
+use Rattle.ips_search.proofs.solving.search.Goals as goal
 
 pub returns-then-len-stems : goal.returns-then-len-stems
 returns-then-len-stems g c =

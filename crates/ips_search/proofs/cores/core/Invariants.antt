@@ -1,5 +1,5 @@
-use Rattle.ips_search.proofs.Cores.{IsKept}
-use Rattle.ips_search.proofs.sets.core.Given as goal
+use Rattle.ips_search.specs.Searching.{IsKept}
+use Rattle.ips_search.proofs.cores.core.Given as goal
 
 abbrev pub invariant-loop-front : goal.invariant-loop-front
 invariant-loop-front g l = IsKept (g.P.Puzzle.meaning l.puzzle) l.whole l.more l.test l.front l.kept.items
