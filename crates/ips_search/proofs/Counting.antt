@@ -21,14 +21,16 @@ breaks_none m set (suc n) h = ap (λ z. z || breaks_below m set n) (h n (omega a
 pub sum_below-le : (f : ℕ → ℕ) (c n : ℕ) → c < n → sum_below f c + f c ≤ sum_below f n
 sum_below-le f c zero h = absurd (omega arith)
 sum_below-le f c (suc n) h = elim (cases_lt c n) [
-    inl l ↦ let r = sum_below-le f c n l in omega (arith, r)
-  | inr g ↦ let e : c ≡ n = omega arith in subst (λ k. sum_below f k + f k ≤ sum_below f n + f n) (sym e) (omega arith) ]
+  | inl l ↦ let r = sum_below-le f c n l in omega (arith, r)
+  | inr g ↦ let e : c ≡ n = omega arith in subst (λ k. sum_below f k + f k ≤ sum_below f n + f n) (sym e) (omega arith)
+]
 
 pub sum_below-upto : (f : ℕ → ℕ) (c n : ℕ) → c ≤ n → sum_below f c ≤ sum_below f n
 sum_below-upto f c zero h = let e : c ≡ 0 = omega arith in subst (λ k. sum_below f k ≤ 0) (sym e) (omega arith)
 sum_below-upto f c (suc n) h = elim (cases_lt c (suc n)) [
-    inl l ↦ let r = sum_below-upto f c n (omega arith) in omega (arith, r)
-  | inr g ↦ let e : c ≡ suc n = omega arith in subst (λ k. sum_below f k ≤ sum_below f n + f n) (sym e) (omega arith) ]
+  | inl l ↦ let r = sum_below-upto f c n (omega arith) in omega (arith, r)
+  | inr g ↦ let e : c ≡ suc n = omega arith in subst (λ k. sum_below f k ≤ sum_below f n + f n) (sym e) (omega arith)
+]
 
 pub beginnings_at : (m : Meaning) (best : Option (List ℕ)) (left : ℕ) (p : List ℕ) → Passes m best p → beginnings_from m best (suc left) p ≡ own p + sum_below (λ c. beginnings_from m best left (p ++ c ∷ [])) (m.candidates (length p))
 unfolding beginnings_from
@@ -47,7 +49,7 @@ pub passed-append : (m : Meaning) (best : Option (List ℕ)) (n l : ℕ) (p q r 
 passed-append m best n l p [] r e =
     let e' : n ≡ l = omega arith in
     subst (λ k. passed m best n p r ≡ 0 + passed m best k (p ++ []) r) e'
-        (subst (λ (s : List ℕ). passed m best n p r ≡ 0 + passed m best n s r) (sym (append-nil p)) (omega arith))
+    (subst (λ (s : List ℕ). passed m best n p r ≡ 0 + passed m best n s r) (sym (append-nil p)) (omega arith))
 passed-append m best zero l p (c ∷ q) r e = absurd (omega arith)
 passed-append m best (suc n) l p (c ∷ q) r e =
     let step = passed-append m best n l (p ++ c ∷ []) q r (omega arith) in
@@ -66,7 +68,7 @@ passed-le m best (suc n) l p (c ∷ q) e open_ =
     let passes = subst (λ (s : List ℕ). Passes m best s) nil here.0 in
     let offered : c < m.candidates (length p) = subst (λ (s : List ℕ). c < m.candidates (length s)) nil here.1 in
     let deeper : IsOpen m best (p ++ c ∷ []) q = λ j h.
-        subst (λ (s : List ℕ). Passes m best s × (slice_index q j < m.candidates (length s))) (sym (append_assoc p (c ∷ []) (take j q))) (open_ (suc j) (omega arith)) in
+    subst (λ (s : List ℕ). Passes m best s × (slice_index q j < m.candidates (length s))) (sym (append_assoc p (c ∷ []) (take j q))) (open_ (suc j) (omega arith)) in
     let step = passed-le m best n l (p ++ c ∷ []) q (omega arith) deeper in
     let same : beginnings_from m best l ((p ++ c ∷ []) ++ q) ≡ beginnings_from m best l (p ++ (c ∷ q)) = ap (λ s. beginnings_from m best l s) (append_assoc p (c ∷ []) q) in
     let sums = sum_below-le (λ x. beginnings_from m best n (p ++ x ∷ [])) c (m.candidates (length p)) offered in
@@ -76,7 +78,7 @@ pub IsOpen-split : (m : Meaning) (best : Option (List ℕ)) (p q r : List ℕ) �
 IsOpen-split m best p [] r h = subst (λ (s : List ℕ). IsOpen m best s r) (sym (append-nil p)) h
 IsOpen-split m best p (c ∷ q) r h =
     let deeper : IsOpen m best (p ++ c ∷ []) (q ++ r) = λ j l.
-        subst (λ (s : List ℕ). Passes m best s × (slice_index (q ++ r) j < m.candidates (length s))) (sym (append_assoc p (c ∷ []) (take j (q ++ r)))) (h (suc j) (omega arith)) in
+    subst (λ (s : List ℕ). Passes m best s × (slice_index (q ++ r) j < m.candidates (length s))) (sym (append_assoc p (c ∷ []) (take j (q ++ r)))) (h (suc j) (omega arith)) in
     subst (λ (s : List ℕ). IsOpen m best s r) (append_assoc p (c ∷ []) q) (IsOpen-split m best (p ++ c ∷ []) q r deeper)
 
 -- the place at candidate c of the stem behind p
@@ -96,8 +98,8 @@ passed-next m best n p c h =
 pub passed-down : (m : Meaning) (best : Option (List ℕ)) (n : ℕ) (p : List ℕ) → length p ≤ n → passed m best n [] (p ++ 0 ∷ []) ≡ passed m best n [] p + own p
 passed-down m best n p h =
     elim (cases_lt (length p) n) [
-      inl lt ↦ let step = passed-at m best n (n - length p - 1) p 0 (omega arith) in omega (arith, step)
-    | inr ge ↦ let step = passed-append m best n 0 [] p (0 ∷ []) (omega arith) in omega (arith, step)
+      | inl lt ↦ let step = passed-at m best n (n - length p - 1) p 0 (omega arith) in omega (arith, step)
+      | inr ge ↦ let step = passed-append m best n 0 [] p (0 ∷ []) (omega arith) in omega (arith, step)
     ]
 
 -- back to the stem behind p, whose candidate d is done with

@@ -3,7 +3,7 @@ use Rattle.std.proofs.Common.{◌≡◌, ℕ, zero, suc, ◌+◌, ◌-◌, ◌<�
 use Rattle.std.specs.Prelude.{replicate}
 use Rattle.std.proofs.Math.ListN.{length-set}
 use Rattle.std.proofs.lemmas.Bool.{cases_eq, cases_lt}
-use Rattle.std.proofs.lemmas.List.{length_push, get_or_push, get_or_append_left}
+use Rattle.std.proofs.lemmas.List.{length-replicate, length_push, get_or_push, get_or_append_left}
 use Rattle.ips_refute.specs.declared.nogoods.Pair.{Pair}
 use Rattle.ips_refute.specs.Meaning.{Meaning, Lawful, IsBeginning, BreaksNone, pairs}
 use Rattle.ips_search.specs.declared.chains.Chains.{Chains}
@@ -22,7 +22,7 @@ no_tests m s c e = record { within = omega arith; ends = λ lt. absurd (omega ar
 
 pub nothing_put : (m : Meaning) (tests : Chains) (stems : ℕ) → stems ≡ m.stems → tests.heads.items ≡ replicate stems 0 → tests.links.items ≡ [] → IsIndexedTo m 0 tests
 nothing_put m tests stems n e f = record {
-  stems = ap length e ∙ length-replicate stems ∙ n;
+  stems = ap length e ∙ length-replicate stems 0 ∙ n;
   counted = ap length f;
   heads = λ s lt. no_tests m s (slice_index tests.heads.items s) (ap (λ l. slice_index l s) e ∙ zero_of stems s);
   links = λ t lt. absurd (omega arith);
@@ -33,8 +33,9 @@ one_more m s n c h other = record {
   within = omega (arith, h.within);
   ends = h.ends;
   none = λ t a b e. elim (cases_lt t n) [
-      inl lt ↦ h.none t a lt e
-    | inr ge ↦ let at : t ≡ n = omega arith in other (ap m.last (sym at) ∙ e) ];
+    | inl lt ↦ h.none t a lt e
+    | inr ge ↦ let at : t ≡ n = omega arith in other (ap m.last (sym at) ∙ e)
+  ];
 }
 
 this_one : (m : Meaning) (s n c : ℕ) → m.last n ≡ s → c ≡ n + 1 → IsCursor m s (n + 1) c
@@ -52,21 +53,23 @@ put_one m t before after known h put =
       stems = ap length put.heads ∙ length-set hs s0 (length ls + 1) ∙ h.stems;
       counted = ap length put.links ∙ length_push ls (slice_index hs s0) ∙ ap (λ n. n + 1) h.counted;
       heads = λ s lt. elim (cases_eq s s0) [
-          inl same ↦
+        | inl same ↦
             let at : slice_index after.heads.items s ≡ t + 1 =
-                ap (λ l. slice_index l s) put.heads ∙ ap (slice_index (slice_set hs s0 (length ls + 1))) same ∙ get_or-set_same hs s0 (length ls + 1) 0 in_heads ∙ ap (λ n. n + 1) h.counted in
+            ap (λ l. slice_index l s) put.heads ∙ ap (slice_index (slice_set hs s0 (length ls + 1))) same ∙ get_or-set_same hs s0 (length ls + 1) 0 in_heads ∙ ap (λ n. n + 1) h.counted in
             this_one m s t (slice_index after.heads.items s) (sym same) at
         | inr other ↦
             let at : slice_index after.heads.items s ≡ slice_index hs s = ap (λ l. slice_index l s) put.heads ∙ get_or-set_other hs s0 s (length ls + 1) 0 other in
-            subst (λ c. IsCursor m s (t + 1) c) (sym at) (one_more m s t (slice_index hs s) (h.heads s lt) (λ e. other (sym e))) ];
+            subst (λ c. IsCursor m s (t + 1) c) (sym at) (one_more m s t (slice_index hs s) (h.heads s lt) (λ e. other (sym e)))
+      ];
       links = λ u lt. elim (cases_lt u t) [
-          inl old ↦
+        | inl old ↦
             let at : slice_index after.links.items u ≡ slice_index ls u = ap (λ l. slice_index l u) put.links ∙ get_or_append_left ls (slice_index hs s0 ∷ []) 0 u (omega (arith, h.counted)) in
             subst (λ c. IsCursor m (m.last u) u c) (sym at) (h.links u old)
         | inr ge ↦
             let here : u ≡ t = omega arith in
             let at : slice_index after.links.items u ≡ slice_index hs s0 = ap (λ l. slice_index l u) put.links ∙ get_or_push ls (slice_index hs s0) 0 u (omega (arith, h.counted)) in
-            subst (λ c. IsCursor m (m.last u) u c) (sym at) (subst (λ n. IsCursor m (m.last n) n (slice_index hs s0)) (sym here) (h.heads s0 known)) ];
+            subst (λ c. IsCursor m (m.last u) u c) (sym at) (subst (λ n. IsCursor m (m.last n) n (slice_index hs s0)) (sym here) (h.heads s0 known))
+      ];
     }
 
 pub indexed_all : (m : Meaning) (n : ℕ) (tests : Chains) → n ≡ m.tests → IsIndexedTo m n tests → IsIndexed m tests
@@ -90,10 +93,12 @@ passed_one m more chosen cursor next some h whole c =
       within = omega (arith, c.within, h.within);
       ends = λ lt. c.ends lt ∙ at;
       passed = λ t a b e. elim (cases_lt t (cursor - 1)) [
-          inl lt ↦ absurd (c.none t a lt (e ∙ sym at))
+        | inl lt ↦ absurd (c.none t a lt (e ∙ sym at))
         | inr ge ↦ elim (cases_eq t (cursor - 1)) [
-              inl same ↦ subst (λ k. m.breaks k (more ∷ chosen) ≡ false) (sym same) whole
-            | inr other ↦ h.passed t (omega arith) b e ] ];
+          | inl same ↦ subst (λ k. m.breaks k (more ∷ chosen) ≡ false) (sym same) whole
+          | inr other ↦ h.passed t (omega arith) b e
+        ]
+      ];
     }
 
 pub passed_all : (m : Meaning) → Lawful m → (p : List ℕ) (more : Pair) (chosen : List Pair) (cursor : ℕ) → IsBeginning m p → chosen ≡ pairs p → more.stem ≡ length p → cursor ≤ 0 → HasPassed m more chosen cursor → BreaksNone m (pairs (p ++ more.candidate ∷ []))

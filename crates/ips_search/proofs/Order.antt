@@ -41,8 +41,9 @@ NotLater-down (a ∷ p) (b ∷ w) (inr (e, h)) = inr (e, NotLater-down p w h)
 pub NotLater-next : (p : List ℕ) (c : ℕ) (w : List ℕ) → NotLater (p ++ c ∷ []) w → NotLater (p ++ (c + 1) ∷ []) w ⊎ Begins (p ++ c ∷ []) w
 NotLater-next [] c [] h = inl tt
 NotLater-next [] c (b ∷ w) (inl lt) = elim (cases_order (c + 1) b) [
-    inl e ↦ inl (inr (e, tt))
-  | inr o ↦ elim o [ inl l ↦ inl (inl l) | inr g ↦ absurd (omega arith) ] ]
+  | inl e ↦ inl (inr (e, tt))
+  | inr o ↦ elim o [ inl l ↦ inl (inl l) | inr g ↦ absurd (omega arith) ]
+]
 NotLater-next [] c (b ∷ w) (inr (e, h)) = inr (e, tt)
 NotLater-next (a ∷ p) c [] h = inl tt
 NotLater-next (a ∷ p) c (b ∷ w) (inl lt) = inl (inl lt)
@@ -65,7 +66,7 @@ Within-begins p w h k d l =
     let lp : k < length p = omega (arith, length-pairs 0 p) in
     let lw : k < length w = omega (arith, Begins-length p w h) in
     let at : get_or (pairs p) k d ≡ get_or (pairs w) k d =
-        get_or-pairs 0 p k d lp ∙ ap (λ c. pair (0 + k) c) (Begins-at p w h k lp) ∙ sym (get_or-pairs 0 w k d lw) in
+    get_or-pairs 0 p k d lp ∙ ap (λ c. pair (0 + k) c) (Begins-at p w h k lp) ∙ sym (get_or-pairs 0 w k d lw) in
     (k, omega (arith, length-pairs 0 w), ap (λ (q : Pair). get_or (pairs w) k q) refl ∙ get_or-pairs 0 w k _ lw ∙ sym (get_or-pairs 0 w k d lw) ∙ sym at)
 
 pub Begins-take : (i : ℕ) (p : List ℕ) → Begins (take i p) p

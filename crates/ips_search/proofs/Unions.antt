@@ -58,8 +58,9 @@ before_all q (x ∷ set) b up = record {
   up = up;
   inside = λ p h. h;
   above = λ p h. elim (contains_more p x set h) [
-      inl e ↦ let es = ap (λ (y : Pair). y.stem) e in omega (arith, b, es)
-    | inr r ↦ let lt = above_front x set up p r in omega (arith, b, lt) ];
+    | inl e ↦ let es = ap (λ (y : Pair). y.stem) e in omega (arith, b, es)
+    | inr r ↦ let lt = above_front x set up p r in omega (arith, b, lt)
+  ];
   left_over = λ p h. inr h;
 }
 
@@ -71,12 +72,14 @@ one_of_stem whole p q up (i, li, ei) (j, lj, ej) e =
     let pi = ap (λ (x : Pair). x.stem) ei in
     let qj = ap (λ (x : Pair). x.stem) ej in
     elim (cases_lt i j) [
-      inl lt ↦ absurd (let h = up i j p lt lj in let d = ap (λ (x : Pair). x.stem) (other_default whole j p q lj) in omega (arith, h, pi, qj, e, d))
-    | inr ge ↦ elim (cases_lt j i) [
-          inl lt ↦ absurd (let h = up j i q lt li in let d = ap (λ (x : Pair). x.stem) (other_default whole i q p li) in omega (arith, h, pi, qj, e, d))
+      | inl lt ↦ absurd (let h = up i j p lt lj in let d = ap (λ (x : Pair). x.stem) (other_default whole j p q lj) in omega (arith, h, pi, qj, e, d))
+      | inr ge ↦ elim (cases_lt j i) [
+        | inl lt ↦ absurd (let h = up j i q lt li in let d = ap (λ (x : Pair). x.stem) (other_default whole i q p li) in omega (arith, h, pi, qj, e, d))
         | inr le ↦
             let same : i ≡ j = omega arith in
-            sym ei ∙ ap (λ k. get_or whole k p) same ∙ other_default whole j p q lj ∙ ej ] ]
+            sym ei ∙ ap (λ k. get_or whole k p) same ∙ other_default whole j p q lj ∙ ej
+      ]
+    ]
 
 push_pair : (whole first second left right set : List Pair) (q : Pair) (more rest : List Pair) → Merging whole first second left right set → Contains whole q → ((p : Pair) → Contains set p → p.stem < q.stem)
     → Advances q left more → Advances q right rest → Merging whole first second more rest (set ++ q ∷ [])
@@ -91,17 +94,21 @@ push_pair whole first second left right set q more rest h in_whole above a b =
       right_in = λ p c. h.right_in p (b.inside p c);
       set_in = λ p c. elim (Contains-push_cases set q p c) [ inl s ↦ h.set_in p s | inr e ↦ subst (λ (x : Pair). Contains whole x) e in_whole ];
       left_above = λ p x c d. elim (Contains-push_cases set q x d) [
-          inl s ↦ h.left_above p x (a.inside p c) s
-        | inr e ↦ let lt = a.above p c in let es = ap (λ (y : Pair). y.stem) e in omega (arith, lt, es) ];
+        | inl s ↦ h.left_above p x (a.inside p c) s
+        | inr e ↦ let lt = a.above p c in let es = ap (λ (y : Pair). y.stem) e in omega (arith, lt, es)
+      ];
       right_above = λ p x c d. elim (Contains-push_cases set q x d) [
-          inl s ↦ h.right_above p x (b.inside p c) s
-        | inr e ↦ let lt = b.above p c in let es = ap (λ (y : Pair). y.stem) e in omega (arith, lt, es) ];
+        | inl s ↦ h.right_above p x (b.inside p c) s
+        | inr e ↦ let lt = b.above p c in let es = ap (λ (y : Pair). y.stem) e in omega (arith, lt, es)
+      ];
       first_done = λ p c. elim (h.first_done p c) [
-          inl s ↦ inl (pushed p s)
-        | inr l ↦ elim (a.left_over p l) [ inl e ↦ inl (taken p e) | inr m ↦ inr m ] ];
+        | inl s ↦ inl (pushed p s)
+        | inr l ↦ elim (a.left_over p l) [ inl e ↦ inl (taken p e) | inr m ↦ inr m ]
+      ];
       second_done = λ p c. elim (h.second_done p c) [
-          inl s ↦ inl (pushed p s)
-        | inr r ↦ elim (b.left_over p r) [ inl e ↦ inl (taken p e) | inr m ↦ inr m ] ];
+        | inl s ↦ inl (pushed p s)
+        | inr r ↦ elim (b.left_over p r) [ inl e ↦ inl (taken p e) | inr m ↦ inr m ]
+      ];
     }
 
 front_in : (q : Pair) (more : List Pair) → Contains (q ∷ more) q
@@ -127,18 +134,18 @@ pub merge_least : (whole first second left right set : List Pair) (q : Pair) (mo
 merge_least whole first second left right set q more rest up h (inl (e, f, b)) =
     let g = subst (λ (l : List Pair). Merging whole first second l right set) e h in
     push_pair whole first second (q ∷ more) right set q more rest g (g.left_in q (front_in q more)) (λ p c. g.left_above q p (front_in q more) c)
-        (behind_front q more g.left_up) (subst (λ (l : List Pair). Advances q right l) f (before_all q right b g.right_up))
+    (behind_front q more g.left_up) (subst (λ (l : List Pair). Advances q right l) f (before_all q right b g.right_up))
 merge_least whole first second left right set q more rest up h (inr (inl (e, f, b))) =
     let g = subst (λ (l : List Pair). Merging whole first second left l set) e h in
     push_pair whole first second left (q ∷ rest) set q more rest g (g.right_in q (front_in q rest)) (λ p c. g.right_above q p (front_in q rest) c)
-        (subst (λ (l : List Pair). Advances q left l) f (before_all q left b g.left_up)) (behind_front q rest g.right_up)
+    (subst (λ (l : List Pair). Advances q left l) f (before_all q left b g.left_up)) (behind_front q rest g.right_up)
 merge_least whole first second left right set q more rest up h (inr (inr both)) =
     let g1 = subst (λ (l : List Pair). Merging whole first second l right set) both.first h in
     let g = subst (λ (l : List Pair). Merging whole first second (q ∷ more) l set) both.second g1 in
     let same : both.other ≡ q = one_of_stem whole both.other q up (g.right_in both.other (front_in both.other rest)) (g.left_in q (front_in q more)) both.stem in
     let k = subst (λ (x : Pair). Merging whole first second (q ∷ more) (x ∷ rest) set) same g in
     push_pair whole first second (q ∷ more) (q ∷ rest) set q more rest k (k.left_in q (front_in q more)) (λ p c. k.left_above q p (front_in q more) c)
-        (behind_front q more k.left_up) (behind_front q rest k.right_up)
+    (behind_front q more k.left_up) (behind_front q rest k.right_up)
 
 pub merge_all : (whole first second left right set : List Pair) → left ≡ [] → right ≡ [] → Merging whole first second left right set → IsUnion whole first second set
 merge_all whole first second left right set e f h =
@@ -148,3 +155,8 @@ merge_all whole first second left right set e f h =
       inside = all_within set whole h.set_in;
       ascends = h.set_up;
     }
+
+pub least_shorter : (left right : List Pair) (q : Pair) (more rest : List Pair) → IsLeast left right q more rest → length more + length rest < length left + length right
+least_shorter left right q more rest (inl (e, f, b)) = omega (arith, ap length e, ap length f)
+least_shorter left right q more rest (inr (inl (e, f, b))) = omega (arith, ap length e, ap length f)
+least_shorter left right q more rest (inr (inr both)) = omega (arith, ap length both.first, ap length both.second)

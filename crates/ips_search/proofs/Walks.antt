@@ -106,30 +106,32 @@ pub ExplainsEach-wider : (m : Meaning) → Lawful m → (ns : List Nogood) (p : 
 ExplainsEach-wider m law ns p set other rs a b w v h c r e =
     let x = pair (length p) c in
     Explains-wider m law ns (x ∷ set) (x ∷ other) r
-        (one_with_top p c set (Within-trans set other (pairs p) w v) a) (one_with_top p c other v b)
-        (Within-cons x set (x ∷ other) (0, omega arith, refl) (Within-trans set other (x ∷ other) w (Within-behind x other)))
-        (h c r e)
+    (one_with_top p c set (Within-trans set other (pairs p) w v) a) (one_with_top p c other v b)
+    (Within-cons x set (x ∷ other) (0, omega arith, refl) (Within-trans set other (x ∷ other) w (Within-behind x other)))
+    (h c r e)
 
 pub ExplainsEach-push : (m : Meaning) (ns : List Nogood) (set : List Pair) (stem : ℕ) (rs : List Reason) (r : Reason) → ExplainsEach m ns set stem rs → Explains m ns (pair stem (length rs) ∷ set) r → ExplainsEach m ns set stem (rs ++ r ∷ [])
 ExplainsEach-push m ns set stem rs r h new c x e = elim (slice_get-push rs r c x e) [
-    inl old ↦ h c x old
+  | inl old ↦ h c x old
   | inr (at, same) ↦
       let P : Reason → Type 0 = λ y. Explains m ns (pair stem c ∷ set) y in
-      subst P (sym same) (subst (λ (n : ℕ). Explains m ns (pair stem n ∷ set) r) (sym at) new) ]
+      subst P (sym same) (subst (λ (n : ℕ). Explains m ns (pair stem n ∷ set) r) (sym at) new)
+]
 
 pub ExplainsEach-later : (m : Meaning) (ns : List Nogood) (g : Nogood) (set : List Pair) (stem : ℕ) (rs : List Reason) → ExplainsEach m ns set stem rs → ExplainsEach m (ns ++ g ∷ []) set stem rs
 ExplainsEach-later m ns g set stem rs h c r e = Explains-later m ns g (pair stem c ∷ set) r (h c r e)
 
 pub AreNogoods-push : (m : Meaning) (ns : List Nogood) (g : Nogood) → AreNogoods m ns → IsNogood m ns g → AreNogoods m (ns ++ g ∷ [])
 AreNogoods-push m ns g h new i x e = elim (slice_get-push ns g i x e) [
-    inl old ↦
+  | inl old ↦
       let lt : i ≤ length ns = omega (arith, slice_get_within ns i x old) in
       let P : List Nogood → Type 0 = λ l. IsNogood m l x in
       subst P (sym (take-append-le i ns (g ∷ []) lt)) (h i x old)
   | inr (at, same) ↦
       let P : List Nogood → Nogood → Type 0 = λ l y. IsNogood m l y in
       let one : IsNogood m ns x = subst (λ (y : Nogood). IsNogood m ns y) (sym same) new in
-      subst (λ (l : List Nogood). IsNogood m l x) (sym (take_at ns (g ∷ []) i (sym at))) one ]
+      subst (λ (l : List Nogood). IsNogood m l x) (sym (take_at ns (g ∷ []) i (sym at))) one
+]
 
 pub IsLevel-later : (m : Meaning) (ns : List Nogood) (g : Nogood) (p : List ℕ) (level : Level) → IsLevel m ns p level → IsLevel m (ns ++ g ∷ []) p level
 IsLevel-later m ns g p level h = record { within = h.within; ascends = h.ascends; explained = ExplainsEach-later m ns g level.set.items (length p) level.reasons.items h.explained }
@@ -146,9 +148,9 @@ IsBeginning-take m law p i h good =
     record {
       fits = omega (arith, good.fits, len);
       offered = λ j l.
-        let lt : j < i = omega (arith, len) in
-        let e : slice_index (take i p) j ≡ slice_index p j = get_or-take i p j 0 lt in
-        subst (λ (c : ℕ). c < m.candidates j) (sym e) (good.offered j (omega arith));
+          let lt : j < i = omega (arith, len) in
+          let e : slice_index (take i p) j ≡ slice_index p j = get_or-take i p j 0 lt in
+          subst (λ (c : ℕ). c < m.candidates j) (sym e) (good.offered j (omega arith));
       holds = BreaksNone-part m law (take i p) p (Within-begins (take i p) p (Begins-take i p)) good.holds;
     }
 
@@ -157,10 +159,11 @@ IsBeginning-push m p c good room offered holds =
     record {
       fits = omega (arith, length_push p c);
       offered = λ i l. elim (cases_lt i (length p)) [
-          inl lt ↦ subst (λ (x : ℕ). x < m.candidates i) (sym (get_or_append_left p (c ∷ []) 0 i lt)) (good.offered i lt)
+        | inl lt ↦ subst (λ (x : ℕ). x < m.candidates i) (sym (get_or_append_left p (c ∷ []) 0 i lt)) (good.offered i lt)
         | inr ge ↦
             let e : i ≡ length p = omega (arith, length_push p c) in
-            subst (λ (x : ℕ). x < m.candidates i) (sym (get_or_push p c 0 i (sym e))) (subst (λ (n : ℕ). c < m.candidates n) (sym e) offered) ];
+            subst (λ (x : ℕ). x < m.candidates i) (sym (get_or_push p c 0 i (sym e))) (subst (λ (n : ℕ). c < m.candidates n) (sym e) offered)
+      ];
       holds = holds;
     }
 
@@ -173,16 +176,18 @@ BreaksNone-push m law p c before new t lt = false_from_ne_true (m.breaks t (pair
     let inside = from_pairs (p ++ c ∷ []) q has in
     let bound : m.last t ≤ length p = omega (arith, inside.0, at, length_push p c) in
     elim (cases_eq (m.last t) (length p)) [
-      inl same ↦ both_ways _ (new t lt same)
-        (law.keeps t (pairs (p ++ c ∷ [])) (pair (length p) c ∷ pairs p) lt one (one_with_top p c (pairs p) (Within-self (pairs p)) (Ascends-pairs p)) e
-            (λ k d l _. elim (from_new p c (get_or (pairs (p ++ c ∷ [])) k d) (k, l, get_or-same (pairs (p ++ c ∷ [])) k d l)) [
-                inl (j, lj, ej) ↦ (suc j, omega arith, ej)
-              | inr is ↦ (0, omega arith, is) ]))
-    | inr other ↦ both_ways _ (before t lt)
-        (law.keeps t (pairs (p ++ c ∷ [])) (pairs p) lt one (OnePerStem-pairs p) e
-            (λ k d l le. elim (from_new p c (get_or (pairs (p ++ c ∷ [])) k d) (k, l, get_or-same (pairs (p ++ c ∷ [])) k d l)) [
-                inl old ↦ old
-              | inr is ↦ absurd (let es = ap (λ (x : Pair). x.stem) is in omega (arith, es, le, bound, other)) ]))
+      | inl same ↦ both_ways _ (new t lt same)
+          (law.keeps t (pairs (p ++ c ∷ [])) (pair (length p) c ∷ pairs p) lt one (one_with_top p c (pairs p) (Within-self (pairs p)) (Ascends-pairs p)) e
+          (λ k d l _. elim (from_new p c (get_or (pairs (p ++ c ∷ [])) k d) (k, l, get_or-same (pairs (p ++ c ∷ [])) k d l)) [
+            | inl (j, lj, ej) ↦ (suc j, omega arith, ej)
+            | inr is ↦ (0, omega arith, is)
+          ]))
+      | inr other ↦ both_ways _ (before t lt)
+          (law.keeps t (pairs (p ++ c ∷ [])) (pairs p) lt one (OnePerStem-pairs p) e
+          (λ k d l le. elim (from_new p c (get_or (pairs (p ++ c ∷ [])) k d) (k, l, get_or-same (pairs (p ++ c ∷ [])) k d l)) [
+            | inl old ↦ old
+            | inr is ↦ absurd (let es = ap (λ (x : Pair). x.stem) is in omega (arith, es, le, bound, other))
+          ]))
     ])
 
 pub passes : (m : Meaning) (best : Option (List ℕ)) (p : List ℕ) → IsBeginning m p → IsBest m best → ((w : List ℕ) → Solves m w → NotLater p w) → Passes m best p
@@ -192,19 +197,21 @@ passes m (Some w) p good is ahead = ap (λ z. z || is_late (Some w) p) (breaks_n
 pub opens : (m : Meaning) → Lawful m → (best : Option (List ℕ)) (p : List ℕ) → IsBeginning m p → IsBest m best → ((w : List ℕ) → Solves m w → NotLater p w) → IsOpen m best [] p
 opens m law best p good is ahead j h =
     let before : (w : List ℕ) → Solves m w → NotLater (take j p) w = λ w s.
-        NotLater-prefix (take j p) (drop j p) w (subst (λ (x : List ℕ). NotLater x w) (sym (take-append-drop j p)) (ahead w s)) in
-    (passes m best (take j p) (IsBeginning-take m law p j (omega arith) good) is before,
-     subst (λ (n : ℕ). slice_index p j < m.candidates n) (sym (length-take-le j p (omega arith))) (good.offered j h))
+    NotLater-prefix (take j p) (drop j p) w (subst (λ (x : List ℕ). NotLater x w) (sym (take-append-drop j p)) (ahead w s)) in (
+      passes m best (take j p) (IsBeginning-take m law p j (omega arith) good) is before,
+      subst (λ (n : ℕ). slice_index p j < m.candidates n) (sym (length-take-le j p (omega arith))) (good.offered j h),
+    )
 
 -- behind a candidate that fails
 pub ahead-next : (m : Meaning) → Lawful m → (ns : List Nogood) (p : List ℕ) (c : ℕ) (set : List Pair) (r : Reason) → AreNogoods m ns → Within set (pairs p) → Ascends set → Explains m ns (pair (length p) c ∷ set) r
     → ((w : List ℕ) → Solves m w → NotLater (p ++ c ∷ []) w) → (w : List ℕ) → Solves m w → NotLater (p ++ (c + 1) ∷ []) w
 ahead-next m law ns p c set r ok within ascends why ahead w solves = elim (NotLater-next p c w (ahead w solves)) [
-    inl next ↦ next
+  | inl next ↦ next
   | inr begins ↦ absurd (no_explanation m law ns w solves ok (pair (length p) c ∷ set) r
-        (one_with_top p c set within ascends)
-        (Within-trans (pair (length p) c ∷ set) (pairs (p ++ c ∷ [])) (pairs w) (Within-push p c set within) (Within-begins (p ++ c ∷ []) w begins))
-        why) ]
+      (one_with_top p c set within ascends)
+      (Within-trans (pair (length p) c ∷ set) (pairs (p ++ c ∷ [])) (pairs w) (Within-push p c set within) (Within-begins (p ++ c ∷ []) w begins))
+      why)
+]
 
 -- ---- the test of a candidate
 
@@ -223,9 +230,9 @@ pub none_fails : (m : Meaning) → Lawful m → (p : List ℕ) (more : Pair) (wh
     → ((t : ℕ) → t < n → m.last t ≡ more.stem → m.breaks t (more ∷ whole) ≡ false) → BreaksNone m (pairs (p ++ more.candidate ∷ []))
 none_fails m law p more whole n good e at all h =
     BreaksNone-push m law p more.candidate good.holds (λ t lt last.
-        let P : List Pair → Type 0 = λ s. m.breaks t (pair (length p) more.candidate ∷ s) ≡ false in
-        let Q : ℕ → Type 0 = λ k. m.breaks t (pair k more.candidate ∷ whole) ≡ false in
-        subst P e (subst Q at (h t (omega arith) (last ∙ sym at))))
+    let P : List Pair → Type 0 = λ s. m.breaks t (pair (length p) more.candidate ∷ s) ≡ false in
+    let Q : ℕ → Type 0 = λ k. m.breaks t (pair k more.candidate ∷ whole) ≡ false in
+    subst P e (subst Q at (h t (omega arith) (last ∙ sym at))))
 
 pub whole_core : (m : Meaning) (ns : List Nogood) (whole : List Pair) (more : Pair) (test : ℕ) (core : List Pair) → core ≡ whole → test < m.tests → Ascends whole → m.breaks test (more ∷ whole) ≡ true → IsCore m ns whole more (Test test) core
 whole_core m ns whole more test core e lt a b =
@@ -252,6 +259,9 @@ Within-of a a' b b' x y h = subst (λ (s : List Pair). Within a' s) y (subst (λ
 pub Ascends-of : (p : List ℕ) (whole : List Pair) → whole ≡ pairs p → Ascends whole
 Ascends-of p whole e = subst (λ (s : List Pair). Ascends s) (sym e) (Ascends-pairs p)
 
+pub Ascends-as : (a b : List Pair) → a ≡ b → Ascends a → Ascends b
+Ascends-as a b e h = subst (λ (s : List Pair). Ascends s) e h
+
 -- the state with one more candidate that fails
 pub rejected : (m : Meaning) → Lawful m → (s : State) (level : Level) (r : Reason) → IsSearching m s → length s.choice.items < m.stems → length s.top.reasons.items < m.candidates (length s.choice.items)
     → level.reasons.items ≡ s.top.reasons.items ++ r ∷ [] → Within s.top.set.items level.set.items → Within level.set.items s.pairs.items → Ascends level.set.items
@@ -263,7 +273,7 @@ rejected m law s level r h room lt e wider inside ascends why =
     let within : Within level.set.items (pairs p) = subst (λ (x : List Pair). Within level.set.items x) h.paired inside in
     let len : length level.reasons.items ≡ length s.top.reasons.items + 1 = ap length e ∙ length_push s.top.reasons.items r in
     let each = ExplainsEach-push m ns level.set.items (length p) s.top.reasons.items r
-        (ExplainsEach-wider m law ns p s.top.set.items level.set.items s.top.reasons.items h.top.ascends ascends wider within h.top.explained) why in
+    (ExplainsEach-wider m law ns p s.top.set.items level.set.items s.top.reasons.items h.top.ascends ascends wider within h.top.explained) why in
     record {
       paired = h.paired;
       begun = h.begun;
@@ -283,9 +293,9 @@ rejected_counts m s level r n room e h =
     let len : length level.reasons.items ≡ length s.top.reasons.items + 1 = ap length e ∙ length_push s.top.reasons.items r in
     record {
       counted = λ best is.
-        let more = passed-next m best m.stems s.choice.items (length s.top.reasons.items) room in
-        let old = h.counted best is in
-        subst (λ (k : ℕ). n ≤ passed m best m.stems [] (s.choice.items ++ k ∷ [])) (sym len) (omega (arith, more, old));
+          let more = passed-next m best m.stems s.choice.items (length s.top.reasons.items) room in
+          let old = h.counted best is in
+          subst (λ (k : ℕ). n ≤ passed m best m.stems [] (s.choice.items ++ k ∷ [])) (sym len) (omega (arith, more, old));
       deep = h.deep;
     }
 
@@ -298,9 +308,9 @@ reject_all m law s level r core h room lt ok union e =
     let core_in : Within core (pairs p) = subst (λ (x : List Pair). Within core x) h.paired ok.inside in
     let x = next_pair s in
     let why = Explains-wider m law s.nogoods.items (x ∷ core) (x ∷ level.set.items) r
-        (one_with_top p (length s.top.reasons.items) core core_in ok.ascends) (one_with_top p (length s.top.reasons.items) level.set.items within union.ascends)
-        (Within-cons x core (x ∷ level.set.items) (0, omega arith, refl) (Within-trans core level.set.items (x ∷ level.set.items) union.has_second (Within-behind x level.set.items)))
-        ok.explained in
+    (one_with_top p (length s.top.reasons.items) core core_in ok.ascends) (one_with_top p (length s.top.reasons.items) level.set.items within union.ascends)
+    (Within-cons x core (x ∷ level.set.items) (0, omega arith, refl) (Within-trans core level.set.items (x ∷ level.set.items) union.has_second (Within-behind x level.set.items)))
+    ok.explained in
     record {
       searching = rejected m law s level r h room lt e union.has_first union.inside union.ascends why;
       same = refl;
@@ -312,7 +322,10 @@ pub settled_found : (m : Meaning) (s0 s : State) (c : ℕ) → IsSearching m s �
     → BreaksNone m (pairs (s.choice.items ++ c ∷ [])) → Settled m s0 s true
 settled_found m s0 s c h same keeps room at lt none =
     record {
-      searching = h; same = same; keeps = keeps; room = room;
+      searching = h;
+      same = same;
+      keeps = keeps;
+      room = room;
       begins = λ _. subst (λ (k : ℕ). IsBeginning m (s.choice.items ++ k ∷ [])) (sym at) (IsBeginning-push m s.choice.items c h.begun room lt none);
       ends = λ e. absurd (both_ways true e refl);
     }
@@ -341,7 +354,7 @@ advanced m s choice chosen levels top h room begins e1 e2 e3 e4 e5 =
         sorted = h.sorted;
         as_deep = omega (arith, len1, len3, h.as_deep);
         levels = λ i level g. elim (slice_get-push s.levels.items s.top i level (subst (λ (x : List Level). slice_get x i ≡ Some level) e3 g)) [
-            inl old ↦
+          | inl old ↦
               let lt : i < length p = omega (arith, slice_get_within s.levels.items i level old, h.as_deep) in
               let r = h.levels i level old in
               let t : take i choice.items ≡ take i p = ap (take i) e1 ∙ take-append-le i p (c ∷ []) (omega arith) in
@@ -352,21 +365,23 @@ advanced m s choice chosen levels top h room begins e1 e2 e3 e4 e5 =
               let t : take i choice.items ≡ p = ap (take i) e1 ∙ take_at p (c ∷ []) i n in
               let x : slice_index choice.items i ≡ c = ap (λ l. slice_index l i) e1 ∙ get_or_push p c 0 i n in
               let one : IsLevel m ns p level = subst (λ (l : Level). IsLevel m ns p l) (sym same) h.top in
-              (subst (λ (l : List ℕ). IsLevel m ns l level) (sym t) one, ap (λ (l : Level). length l.reasons.items) same ∙ sym x) ];
+              (subst (λ (l : List ℕ). IsLevel m ns l level) (sym t) one, ap (λ (l : Level). length l.reasons.items) same ∙ sym x)
+        ];
         top = record {
           within = subst (λ (x : List Pair). Within top.set.items x) paired e4.0;
           ascends = e4.1;
-          explained = λ k r e. absurd (none-some r (subst (λ (x : List Reason). slice_get x k ≡ Some r) e5 e)) };
+          explained = λ k r e. absurd (none-some r (subst (λ (x : List Reason). slice_get x k ≡ Some r) e5 e));
+        };
         tried = λ _. omega (arith, len5);
         ahead = λ w solves. subst (λ (l : List ℕ). NotLater l w) (sym at) (NotLater-down q w (h.ahead w solves));
       };
       counts = λ n k. record {
         counted = λ best is.
-          let old = k.counted best is in
-          let down = passed-down m best m.stems q (omega (arith, length_push p c)) in
-          let one = own-push p c in
-          let le : n + 1 ≤ passed m best m.stems [] (q ++ 0 ∷ []) = omega (arith, old, down, one) in
-          subst (λ (l : List ℕ). n + 1 ≤ passed m best m.stems [] l) (sym at) le;
+            let old = k.counted best is in
+            let down = passed-down m best m.stems q (omega (arith, length_push p c)) in
+            let one = own-push p c in
+            let le : n + 1 ≤ passed m best m.stems [] (q ++ 0 ∷ []) = omega (arith, old, down, one) in
+            subst (λ (l : List ℕ). n + 1 ≤ passed m best m.stems [] l) (sym at) le;
         deep = omega (arith, len1, k.deep);
       };
     }
@@ -391,29 +406,30 @@ pairs-take j p = pairs_from-take 0 j p
 
 -- a set that ends in a pair: the rest lies before its stem
 pub before_last : (p : List ℕ) (rest : List Pair) (y : Pair) → Within (rest ++ y ∷ []) (pairs p) → Ascends (rest ++ y ∷ []) → Within rest (pairs (take y.stem p)) × Ascends rest
-before_last p rest y w a =
-    ( (λ k d h.
-        let q = get_or rest k d in
-        let all : length (rest ++ y ∷ []) ≡ length rest + 1 = length_push rest y in
-        let e : get_or (rest ++ y ∷ []) k d ≡ q = get_or_append_left rest (y ∷ []) d k h in
-        let l : get_or (rest ++ y ∷ []) (length rest) d ≡ y = get_or_push rest y d (length rest) refl in
-        let lt = a k (length rest) d h (omega arith) in
-        let es = ap (λ (x : Pair). x.stem) e in
-        let ls = ap (λ (x : Pair). x.stem) l in
-        let below : q.stem < y.stem = omega (arith, lt, es, ls) in
-        let in_p : Contains (pairs p) q = subst (λ (x : Pair). Contains (pairs p) x) e (w k d (omega arith)) in
-        let f = from_pairs p q in_p in
-        let last_in : Contains (pairs p) y = subst (λ (x : Pair). Contains (pairs p) x) l (w (length rest) d (omega arith)) in
-        let top = from_pairs p y last_in in
-        let len : length (take y.stem p) ≡ y.stem = length-take-le y.stem p (omega arith) in
-        let c : slice_index (take y.stem p) q.stem ≡ q.candidate = get_or-take y.stem p q.stem 0 below ∙ f.1 in
-        subst (λ (n : ℕ). Contains (pairs (take y.stem p)) (pair q.stem n)) c (Contains-pairs (take y.stem p) q.stem (omega arith)))
-    , (λ i j d l h.
-        let all : length (rest ++ y ∷ []) ≡ length rest + 1 = length_push rest y in
-        let ei = ap (λ (x : Pair). x.stem) (get_or_append_left rest (y ∷ []) d i (omega arith)) in
-        let ej = ap (λ (x : Pair). x.stem) (get_or_append_left rest (y ∷ []) d j h) in
-        let lt = a i j d l (omega arith) in
-        omega (arith, lt, ei, ej)) )
+before_last p rest y w a = (
+  (λ k d h.
+      let q = get_or rest k d in
+      let all : length (rest ++ y ∷ []) ≡ length rest + 1 = length_push rest y in
+      let e : get_or (rest ++ y ∷ []) k d ≡ q = get_or_append_left rest (y ∷ []) d k h in
+      let l : get_or (rest ++ y ∷ []) (length rest) d ≡ y = get_or_push rest y d (length rest) refl in
+      let lt = a k (length rest) d h (omega arith) in
+      let es = ap (λ (x : Pair). x.stem) e in
+      let ls = ap (λ (x : Pair). x.stem) l in
+      let below : q.stem < y.stem = omega (arith, lt, es, ls) in
+      let in_p : Contains (pairs p) q = subst (λ (x : Pair). Contains (pairs p) x) e (w k d (omega arith)) in
+      let f = from_pairs p q in_p in
+      let last_in : Contains (pairs p) y = subst (λ (x : Pair). Contains (pairs p) x) l (w (length rest) d (omega arith)) in
+      let top = from_pairs p y last_in in
+      let len : length (take y.stem p) ≡ y.stem = length-take-le y.stem p (omega arith) in
+      let c : slice_index (take y.stem p) q.stem ≡ q.candidate = get_or-take y.stem p q.stem 0 below ∙ f.1 in
+      subst (λ (n : ℕ). Contains (pairs (take y.stem p)) (pair q.stem n)) c (Contains-pairs (take y.stem p) q.stem (omega arith))),
+  (λ i j d l h.
+      let all : length (rest ++ y ∷ []) ≡ length rest + 1 = length_push rest y in
+      let ei = ap (λ (x : Pair). x.stem) (get_or_append_left rest (y ∷ []) d i (omega arith)) in
+      let ej = ap (λ (x : Pair). x.stem) (get_or_append_left rest (y ∷ []) d j h) in
+      let lt = a i j d l (omega arith) in
+      omega (arith, lt, ei, ej)),
+)
 
 pub top_is_nogood : (m : Meaning) (s : State) → IsSearching m s → length s.choice.items < m.stems → length s.top.reasons.items ≡ m.candidates (length s.choice.items) → IsNogood m s.nogoods.items (top_nogood s)
 top_is_nogood m s h room tried =
@@ -445,7 +461,7 @@ restored m law s t j h room tried lt r =
     let len_l : length (take j s.levels.items) ≡ j = length-take-le j s.levels.items (omega (arith, h.as_deep)) in
     let here = h.levels j t.top r.top in
     let kept : (q : List ℕ) (level : Level) → IsLevel m s.nogoods.items q level → IsLevel m t.nogoods.items q level = λ q level k.
-        subst (λ (l : List Nogood). IsLevel m l q level) (sym r.nogoods) (IsLevel-later m s.nogoods.items (top_nogood s) q level k) in
+    subst (λ (l : List Nogood). IsLevel m l q level) (sym r.nogoods) (IsLevel-later m s.nogoods.items (top_nogood s) q level k) in
     let split : p ≡ (take j p ++ slice_index p j ∷ []) ++ drop (j + 1) p = sym (take-append-drop (j + 1) p) ∙ ap (λ l. l ++ drop (j + 1) p) (take_more p j 0 lt) in
     record {
       paired = r.chosen ∙ ap (take j) h.paired ∙ sym (pairs-take j p) ∙ ap pairs (sym r.choice);
@@ -454,20 +470,20 @@ restored m law s t j h room tried lt r =
       sorted = subst (λ (l : List Nogood). All (λ g. Ascends g.set.items) l) (sym r.nogoods) (All-push (λ g. Ascends g.set.items) s.nogoods.items (top_nogood s) h.sorted h.top.ascends);
       as_deep = ap length r.levels ∙ len_l ∙ sym len_t;
       levels = λ i level e.
-        let f = slice_get-take j s.levels.items i level (subst (λ (l : List Level). slice_get l i ≡ Some level) r.levels e) in
-        let old = h.levels i level f.1 in
-        let ti : take i t.choice.items ≡ take i p = ap (take i) r.choice ∙ take-take i j p (omega (arith, f.0)) in
-        let xi : slice_index t.choice.items i ≡ slice_index p i = ap (λ l. slice_index l i) r.choice ∙ get_or-take j p i 0 f.0 in
-        (subst (λ (l : List ℕ). IsLevel m t.nogoods.items l level) (sym ti) (kept (take i p) level old.0), old.1 ∙ sym xi);
+          let f = slice_get-take j s.levels.items i level (subst (λ (l : List Level). slice_get l i ≡ Some level) r.levels e) in
+          let old = h.levels i level f.1 in
+          let ti : take i t.choice.items ≡ take i p = ap (take i) r.choice ∙ take-take i j p (omega (arith, f.0)) in
+          let xi : slice_index t.choice.items i ≡ slice_index p i = ap (λ l. slice_index l i) r.choice ∙ get_or-take j p i 0 f.0 in
+          (subst (λ (l : List ℕ). IsLevel m t.nogoods.items l level) (sym ti) (kept (take i p) level old.0), old.1 ∙ sym xi);
       top = subst (λ (l : List ℕ). IsLevel m t.nogoods.items l t.top) (sym r.choice) (kept (take j p) t.top here.0);
       tried = λ _.
-        let d : slice_index p j < m.candidates j = h.begun.offered j lt in
-        let same : m.candidates (length t.choice.items) ≡ m.candidates j = ap m.candidates len_t in
-        omega (arith, d, same, here.1);
+          let d : slice_index p j < m.candidates j = h.begun.offered j lt in
+          let same : m.candidates (length t.choice.items) ≡ m.candidates j = ap m.candidates len_t in
+          omega (arith, d, same, here.1);
       ahead = λ w solves.
-        let whole : NotLater ((take j p ++ slice_index p j ∷ []) ++ drop (j + 1) p) w = subst (λ (l : List ℕ). NotLater l w) split (NotLater-prefix p (length s.top.reasons.items ∷ []) w (h.ahead w solves)) in
-        let at : place t ≡ take j p ++ slice_index p j ∷ [] = ap (λ l. l ++ length t.top.reasons.items ∷ []) r.choice ∙ ap (λ n. take j p ++ n ∷ []) here.1 in
-        subst (λ (l : List ℕ). NotLater l w) (sym at) (NotLater-prefix (take j p ++ slice_index p j ∷ []) (drop (j + 1) p) w whole);
+          let whole : NotLater ((take j p ++ slice_index p j ∷ []) ++ drop (j + 1) p) w = subst (λ (l : List ℕ). NotLater l w) split (NotLater-prefix p (length s.top.reasons.items ∷ []) w (h.ahead w solves)) in
+          let at : place t ≡ take j p ++ slice_index p j ∷ [] = ap (λ l. l ++ length t.top.reasons.items ∷ []) r.choice ∙ ap (λ n. take j p ++ n ∷ []) here.1 in
+          subst (λ (l : List ℕ). NotLater l w) (sym at) (NotLater-prefix (take j p ++ slice_index p j ∷ []) (drop (j + 1) p) w whole);
     }
 
 -- the last pair of the set at the top, and the rest
@@ -528,16 +544,16 @@ back_counts m law s t u rest y h room tried at r rej n k =
     let ahead : (w : List ℕ) → Solves m w → NotLater p w = λ w solves. NotLater-prefix p (c ∷ []) w (h.ahead w solves) in
     record {
       counted = λ best is.
-        let old = k.counted best is in
-        let step : passed m best m.stems [] (whole ++ c ∷ []) ≤ passed m best m.stems [] (take j p ++ (d + 1) ∷ []) =
-            passed-back m best m.stems (take j p) d (drop (j + 1) p) c (omega (arith, room, ap length split))
-                (subst (λ (l : List ℕ). IsOpen m best [] l) split (opens m law best p h.begun is ahead))
-                (subst (λ (l : List ℕ). Passes m best l) split (passes m best p h.begun is ahead))
-                (omega (arith, tried, ap (λ l. m.candidates (length l)) split)) in
-        let from_p : passed m best m.stems [] (p ++ c ∷ []) ≤ passed m best m.stems [] (take j p ++ (d + 1) ∷ []) =
-            subst (λ (l : List ℕ). passed m best m.stems [] (l ++ c ∷ []) ≤ passed m best m.stems [] (take j p ++ (d + 1) ∷ [])) (sym split) step in
-        let le : n ≤ passed m best m.stems [] (take j p ++ (d + 1) ∷ []) = omega (arith, old, from_p) in
-        subst (λ (l : List ℕ). n ≤ passed m best m.stems [] l) (sym here) le;
+          let old = k.counted best is in
+          let step : passed m best m.stems [] (whole ++ c ∷ []) ≤ passed m best m.stems [] (take j p ++ (d + 1) ∷ []) =
+          passed-back m best m.stems (take j p) d (drop (j + 1) p) c (omega (arith, room, ap length split))
+          (subst (λ (l : List ℕ). IsOpen m best [] l) split (opens m law best p h.begun is ahead))
+          (subst (λ (l : List ℕ). Passes m best l) split (passes m best p h.begun is ahead))
+          (omega (arith, tried, ap (λ l. m.candidates (length l)) split)) in
+          let from_p : passed m best m.stems [] (p ++ c ∷ []) ≤ passed m best m.stems [] (take j p ++ (d + 1) ∷ []) =
+          subst (λ (l : List ℕ). passed m best m.stems [] (l ++ c ∷ []) ≤ passed m best m.stems [] (take j p ++ (d + 1) ∷ [])) (sym split) step in
+          let le : n ≤ passed m best m.stems [] (take j p ++ (d + 1) ∷ []) = omega (arith, old, from_p) in
+          subst (λ (l : List ℕ). n ≤ passed m best m.stems [] l) (sym here) le;
       deep = omega (arith, k.deep, ap length rej.same, e.0, at.in_choice);
     }
 
@@ -596,7 +612,8 @@ started m law s e1 e2 e3 e4 e5 e6 =
       top = record {
         within = λ k d l. absurd (let e = ap length e4 in omega (arith, l, e));
         ascends = λ i j d l n. absurd (let e = ap length e4 in omega (arith, n, e));
-        explained = λ k r e. absurd (none-some r (subst (λ (x : List Reason). slice_get x k ≡ Some r) e5 e)) };
+        explained = λ k r e. absurd (none-some r (subst (λ (x : List Reason). slice_get x k ≡ Some r) e5 e));
+      };
       tried = λ _. omega (arith, ap length e5);
       ahead = λ w solves. subst (λ (l : List ℕ). NotLater l w) (sym at) (NotLater-down [] w tt);
     }
@@ -632,3 +649,13 @@ judged_core m s more ns whole r core a b e h =
     let Q : List Pair → Type 0 = λ l. IsCore m s.nogoods.items l more r core in
     let R : Pair → Type 0 = λ q. IsCore m s.nogoods.items s.pairs.items q r core in
     subst R e (subst Q b (subst P a h))
+
+-- the set with which a stem is begun
+pub first_as : (m : Meaning) (s : State) (pushed seen set top : List Pair) → IsSearching m s → pushed ≡ s.pairs.items ++ next_pair s ∷ [] → seen ≡ pushed → top ≡ set → Within set seen × (Ascends seen → Ascends set) → Within top pushed × Ascends top
+first_as m s pushed seen set top h e f g (within, up) =
+    let paired : pushed ≡ pairs (place s) = e ∙ ap (λ l. l ++ next_pair s ∷ []) h.paired ∙ sym (pairs-push s.choice.items (length s.top.reasons.items)) in
+    let ascends : Ascends seen = Ascends-as pushed seen (sym f) (Ascends-of (place s) pushed paired) in
+    (Within-of set top seen pushed (sym g) f within, Ascends-as set top (sym g) (up ascends))
+
+pub same_set : (set whole : List Pair) → set ≡ whole → Within set whole × (Ascends whole → Ascends set)
+same_set set whole e = (subst (λ (s : List Pair). Within set s) e (Within-self set), λ up. Ascends-as whole set (sym e) up)

@@ -71,7 +71,13 @@ pub fn kept_core(alloc: Global, nogoods: &[Nogood], number: u32) -> Result<Vec<P
 }
 
 /// A test that the new pair breaks: only those that end at its stem can be.
-pub fn failing<P: Puzzle>(puzzle: &P, tests: &Chains, choice: &[u32], chosen: &[Pair], more: Pair) -> Option<u32>
+pub fn failing<P: Puzzle>(
+    puzzle: &P,
+    tests: &Chains,
+    choice: &[u32],
+    chosen: &[Pair],
+    more: Pair,
+) -> Option<u32>
     requires indexed { IsIndexed (P.meaning puzzle.now) tests.now }
     requires begun { IsBeginning (P.meaning puzzle.now) choice.now }
     requires paired { chosen.now ≡ pairs choice.now }
@@ -92,7 +98,12 @@ pub fn failing<P: Puzzle>(puzzle: &P, tests: &Chains, choice: &[u32], chosen: &[
 }
 
 /// The same, by a look at each test.
-pub fn failing_plainly<P: Puzzle>(puzzle: &P, choice: &[u32], chosen: &[Pair], more: Pair) -> Option<u32>
+pub fn failing_plainly<P: Puzzle>(
+    puzzle: &P,
+    choice: &[u32],
+    chosen: &[Pair],
+    more: Pair,
+) -> Option<u32>
     requires begun { IsBeginning (P.meaning puzzle.now) choice.now }
     requires paired { chosen.now ≡ pairs choice.now }
     requires stem { more.stem ≡ length choice.now }
@@ -110,7 +121,13 @@ pub fn failing_plainly<P: Puzzle>(puzzle: &P, choice: &[u32], chosen: &[Pair], m
 
 /// The pairs of the choice that the broken test needs. Each one, from the last on, ends the shortest front of the choice with
 /// which, beside the pairs that were found, the test is broken.
-pub fn core<P: Puzzle>(alloc: Global, puzzle: &P, whole: &[Pair], more: Pair, test: u32) -> Result<Vec<Pair>, AllocError>
+pub fn core<P: Puzzle>(
+    alloc: Global,
+    puzzle: &P,
+    whole: &[Pair],
+    more: Pair,
+    test: u32,
+) -> Result<Vec<Pair>, AllocError>
     requires known { test < (P.meaning puzzle.now).tests }
     requires offered { All (IsOffered (P.meaning puzzle.now)) (more ∷ whole.now) }
     requires free { All (λ q. q.stem ≢ more.stem) whole.now }
@@ -123,11 +140,10 @@ pub fn core<P: Puzzle>(alloc: Global, puzzle: &P, whole: &[Pair], more: Pair, te
     while front > 0 {
         let needed = shortest(alloc, puzzle, whole, more, test, front, &kept)?;
         if needed == 0 {
-            front = 0;
-        } else {
-            front = needed - 1;
-            kept.insert(0, whole[front])?;
+            return Ok(kept);
         }
+        front = needed - 1;
+        kept.insert(0, whole[front])?;
     }
     Ok(kept)
 }

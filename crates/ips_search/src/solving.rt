@@ -30,14 +30,26 @@ fn start<P: Puzzle>(alloc: Global, _puzzle: &P) -> State
 fn into_choice(state: State) -> Vec<u32>
     ensures { result ≡ state.choice }
 {
-    let State { choice, pairs: _, levels: _, top: _, nogoods: _ } = state;
+    let State {
+        choice,
+        pairs: _,
+        levels: _,
+        top: _,
+        nogoods: _,
+    } = state;
     choice
 }
 
 fn into_refutation(state: State) -> Refutation
     ensures { result.nogoods ≡ state.nogoods }
 {
-    let State { choice: _, pairs: _, levels: _, top: _, nogoods } = state;
+    let State {
+        choice: _,
+        pairs: _,
+        levels: _,
+        top: _,
+        nogoods,
+    } = state;
     Refutation { nogoods }
 }
 

@@ -14,7 +14,13 @@ use std::alloc::{AllocError, Global};
 use std::mem;
 
 // The candidate that comes next fails.
-fn reject<P: Puzzle>(alloc: Global, _puzzle: &P, state: &mut State, core: &[Pair], reason: Reason) -> Result<(), AllocError>
+fn reject<P: Puzzle>(
+    alloc: Global,
+    _puzzle: &P,
+    state: &mut State,
+    core: &[Pair],
+    reason: Reason,
+) -> Result<(), AllocError>
     requires searching { IsSearching (P.meaning _puzzle.now) state.old }
     requires room { length state.old.choice.items < (P.meaning _puzzle.now).stems }
     requires offered { length state.old.top.reasons.items < (P.meaning _puzzle.now).candidates (length state.old.choice.items) }
@@ -144,14 +150,13 @@ fn settle<P: Puzzle>(
 
 // On which pairs the failure of a stem rests before any candidate was tried: on none, or without learning on the whole choice.
 fn first_set(alloc: Global, guide: &Guide, pairs: &[Pair]) -> Result<Vec<Pair>, AllocError>
-    requires { Ascends pairs.now }
-    ensures { IfOk result (λ set. Within set.items pairs.now × Ascends set.items) }
+    ensures { IfOk result (λ set. Within set.items pairs.now × (Ascends pairs.now → Ascends set.items)) }
 {
     if guide.learns {
-        Ok(Vec::new(alloc))
-    } else {
-        Vec::from_slice(alloc, pairs)
+        return Ok(Vec::new(alloc));
     }
+    let set = Vec::from_slice(alloc, pairs)?;
+    Ok(set)
 }
 
 // Takes the candidate that comes next.

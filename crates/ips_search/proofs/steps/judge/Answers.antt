@@ -1,27 +1,20 @@
-use Rattle.std.proofs.Common.{◌≡◌, ap, sym, ◌∙◌, arith, length, subst, List, ℕ, refl}
+use Rattle.std.proofs.Common.{sym, subst, List, All}
 use Rattle.std.proofs.lemmas.Option.{slice_get_within}
-use Rattle.ips_refute.specs.declared.nogoods.Pair.{Pair}
-use Rattle.ips_refute.specs.declared.nogoods.Reason.TheVariants.{Test, Earlier}
-use Rattle.ips_search.proofs.Walks.{Ascends-of, offered_more, free_more, judged_none, judged_core}
+use Rattle.ips_refute.specs.declared.nogoods.Nogood.{Nogood}
+use Rattle.ips_refute.specs.declared.nogoods.Reason.TheVariants.{Earlier}
+use Rattle.ips_refute.specs.Meaning.{Ascends}
+use Rattle.ips_search.proofs.Walks.{judged_core}
+use Rattle.ips_search.proofs.Shrinking.{kept_is_core}
 use Rattle.ips_search.proofs.steps.judge.Goals as goal
 
-pub kept_core-requires-clause-ascends : goal.kept_core-requires-clause-ascends
-kept_core-requires-clause-ascends g c = Ascends-of c.args.state.now.choice.items c.as_slice-chosen.result.now (c.as_slice-chosen.ensures.value ∙ c.requires.searching.paired)
-
-pub kept_core-requires-clause-number : goal.kept_core-requires-clause-number
-kept_core-requires-clause-number g c = slice_get_within c.as_slice-nogoods.result.now c.in-Some.number c.in-Some.ensures.0 c.in-Some.ensures.1
+pub kept_core-requires : goal.kept_core-requires
+kept_core-requires g c = slice_get_within c.as_slice-nogoods.result.now c.in-Some.number c.in-Some.ensures.0 c.in-Some.ensures.1
 
 pub returns-in-Some : goal.returns-in-Some
-returns-in-Some g c = judged_core (g.P.Puzzle.meaning c.args.puzzle.now) c.args.state.now c.args.more c.as_slice-nogoods.result.now c.as_slice-chosen.result.now (Earlier c.in-Some.number) _ c.as_slice-nogoods.ensures.value c.as_slice-chosen.ensures.value c.requires.next (c.in_ok-core.ensures (g.P.Puzzle.meaning c.args.puzzle.now))
-
-pub core-requires-clause-offered : goal.core-requires-clause-offered
-core-requires-clause-offered g c = offered_more (g.P.Puzzle.meaning c.args.puzzle.now) c.args.state.now.choice.items c.args.more c.as_slice-chosen.result.now c.requires.searching.begun (c.as_slice-chosen.ensures.value ∙ c.requires.searching.paired) c.requires.room c.requires.offered
-
-pub core-requires-clause-free : goal.core-requires-clause-free
-core-requires-clause-free g c = free_more c.args.state.now.choice.items c.args.more c.as_slice-chosen.result.now (c.as_slice-chosen.ensures.value ∙ c.requires.searching.paired) (ap (λ (q : Pair). q.stem) c.requires.next)
-
-pub core-requires-clause-ascends : goal.core-requires-clause-ascends
-core-requires-clause-ascends g c = Ascends-of c.args.state.now.choice.items c.as_slice-chosen.result.now (c.as_slice-chosen.ensures.value ∙ c.requires.searching.paired)
-
-pub returns-in_ok-core-in-Some-failing : goal.returns-in_ok-core-in-Some-failing
-returns-in_ok-core-in-Some-failing g c = judged_core (g.P.Puzzle.meaning c.args.puzzle.now) c.args.state.now c.args.more c.args.state.now.nogoods.items c.as_slice-chosen.result.now (Test c.in-Some-failing.test) _ refl c.as_slice-chosen.ensures.value c.requires.next (c.in_ok-core-in-Some-failing.ensures c.args.state.now.nogoods.items)
+returns-in-Some g c =
+    let m = g.P.Puzzle.meaning c.args.puzzle.now in
+    let s = c.args.state.now in
+    let sorted : All (λ (x : Nogood). Ascends x.set.items) c.as_slice-nogoods.result.now =
+    subst (λ (l : List Nogood). All (λ (x : Nogood). Ascends x.set.items) l) (sym c.as_slice-nogoods.ensures.value) c.requires.searching.sorted in
+    judged_core m s c.args.more c.as_slice-nogoods.result.now c.as_slice-chosen.result.now (Earlier c.in-Some.number) c.in_ok-core.core.items c.as_slice-nogoods.ensures.value c.as_slice-chosen.ensures.value c.requires.next
+    (kept_is_core m c.as_slice-nogoods.result.now c.as_slice-chosen.result.now c.args.more c.in-Some.number c.in_ok-core.core.items sorted c.in-Some.ensures c.in_ok-core.ensures)

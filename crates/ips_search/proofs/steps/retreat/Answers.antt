@@ -45,7 +45,7 @@ reject-requires-clause-core g c =
     let core = back_core m s t rest y c.requires.searching at c.in_ok-restore.ensures in
     let number : length s.nogoods.items ≡ c.len-number.result = omega (arith, c.len-number.ensures, s.nogoods.ok.0) in
     subst (λ (k : List Pair). IsCore m t.nogoods.items t.pairs.items (next_pair t) (Earlier c.len-number.result) k) (sym c.deref-2.ensures.value)
-        (subst (λ k. IsCore m t.nogoods.items t.pairs.items (next_pair t) (Earlier k) rest) number core)
+    (subst (λ k. IsCore m t.nogoods.items t.pairs.items (next_pair t) (Earlier k) rest) number core)
 
 pub returns : goal.returns
 returns g c =

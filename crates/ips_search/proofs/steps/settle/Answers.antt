@@ -8,6 +8,7 @@ judge-requires g c =
     let inv = c.loop-candidate.invariant in
     let stem : c.len-stem.result ≡ length s.choice.items = omega (arith, c.len-stem.ensures, c.args.state.now.choice.ok.0, ap length inv.same) in
     record {
+      guide = c.requires.guide;
       searching = inv.searching;
       next = next_is s c.len-stem.result c.loop-candidate.candidate stem inv.tried;
       room = omega (arith, c.requires.room, stem, ap length inv.same);
@@ -35,4 +36,4 @@ returns g c =
     let count0 = c.candidates-count.ensures ∙ ap m.candidates stem0 in
     let count = c.candidates-count.ensures ∙ ap m.candidates stem in
     settled_end m c.args.state.now s inv.searching (omega (arith, c.requires.room, ap length inv.same)) inv.same inv.keeps
-        (omega (arith, inv.tried, c.loop-candidate-test.false, c.loop-candidate.auto.candidate-end, count, count0, c.requires.searching.tried c.requires.room, c.len-first.ensures, c.args.state.now.top.reasons.ok.0))
+    (omega (arith, inv.tried, c.loop-candidate-test.false, c.loop-candidate.auto.candidate-end, count, count0, c.requires.searching.tried c.requires.room, c.len-first.ensures, c.args.state.now.top.reasons.ok.0))
