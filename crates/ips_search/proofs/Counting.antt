@@ -1,9 +1,9 @@
 -- How many beginnings stand before a place in the search.
-use Rattle.std.proofs.Common.{◌≡◌, ℕ, zero, suc, ◌+◌, ◌<◌, ◌≤◌, ◌⊎◌, inl, inr, Bool, true, false, cond, ◌||◌, List, [], ◌∷◌, ◌++◌, length, slice_index, take, Some, None, Option, refl, sym, ap, ◌∙◌, subst, arith, append_assoc, append-nil, length-append, add-one, ◌-◌}
+use Rattle.std.proofs.Common.{◌≡◌, ℕ, zero, suc, ◌+◌, ◌<◌, ◌≤◌, inl, inr, false, ◌||◌, List, [], ◌∷◌, ◌++◌, length, slice_index, take, Option, refl, sym, ap, ◌∙◌, subst, arith, append_assoc, append-nil, length-append, add-one, ◌-◌}
 use Rattle.std.proofs.lemmas.Bool.{cond-false, cases_lt}
 use Rattle.std.proofs.lemmas.List.{length_push}
 use Rattle.ips_refute.specs.declared.nogoods.Pair.{Pair}
-use Rattle.ips_refute.specs.Meaning.{Meaning, BreaksNone, IsBeginning, pairs}
+use Rattle.ips_refute.specs.Meaning.{Meaning, pairs}
 use Rattle.ips_search.specs.Beginnings.{is_late, breaks_below, own, sum_below, beginnings_from, beginnings}
 use Rattle.ips_search.specs.Searching.{passed}
 

@@ -1,11 +1,11 @@
 -- The order of choices.
-use Rattle.std.proofs.Common.{◌≡◌, ℕ, zero, suc, ◌+◌, ◌<◌, ◌≤◌, ◌⊎◌, inl, inr, Bool, true, false, ◌||◌, ◌&&◌, List, [], ◌∷◌, ◌++◌, length, get_or, slice_index, take, Some, None, Option, refl, sym, ap, ◌∙◌, subst, arith, nat_lt, nat_eq, le-ltb, ne_eqb}
-use Rattle.std.proofs.lemmas.Bool.{cases_order, or_from, and_left, and_right}
+use Rattle.std.proofs.Common.{◌≡◌, ℕ, zero, suc, ◌+◌, ◌<◌, ◌≤◌, ◌⊎◌, inl, inr, Bool, false, ◌||◌, List, [], ◌∷◌, ◌++◌, length, get_or, slice_index, take, refl, sym, ap, ◌∙◌, arith, nat_lt, nat_eq, le-ltb, ne_eqb}
+use Rattle.std.proofs.lemmas.Bool.{cases_order, and_left, and_right}
 use Rattle.ips_refute.specs.declared.nogoods.Pair.{Pair}
-use Rattle.ips_refute.specs.Meaning.{Meaning, Within, Solves, pairs_from, pairs}
-use Rattle.ips_refute.proofs.Choices.{from_pairs, Contains-pairs, get_or-pairs, length-pairs, pair}
-use Rattle.ips_search.specs.Best.{NotLater, IsFirst, IsBest}
-use Rattle.ips_search.specs.Beginnings.{later, is_late}
+use Rattle.ips_refute.specs.Meaning.{Within, pairs}
+use Rattle.ips_refute.proofs.Choices.{get_or-pairs, length-pairs, pair}
+use Rattle.ips_search.specs.Best.{NotLater}
+use Rattle.ips_search.specs.Beginnings.{later}
 
 -- the choice begins with these numbers
 abbrev pub Begins : List ℕ → List ℕ → Type 0

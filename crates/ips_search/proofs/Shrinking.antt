@@ -1,7 +1,7 @@
 -- Leaving pairs out of a set that breaks a test.
-use Rattle.std.proofs.Common.{◌≡◌, ℕ, zero, suc, ◌+◌, ◌-◌, ◌<◌, ◌≤◌, ◌≢◌, ◌⊎◌, inl, inr, true, List, [], ◌∷◌, ◌++◌, length, get_or, take, drop, All, AllPairs, Contains, refl, sym, ap, ◌∙◌, subst, arith, length-append, length-take-le, get_or-take, take_all, append_assoc, append-nil}
+use Rattle.std.proofs.Common.{◌≡◌, ℕ, zero, suc, ◌+◌, ◌-◌, ◌<◌, ◌≤◌, ◌≢◌, inl, inr, true, List, [], ◌∷◌, ◌++◌, length, get_or, take, All, Contains, refl, sym, ap, ◌∙◌, subst, arith, length-append, length-take-le, get_or-take, take_all, append_assoc, append-nil}
 use Rattle.std.proofs.lemmas.Bool.{cases_lt}
-use Rattle.std.proofs.lemmas.List.{length_push, get_or_append_left, get_or-append_right, get_or_push, take_more, get_or_default, take_at}
+use Rattle.std.proofs.lemmas.List.{length_push, get_or_append_left, get_or-append_right, take_more, get_or_default, take_at}
 use Rattle.std.proofs.lemmas.List.Elements.{All-contains, All-append, All-cons, Contains-get_or}
 use Rattle.ips_refute.specs.declared.nogoods.Pair.{Pair}
 use Rattle.ips_refute.specs.declared.nogoods.Nogood.{Nogood}
@@ -12,12 +12,12 @@ use Rattle.std.proofs.lemmas.Bool.{and_parts}
 use Rattle.std.proofs.lemmas.List.{nil_from_length}
 use Rattle.ips_refute.specs.Laws.{same_pair}
 use Rattle.std.proofs.lemmas.Option.{same_Some, none-some}
-use Rattle.std.proofs.lemmas.List.Elements.{All-push, Contains-append_left, Contains-append_right}
+use Rattle.std.proofs.lemmas.List.Elements.{All-push}
 use Rattle.ips_refute.specs.declared.nogoods.Reason.TheVariants.{Earlier}
 use Rattle.ips_refute.proofs.Choices.{OnePerStem-cons}
 use Rattle.ips_search.specs.Searching.{IsCore, IsKept, HasKept}
 use Rattle.ips_refute.proofs.Checks.{Ascends-one}
-use Rattle.ips_search.proofs.Walks.{Within-behind, before_last}
+use Rattle.ips_search.proofs.Walks.{Within-behind}
 
 Ascends-append : (a b : List Pair) → Ascends a → Ascends b → ((i j : ℕ) (d : Pair) → i < length a → j < length b → (get_or a i d).stem < (get_or b j d).stem) → Ascends (a ++ b)
 Ascends-append a b up_a up_b across i j d l h =

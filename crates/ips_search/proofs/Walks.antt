@@ -1,15 +1,15 @@
 -- Steps of a search, over plain lists.
-use Rattle.std.proofs.Common.{◌≡◌, ℕ, zero, suc, ◌+◌, ◌-◌, ◌<◌, ◌≤◌, ◌≢◌, ◌⊎◌, inl, inr, Bool, true, false, ◌||◌, List, [], ◌∷◌, ◌++◌, length, get_or, slice_index, slice_get, take, drop, All, AllPairs, Contains, Some, None, Option, Vec, Global, refl, sym, ap, ◌∙◌, subst, arith, length-append, length-take-le, take-append-drop, take_all, get_or-take, take-take}
+use Rattle.std.proofs.Common.{◌≡◌, ℕ, zero, suc, ◌+◌, ◌-◌, ◌<◌, ◌≤◌, ◌≢◌, ◌⊎◌, inl, inr, Bool, true, false, ◌||◌, List, [], ◌∷◌, ◌++◌, length, get_or, slice_index, slice_get, take, drop, All, Contains, Some, None, Option, Vec, Global, refl, sym, ap, ◌∙◌, subst, arith, length-take-le, take-append-drop, take_all, get_or-take, take-take}
 use Rattle.std.proofs.lemmas.Bool.{false_from_ne_true, both_ways, cases_lt, cases_eq}
-use Rattle.std.proofs.lemmas.List.{length_push, get_or_push, get_or_append_left, append-nil, take-append-le, take_at, take_more, get_or_default}
+use Rattle.std.proofs.lemmas.List.{length_push, get_or_push, get_or_append_left, take-append-le, take_at, take_more, get_or_default}
 use Rattle.std.proofs.lemmas.List.Elements.{All-contains, All-cons, All-push, Contains-push, Contains-push_cases, Contains-append_left}
 use Rattle.std.proofs.lemmas.Option.{none-some, same_Some, slice_get_within}
 use Rattle.ips_refute.specs.declared.nogoods.Pair.{Pair}
 use Rattle.ips_refute.specs.declared.nogoods.Nogood.{Nogood}
 use Rattle.ips_refute.specs.declared.nogoods.Reason.{Reason}
 use Rattle.ips_refute.specs.declared.nogoods.Reason.TheVariants.{Test, Earlier}
-use Rattle.ips_refute.specs.Meaning.{Meaning, Lawful, Within, Ascends, OnePerStem, IsOffered, IsBeginning, Solves, BreaksNone, HasNoChoice, pairs_from, pairs}
-use Rattle.ips_refute.specs.Refuting.{Explains, ExplainsEach, IsNogood, AreNogoods, IsRefutation, IsTidyRefutation}
+use Rattle.ips_refute.specs.Meaning.{Meaning, Lawful, Within, Ascends, OnePerStem, IsOffered, IsBeginning, Solves, BreaksNone, pairs_from, pairs}
+use Rattle.ips_refute.specs.Refuting.{Explains, ExplainsEach, IsNogood, AreNogoods, IsTidyRefutation}
 use Rattle.ips_refute.proofs.Choices.{pair, from_pairs, Contains-pairs, OnePerStem-pairs, OnePerStem-cons, Within-trans, Within-cons, length-pairs, get_or-pairs, slice_get-take}
 use Rattle.ips_refute.proofs.Laws.{no_explanation}
 use Rattle.ips_refute.proofs.Checks.{Ascends-one}
@@ -17,9 +17,9 @@ use Rattle.ips_search.specs.Merging.{IsUnion}
 use Rattle.ips_search.specs.declared.state.Level.{Level}
 use Rattle.ips_search.specs.declared.state.State.{State}
 use Rattle.ips_search.specs.Best.{NotLater, IsFirst, IsBest}
-use Rattle.ips_search.specs.Beginnings.{is_late, breaks_below, beginnings}
+use Rattle.ips_search.specs.Beginnings.{is_late, beginnings}
 use Rattle.ips_search.specs.Searching.{IsLevel, IsCore, Rejected, Settled, Advanced, Restored, Retreated, Moved, KeepsCount, top_nogood, next_pair, passed, place, IsSearching, IsCounted}
-use Rattle.ips_search.proofs.Order.{Begins, Begins-take, Within-begins, NotLater-prefix, NotLater-down, NotLater-next, later-NotLater}
+use Rattle.ips_search.proofs.Order.{Begins-take, Within-begins, NotLater-prefix, NotLater-down, NotLater-next, later-NotLater}
 use Rattle.ips_search.proofs.Counting.{Passes, IsOpen, breaks_none, passed-next, passed-down, passed-back, passed-spent, own-push}
 
 -- ---- pairs and sets

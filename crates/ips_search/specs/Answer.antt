@@ -1,5 +1,5 @@
 -- What an answer of the search says.
-use Rattle.std.specs.Prelude.{◌≡◌, ℕ, ◌<◌, ◌≤◌, List, Option}
+use Rattle.std.specs.Prelude.{ℕ, ◌<◌, ◌≤◌, List, Option}
 use Rattle.ips_refute.specs.Meaning.{Meaning}
 use Rattle.ips_refute.specs.Refuting.{IsTidyRefutation}
 use Rattle.ips_search.specs.declared.state.Found.{Found}

@@ -1,5 +1,5 @@
 -- Where the tests of a puzzle are found by their last stem.
-use Rattle.std.specs.Prelude.{◌≡◌, ℕ, ◌+◌, ◌-◌, ◌<◌, ◌≤◌, List, [], ◌∷◌, ◌++◌, length, slice_index, slice_set}
+use Rattle.std.specs.Prelude.{◌≡◌, ℕ, ◌+◌, ◌-◌, ◌<◌, ◌≤◌, [], ◌∷◌, ◌++◌, length, slice_index, slice_set}
 use Rattle.ips_refute.specs.Meaning.{Meaning}
 use Rattle.ips_search.specs.declared.chains.Chains.{Chains}
 

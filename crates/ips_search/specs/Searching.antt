@@ -1,5 +1,5 @@
 -- What a search knows as it stands at one candidate of one stem.
-use Rattle.std.specs.Prelude.{◌≡◌, ℕ, zero, suc, ◌+◌, ◌<◌, ◌≤◌, List, [], ◌∷◌, ◌++◌, length, take, get_or, slice_get, slice_index, All, AllPairs, Contains, ◌⊎◌, Option, Some, None, Bool, true, IsTrue, IsFalse}
+use Rattle.std.specs.Prelude.{◌≡◌, ℕ, zero, suc, ◌+◌, ◌<◌, ◌≤◌, List, [], ◌∷◌, ◌++◌, length, take, get_or, slice_get, slice_index, All, Option, Some, None, Bool, true, IsTrue, IsFalse}
 use Rattle.ips_refute.specs.declared.nogoods.Pair.{Pair}
 use Rattle.ips_refute.specs.declared.nogoods.Nogood.{Nogood}
 use Rattle.ips_refute.specs.Meaning.{Meaning, Ascends, Within, IsBeginning, BreaksNone, Solves, pairs}

@@ -2,10 +2,12 @@
 
 ghost use Rattle.std.specs.Prelude.{◌≡◌, ℕ, ◌<◌, IfOk};
 ghost use Rattle.ips_refute.specs.Meaning.{Meaning};
+ghost use Rattle.ips_refute.specs.Refuting.{IsTidyRefutation};
 ghost use Rattle.ips_search.specs.Searching.{IsSearching, IsCounted, IsGuide};
 ghost use Rattle.ips_search.specs.Answer.{IsAnswer};
 
 use crate::chains::{Chains, index_tests};
+use crate::pruning::prune;
 use crate::state::{Found, Guide, Level, State};
 use crate::steps::{advance, proceed};
 use ips_refute::{Puzzle, Refutation};
@@ -40,8 +42,8 @@ fn into_choice(state: State) -> Vec<u32>
     choice
 }
 
-fn into_refutation(state: State) -> Refutation
-    ensures { result.nogoods ≡ state.nogoods }
+fn into_refutation(alloc: Global, state: State) -> Result<Refutation, AllocError>
+    ensures { IfOk result (λ r. (m : Meaning) → IsTidyRefutation m state.nogoods.items → IsTidyRefutation m r.nogoods.items) }
 {
     let State {
         choice: _,
@@ -50,7 +52,8 @@ fn into_refutation(state: State) -> Refutation
         top: _,
         nogoods,
     } = state;
-    Refutation { nogoods }
+    let nogoods = prune(alloc, nogoods)?;
+    Ok(Refutation { nogoods })
 }
 
 /// The best choice for the puzzle, or a refutation of it: a search that learns.
@@ -102,7 +105,8 @@ fn search<P: Puzzle>(
         }
         let found = proceed(alloc, puzzle, guide, &mut learned, &mut state)?;
         if !found {
-            return Ok(Found::Refuted(into_refutation(state)));
+            let refutation = into_refutation(alloc, state)?;
+            return Ok(Found::Refuted(refutation));
         }
         advance(alloc, puzzle, guide, &mut state)?;
     }
@@ -111,7 +115,8 @@ fn search<P: Puzzle>(
     }
     let found = proceed(alloc, puzzle, guide, &mut learned, &mut state)?;
     if !found {
-        return Ok(Found::Refuted(into_refutation(state)));
+        let refutation = into_refutation(alloc, state)?;
+        return Ok(Found::Refuted(refutation));
     }
     Ok(Found::Spent)
 }

@@ -1,5 +1,5 @@
 use Rattle.std.proofs.Common.{take, ◌++◌}
-use Rattle.ips_search.proofs.Shrinking.{without_kept, without_front, offered_as, one_as, breaks_as}
+use Rattle.ips_search.proofs.Shrinking.{without_kept, offered_as, one_as, breaks_as}
 use Rattle.ips_search.proofs.cores.breaks.Goals as goal
 
 pub broken-requires-clause-offered : goal.broken-requires-clause-offered

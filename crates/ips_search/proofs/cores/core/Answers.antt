@@ -1,4 +1,4 @@
-use Rattle.std.proofs.Common.{◌≡◌, ap, sym, ◌∙◌, ◌∷◌, ◌-◌, arith, List, length, get_or, subst, refl, ℕ}
+use Rattle.std.proofs.Common.{sym, ◌-◌, arith, List, length, get_or, subst, refl}
 use Rattle.std.proofs.lemmas.List.{get_or_default}
 use Rattle.ips_refute.specs.declared.nogoods.Pair.{Pair}
 use Rattle.ips_search.specs.Searching.{IsKept}

@@ -1,5 +1,4 @@
-use Rattle.std.proofs.Common.{◌≡◌, ℕ, ◌<◌, ◌∷◌, length, false}
-use Rattle.ips_refute.specs.Meaning.{pairs}
+use Rattle.std.proofs.Common.{◌≡◌, ℕ, ◌<◌, ◌∷◌, false}
 use Rattle.ips_search.proofs.cores.failing_plainly.Given as goal
 
 abbrev pub invariant-loop-test : goal.invariant-loop-test

@@ -1,4 +1,3 @@
-use Rattle.std.proofs.Common.{sym}
 use Rattle.ips_search.proofs.Unions.{merge_none, merge_least, merge_all, least_shorter}
 use Rattle.ips_search.proofs.sets.union.Goals as goal
 

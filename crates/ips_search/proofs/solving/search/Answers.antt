@@ -1,4 +1,4 @@
-use Rattle.std.proofs.Common.{arith, length}
+use Rattle.std.proofs.Common.{arith}
 use Rattle.ips_search.proofs.Walks.{chosen_is, refuted_is, spent}
 use Rattle.ips_search.proofs.solving.search.Goals as goal
 
@@ -23,7 +23,7 @@ loop-reached-preserved g c =
     }
 
 pub returns-then-not-found : goal.returns-then-not-found
-returns-then-not-found g c = refuted_is (g.P.Puzzle.meaning c.args.puzzle.now) c.into_refutation.result.nogoods c.proceed.new.state.nogoods (c.in_ok-found.ensures.refuted c.if-not-found.true) c.into_refutation.ensures
+returns-then-not-found g c = c.in_ok-refutation.ensures (g.P.Puzzle.meaning c.args.puzzle.now) (c.in_ok-found.ensures.refuted c.if-not-found.true)
 
 pub returns-then-len-stems-2 : goal.returns-then-len-stems-2
 returns-then-len-stems-2 g c =
@@ -37,7 +37,7 @@ proceed-requires-2-clause-room g c =
     omega (arith, c.loop-reached.invariant.searching.begun.fits, c.if-len-stems-2.false, c.len-2.ensures, c.stems-stems.ensures, s.choice.ok.0)
 
 pub returns-then-not-found-2 : goal.returns-then-not-found-2
-returns-then-not-found-2 g c = refuted_is (g.P.Puzzle.meaning c.args.puzzle.now) c.into_refutation-then-not-found-2.result.nogoods c.proceed-2.new.state.nogoods (c.in_ok-found-2.ensures.refuted c.if-not-found-2.true) c.into_refutation-then-not-found-2.ensures
+returns-then-not-found-2 g c = c.in_ok-refutation-2.ensures (g.P.Puzzle.meaning c.args.puzzle.now) (c.in_ok-found-2.ensures.refuted c.if-not-found-2.true)
 
 pub returns : goal.returns
 returns g c best is =

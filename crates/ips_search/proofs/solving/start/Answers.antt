@@ -1,4 +1,4 @@
-use Rattle.ips_search.proofs.Walks.{started, started_count}
+use Rattle.ips_search.proofs.Walks.{started}
 use Rattle.ips_search.proofs.solving.start.Goals as goal
 
 pub returns-clause-searching : goal.returns-clause-searching

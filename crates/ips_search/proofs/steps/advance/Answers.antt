@@ -1,4 +1,4 @@
-use Rattle.std.proofs.Common.{◌≡◌, ap, sym, ◌∙◌, ◌∷◌, ◌++◌, [], length, arith, List}
+use Rattle.std.proofs.Common.{◌≡◌, ap, ◌∙◌, ◌∷◌, ◌++◌, [], length, arith}
 use Rattle.ips_refute.proofs.Choices.{pair}
 use Rattle.ips_search.specs.declared.state.Level.{Level}
 use Rattle.ips_search.specs.Searching.{next_pair}

@@ -1,4 +1,4 @@
-use Rattle.std.proofs.Common.{ap, length, arith}
+use Rattle.std.proofs.Common.{arith}
 use Rattle.ips_search.proofs.Walks.{moved_found, moved_end}
 use Rattle.ips_search.proofs.steps.proceed.Goals as goal
 

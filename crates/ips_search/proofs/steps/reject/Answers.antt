@@ -1,4 +1,4 @@
-use Rattle.std.proofs.Common.{sym, ◌∙◌, refl}
+use Rattle.std.proofs.Common.{sym, refl}
 use Rattle.ips_search.proofs.Walks.{Ascends-of, Within-of, union_of, reject_all, Ascends-as}
 use Rattle.ips_search.proofs.steps.reject.Goals as goal
 

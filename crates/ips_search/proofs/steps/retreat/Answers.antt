@@ -1,9 +1,9 @@
-use Rattle.std.proofs.Common.{◌≡◌, ap, sym, ◌∙◌, subst, arith, List, length, take, ◌<◌, ◌-◌}
+use Rattle.std.proofs.Common.{◌≡◌, ap, sym, ◌∙◌, subst, arith, List, length, take, ◌-◌}
 use Rattle.std.proofs.lemmas.List.{nil_from_length}
 use Rattle.ips_refute.specs.declared.nogoods.Pair.{Pair}
 use Rattle.ips_refute.specs.declared.nogoods.Reason.TheVariants.{Earlier}
 use Rattle.ips_search.specs.Searching.{IsCore, next_pair}
-use Rattle.ips_search.proofs.Walks.{EndsAt, ends_of, back_offered, back_core, core_of, retreated, ended_all, restored}
+use Rattle.ips_search.proofs.Walks.{EndsAt, ends_of, back_offered, back_core, retreated, ended_all, restored}
 use Rattle.ips_search.proofs.steps.retreat.Goals as goal
 
 pub returns-then-count-eq0 : goal.returns-then-count-eq0

@@ -1,5 +1,5 @@
-use Rattle.std.proofs.Common.{◌≡◌, ap, sym, ◌∙◌, arith, length}
-use Rattle.ips_search.proofs.Walks.{settled_next, settled_end, next_is}
+use Rattle.std.proofs.Common.{◌≡◌, ap, ◌∙◌, arith, length}
+use Rattle.ips_search.proofs.Walks.{settled_end, next_is}
 use Rattle.ips_search.proofs.steps.settle.Goals as goal
 
 pub judge-requires : goal.judge-requires

@@ -1,4 +1,4 @@
-use Rattle.std.proofs.Common.{◌≡◌, ℕ, ◌≤◌, length}
+use Rattle.std.proofs.Common.{◌≡◌, length}
 use Rattle.ips_search.specs.Searching.{IsSearching, KeepsCount}
 use Rattle.ips_search.proofs.steps.settle.Given as goal
 
