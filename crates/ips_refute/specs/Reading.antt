@@ -1,0 +1,102 @@
+-- Reading a refutation's text from left to right.
+use Rattle.std.specs.Prelude.{ℕ, ◌+◌, ◌^◌, ◌==◌, ◌&&◌, nat_lt, if◌then◌else◌, Bool, true, List, [], ◌∷◌, length, drop, Result, Ok, Err}
+use Rattle.ips_text.specs.declared.refusal.Stop.{Stop}
+use Rattle.ips_text.specs.Reading.{◌>>=◌, Reader, next_is, both, via, one_or_more}
+use Rattle.ips_text.specs.Number.{number_at}
+use Rattle.ips_refute.specs.declared.nogoods.Pair.{Pair}
+use Rattle.ips_refute.specs.declared.nogoods.Reason.{Reason}
+use Rattle.ips_refute.specs.declared.nogoods.Reason.TheVariants.{Test, Earlier}
+use Rattle.ips_refute.specs.declared.reading.BadLine.{BadLine}
+use Rattle.ips_refute.specs.Text.{Entry}
+
+-- a reader of which only this matters: whether it stops
+abbrev pub Scanner : Type 0 → Type 0
+Scanner A = Reader (Unit {0}) A
+
+-- reading stops in front of these bytes
+abbrev pub stop_at : List ℕ → Stop (Unit {0})
+stop_at bytes = record { kind = tt; left = length bytes }
+
+-- a number below 2^32
+unfoldable pub small_at : Scanner ℕ
+small_at bytes = do
+  x ← number_at tt bytes
+  if nat_lt x.0 (2 ^ 32) then Ok x else Err (stop_at bytes)
+
+-- a byte that has to stand here
+unfoldable pub mark_at : ℕ → Scanner (Unit {0})
+mark_at mark [] = Err (stop_at [])
+mark_at mark (b ∷ bytes) = if b == mark then Ok (tt, bytes) else Err (stop_at (b ∷ bytes))
+
+-- nothing is kept of a bar
+abbrev pub nothing : Unit {0} × (Unit {0} × Unit {0}) → Unit {0}
+nothing x = tt
+
+-- what stands between the fields of a line: ` | `
+unfoldable pub bar_at : Scanner (Unit {0})
+bar_at = via nothing (both (mark_at 32) (both (mark_at 124) (mark_at 32)))
+
+-- a pair of the two numbers that were read
+abbrev pub pair_of : ℕ × (Unit {0} × ℕ) → Pair
+pair_of x = record { stem = x.0; candidate = x.1.1 }
+
+-- a pair: two numbers with a dot between them
+unfoldable pub pair_at : Scanner Pair
+pair_at = via pair_of (both small_at (both (mark_at 46) small_at))
+
+-- values with a mark between them, or `-` where there are none
+abbrev pub listed_at : {A : Type 0} → ℕ → Scanner A → Scanner (List A)
+listed_at mark r bytes = if next_is 45 bytes then Ok ([], drop 1 bytes) else one_or_more mark r bytes
+
+-- pairs joined by `,`, or `-`
+unfoldable pub pairs_at : Scanner (List Pair)
+pairs_at = listed_at 44 pair_at
+
+-- the stems of the pairs ascend
+abbrev pub ascends : List Pair → Bool
+ascends [] = true
+ascends (p ∷ []) = true
+ascends (p ∷ q ∷ set) = nat_lt p.stem q.stem && ascends (q ∷ set)
+
+-- a set: pairs whose stems ascend, or `-`
+unfoldable pub set_at : Scanner (List Pair)
+set_at bytes = do
+  x ← pairs_at bytes
+  if ascends x.0 then Ok x else Err (stop_at bytes)
+
+-- a reason: a number behind its kind
+unfoldable pub reason_at : Scanner Reason
+reason_at [] = Err (stop_at [])
+reason_at (b ∷ bytes) =
+    if b == 116
+    then via (λ t. Test t) small_at bytes
+    else (if b == 110 then via (λ n. Earlier n) small_at bytes else Err (stop_at (b ∷ bytes)))
+
+-- reasons joined by one blank, or `-`
+unfoldable pub reasons_at : Scanner (List Reason)
+reasons_at = listed_at 32 reason_at
+
+-- the number between two bars
+abbrev pub between : Unit {0} × (ℕ × Unit {0}) → ℕ
+between x = x.1.0
+
+-- the further stem, between its bars
+unfoldable pub stem_at : Scanner ℕ
+stem_at = via between (both bar_at (both small_at bar_at))
+
+-- a nogood of the fields that were read
+abbrev pub entry_from : List Pair × (ℕ × (List Reason × Unit {0})) → Entry
+entry_from x = record { set = x.0; stem = x.1.0; reasons = x.1.1.0 }
+
+-- a nogood's line
+unfoldable pub entry_at : Scanner Entry
+entry_at = via entry_from (both set_at (both stem_at (both reasons_at (mark_at 10))))
+
+-- a nogood's line behind so many, or its number where it isn't of the grammar
+abbrev pub numbered : {A : Type 0} → ℕ → Result A (Stop (Unit {0})) → Result A BadLine
+numbered count (Ok x) = Ok x
+numbered count (Err s) = Err (record { line = count + 2 })
+
+-- a nogood's line behind so many
+abbrev pub line_at : ℕ → List ℕ → Result (Entry × List ℕ) BadLine
+line_at count bytes = numbered count (entry_at bytes)

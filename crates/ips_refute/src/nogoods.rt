@@ -1,0 +1,77 @@
+//! Refutations and what they are made of.
+
+ghost use Rattle.std.specs.Prelude.{◌≡◌, IfOk, Ok, List, All};
+ghost use Rattle.ips_text.specs.Reading.{Gives, IfBad};
+ghost use Rattle.ips_refute.specs.Text.{Entry, IsEntry, IsBadLine, entries, refutation_text};
+
+use crate::printing::print_refutation;
+use crate::reading::{BadLine, read_refutation};
+use ips_text::{Or, Text};
+use std::alloc::{AllocError, Global};
+
+/// A candidate for a stem, each by its number.
+#[derive(Clone, Copy, PartialEq, Eq, Debug)]
+pub struct Pair {
+    /// The number of the stem, from 0.
+    pub stem: u32,
+    /// The number of the candidate among those of its stem, from 0.
+    pub candidate: u32,
+}
+
+/// Why a set of pairs is in no solution.
+#[derive(Clone, Copy, PartialEq, Eq, Debug)]
+pub enum Reason {
+    /// It breaks the test of this number.
+    Test(u32),
+    /// It contains the set of the nogood of this number, counted from 0, which stands earlier.
+    Earlier(u32),
+}
+
+/// A set of pairs that is in no solution, and why: each candidate of one further stem, put to the set, gives a set that breaks a
+/// test or contains the set of an earlier nogood.
+#[derive(Debug, Drop)]
+pub struct Nogood {
+    /// The pairs.
+    pub set: Vec<Pair>,
+    /// The further stem.
+    pub stem: u32,
+    /// A reason for each of that stem's candidates, in their order.
+    pub reasons: Vec<Reason>,
+}
+
+/// Nogoods, each of which may rest on the ones before it. The last one's set is empty where no solution exists.
+#[derive(Debug, Drop)]
+pub struct Refutation {
+    /// The nogoods.
+    pub nogoods: Vec<Nogood>,
+}
+
+impl Refutation {
+    /// The text of the refutation: the line `refutation 1`, and for each nogood a line `<set> | <stem> | <reasons>`. A set is `-`,
+    /// or its pairs, each written `<stem>.<candidate>`, joined by `,`. The reasons are `-`, or `t<test>` and `n<nogood>` joined by
+    /// one blank. Numbers are decimal, and each line ends with a newline.
+    pub fn print(&self, alloc: Global) -> Result<Text, AllocError>
+        ensures { IfOk result (λ text. text ≡ refutation_text (entries self.now.nogoods.items)) }
+    {
+        print_refutation(alloc, &self.nogoods)
+    }
+
+    /// Reads the text of a refutation, which has to be all of the bytes. The pairs of each set have to stand by ascending stem,
+    /// each stem once, and each number is below 2^32. What is answered need not be a refutation of any puzzle: that is for
+    /// `check` to say.
+    ///
+    /// `BadLine` has the number, from 1, of the first line that isn't of this grammar; a last line without its newline isn't.
+    pub fn read(alloc: Global, bytes: &[u8]) -> Result<Refutation, Or<BadLine>>
+        ensures found { IfOk result (λ r. All IsEntry (entries r.nogoods.items) × (bytes.now ≡ refutation_text (entries r.nogoods.items))) }
+        ensures only { (es : List Entry) → All IsEntry es → bytes.now ≡ refutation_text es → Gives (λ r. entries r.nogoods.items) result (Ok es) }
+        ensures line { IfBad result (λ bad. IsBadLine bytes.now bad.line) }
+    {
+        let nogoods = read_refutation(alloc, bytes)?;
+        Ok(Refutation { nogoods })
+    }
+}
+
+/// The law of refutations' texts: no two refutations have one text.
+pub fn refutations_read_back()
+    ensures { (es fs : List Entry) → All IsEntry es → All IsEntry fs → refutation_text es ≡ refutation_text fs → es ≡ fs }
+{}
