@@ -1,0 +1,4 @@
+pub mod Kind
+pub mod Target
+pub mod Check
+pub mod Table
