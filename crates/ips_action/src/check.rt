@@ -52,10 +52,24 @@ pub enum Check {
 pub fn meets(alloc: Global, check: Check, path: &str, value: &str) -> Result<bool, AllocError>
     ensures { IfOk result (λ answer. IsTrue answer ↔ Meets check path.now value.now) }
 {
-    if check == Check::HardlinkTarget {
-        return leads_inside(alloc, path, value);
+    match check {
+        Check::Anything => Ok(true),
+        Check::Path => Ok(is_action_path(value.as_bytes())),
+        Check::Mode => Ok(octal(value.as_bytes()).is_some()),
+        Check::Payload => Ok(PayloadName::parse(value).is_some()),
+        Check::Preserve => Ok(is_preserve(value)),
+        Check::Overlay => Ok(matches!(value, "allow" | "true")),
+        Check::LinkTarget => Ok(is_link_target(value.as_bytes())),
+        Check::HardlinkTarget => leads_inside(alloc, path, value),
+        Check::Numbers => Ok(is_numerals(value.as_bytes())),
+        Check::Priority => Ok(matches!(value, "vendor" | "site")),
+        Check::Account => Ok(is_account(value.as_bytes())),
+        Check::Id => Ok(is_id(value.as_bytes())),
+        Check::Field => Ok(is_field(value.as_bytes())),
+        Check::FileName => Ok(is_file_name(value.as_bytes())),
+        Check::Flag => Ok(matches!(value, "true" | "false")),
+        Check::FacetTag => Ok(matches!(value, "true" | "all")),
     }
-    Ok(meets_alone(check, value))
 }
 
 fn leads_inside(alloc: Global, path: &str, target: &str) -> Result<bool, AllocError>
@@ -63,30 +77,6 @@ fn leads_inside(alloc: Global, path: &str, target: &str) -> Result<bool, AllocEr
 {
     let found = leads_to(alloc, path.as_bytes(), target.as_bytes())?;
     Ok(found.is_some())
-}
-
-// The same for the checks that look at the value alone.
-fn meets_alone(check: Check, value: &str) -> bool
-    requires { check ≢ Check.HardlinkTarget }
-    ensures { IsTrue result ↔ Meets check [] value.now }
-{
-    match check {
-        Check::Anything | Check::HardlinkTarget => true,
-        Check::Path => is_action_path(value.as_bytes()),
-        Check::Mode => octal(value.as_bytes()).is_some(),
-        Check::Payload => PayloadName::parse(value).is_some(),
-        Check::Preserve => is_preserve(value),
-        Check::Overlay => matches!(value, "allow" | "true"),
-        Check::LinkTarget => is_link_target(value.as_bytes()),
-        Check::Numbers => is_numerals(value.as_bytes()),
-        Check::Priority => matches!(value, "vendor" | "site"),
-        Check::Account => is_account(value.as_bytes()),
-        Check::Id => is_id(value.as_bytes()),
-        Check::Field => is_field(value.as_bytes()),
-        Check::FileName => is_file_name(value.as_bytes()),
-        Check::Flag => matches!(value, "true" | "false"),
-        Check::FacetTag => matches!(value, "true" | "all"),
-    }
 }
 
 fn is_preserve(value: &str) -> bool
@@ -139,7 +129,7 @@ fn is_id(value: &[u8]) -> bool
     ensures { IsTrue result ↔ IsId value.now }
 {
     match decimal(value) {
-        Some(id) => id <= u64::from(u32::MAX),
+        Some(id) => id < 1 << 32,
         None => false,
     }
 }
