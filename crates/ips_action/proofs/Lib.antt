@@ -4,3 +4,4 @@ pub mod Parts
 pub mod KeyOrder
 pub mod Gathered
 pub mod Found
+pub mod Judged

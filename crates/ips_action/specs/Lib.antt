@@ -4,3 +4,6 @@ pub mod Check
 pub mod Table
 pub mod Attrs
 pub mod Gathering
+pub mod Judging
+pub mod Action
+pub mod Meaning

@@ -4,6 +4,8 @@ ghost use Rattle.std.specs.Prelude.{◌≡◌, ◌≢◌, ◌<◌, ◌^◌, ◌�
 ghost use Rattle.std.specs.Fmt as spelled;
 ghost use Rattle.ips_text.specs.Path.{parts};
 ghost use Rattle.ips_action.specs.Check as checks;
+ghost use Rattle.ips_action.specs.Judging as judging;
+ghost use Rattle.ips_action.specs.Meaning as meaning;
 ghost use Rattle.ips_action.specs.Check.{Meets, IsOneOf, IsActionPath, IsLinkTarget, IsNumerals, IsNumber, IsId, IsField, IsAccount, IsFileName, LeadsInside, preserve_words};
 
 use crate::target::{first_part, leads_to};
@@ -46,6 +48,22 @@ pub enum Check {
     Flag,
     /// How a facet's tag asks for its facet: `true` or `all`.
     FacetTag,
+}
+
+impl Check {
+    /// Whether a row of this check is about the payload.
+    pub fn is_payload(self) -> bool
+        ensures { result ≡ judging.is_payload self }
+    {
+        matches!(self, Check::Payload)
+    }
+
+    /// Whether a value of this check is a path.
+    pub fn is_path(self) -> bool
+        ensures { result ≡ meaning.is_path self }
+    {
+        matches!(self, Check::Path)
+    }
 }
 
 /// Whether the value is what the check asks for, in an action at this path, which only the target of a hardlink looks at.

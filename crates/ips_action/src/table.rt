@@ -22,16 +22,16 @@ pub enum Times {
 /// A row of the table: an attribute, how often it may stand, and what each of its values must be. The row whose check is
 /// `Check::Payload` is about the payload of the action and no attribute.
 #[derive(Clone, Copy, Debug, Drop)]
-pub struct Row {
+pub struct Row<'a> {
     /// The key of the attribute.
-    pub name: &'static str,
+    pub name: &'a str,
     /// How often it may stand.
     pub times: Times,
     /// What each value must be.
     pub check: Check,
 }
 
-static SET: [Row; 2] = [
+static SET: [Row<'static>; 2] = [
     Row {
         name: "name",
         times: Times::Once,
@@ -44,7 +44,7 @@ static SET: [Row; 2] = [
     },
 ];
 
-static DEPEND: [Row; 3] = [
+static DEPEND: [Row<'static>; 3] = [
     Row {
         name: "fmri",
         times: Times::OnceOrMore,
@@ -62,7 +62,7 @@ static DEPEND: [Row; 3] = [
     },
 ];
 
-static DIR: [Row; 4] = [
+static DIR: [Row<'static>; 4] = [
     Row {
         name: "path",
         times: Times::Once,
@@ -85,7 +85,7 @@ static DIR: [Row; 4] = [
     },
 ];
 
-static FILE: [Row; 7] = [
+static FILE: [Row<'static>; 7] = [
     Row {
         name: "path",
         times: Times::Once,
@@ -123,7 +123,7 @@ static FILE: [Row; 7] = [
     },
 ];
 
-static LINK: [Row; 6] = [
+static LINK: [Row<'static>; 6] = [
     Row {
         name: "path",
         times: Times::Once,
@@ -156,7 +156,7 @@ static LINK: [Row; 6] = [
     },
 ];
 
-static HARDLINK: [Row; 6] = [
+static HARDLINK: [Row<'static>; 6] = [
     Row {
         name: "path",
         times: Times::Once,
@@ -189,7 +189,7 @@ static HARDLINK: [Row; 6] = [
     },
 ];
 
-static USER: [Row; 8] = [
+static USER: [Row<'static>; 8] = [
     Row {
         name: "username",
         times: Times::Once,
@@ -232,7 +232,7 @@ static USER: [Row; 8] = [
     },
 ];
 
-static GROUP: [Row; 2] = [
+static GROUP: [Row<'static>; 2] = [
     Row {
         name: "groupname",
         times: Times::Once,
@@ -245,7 +245,7 @@ static GROUP: [Row; 2] = [
     },
 ];
 
-static DRIVER: [Row; 1] = [
+static DRIVER: [Row<'static>; 1] = [
     Row {
         name: "name",
         times: Times::Once,
@@ -253,7 +253,7 @@ static DRIVER: [Row; 1] = [
     },
 ];
 
-static LICENSE: [Row; 4] = [
+static LICENSE: [Row<'static>; 4] = [
     Row {
         name: "license",
         times: Times::Once,
@@ -276,7 +276,7 @@ static LICENSE: [Row; 4] = [
     },
 ];
 
-static LEGACY: [Row; 1] = [
+static LEGACY: [Row<'static>; 1] = [
     Row {
         name: "pkg",
         times: Times::Once,
@@ -284,7 +284,7 @@ static LEGACY: [Row; 1] = [
     },
 ];
 
-static SIGNATURE: [Row; 1] = [
+static SIGNATURE: [Row<'static>; 1] = [
     Row {
         name: "payload",
         times: Times::AtMostOnce,
@@ -294,7 +294,7 @@ static SIGNATURE: [Row; 1] = [
 
 /// The rows of a kind of action, in the order in which they are judged. The first is the attribute that names the action,
 /// where the kind has one (pkg(7), "Actions").
-pub fn rows(kind: ActionKind) -> &'static [Row]
+pub fn rows(kind: ActionKind) -> &'static [Row<'static>]
     ensures { map row_seen result.now ≡ table kind }
 {
     match kind {
