@@ -24,7 +24,7 @@ use crate::holding::hold;
 use crate::judging::{judge, takes_payload};
 use crate::kind::ActionKind;
 use ips_digest::PayloadName;
-use ips_line::{Pair, Word, WordFault, Words, read_words};
+use ips_line::{Pair, WordFault, Words, read_words};
 use ips_text::Or;
 use std::alloc::Global;
 
@@ -70,18 +70,12 @@ fn action_of(alloc: Global, words: Words<'_>) -> Result<Action, Or<ActionFault>>
     let Some(kind) = ActionKind::named(name.text) else {
         return Err(Or::Bad(ActionFault::UnknownAction { place: name.place }));
     };
-    if let Some(word) = payload && !takes_payload(kind) {
-        return Err(Or::Bad(ActionFault::BadWord { place: word.place }));
-    }
-    judged(alloc, kind, text_of(payload), pairs)
-}
-
-fn text_of(word: Option<Word<'_>>) -> Option<&str>
-    ensures { option_map (λ w. w.now) result ≡ option_map (λ w. w.text.now) word.entry }
-{
-    match word {
-        Some(word) => Some(word.text),
-        None => None,
+    match payload {
+        Some(word) if !takes_payload(kind) => {
+            Err(Or::Bad(ActionFault::BadWord { place: word.place }))
+        }
+        Some(word) => judged(alloc, kind, Some(word.text), pairs),
+        None => judged(alloc, kind, None, pairs),
     }
 }
 
