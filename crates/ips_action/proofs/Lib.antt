@@ -10,3 +10,4 @@ pub mod Tabled
 pub mod Spelled
 pub mod One
 pub mod Lines
+pub mod ReadBack

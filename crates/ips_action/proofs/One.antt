@@ -55,7 +55,7 @@ one_payload (Some m) (Some n) ha hb e = let same : spelling m ≡ spelling n = c
 
 -- ---- attributes
 
-later_none : (attrs : List Attr) (key : List ℕ) → AllByRecursion (λ (a : Attr). IsBefore key a.key) attrs → values_of key attrs ≡ []
+pub later_none : (attrs : List Attr) (key : List ℕ) → AllByRecursion (λ (a : Attr). IsBefore key a.key) attrs → values_of key attrs ≡ []
 later_none [] key h = refl
 later_none (a ∷ attrs) key h = rw (after_other key a.key h.0) (later_none attrs key h.1)
 
