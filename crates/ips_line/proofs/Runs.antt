@@ -222,11 +222,12 @@ is_nothing : (xs : List ℕ) → is_none xs ≡ true → xs ≡ []
 is_nothing [] e = refl
 is_nothing (x ∷ xs) e = absurd (true≢false (sym e))
 
-key_rest : (word : List ℕ) → list_all in_key word ≡ is_none (run in_key word).1
-key_rest [] = refl
-key_rest (b ∷ word) = go (in_key b) refl (key_rest word)
+-- the run is all, where each byte passes
+pub run_rest : (test : ℕ → Bool) (bytes : List ℕ) → list_all test bytes ≡ is_none (run test bytes).1
+run_rest test [] = refl
+run_rest test (b ∷ bytes) = go (test b) refl (run_rest test bytes)
   where
-    go : (t : Bool) → in_key b ≡ t → list_all in_key word ≡ is_none (run in_key word).1 → list_all in_key (b ∷ word) ≡ is_none (run in_key (b ∷ word)).1
+    go : (t : Bool) → test b ≡ t → list_all test bytes ≡ is_none (run test bytes).1 → list_all test (b ∷ bytes) ≡ is_none (run test (b ∷ bytes)).1
     go true e h = rw e h
     go false e h = rw e refl
 
@@ -236,7 +237,7 @@ key_told [] = refl
 key_told (b ∷ word) = go (in_key b) refl
   where
     go : (t : Bool) → in_key b ≡ t → is_key (b ∷ word) ≡ (not (is_none (run in_key (b ∷ word)).0) && is_none (run in_key (b ∷ word)).1)
-    go true e = rw e (key_rest word)
+    go true e = rw e (run_rest in_key word)
     go false e = rw e refl
 
 pub empty_told : (xs : List ℕ) → eqb (length xs) 0 ≡ is_none xs
