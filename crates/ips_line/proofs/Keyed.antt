@@ -168,7 +168,7 @@ pub no_blank : (b : ℕ) → in_key b ≡ true → is_blank b ≡ false
 no_blank b h = grind arith
 
 -- what follows a `key=value` is what follows its value
-key_first : (key rest : List ℕ) → IsRun in_key key → Ends is_blank (key ++ rest)
+pub key_first : (key rest : List ℕ) → IsRun in_key key → Ends is_blank (key ++ rest)
 key_first [] rest h = absurd h
 key_first (b ∷ key) rest h = no_blank b (and_parts (in_key b) (list_all in_key key) h).0
 

@@ -5,3 +5,5 @@ pub mod Escapes
 pub mod Keyed
 pub mod Listed
 pub mod Gathered
+pub mod Heads
+pub mod Whole
