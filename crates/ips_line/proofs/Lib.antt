@@ -7,3 +7,6 @@ pub mod Listed
 pub mod Gathered
 pub mod Heads
 pub mod Whole
+pub mod Opened
+pub mod Answered
+pub mod Spelled

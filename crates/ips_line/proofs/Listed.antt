@@ -50,7 +50,7 @@ and_false_left : (x y : Bool) → x ≡ false → (x && y) ≡ false
 and_false_left false y e = refl
 and_false_left true y e = absurd (true≢false e)
 
-key_not_blank : (key rest : List ℕ) → IsRun in_key key → list_all is_blank (key ++ rest) ≡ false
+pub key_not_blank : (key rest : List ℕ) → IsRun in_key key → list_all is_blank (key ++ rest) ≡ false
 key_not_blank [] rest h = absurd h
 key_not_blank (b ∷ key) rest h = and_false_left (is_blank b) (list_all is_blank (key ++ rest)) (no_blank b (and_parts (in_key b) (list_all in_key key) h).0)
 
@@ -265,8 +265,8 @@ enough (suc m) zero bytes lm ln = absurd (omega arith)
 enough (suc m) (suc n) bytes lm ln =
     cond_same (list_all is_blank bytes) (Ok ([], bytes)) (attribute_at bytes >>= more_within m) (attribute_at bytes >>= more_within n)
     (bind_same (attribute_at bytes) (more_within m) (more_within n) (λ a e.
-        let shorter = attribute_shorter bytes a e in
-        ap (λ (r : Answer). r >>= λ others. Ok (a.0 ∷ others.0, others.1)) (enough m n a.1 (omega arith) (omega arith))))
+    let shorter = attribute_shorter bytes a e in
+    ap (λ (r : Answer). r >>= λ others. Ok (a.0 ∷ others.0, others.1)) (enough m n a.1 (omega arith) (omega arith))))
 
 pub rest_blank : (bytes : List ℕ) → list_all is_blank bytes ≡ true → attributes_at bytes ≡ Ok ([], bytes)
 unfolding attributes_within

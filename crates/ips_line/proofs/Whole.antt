@@ -33,7 +33,7 @@ PartsFollow p rest = Ends is_blank ((p.1.0 ++ tail_text p.1.1) ++ rest) × (Ends
 abbrev blanks_at : Reader Part (List ℕ)
 blanks_at bytes = Ok (run is_blank bytes)
 
-abbrev Cut : Type 0
+abbrev pub Cut : Type 0
 Cut = List ℕ × List ℕ
 
 blanks_takes : (bytes : List ℕ) (z : Cut) → blanks_at bytes ≡ Ok z → (bytes ≡ z.0 ++ z.1) × (list_all is_blank z.0 ≡ true) × Ends is_blank z.1
@@ -84,14 +84,14 @@ Reads-line =
 
 -- ---- nothing follows a line
 
-word_first : (name rest : List ℕ) → IsRun in_word name → Ends is_blank (name ++ rest)
+pub word_first : (name rest : List ℕ) → IsRun in_word name → Ends is_blank (name ++ rest)
 word_first [] rest h = absurd h
 word_first (b ∷ name) rest h = no_blank b (and_parts (in_word b) (list_all in_word name) h).0
   where
     no_blank : (b : ℕ) → in_word b ≡ true → is_blank b ≡ false
     no_blank b h = grind arith
 
-payload_starts : (p : Option Payload) (rest : List ℕ) → IsPayload p → Ends in_word rest → Ends in_word (payload_written p ++ rest)
+pub payload_starts : (p : Option Payload) (rest : List ℕ) → IsPayload p → Ends in_word rest → Ends in_word (payload_written p ++ rest)
 payload_starts None rest h ends = ends
 payload_starts (Some p) rest h ends = subst (Ends in_word) (sym (append_assoc p.gap p.word rest)) (gap_first p.gap (p.word ++ rest) h.0)
   where
@@ -114,16 +114,16 @@ line_ends line h =
 abbrev word_kind : Line → Part
 word_kind line = part.Word
 
-abbrev LineRead : Type 0
+abbrev pub LineRead : Type 0
 LineRead = Result Line (Stop Part)
 
-abbrev line_of : List ℕ → List ℕ → Option Payload → Rest → Line
+abbrev pub line_of : List ℕ → List ℕ → Option Payload → Rest → Line
 line_of before name payload others = record { before = before; name = name; payload = payload; attributes = others.0; behind = others.1 }
 
-abbrev rest_line : List ℕ → List ℕ → PayloadRead → LineRead
+abbrev pub rest_line : List ℕ → List ℕ → PayloadRead → LineRead
 rest_line before name payload = attributes_at payload.1 >>= λ others. Ok (line_of before name payload.0 others)
 
-abbrev name_line : List ℕ → Cut → LineRead
+abbrev pub name_line : List ℕ → Cut → LineRead
 name_line before name = payload_at name.1 >>= rest_line before name.0
 
 abbrev Named : Type 0

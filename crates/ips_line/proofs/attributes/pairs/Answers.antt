@@ -11,9 +11,9 @@ returns-in_err-attribute c =
     let p = err_from_is_err_and c.from_residual.result c.from_residual.ensures.1 in
     rw (p.1, p.2)
     (gather_fails c.in_err-attribute.field-0.0 c.loop-rest.pairs.items c.loop-rest.rest.now _
-        (sym (is_some c.loop-rest.rest.now c.run.result.1.now c.run.result.0.now c.run.ensures) ∙ sym c.is_empty.ensures ∙ c.loop-rest-test.true)
-        (seen_fails _ c.next_attribute.result (attribute_at c.loop-rest.rest.now) c.in_err-attribute.field-0.0 c.in_err-attribute.ensures c.next_attribute.ensures.exact)
-        c.loop-rest.invariant.1)
+    (sym (is_some c.loop-rest.rest.now c.run.result.1.now c.run.result.0.now c.run.ensures) ∙ sym c.is_empty.ensures ∙ c.loop-rest-test.true)
+    (seen_fails _ c.next_attribute.result (attribute_at c.loop-rest.rest.now) c.in_err-attribute.field-0.0 c.in_err-attribute.ensures c.next_attribute.ensures.exact)
+    c.loop-rest.invariant.1)
 
 pub loop-rest-smaller : goal.loop-rest-smaller
 loop-rest-smaller c = attribute_shorter c.loop-rest.rest.now _ (seen_ok _ c.next_attribute.result (attribute_at c.loop-rest.rest.now) _ c.in_ok-attribute.ensures c.next_attribute.ensures.exact)
@@ -22,7 +22,7 @@ pub loop-rest-preserved : goal.loop-rest-preserved
 loop-rest-preserved c = (
   search rules,
   rw (c.in_ok-push.ensures.items, c.in_ok-pair.ensures)
-  (gather_on c.loop-rest.pairs.items c.loop-rest.rest.now (seen_attribute c.in_ok-attribute.attribute, c.in_ok-attribute.after.now) _
+      (gather_on c.loop-rest.pairs.items c.loop-rest.rest.now (seen_attribute c.in_ok-attribute.attribute, c.in_ok-attribute.after.now) _
       (sym (is_some c.loop-rest.rest.now c.run.result.1.now c.run.result.0.now c.run.ensures) ∙ sym c.is_empty.ensures ∙ c.loop-rest-test.true)
       (seen_ok _ c.next_attribute.result (attribute_at c.loop-rest.rest.now) _ c.in_ok-attribute.ensures c.next_attribute.ensures.exact)
       c.loop-rest.invariant.1),
