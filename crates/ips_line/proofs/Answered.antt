@@ -1,10 +1,9 @@
 -- What the program answers of a line is what the line says.
-use Rattle.std.proofs.Common.{◌≡◌, ℕ, ◌+◌, ◌<◌, ◌≤◌, ◌^◌, List, ◌++◌, length, Option, Some, None, Result, Ok, Err, refl, sym, ap, subst, ◌∙◌, arith}
+use Rattle.std.proofs.Common.{◌≡◌, ℕ, ◌+◌, ◌<◌, ◌^◌, List, ◌++◌, length, Option, Some, None, Result, Ok, Err, refl, sym, ap, ◌∙◌, arith}
 use Rattle.std.proofs.lemmas.List.{length-append}
 use Rattle.ips_text.specs.declared.refusal.Stop.{Stop}
-use Rattle.ips_text.proofs.Readers.{ok_is, ok_not_err, err_same, Reads}
+use Rattle.ips_text.proofs.Readers.{ok_is, ok_not_err, err_same}
 use Rattle.ips_line.specs.declared.fault.Part.{Part}
-use Rattle.ips_line.specs.declared.fault.WordFault.{WordFault}
 use Rattle.ips_line.specs.Line.{is_blank, in_word, Payload, payload_written, Line, line_written, IsWrittenLine, Said, words_of, Says}
 use Rattle.ips_line.specs.Reading.{run, some_at, payload_at, read_line, said_line, placed, fault_of, read_words}
 use Rattle.ips_line.specs.Seen.{FitsBehind}

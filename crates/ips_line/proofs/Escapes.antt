@@ -1,17 +1,16 @@
 -- Values as they are spelled canonically: which need quotes, and what is escaped between them.
-use Rattle.std.proofs.Common.{◌≡◌, ℕ, zero, suc, ◌+◌, ◌<◌, ◌≤◌, Bool, true, false, cond, not, ◌&&◌, ◌||◌, eqb, List, [], ◌∷◌, ◌++◌, length, take, drop, Option, Some, None, refl, sym, ap, subst, ◌∙◌, append_assoc, arith, inl, inr, ◌⊎◌}
+use Rattle.std.proofs.Common.{◌≡◌, ℕ, ◌<◌, Bool, true, false, not, eqb, List, [], ◌∷◌, ◌++◌, length, take, drop, Option, Some, None, refl, sym, ap, ◌∙◌, append_assoc, arith}
 use Rattle.std.specs.Option.{is_some}
 use Rattle.std.specs.List.{list_all, list_any, position, flat_map}
-use Rattle.std.proofs.lemmas.Bool.{eqb-true, and_parts, true≢false}
+use Rattle.std.proofs.lemmas.Bool.{true≢false}
 use Rattle.std.proofs.lemmas.List.{append-nil, take-append-drop}
 use Rattle.std.specs.Str.{IsUtf8, IsCharBoundary}
 use Rattle.std.proofs.lemmas.Str.{IsCharBoundary-before_ascii, IsUtf8-drop}
 use Rattle.ips_text.specs.Reading.{next_is}
 use Rattle.ips_text.proofs.Readers.{next_same}
 use Rattle.ips_line.proofs.Quotes.{byte_at, cut_first}
-use Rattle.ips_line.specs.Line.{is_blank, is_quote, in_word, in_payload, in_key, IsRun, is_escape, meant, stays_inside}
-use Rattle.ips_line.specs.Canonical.{is_escaped, escaped_byte, is_special, needs_quotes, value_text}
-use Rattle.ips_line.proofs.Places.{FirstAt, first_passes, none_passes, Told, any_told}
+use Rattle.ips_line.specs.Canonical.{is_escaped, escaped_byte, is_special, needs_quotes}
+use Rattle.ips_line.proofs.Places.{first_passes, none_passes, Told, any_told}
 
 pub needs_test : (value : List ℕ) (place : Option ℕ) → eqb (length value) 0 ≡ false → place ≡ position is_special value → is_some place ≡ needs_quotes value
 needs_test [] place some e = absurd (true≢false some)

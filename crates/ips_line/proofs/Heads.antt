@@ -1,17 +1,17 @@
 -- A payload word is read as it is written, and taken for one exactly where it is one.
-use Rattle.std.proofs.Common.{◌≡◌, ℕ, zero, suc, ◌+◌, ◌-◌, ◌<◌, ◌≤◌, Bool, true, false, cond, ◌&&◌, ◌||◌, not, eqb, List, [], ◌∷◌, ◌++◌, length, take, drop, Option, Some, None, Result, Ok, Err, refl, sym, ap, subst, ◌∙◌, append_assoc, arith, inl, inr, ◌⊎◌}
+use Rattle.std.proofs.Common.{◌≡◌, ℕ, Bool, true, false, cond, eqb, List, [], ◌∷◌, ◌++◌, length, drop, Option, Some, None, Result, Ok, Err, refl, sym, ap, subst, ◌∙◌, append_assoc, arith, inl, inr}
 use Rattle.std.specs.List.{list_all, flat_map, AllByRecursion}
-use Rattle.std.proofs.lemmas.Bool.{eqb-true, and_parts, true≢false, false_from_ne_true}
-use Rattle.std.proofs.lemmas.List.{append-nil, length-append}
+use Rattle.std.proofs.lemmas.Bool.{and_parts, true≢false}
+use Rattle.std.proofs.lemmas.List.{append-nil}
 use Rattle.std.proofs.lemmas.List.Folds.{list_all-append}
 use Rattle.ips_text.specs.declared.refusal.Stop.{Stop}
 use Rattle.ips_text.specs.Reading.{◌>>=◌, Reader, next_is}
-use Rattle.ips_text.proofs.Readers.{Stops, Reads, SameBefore, chosen, bind_ok, bind_err, ok_is, ok_not_err, err_same, next_parts}
+use Rattle.ips_text.proofs.Readers.{Stops, Reads, SameBefore, bind_ok, bind_err, ok_is, ok_not_err, err_same, next_parts}
 use Rattle.ips_line.specs.declared.fault.Part.{Part}
-use Rattle.ips_line.specs.Line.{is_blank, in_word, in_payload, in_key, IsRun, Written, Plain, written_text, Payload, payload_written, IsPayload, Attribute, attribute_written, IsAttribute}
-use Rattle.ips_line.specs.Reading.{run, is_none, is_key, wrong_at, some_at, attributes_at, payload_from, payload_at}
-use Rattle.ips_line.proofs.Runs.{Ends, RunIs, run_is, run_again}
-use Rattle.ips_line.proofs.Keyed.{no_blank, key_first}
+use Rattle.ips_line.specs.Line.{is_blank, in_word, in_payload, in_key, IsRun, Plain, written_text, Payload, payload_written, IsPayload, Attribute, attribute_written, IsAttribute}
+use Rattle.ips_line.specs.Reading.{run, is_none, is_key, wrong_at, attributes_at, payload_from, payload_at}
+use Rattle.ips_line.proofs.Runs.{Ends, run_is, run_again}
+use Rattle.ips_line.proofs.Keyed.{key_first}
 use Rattle.ips_line.proofs.Listed.{Rest, rest_text, RestFits, rest_takes, rest_again, Same, rest_stops, rest_blank, rest_ends}
 
 -- ---- bytes and runs

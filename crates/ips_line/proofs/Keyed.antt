@@ -1,18 +1,16 @@
 -- Each `key=value` is read as it is written.
-use Rattle.std.proofs.Common.{◌≡◌, ℕ, zero, suc, ◌+◌, ◌-◌, ◌<◌, ◌≤◌, Bool, true, false, cond, ◌&&◌, ◌||◌, not, eqb, List, [], ◌∷◌, ◌++◌, length, take, drop, Option, Some, None, Result, Ok, Err, refl, sym, ap, subst, ◌∙◌, append_assoc, arith, inl, inr, ◌⊎◌}
-use Rattle.std.specs.Prelude.{map}
-use Rattle.std.specs.List.{list_all, flat_map, AllByRecursion}
-use Rattle.std.proofs.lemmas.Bool.{and_parts, true≢false, false_from_ne_true}
-use Rattle.std.proofs.lemmas.List.{append-nil, length-append}
-use Rattle.std.proofs.lemmas.List.Folds.{list_all-append}
+use Rattle.std.proofs.Common.{◌≡◌, ℕ, true, false, List, [], ◌∷◌, ◌++◌, length, Option, Some, None, Result, Ok, Err, refl, sym, ap, subst, ◌∙◌, append_assoc, arith, inl, inr}
+use Rattle.std.specs.List.{list_all}
+use Rattle.std.proofs.lemmas.Bool.{and_parts}
+use Rattle.std.proofs.lemmas.List.{append-nil}
 use Rattle.ips_text.specs.declared.refusal.Stop.{Stop}
-use Rattle.ips_text.specs.Reading.{◌>>=◌, Reader, via, both}
+use Rattle.ips_text.specs.Reading.{◌>>=◌, both}
 use Rattle.ips_text.proofs.Readers.{Stops, Reads, SameBefore, in_turn, Reads-via, chosen, bind_ok, bind_err, ok_is, ok_not_err, err_same}
 use Rattle.ips_line.specs.declared.fault.Part.{Part}
 use Rattle.ips_line.specs.declared.fault.Part.TheVariants as part
-use Rattle.ips_line.specs.Line.{is_blank, is_quote, in_word, in_key, IsRun, stays_inside, Written, Plain, Quoted, written_text, IsPlain, IsWritten, Attribute, attribute_written, IsAttribute}
-use Rattle.ips_line.specs.Reading.{run, wrong_at, some_at, equals_at, closing, closed, plain_at, written_at, made, attribute_at, attributes_within, attributes_at}
-use Rattle.ips_line.proofs.Runs.{Ends, run_is, run_again, itself, RunFollows, equals_text, Reads-some, Reads-equals}
+use Rattle.ips_line.specs.Line.{is_blank, is_quote, in_word, in_key, IsRun, Written, Plain, Quoted, written_text, IsPlain, IsWritten, Attribute, attribute_written, IsAttribute}
+use Rattle.ips_line.specs.Reading.{run, wrong_at, some_at, equals_at, closing, closed, plain_at, written_at, made, attribute_at}
+use Rattle.ips_line.proofs.Runs.{Ends, equals_text, Reads-some, Reads-equals}
 use Rattle.ips_line.proofs.Quotes.{closing_takes, closing_again, closing_open, extra}
 
 -- ---- a written value

@@ -1,16 +1,15 @@
 -- The `key=value` of a line are read one after the other, up to the blanks at its end.
-use Rattle.std.proofs.Common.{◌≡◌, ℕ, zero, suc, ◌+◌, ◌-◌, ◌<◌, ◌≤◌, Bool, true, false, cond, ◌&&◌, ◌||◌, not, eqb, List, [], ◌∷◌, ◌++◌, length, take, drop, Option, Some, None, Result, Ok, Err, refl, sym, ap, subst, ◌∙◌, append_assoc, arith, inl, inr, ◌⊎◌}
-use Rattle.std.specs.Prelude.{map}
+use Rattle.std.proofs.Common.{◌≡◌, ℕ, zero, suc, ◌<◌, Bool, true, false, cond, ◌&&◌, List, [], ◌∷◌, ◌++◌, length, Result, Ok, Err, refl, sym, ap, subst, ◌∙◌, append_assoc, arith, inl, inr}
 use Rattle.std.specs.List.{list_all, flat_map, AllByRecursion}
 use Rattle.std.proofs.lemmas.Bool.{and_parts, true≢false, false_from_ne_true}
 use Rattle.std.proofs.lemmas.List.{append-nil, length-append}
 use Rattle.std.proofs.lemmas.List.Folds.{list_all-append}
 use Rattle.ips_text.specs.declared.refusal.Stop.{Stop}
 use Rattle.ips_text.specs.Reading.{◌>>=◌}
-use Rattle.ips_text.proofs.Readers.{Stops, Reads, SameBefore, chosen, bind_ok, bind_err, ok_is, ok_not_err}
+use Rattle.ips_text.proofs.Readers.{Stops, SameBefore, chosen, bind_ok, bind_err, ok_is, ok_not_err}
 use Rattle.ips_line.specs.declared.fault.Part.{Part}
-use Rattle.ips_line.specs.Line.{is_blank, in_word, in_key, IsRun, Written, Plain, Quoted, written_text, IsWritten, Attribute, attribute_written, IsAttribute}
-use Rattle.ips_line.specs.Reading.{run, attribute_at, attributes_within, attributes_at}
+use Rattle.ips_line.specs.Line.{is_blank, in_word, in_key, IsRun, Written, Plain, Quoted, written_text, Attribute, attribute_written, IsAttribute}
+use Rattle.ips_line.specs.Reading.{attribute_at, attributes_within, attributes_at}
 use Rattle.ips_line.proofs.Runs.{Ends}
 use Rattle.ips_line.proofs.Keyed.{WrittenFollows, AttributeFollows, Reads-attribute, attribute_follows, no_blank}
 

@@ -1,21 +1,20 @@
 -- A text that ends between quotes: it is told exactly, with the place of the quote.
-use Rattle.std.proofs.Common.{◌≡◌, ◌≢◌, ℕ, zero, suc, ◌+◌, ◌-◌, ◌<◌, ◌≤◌, Bool, true, false, cond, ◌&&◌, ◌||◌, not, eqb, List, [], ◌∷◌, ◌++◌, length, take, drop, Option, Some, None, Result, Ok, Err, refl, sym, ap, subst, ◌∙◌, append_assoc, arith, inl, inr, ◌⊎◌}
+use Rattle.std.proofs.Common.{◌≡◌, ℕ, zero, suc, ◌+◌, ◌-◌, ◌≤◌, Bool, true, false, eqb, List, [], ◌∷◌, ◌++◌, length, take, Option, Some, None, Result, Ok, Err, refl, sym, ap, subst, ◌∙◌, append_assoc, arith, inl, inr}
 use Rattle.std.specs.List.{list_all, flat_map, AllByRecursion}
-use Rattle.std.proofs.lemmas.Bool.{and_parts, true≢false}
+use Rattle.std.proofs.lemmas.Bool.{and_parts}
 use Rattle.std.proofs.lemmas.List.{append-nil, length-append, take_all}
 use Rattle.ips_text.specs.declared.refusal.Stop.{Stop}
-use Rattle.ips_text.specs.Reading.{◌>>=◌, both, via, Begins, IsFirstBad}
-use Rattle.ips_text.proofs.Readers.{Reads, chosen, bind_ok, bind_err, ok_is, ok_not_err, err_same}
+use Rattle.ips_text.specs.Reading.{◌>>=◌, both, Begins}
+use Rattle.ips_text.proofs.Readers.{chosen, bind_err, ok_is, ok_not_err, err_same}
 use Rattle.ips_line.specs.declared.fault.Part.{Part}
 use Rattle.ips_line.specs.declared.fault.Part.TheVariants as part
-use Rattle.ips_line.specs.declared.fault.WordFault.{WordFault}
-use Rattle.ips_line.specs.Line.{is_blank, is_quote, in_word, in_key, IsRun, stays_inside, Written, Plain, Quoted, written_text, Payload, payload_written, IsPayload, Attribute, attribute_written, IsAttribute, Line, line_written, IsWrittenLine, IsLine, EndsInQuote, IsFault}
-use Rattle.ips_line.specs.Reading.{run, wrong_at, some_at, equals_at, closing, closed, plain_at, written_at, attribute_at, attributes_within, attributes_at, payload_from, payload_at, read_line, opened, fault_of}
+use Rattle.ips_line.specs.Line.{is_blank, is_quote, in_word, in_key, IsRun, stays_inside, Written, Plain, Quoted, Payload, payload_written, IsPayload, Attribute, attribute_written, IsAttribute, Line, line_written, IsLine, EndsInQuote, IsFault}
+use Rattle.ips_line.specs.Reading.{run, wrong_at, some_at, equals_at, closing, closed, plain_at, written_at, attribute_at, attributes_within, attributes_at, payload_at, read_line, opened, fault_of}
 use Rattle.ips_line.proofs.Runs.{Ends, run_is, run_again, Reads-some, Reads-equals}
 use Rattle.ips_line.proofs.Quotes.{closing_takes, closing_again}
 use Rattle.ips_line.proofs.Keyed.{key_first, Reads-attribute}
 use Rattle.ips_line.proofs.Listed.{Rest, AttributeRead, rest_next, rest_stop, attribute_again, attribute_ends, attribute_not_blank, key_not_blank}
-use Rattle.ips_line.proofs.Heads.{run_all, payload_key, payload_none, payload_written_again, payload_seen, Seen, Unspaced, Keyed, Wrong, Blank, Found, PayloadRead}
+use Rattle.ips_line.proofs.Heads.{payload_key, payload_none, payload_written_again, payload_seen, Seen, Unspaced, Keyed, Wrong, Blank, Found, PayloadRead}
 use Rattle.ips_line.proofs.Whole.{line_of, rest_line, name_line, word_first, payload_starts, line_first, no_line}
 
 -- ---- what stops at a quote

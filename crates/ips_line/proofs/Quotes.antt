@@ -1,20 +1,16 @@
 -- Values between quotes: where the quote stands that closes, and what stands before it.
-use Rattle.std.proofs.Common.{◌≡◌, ℕ, zero, suc, ◌+◌, ◌-◌, ◌<◌, ◌≤◌, Bool, true, false, cond, ◌&&◌, ◌||◌, not, eqb, List, [], ◌∷◌, ◌++◌, length, take, drop, get_or, Option, Some, None, Result, Ok, Err, refl, sym, ap, subst, ◌∙◌, append_assoc, arith, inl, inr, ◌⊎◌}
+use Rattle.std.proofs.Common.{◌≡◌, ℕ, zero, suc, ◌+◌, ◌<◌, ◌≤◌, Bool, true, false, cond, ◌&&◌, ◌||◌, not, eqb, List, [], ◌∷◌, ◌++◌, length, take, drop, get_or, Option, Some, None, refl, sym, ap, subst, ◌∙◌, append_assoc, arith, inl, inr}
 use Rattle.std.specs.List.{list_all, position}
 use Rattle.std.proofs.lemmas.Bool.{eqb-true, eq-eqb, and_parts, true≢false, false_from_ne_true}
 use Rattle.std.proofs.lemmas.List.{append-nil, length-append, take-append-drop}
 use Rattle.std.proofs.Math.Seq.{take-append_seam, drop-append_seam}
 use Rattle.std.specs.Str.{IsUtf8, IsCharBoundary}
 use Rattle.std.proofs.lemmas.Str.{IsCharBoundary-before_ascii, IsCharBoundary-after_ascii}
-use Rattle.ips_text.specs.declared.refusal.Stop.{Stop}
-use Rattle.ips_text.specs.Reading.{◌>>=◌, via, next_is}
-use Rattle.ips_text.proofs.Readers.{Stops, Reads, SameBefore, chosen, bind_ok, bind_err, ok_is, ok_not_err, err_same, next_parts, next_same}
-use Rattle.ips_line.specs.declared.fault.Part.{Part}
-use Rattle.ips_line.specs.declared.fault.Part.TheVariants as part
-use Rattle.ips_line.specs.Line.{is_blank, is_quote, in_word, IsRun, is_escape, meant, stays_inside, Written, Plain, Quoted, written_text, IsPlain, IsWritten}
-use Rattle.ips_line.specs.Reading.{run, wrong_at, some_at, into_front, begins_escape, begins_quote, closing, closed, plain_at, written_at}
-use Rattle.ips_line.proofs.Runs.{Ends, RunIs, run_is, run_again}
-use Rattle.ips_line.proofs.Places.{FirstAt, first_passes, none_passes}
+use Rattle.ips_text.specs.Reading.{next_is}
+use Rattle.ips_text.proofs.Readers.{chosen, next_same}
+use Rattle.ips_line.specs.Line.{is_quote, is_escape, meant, stays_inside}
+use Rattle.ips_line.specs.Reading.{into_front, begins_escape, begins_quote, closing, closed, plain_at, written_at}
+use Rattle.ips_line.proofs.Places.{first_passes, none_passes}
 
 abbrev Cut : Type 0
 Cut = List ℕ × List ℕ

@@ -1,14 +1,13 @@
 -- The canonical line of words is a line that says them.
-use Rattle.std.proofs.Common.{◌≡◌, ℕ, zero, suc, ◌+◌, ◌<◌, ◌≤◌, Bool, true, false, cond, not, ◌&&◌, ◌||◌, eqb, List, [], ◌∷◌, ◌++◌, length, take, drop, Option, Some, None, Result, Ok, Err, refl, sym, ap, subst, ◌∙◌, append_assoc, arith, inl, inr, ◌⊎◌}
+use Rattle.std.proofs.Common.{◌≡◌, ℕ, ◌+◌, Bool, true, false, cond, ◌||◌, eqb, List, [], ◌∷◌, ◌++◌, length, Option, Some, None, Ok, refl, sym, ap, ◌∙◌, arith}
 use Rattle.std.specs.Prelude.{map}
 use Rattle.std.specs.List.{list_all, list_any, flat_map, AllByRecursion}
-use Rattle.std.proofs.lemmas.Bool.{eqb-true, and_parts, true≢false}
+use Rattle.std.proofs.lemmas.Bool.{true≢false}
 use Rattle.std.proofs.lemmas.List.{append-nil}
-use Rattle.ips_text.specs.declared.refusal.Stop.{Stop}
-use Rattle.ips_text.proofs.Readers.{ok_is, chosen}
+use Rattle.ips_text.proofs.Readers.{ok_is}
 use Rattle.ips_line.specs.declared.words.Pair.{Pair}
 use Rattle.ips_line.specs.declared.fault.WordFault.{WordFault}
-use Rattle.ips_line.specs.Line.{is_blank, is_quote, in_word, in_payload, in_key, IsRun, is_escape, meant, stays_inside, Written, Plain, Quoted, written_text, IsPlain, IsWritten, value_of, Payload, Attribute, Line, payload_written, attribute_written, line_written, IsPayload, IsAttribute, IsWrittenLine, Placed, Said, payload_of, pair_of, words_of}
+use Rattle.ips_line.specs.Line.{is_quote, in_word, in_key, IsRun, is_escape, meant, stays_inside, Written, Plain, Quoted, written_text, IsPlain, IsWritten, value_of, Payload, Attribute, Line, payload_written, attribute_written, line_written, IsPayload, IsAttribute, IsWrittenLine, Placed, Said, payload_of, pair_of, words_of}
 use Rattle.ips_line.specs.Canonical.{is_escaped, escaped_byte, is_special, needs_quotes, value_text, pair_text, payload_text, words_text, IfPayload, AreWords, payload_placed, said}
 use Rattle.ips_line.specs.Reading.{read_line, placed, read_words}
 use Rattle.ips_line.proofs.Whole.{line_only}

@@ -1,20 +1,18 @@
 -- A line is read as it is written, and goes wrong at the first place that no line continues.
-use Rattle.std.proofs.Common.{◌≡◌, ℕ, zero, suc, ◌+◌, ◌-◌, ◌<◌, ◌≤◌, Bool, true, false, cond, ◌&&◌, ◌||◌, not, eqb, List, [], ◌∷◌, ◌++◌, length, take, drop, Option, Some, None, Result, Ok, Err, refl, sym, ap, subst, ◌∙◌, append_assoc, arith, inl, inr, ◌⊎◌}
-use Rattle.std.specs.List.{list_all, flat_map, AllByRecursion}
-use Rattle.std.proofs.lemmas.Bool.{eqb-true, and_parts, true≢false}
-use Rattle.std.proofs.lemmas.List.{append-nil, length-append, take_all}
+use Rattle.std.proofs.Common.{◌≡◌, ℕ, ◌-◌, ◌≤◌, true, false, cond, eqb, List, [], ◌∷◌, ◌++◌, length, Option, Some, None, Result, Ok, Err, refl, sym, ap, subst, ◌∙◌, append_assoc, arith}
+use Rattle.std.specs.List.{list_all, flat_map}
+use Rattle.std.proofs.lemmas.Bool.{and_parts}
+use Rattle.std.proofs.lemmas.List.{append-nil}
 use Rattle.ips_text.specs.declared.refusal.Stop.{Stop}
-use Rattle.ips_text.specs.Reading.{◌>>=◌, Reader, both, via, whole, Begins, IsFirstBad}
-use Rattle.ips_text.proofs.Readers.{Stops, Reads, SameBefore, in_turn, Reads-via, chosen, bind_ok, bind_err, ok_is, ok_not_err, err_same, whole_found, whole_only, whole_first}
+use Rattle.ips_text.specs.Reading.{◌>>=◌, Reader, both, via, whole, IsFirstBad}
+use Rattle.ips_text.proofs.Readers.{Reads, in_turn, Reads-via, ok_is, ok_not_err, whole_found, whole_only, whole_first}
 use Rattle.ips_line.specs.declared.fault.Part.{Part}
 use Rattle.ips_line.specs.declared.fault.Part.TheVariants as part
-use Rattle.ips_line.specs.Line.{is_blank, is_quote, in_word, in_payload, in_key, IsRun, stays_inside, Written, Plain, Quoted, written_text, IsWritten, Payload, payload_written, IsPayload, Attribute, attribute_written, IsAttribute, Line, line_written, IsWrittenLine, IsLine, EndsInQuote}
-use Rattle.ips_line.specs.Reading.{run, wrong_at, some_at, equals_at, closing, closed, plain_at, written_at, attribute_at, attributes_within, attributes_at, payload_at, read_line, made}
-use Rattle.ips_line.proofs.Runs.{Ends, run_is, run_again, itself, RunFollows, Reads-some, Reads-equals}
-use Rattle.ips_line.proofs.Quotes.{closing_takes}
-use Rattle.ips_line.proofs.Keyed.{Reads-written, Reads-attribute}
-use Rattle.ips_line.proofs.Listed.{Rest, AttributeRead, rest_text, RestFits, rest_takes, rest_again, rest_next, rest_stop, rest_ends, attribute_again, attribute_ends, attribute_not_blank, attribute_shorter}
-use Rattle.ips_line.proofs.Heads.{run_all, payload_key, payload_none, payload_written_again, payload_seen, Seen, Unspaced, Keyed, Wrong, Blank, Found, PayloadRead, Tail, tail_text, TailFits, tail_behind, tail_at, TailFollows, Reads-tail}
+use Rattle.ips_line.specs.Line.{is_blank, in_word, IsRun, Payload, payload_written, IsPayload, attribute_written, Line, line_written, IsWrittenLine, IsLine}
+use Rattle.ips_line.specs.Reading.{run, some_at, attributes_at, payload_at, read_line}
+use Rattle.ips_line.proofs.Runs.{Ends, run_is, run_again, itself, Reads-some}
+use Rattle.ips_line.proofs.Listed.{Rest, rest_ends}
+use Rattle.ips_line.proofs.Heads.{PayloadRead, Tail, tail_text, TailFits, tail_behind, tail_at, TailFollows, Reads-tail}
 
 -- ---- a line of its parts
 

@@ -1,4 +1,4 @@
-use Rattle.std.proofs.Common.{sym, ◌∙◌, arith, rules, string_bytes}
+use Rattle.std.proofs.Common.{sym, ◌∙◌, rules, string_bytes}
 use Rattle.ips_line.proofs.Escapes.{escaped_cut, escaped_behind, escape_on, escape_end}
 use Rattle.ips_line.proofs.printing.push_escaped.Goals as goal
 

@@ -1,4 +1,4 @@
-use Rattle.std.proofs.Common.{sym, ◌∙◌, arith}
+use Rattle.std.proofs.Common.{sym, ◌∙◌}
 use Rattle.std.proofs.lemmas.List.{take_rest}
 use Rattle.ips_line.proofs.Quotes.{far_escape, far_other, far_here, far_end}
 use Rattle.ips_line.proofs.values.closing.Goals as goal

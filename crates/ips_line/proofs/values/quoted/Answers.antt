@@ -1,4 +1,3 @@
-use Rattle.std.proofs.Common.{arith}
 use Rattle.ips_line.proofs.Quotes.{cut_first, cut_behind, low_quote}
 use Rattle.ips_line.proofs.values.quoted.Goals as goal
 

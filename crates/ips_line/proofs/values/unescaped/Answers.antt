@@ -1,4 +1,4 @@
-use Rattle.std.proofs.Common.{sym, ◌∙◌, arith, rules, string_bytes}
+use Rattle.std.proofs.Common.{sym, ◌∙◌, rules, string_bytes}
 use Rattle.ips_line.proofs.Quotes.{backslash_cut, backslash_next, unescape_on, unescape_end}
 use Rattle.ips_line.proofs.values.unescaped.Goals as goal
 

@@ -1,5 +1,4 @@
-use Rattle.std.proofs.Common.{ap, sym, ◌∙◌, Ok, Err, refl}
-use Rattle.ips_line.specs.Reading.{read_words}
+use Rattle.std.proofs.Common.{ap, sym, ◌∙◌, Ok, Err}
 use Rattle.ips_line.proofs.Answered.{words_found, words_only, words_exact, stopped_line, stopped_only, stopped_exact}
 use Rattle.ips_line.proofs.Opened.{left_within, fault_told}
 use Rattle.ips_line.proofs.words.read_words.Goals as goal

@@ -1,4 +1,4 @@
-use Rattle.std.proofs.Common.{◌≡◌, ◌<◌, ◌^◌, length, Ok, rules, arith}
+use Rattle.std.proofs.Common.{◌≡◌, ◌<◌, ◌^◌, length, Ok, rules}
 use Rattle.ips_line.specs.Line.{in_word}
 use Rattle.ips_line.specs.Reading.{some_at, payload_at}
 use Rattle.ips_line.specs.Seen.{seen_gapped}
