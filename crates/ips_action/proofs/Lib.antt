@@ -11,3 +11,4 @@ pub mod Spelled
 pub mod One
 pub mod Lines
 pub mod ReadBack
+pub mod Told

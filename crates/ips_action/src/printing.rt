@@ -62,8 +62,9 @@ fn push_values(out: &mut String, key: &str, values: &[Text]) -> Result<(), Alloc
     Ok(())
 }
 
-/// The law of actions' lines: no two actions have one canonical line, and it reads as the action.
+/// The law of actions' lines: no two actions have one canonical line, which means the action, and no line means two.
 pub fn actions_read_back()
     ensures one { (a b : Fields) → IsAction a → IsAction b → line_text a ≡ line_text b → a ≡ b }
     ensures back { (a : Fields) → IsAction a → Means (line_text a) a }
+    ensures alone { (text : List ℕ) (a b : Fields) → Means text a → Means text b → a ≡ b }
 {}

@@ -5,9 +5,7 @@ ghost use Rattle.std.specs.List.{AllByRecursion};
 ghost use Rattle.std.specs.Option.{option_map};
 ghost use Rattle.ips_text.specs.Reading.{Gives, IfBad};
 ghost use Rattle.ips_line.specs.declared.words.Pair as line_pair;
-ghost use Rattle.ips_line.specs.declared.fault.WordFault as word_faults;
-ghost use Rattle.ips_line.specs.Line.{Said, Says, IsRun, in_key};
-ghost use Rattle.ips_line.specs.Reading as line_reading;
+ghost use Rattle.ips_line.specs.Line.{IsRun, in_key};
 ghost use Rattle.ips_line.specs.Seen.{seen};
 ghost use Rattle.ips_digest.specs.Name.{AreNameDigits};
 ghost use Rattle.ips_action.specs.declared.attrs.Attr.{Attr};
@@ -36,8 +34,7 @@ pub fn parse_line(alloc: Global, line: &str) -> Result<Action, Or<ActionFault>>
     ensures found { IfOk result (λ action. Means line.now action) }
     ensures only { (action : Fields) → Means line.now action → Gives (λ x. x) result (Ok action) }
     ensures first { IfBad result (λ fault. IsFirstFault line.now fault) }
-    ensures words { (fault : word_faults.WordFault) → line_reading.read_words line.now ≡ Err fault → Gives (λ x. x) result (Err (word_fault fault)) }
-    ensures faults { (said : Said) (fault : faults.ActionFault) → Says said line.now → FaultOf said fault → Gives (λ x. x) result (Err fault) }
+    ensures faults { (fault : faults.ActionFault) → IsFirstFault line.now fault → Gives (λ x. x) result (Err fault) }
 {
     match read_words(alloc, line) {
         Ok(words) => action_of(alloc, words),
