@@ -60,6 +60,7 @@ impl Action {
     pub fn get(&self, name: &str) -> Option<&str>
         ensures some { IfSome result (λ value. slice_get (values_of name.now self.now.attrs) 0 ≡ Some value.now) }
         ensures none { IfNone result (values_of name.now self.now.attrs ≡ []) }
+        ensures action { IsAction self.now }
     {
         self.attrs.get(name)
     }
