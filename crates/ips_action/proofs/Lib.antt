@@ -1,0 +1,14 @@
+pub mod Targets
+pub mod Numbers
+pub mod Parts
+pub mod KeyOrder
+pub mod Gathered
+pub mod Found
+pub mod Judged
+pub mod Slashes
+pub mod Tabled
+pub mod Spelled
+pub mod One
+pub mod Lines
+pub mod ReadBack
+pub mod Told
