@@ -92,16 +92,22 @@ not_longer es rest name e x le sorted one =
     }
 
 outranked : (p q e : List ℕ) → length p < length e → Outranks p q → Outranks e q
-outranked p q e longer is = inl (elim is [ | inl shorter ↦ omega (arith, longer, shorter) | inr tied ↦ omega (arith, longer, tied.0) ])
+outranked p q e longer is = inl (elim is [ inl shorter ↦ omega (arith, longer, shorter) | inr tied ↦ omega (arith, longer, tied.0) ])
 
 -- it matches, and is longer
 pub longer : (es : Facets) (name : List ℕ) (e : List ℕ × Bool) (found : Option (List ℕ × Bool)) → IsLongerMatch found e.0 name → Longest es name found → Longest (es ++ e ∷ []) name (Some e)
 longer es name e None is none = record {
-  before = es; after = []; parts = refl; matches = is;
+  before = es;
+  after = [];
+  parts = refl;
+  matches = is;
   first = all_end (λ d. IsMet d.0 name → Outranks e.0 d.0) es e (all_weaker _ _ es (λ d never met. absurd (never met)) none) (λ met. inr (refl, itself e.0));
 }
 longer es name e (Some x) is one = record {
-  before = es; after = []; parts = refl; matches = is.1;
+  before = es;
+  after = [];
+  parts = refl;
+  matches = is.1;
   first = all_end (λ d. IsMet d.0 name → Outranks e.0 d.0) es e (all_weaker _ _ es (λ d ranks met. outranked x.0 d.0 e.0 is.0 (ranks met)) one.first) (λ met. inr (refl, itself e.0));
 }
 
@@ -130,11 +136,14 @@ all_at P (e ∷ es) q v all at = elim (cases_Bool (bytes_eq q e.0)) [
 ]
 
 pub decided : (s : Set) (name : List ℕ) (x : List ℕ × Bool) → AreByName s.facets → Longest s.facets name (Some x) → HasFacet s name x.1
-decided s name x sorted one = inl (x.0, record {
-  set = ap (λ (l : Facets). value_at l x.0) one.parts ∙ at_itself one.before one.after x.0 x.1 (subst AreByName one.parts sorted);
-  matches = one.matches;
-  first = λ other value at met. all_at (λ q. IsMet q name → Outranks x.0 q) s.facets other value one.first at met;
-})
+decided s name x sorted one = inl (
+  x.0,
+  record {
+    set = ap (λ (l : Facets). value_at l x.0) one.parts ∙ at_itself one.before one.after x.0 x.1 (subst AreByName one.parts sorted);
+    matches = one.matches;
+    first = λ other value at met. all_at (λ q. IsMet q name → Outranks x.0 q) s.facets other value one.first at met;
+  },
+)
 
 pub free : (s : Set) (name : List ℕ) → Longest s.facets name None → HasFacet s name true
 free s name none = inr ((λ pattern value at met. all_at (λ q. IsMet q name → ⊥) s.facets pattern value none at met), refl)

@@ -53,7 +53,12 @@ impl Settings {
     }
 
     /// Sets a facet's pattern on or off, or, at None, takes its setting away. In a pattern `*` stands for any text.
-    pub fn set_facet(&mut self, alloc: Global, pattern: &str, on: Option<bool>) -> Result<(), AllocError>
+    pub fn set_facet(
+        &mut self,
+        alloc: Global,
+        pattern: &str,
+        on: Option<bool>,
+    ) -> Result<(), AllocError>
         ensures set { OnOk result (Sets pattern.now on self.old.facets self.new.facets) }
         ensures variants { OnOk result (self.new.variants ≡ self.old.variants) }
         ensures as_before { OnErr result (self.new ≡ self.old) }

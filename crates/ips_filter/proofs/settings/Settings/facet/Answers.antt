@@ -42,11 +42,11 @@ returns-in-Some-longest c =
     let all = whole c.args.self.now.facets so_far.0 (seen (λ (b : Bool). b) c.loop-pattern.pattern-iterator) so_far.1 (ap (seen (λ (b : Bool). b)) c.in-None.ensures.steps.0) in
     let sorted = subst (λ (s : Set). AreByName s.facets) c.self.view_is (seen_ascends (λ (b : Bool). b) c.self.inside.facets.entries c.self.invariant.1) in
     decided c.args.self.now c.args.name.now (c.in-Some-longest.field-0-0.now, c.in-Some-longest.on) sorted
-        (subst (λ (l : Facets). Longest l c.args.name.now (found_pattern (Some (c.in-Some-longest.field-0-0, c.in-Some-longest.on)))) all (subst (λ (found : Option (Bor (List ℕ) × Bool)). Longest so_far.0 c.args.name.now (found_pattern found)) c.in-Some-longest.is so_far.2))
+    (subst (λ (l : Facets). Longest l c.args.name.now (found_pattern (Some (c.in-Some-longest.field-0-0, c.in-Some-longest.on)))) all (subst (λ (found : Option (Bor (List ℕ) × Bool)). Longest so_far.0 c.args.name.now (found_pattern found)) c.in-Some-longest.is so_far.2))
 
 pub returns-in-None-longest : goal.returns-in-None-longest
 returns-in-None-longest c =
     let so_far = c.loop-pattern.invariant in
     let all = whole c.args.self.now.facets so_far.0 (seen (λ (b : Bool). b) c.loop-pattern.pattern-iterator) so_far.1 (ap (seen (λ (b : Bool). b)) c.in-None.ensures.steps.0) in
     free c.args.self.now c.args.name.now
-        (subst (λ (l : Facets). Longest l c.args.name.now None) all (subst (λ (found : Option (Bor (List ℕ) × Bool)). Longest so_far.0 c.args.name.now (found_pattern found)) c.in-None-longest.is so_far.2))
+    (subst (λ (l : Facets). Longest l c.args.name.now None) all (subst (λ (found : Option (Bor (List ℕ) × Bool)). Longest so_far.0 c.args.name.now (found_pattern found)) c.in-None-longest.is so_far.2))
