@@ -1,0 +1,5 @@
+pub mod Line
+pub mod Canonical
+pub mod Classes
+pub mod Reading
+pub mod Seen
