@@ -2,7 +2,9 @@
 use Rattle.std.proofs.Common.{◌≡◌, ◌≢◌, ◌⊎◌, ℕ, ◌<◌, ◌≤◌, Bool, true, false, cond, List, [], ◌∷◌, ◌++◌, length, map, Option, Some, None, refl, sym, ap, ◌∙◌, subst, inl, inr, arith, append_assoc}
 use Rattle.std.specs.Map.{lookup, keys_of}
 use Rattle.std.specs.Str.{bytes_eq}
-use Rattle.std.specs.Ordering.{nat_cmp}
+use Rattle.std.specs.Ordering.{nat_cmp, is_eq, ordering_reverse}
+use Rattle.std.specs.Option.{unwrap_or}
+use Rattle.std.proofs.lemmas.Map.Text.{is_eq-slice_cmp}
 use Rattle.std.specs.Cmp.Lexicographic.{slice_cmp}
 use Rattle.std.specs.declared.cmp.Ordering.{Ordering}
 use Rattle.std.specs.declared.cmp.Ordering.TheVariants.{Less, Equal, Greater}
@@ -31,11 +33,11 @@ abbrev pub Longest : Facets → List ℕ → Option (List ℕ × Bool) → Type 
 Longest es name None = AllByRecursion (λ e. IsMet e.0 name → ⊥) es
 Longest es name (Some x) = IsFirstOf es name x.0 x.1
 
-all_end : {X : Type 0} (P : X → Type 0) (xs : List X) (y : X) → AllByRecursion P xs → P y → AllByRecursion P (xs ++ y ∷ [])
+pub all_end : {X : Type 0} (P : X → Type 0) (xs : List X) (y : X) → AllByRecursion P xs → P y → AllByRecursion P (xs ++ y ∷ [])
 all_end P [] y all p = (p, tt)
 all_end P (x ∷ xs) y all p = (all.0, all_end P xs y all.1 p)
 
-all_weaker : {X : Type 0} (P Q : X → Type 0) (xs : List X) → ((x : X) → P x → Q x) → AllByRecursion P xs → AllByRecursion Q xs
+pub all_weaker : {X : Type 0} (P Q : X → Type 0) (xs : List X) → ((x : X) → P x → Q x) → AllByRecursion P xs → AllByRecursion Q xs
 all_weaker P Q [] weaker all = tt
 all_weaker P Q (x ∷ xs) weaker all = (weaker x all.0, all_weaker P Q xs weaker all.1)
 
@@ -157,3 +159,37 @@ moved all front rest left e parts next = parts ∙ ap (λ (l : Facets). front ++
 -- nothing is left
 pub whole : (all front rest : Facets) → all ≡ front ++ rest → rest ≡ [] → front ≡ all
 whole all front rest parts none = sym (parts ∙ ap (λ (l : Facets). front ++ l) none ∙ append-nil front)
+
+-- ---- a facet has one value
+
+neither_greater : (r s : Ordering) → r ≡ ordering_reverse s → r ≢ Greater → s ≢ Greater → is_eq r ≡ true
+neither_greater Less Less e a b = let same : Less ≡ Greater = e in absurd cc
+neither_greater Less Equal e a b = let same : Less ≡ Equal = e in absurd cc
+neither_greater Less Greater e a b = absurd (b refl)
+neither_greater Equal s e a b = refl
+neither_greater Greater s e a b = absurd (a refl)
+
+one_of_both : (p q : List ℕ) → slice_cmp nat_cmp p q ≢ Greater → slice_cmp nat_cmp q p ≢ Greater → p ≡ q
+one_of_both p q a b =
+    (bytes_eq-Decides p q).0 (sym (is_eq-slice_cmp p q) ∙ neither_greater (slice_cmp nat_cmp p q) (slice_cmp nat_cmp q p) (nat_list_cmp_total.antisymm p q) a b)
+
+some_once : (a b : Bool) → Some a ≡ Some b → a ≡ b
+some_once a b same = ap (λ (o : Option Bool). unwrap_or o a) same
+
+outranks_both : (p q : List ℕ) → Outranks p q → Outranks q p → p ≡ q
+outranks_both p q a b = elim a [
+  | inl shorter ↦ elim b [ | inl longer ↦ absurd (omega (arith, shorter, longer)) | inr tied ↦ absurd (omega (arith, shorter, tied.0)) ]
+  | inr tied ↦ elim b [ | inl longer ↦ absurd (omega (arith, tied.0, longer)) | inr back ↦ one_of_both p q tied.1 back.1 ]
+]
+
+pub facet_once : (s : Set) (name : List ℕ) (a b : Bool) → HasFacet s name a → HasFacet s name b → a ≡ b
+facet_once s name a b x y = elim x [
+  | inl p ↦ elim y [
+    | inl q ↦ some_once a b (sym p.1.set ∙ ap (value_at s.facets) (outranks_both p.0 q.0 (p.1.first q.0 b q.1.set q.1.matches) (q.1.first p.0 a p.1.set p.1.matches)) ∙ q.1.set)
+    | inr free ↦ absurd (free.0 p.0 a p.1.set p.1.matches)
+  ]
+  | inr free ↦ elim y [
+    | inl q ↦ absurd (free.0 q.0 b q.1.set q.1.matches)
+    | inr other ↦ free.1 ∙ sym other.1
+  ]
+]

@@ -1,2 +1,3 @@
 mod Views
 mod Facets
+mod Tags
