@@ -96,12 +96,12 @@ impl Action {
         ensures file { self.now.kind ≡ ActionKind.File → values_of (codes "preserve") self.now.attrs ≡ preserve_values result }
         ensures other { (self.now.kind ≡ ActionKind.File → ⊥) → result ≡ Preserve.None }
     {
-        if !matches!(self.kind, ActionKind::File) {
-            return Preserve::None;
-        }
-        match self.attrs.get("preserve") {
-            Some(word) => preserve_named(word),
-            None => Preserve::None,
+        match self.kind {
+            ActionKind::File => match self.attrs.get("preserve") {
+                Some(word) => preserve_named(word),
+                None => Preserve::None,
+            },
+            _ => Preserve::None,
         }
     }
 

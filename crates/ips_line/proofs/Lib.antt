@@ -1,0 +1,12 @@
+pub mod Runs
+pub mod Places
+pub mod Quotes
+pub mod Escapes
+pub mod Keyed
+pub mod Listed
+pub mod Gathered
+pub mod Heads
+pub mod Whole
+pub mod Opened
+pub mod Answered
+pub mod Spelled

@@ -1,5 +1,5 @@
 -- The canonical spelling of a line: its words divided by one blank, and values quoted where they have to be.
-use Rattle.std.specs.Prelude.{◌≡◌, ℕ, ◌+◌, Bool, true, false, not, ◌&&◌, ◌||◌, ◌==◌, if◌then◌else◌, List, [], ◌∷◌, ◌++◌, length, Option, Some, None}
+use Rattle.std.specs.Prelude.{ℕ, ◌+◌, Bool, true, ◌||◌, ◌==◌, if◌then◌else◌, List, [], ◌∷◌, ◌++◌, length, Option, Some, None}
 use Rattle.std.specs.List.{list_any, flat_map, AllByRecursion}
 use Rattle.ips_line.specs.declared.words.Pair.{Pair}
 use Rattle.ips_line.specs.Line.{is_blank, is_quote, in_word, in_payload, in_key, IsRun, Placed, Said}

@@ -45,10 +45,6 @@ meant quote [] = []
 meant quote (b ∷ []) = b ∷ []
 meant quote (b ∷ c ∷ bytes) = if is_escape quote b c then c ∷ meant quote bytes else b ∷ meant quote (c ∷ bytes)
 
--- no backslash is among the bytes
-abbrev pub HasNoBackslash : List ℕ → Type 0
-HasNoBackslash bytes = list_all (λ b. not (b == 92)) bytes ≡ true
-
 -- the bytes may stand between two such quotes: outside of escapes there is no such quote, and no backslash stands last, where it would escape the closing quote
 abbrev pub stays_inside : ℕ → List ℕ → Bool
 stays_inside quote [] = true

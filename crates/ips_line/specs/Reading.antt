@@ -39,6 +39,12 @@ abbrev pub into_front : List ℕ → Option (List ℕ × List ℕ) → Option (L
 into_front front None = None
 into_front front (Some x) = Some (front ++ x.0, x.1)
 
+-- the first two bytes are an escape between such quotes
+abbrev pub begins_escape : ℕ → List ℕ → Bool
+begins_escape quote [] = false
+begins_escape quote (b ∷ []) = false
+begins_escape quote (b ∷ c ∷ bytes) = is_escape quote b c
+
 -- what stands before the quote that closes, and what stands behind it
 unfoldable pub closing : ℕ → List ℕ → Option (List ℕ × List ℕ)
 closing quote [] = None
@@ -55,10 +61,19 @@ abbrev pub closed : ℕ → ℕ → Option (List ℕ × List ℕ) → Result (Wr
 closed quote left None = Err (record { kind = part.Quote left; left = 0 })
 closed quote left (Some x) = Ok (Quoted quote x.0, x.1)
 
+-- the next byte is a quote
+abbrev pub begins_quote : List ℕ → Bool
+begins_quote [] = false
+begins_quote (b ∷ bytes) = is_quote b
+
+-- a value as it stands
+abbrev pub plain_at : Reader Part Written
+plain_at = via (λ w. Plain w) (some_at in_word)
+
 -- a value as it is written
 unfoldable pub written_at : Reader Part Written
-written_at [] = Err (wrong_at [])
-written_at (b ∷ bytes) = if is_quote b then closed b (length (b ∷ bytes)) (closing b bytes) else via (λ w. Plain w) (some_at in_word) (b ∷ bytes)
+written_at [] = plain_at []
+written_at (b ∷ bytes) = if is_quote b then closed b (length (b ∷ bytes)) (closing b bytes) else plain_at (b ∷ bytes)
 
 -- blanks, a key, `=` and a value
 abbrev pub made : List ℕ × (List ℕ × (Unit {0} × Written)) → Attribute

@@ -1,5 +1,5 @@
 -- The words of the program, as the definitions see them.
-use Rattle.std.specs.Prelude.{◌≡◌, ◌+◌, ◌<◌, ◌^◌, length, true, Option, Some, None, List, ℕ}
+use Rattle.std.specs.Prelude.{◌≡◌, ◌+◌, ◌<◌, ◌^◌, length, true, Option, Some, None, ℕ}
 use Rattle.ips_line.specs.declared.words.Word.{Word}
 use Rattle.ips_line.specs.declared.words.Words.{Words}
 use Rattle.ips_line.specs.declared.attributes.Attribute as declared_attribute

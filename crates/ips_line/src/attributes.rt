@@ -6,7 +6,7 @@ ghost use Rattle.ips_line.specs.Line.{pair_of};
 ghost use Rattle.ips_line.specs.Reading.{attribute_at, attributes_at, equals_at, said_pairs};
 ghost use Rattle.ips_line.specs.Seen.{seen_attribute, HasQuote};
 
-use crate::classes::{Class, run, some, wrong};
+use crate::classes::{Class, begins_with, run, some, wrong};
 use crate::fault::Part;
 use crate::values::{Written, read_value, value};
 use crate::words::Pair;
@@ -49,13 +49,13 @@ fn next_attribute(text: &str) -> Result<(Attribute<'_>, &str), Stop<Part>>
 }
 
 // What stands behind an `=`, which has to stand here.
-#[tactic(auto, unfolding(crate::specs::Reading::equals_at))]
 fn equals(text: &str) -> Result<&str, Stop<Part>>
     ensures { Sees (λ x. (tt, x.now)) result (equals_at text.now) }
 {
-    match text.as_bytes() {
-        [b'=', ..] => Ok(&text[1..]),
-        _ => Err(wrong(text)),
+    if begins_with(b'=', text) {
+        Ok(&text[1..])
+    } else {
+        Err(wrong(text))
     }
 }
 

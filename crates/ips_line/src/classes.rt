@@ -1,7 +1,8 @@
 //! Runs of bytes at the front of a text.
 
 ghost use Rattle.std.specs.Prelude.{◌≡◌, ◌≤◌, length, take, drop};
-ghost use Rattle.ips_text.specs.Reading.{Sees};
+ghost use Rattle.std.specs.Str.{IsUtf8, IsCharBoundary};
+ghost use Rattle.ips_text.specs.Reading.{next_is, Sees};
 ghost use Rattle.ips_line.specs.Line as line;
 ghost use Rattle.ips_line.specs.Classes.{passes};
 ghost use Rattle.ips_line.specs.Reading as reading;
@@ -62,6 +63,7 @@ pub fn run(class: Class, text: &str) -> (&str, &str)
 fn run_length(class: Class, bytes: &[u8]) -> usize
     ensures within { result ≤ length bytes.now }
     ensures run { reading.run (passes class) bytes.now ≡ (take result bytes.now, drop result bytes.now) }
+    ensures cut { IsUtf8 bytes.now → IsCharBoundary bytes.now result }
 {
     for (i, byte) in bytes.iter().enumerate() {
         if !class.has(*byte) {
@@ -92,4 +94,11 @@ pub fn wrong(text: &str) -> Stop<Part>
         kind: Part::Word,
         left: text.len(),
     }
+}
+
+/// Whether the text begins with this byte.
+pub fn begins_with(byte: u8, text: &str) -> bool
+    ensures { result ≡ next_is byte text.now }
+{
+    matches!(text.as_bytes(), [first, ..] if *first == byte)
 }

@@ -1,12 +1,12 @@
 //! The payload word of a line.
 
 ghost use Rattle.std.specs.Prelude.{◌≡◌};
-ghost use Rattle.ips_text.specs.Reading.{Sees, next_is};
+ghost use Rattle.ips_text.specs.Reading.{Sees};
 ghost use Rattle.ips_line.specs.Reading as reading;
 ghost use Rattle.ips_line.specs.Reading.{payload_at};
 ghost use Rattle.ips_line.specs.Seen.{seen_gapped};
 
-use crate::classes::{Class, run, wrong};
+use crate::classes::{Class, begins_with, run, wrong};
 use crate::fault::Part;
 use ips_text::Stop;
 
@@ -27,7 +27,7 @@ pub fn read_payload(text: &str) -> Result<(Option<Payload<'_>>, &str), Stop<Part
     let (word, behind) = run(Class::Payload, rest);
     if gap.is_empty() {
         Ok((None, text))
-    } else if begins_value(behind) {
+    } else if begins_with(b'=', behind) {
         if is_key(word) {
             Ok((None, text))
         } else {
@@ -40,16 +40,10 @@ pub fn read_payload(text: &str) -> Result<(Option<Payload<'_>>, &str), Stop<Part
     }
 }
 
-// Whether an `=` comes first.
-fn begins_value(text: &str) -> bool
-    ensures { result ≡ next_is 61 text.now }
-{
-    matches!(text.as_bytes(), [b'=', ..])
-}
-
 // Whether the word is a key.
 fn is_key(word: &str) -> bool
     ensures { result ≡ reading.is_key word.now }
 {
-    !word.is_empty() && word.as_bytes().iter().all(|byte| Class::Key.has(*byte))
+    let (key, rest) = run(Class::Key, word);
+    !key.is_empty() && rest.is_empty()
 }

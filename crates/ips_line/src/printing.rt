@@ -4,7 +4,7 @@ ghost use Rattle.std.specs.Prelude.{◌≡◌, ◌++◌, ℕ, List, Option, OnOk
 ghost use Rattle.std.specs.List.{flat_map, position};
 ghost use Rattle.std.specs.Option.{option_map};
 ghost use Rattle.ips_line.specs.declared.words.Pair as declared;
-ghost use Rattle.ips_line.specs.Canonical.{value_text, pair_text, payload_text, words_text, AreWords, said, escaped_byte, is_escaped};
+ghost use Rattle.ips_line.specs.Canonical.{value_text, pair_text, payload_text, words_text, AreWords, said, escaped_byte, is_escaped, is_special};
 ghost use Rattle.ips_line.specs.Canonical as canonical;
 ghost use Rattle.ips_line.specs.Reading as reading;
 
@@ -77,8 +77,14 @@ fn push_value(out: &mut String, value: &str) -> Result<(), AllocError>
 fn needs_quotes(value: &str) -> bool
     ensures { result ≡ canonical.needs_quotes value.now }
 {
-    value.is_empty()
-        || value.as_bytes().iter().any(|byte| is_blank(*byte) || is_quote(*byte) || *byte == b'\\')
+    value.is_empty() || special(value).is_some()
+}
+
+// Where the first byte stands with which a value needs quotes.
+fn special(text: &str) -> Option<usize>
+    ensures { result ≡ position is_special text.now }
+{
+    text.as_bytes().iter().position(|byte| is_blank(*byte) || is_quote(*byte) || *byte == b'\\')
 }
 
 // Writes a value with a backslash before each `"` and backslash.

@@ -1,9 +1,10 @@
 //! Values, as they stand or between quotes.
 
-ghost use Rattle.std.specs.Prelude.{◌≡◌, ◌++◌, ◌+◌, ◌<◌, ◌≤◌, true, None, Some, length, take, drop, IfOk, IfSome, MatchOption};
+ghost use Rattle.std.specs.Prelude.{◌≡◌, ◌++◌, ◌+◌, ◌<◌, ◌==◌, true, false, None, Some, length, take, drop, IfOk, IfNone, IfSome, MatchOption};
+ghost use Rattle.std.specs.List.{position};
 ghost use Rattle.ips_text.specs.Reading.{next_is, Sees};
 ghost use Rattle.ips_line.specs.Line as line;
-ghost use Rattle.ips_line.specs.Line.{meant, value_of, HasNoBackslash};
+ghost use Rattle.ips_line.specs.Line.{meant, value_of};
 ghost use Rattle.ips_line.specs.Reading as reading;
 ghost use Rattle.ips_line.specs.Reading.{written_at, closed};
 ghost use Rattle.ips_line.specs.Seen.{seen_written, HasQuote};
@@ -23,18 +24,34 @@ pub enum Written<'a> {
 }
 
 /// A written value at the front of the text, and what stands behind it.
-#[tactic(auto, unfolding(crate::specs::Reading::written_at))]
 pub fn read_value(text: &str) -> Result<(Written<'_>, &str), Stop<Part>>
     ensures exact { Sees (λ x. (seen_written x.0, x.1.now)) result (written_at text.now) }
     ensures quotes { IfOk result (λ x. HasQuote (seen_written x.0)) }
 {
-    match text.as_bytes() {
-        [quote, ..] if is_quote(*quote) => quoted(*quote, text),
-        _ => {
-            let (word, rest) = some(Class::Word, text)?;
-            Ok((Written::Plain(word), rest))
-        }
+    match opening(text) {
+        Some(quote) => quoted(quote, text),
+        None => plain(text),
     }
+}
+
+// The quote that comes first.
+fn opening(text: &str) -> Option<u8>
+    ensures none { IfNone result (reading.begins_quote text.now ≡ false) }
+    ensures some { IfSome result (λ quote. (line.is_quote quote ≡ true) × (next_is quote text.now ≡ true)) }
+{
+    match text.as_bytes() {
+        [quote, ..] if is_quote(*quote) => Some(*quote),
+        _ => None,
+    }
+}
+
+// A value as it stands.
+fn plain(text: &str) -> Result<(Written<'_>, &str), Stop<Part>>
+    ensures exact { Sees (λ x. (seen_written x.0, x.1.now)) result (reading.plain_at text.now) }
+    ensures quotes { IfOk result (λ x. HasQuote (seen_written x.0)) }
+{
+    let (word, rest) = some(Class::Word, text)?;
+    Ok((Written::Plain(word), rest))
 }
 
 // A value behind the quote that comes first.
@@ -59,15 +76,24 @@ fn closing(quote: u8, bytes: &[u8]) -> Option<usize>
     ensures exact { MatchOption result (reading.closing quote bytes.now ≡ None) (λ end. reading.closing quote bytes.now ≡ Some (take end bytes.now, drop (end + 1) bytes.now)) }
     ensures within { IfSome result (λ end. next_is quote (drop end bytes.now) ≡ true) }
 {
-    let mut rest = bytes;
-    loop {
-        match rest {
-            [] => return None,
-            [b'\\', second, after @ ..] if *second == quote || *second == b'\\' => rest = after,
-            [first, ..] if *first == quote => return Some(bytes.len() - rest.len()),
-            [_, after @ ..] => rest = after,
+    let mut place = 0;
+    while place < bytes.len() {
+        if begins_escape(quote, &bytes[place..]) {
+            place += 2;
+        } else if bytes[place] == quote {
+            return Some(place);
+        } else {
+            place += 1;
         }
     }
+    None
+}
+
+// Whether the first two bytes are an escape between such quotes.
+fn begins_escape(quote: u8, bytes: &[u8]) -> bool
+    ensures { result ≡ reading.begins_escape quote bytes.now }
+{
+    matches!(bytes, [b'\\', second, ..] if *second == quote || *second == b'\\')
 }
 
 /// The value that is written so.
@@ -101,8 +127,7 @@ fn unescaped(alloc: Global, quote: u8, inside: &str) -> Result<Text, AllocError>
 
 // Where the first backslash stands.
 fn backslash(text: &str) -> Option<usize>
-    ensures cases { MatchOption result (HasNoBackslash text.now) (λ place. HasNoBackslash (take place text.now) × (next_is 92 (drop place text.now) ≡ true)) }
-    ensures within { IfSome result (λ place. place < length text.now) }
+    ensures { result ≡ position (λ b. b == 92) text.now }
 {
     text.as_bytes().iter().position(|byte| *byte == b'\\')
 }
@@ -114,8 +139,9 @@ fn unescaped_first(quote: u8, text: &str) -> (&str, &str)
     ensures meant { meant quote text.now ≡ result.0.now ++ meant quote result.1.now }
     ensures shorter { length result.1.now < length text.now }
 {
-    match text.as_bytes() {
-        [_, second, ..] if *second == quote || *second == b'\\' => (&text[1..2], &text[2..]),
-        _ => text.split_at(1),
+    if begins_escape(quote, text.as_bytes()) {
+        (&text[1..2], &text[2..])
+    } else {
+        text.split_at(1)
     }
 }
