@@ -178,8 +178,8 @@ some_once a b same = ap (λ (o : Option Bool). unwrap_or o a) same
 
 outranks_both : (p q : List ℕ) → Outranks p q → Outranks q p → p ≡ q
 outranks_both p q a b = elim a [
-  | inl shorter ↦ elim b [ | inl longer ↦ absurd (omega (arith, shorter, longer)) | inr tied ↦ absurd (omega (arith, shorter, tied.0)) ]
-  | inr tied ↦ elim b [ | inl longer ↦ absurd (omega (arith, tied.0, longer)) | inr back ↦ one_of_both p q tied.1 back.1 ]
+  | inl shorter ↦ elim b [ inl longer ↦ absurd (omega (arith, shorter, longer)) | inr tied ↦ absurd (omega (arith, shorter, tied.0)) ]
+  | inr tied ↦ elim b [ inl longer ↦ absurd (omega (arith, tied.0, longer)) | inr back ↦ one_of_both p q tied.1 back.1 ]
 ]
 
 pub facet_once : (s : Set) (name : List ℕ) (a b : Bool) → HasFacet s name a → HasFacet s name b → a ≡ b

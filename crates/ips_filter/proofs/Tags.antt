@@ -1,11 +1,12 @@
 -- The tags of an action, attribute by attribute.
-use Rattle.std.proofs.Common.{◌≡◌, ◌≢◌, ◌⊎◌, ℕ, Bool, true, false, ◌||◌, ◌&&◌, List, [], ◌∷◌, ◌++◌, refl, sym, ap, ◌∙◌, subst, inl, inr, append_assoc}
+use Rattle.std.proofs.Common.{◌≡◌, ◌≢◌, ◌⊎◌, ℕ, Bool, true, false, if◌then◌else◌, ◌||◌, ◌&&◌, not, List, [], ◌∷◌, ◌++◌, refl, sym, ap, ◌∙◌, subst, inl, inr, append_assoc}
 use Rattle.std.specs.Prelude.{codes}
 use Rattle.std.specs.List.{AllByRecursion, list_all, list_any}
 use Rattle.std.specs.Str.{bytes_eq}
 use Rattle.std.specs.Ordering.{nat_cmp}
 use Rattle.std.specs.Cmp.Lexicographic.{slice_cmp}
 use Rattle.std.specs.declared.cmp.Ordering.TheVariants.{Less, Equal}
+use Rattle.std.proofs.lemmas.List.{append-nil}
 use Rattle.std.proofs.lemmas.Bool.{cases_Bool, true≢false, false_from_ne_true}
 use Rattle.std.proofs.lemmas.Cmp.{tied_itself, nat_list_cmp_total}
 use Rattle.std.proofs.lemmas.Slice.Eq.{bytes_eq-Decides}
@@ -14,7 +15,7 @@ use Rattle.ips_action.specs.Judging.{is_facet}
 use Rattle.ips_action.specs.declared.attrs.Attr.{Attr}
 use Rattle.ips_filter.specs.Settings.{Set, variant_value}
 use Rattle.ips_filter.specs.Facet.{HasFacet}
-use Rattle.ips_filter.specs.Admitted.{is_variant, has_value, HasTag, MeetsVariants, MeetsAllFacets, IsTrueTag, MeetsSomeFacet}
+use Rattle.ips_filter.specs.Admitted.{is_variant, has_value, is_tag, MeetsVariant, MeetsAll, HasTag, MeetsVariants, MeetsAllFacets, IsTrueTag, MeetsSomeFacet}
 use Rattle.ips_filter.proofs.Facets.{facet_once, all_weaker, all_end}
 
 and_first : (a b : Bool) → (a && b) ≡ true → a ≡ true
@@ -61,11 +62,36 @@ tags_all P (attr ∷ attrs) all key value has = elim (cases_Bool (is_same attr.k
   | inr differs ↦ tags_all P attrs all.1 key value (sym (ap (λ (b : Bool). has_value (if b then attr.values else values_of key attrs) value) differs) ∙ has)
 ]
 
--- ---- variants
+-- ---- on the way along the attributes
 
--- the attribute is no variant's tag, or each of its values is the one that the variant has
-abbrev pub VariantIsMet : Set → Attr → Type 0
-VariantIsMet s attr = is_variant attr.key ≡ true → list_all (bytes_eq (variant_value s attr.key)) attr.values ≡ true
+-- P holds of each attribute that stands before those that are left
+pub record Passed (P : Attr → Type 0) (attrs left : List Attr) : Type 0 where
+  pub front : List Attr
+  pub parts : attrs ≡ front ++ left
+  pub all : AllByRecursion P front
+
+abbrev pub none_passed : (P : Attr → Type 0) (attrs : List Attr) → Passed P attrs attrs
+none_passed P attrs = record { front = []; parts = refl; all = tt }
+
+abbrev pub one_passed : (P : Attr → Type 0) (attrs left rest : List Attr) (attr : Attr) → Passed P attrs left → left ≡ attr ∷ rest → P attr → Passed P attrs rest
+one_passed P attrs left rest attr passed next holds = record {
+  front = passed.front ++ attr ∷ [];
+  parts = passed.parts ∙ ap (λ (l : List Attr). passed.front ++ l) next ∙ sym (append_assoc passed.front (attr ∷ []) rest);
+  all = all_end P passed.front attr passed.all holds;
+}
+
+-- all attributes were passed
+pub all_passed : (P : Attr → Type 0) (attrs left : List Attr) → Passed P attrs left → left ≡ [] → AllByRecursion P attrs
+all_passed P attrs left passed none = subst (AllByRecursion P) (sym (passed.parts ∙ ap (λ (l : List Attr). passed.front ++ l) none ∙ append-nil passed.front)) passed.all
+
+pub all_in_front : (P : Attr → Type 0) (attrs left : List Attr) → (passed : Passed P attrs left) → left ≡ [] → passed.front ≡ attrs
+all_in_front P attrs left passed none = sym (passed.parts ∙ ap (λ (l : List Attr). passed.front ++ l) none ∙ append-nil passed.front)
+
+-- the attribute that comes next, at its place
+pub at_next : (P : Attr → Type 0) (attrs left rest : List Attr) (attr : Attr) → (passed : Passed P attrs left) → left ≡ attr ∷ rest → attrs ≡ passed.front ++ attr ∷ rest
+at_next P attrs left rest attr passed next = passed.parts ∙ ap (λ (l : List Attr). passed.front ++ l) next
+
+-- ---- variants
 
 value_of_all : (wanted : List ℕ) (values : List (List ℕ)) (value : List ℕ) → list_all (bytes_eq wanted) values ≡ true → has_value values value ≡ true → wanted ≡ value
 value_of_all wanted [] value all has = absurd (true≢false (sym has))
@@ -78,46 +104,63 @@ all_of_value : (wanted : List ℕ) (values : List (List ℕ)) → ((value : List
 all_of_value wanted [] each = refl
 all_of_value wanted (v ∷ values) each =
     and_both (bytes_eq wanted v) (list_all (bytes_eq wanted) values) ((bytes_eq-Decides wanted v).1 (each v (ap (λ (b : Bool). b || has_value values v) ((bytes_eq-Decides v v).1 refl))))
-        (all_of_value wanted values (λ value has. each value (ap (λ (b : Bool). bytes_eq value v || b) has ∙ or_true (bytes_eq value v))))
+    (all_of_value wanted values (λ value has. each value (ap (λ (b : Bool). bytes_eq value v || b) has ∙ or_true (bytes_eq value v))))
 
-pub variants_met : (s : Set) (attrs : List Attr) → AllByRecursion (VariantIsMet s) attrs → MeetsVariants s attrs
+pub variants_met : (s : Set) (attrs : List Attr) → AllByRecursion (MeetsVariant s) attrs → MeetsVariants s attrs
 variants_met s attrs met key value is has =
-    tags_all (λ k v. is_variant k ≡ true → variant_value s k ≡ v) attrs (all_weaker (VariantIsMet s) _ attrs (λ attr m v h tag. value_of_all (variant_value s attr.key) attr.values v (m tag) h) met) key value has is
+    tags_all (λ k v. is_variant k ≡ true → variant_value s k ≡ v) attrs (all_weaker (MeetsVariant s) _ attrs (λ attr m v h tag. value_of_all (variant_value s attr.key) attr.values v (m tag) h) met) key value has is
 
-pub variant_unmet : (s : Set) (front back : List Attr) (attr : Attr) → AreAttrs (front ++ attr ∷ back) → is_variant attr.key ≡ true → list_all (bytes_eq (variant_value s attr.key)) attr.values ≡ false → MeetsVariants s (front ++ attr ∷ back) → ⊥
-variant_unmet s front back attr are is unmet met =
-    true≢false (sym (all_of_value (variant_value s attr.key) attr.values (λ value has. met attr.key value is (tag_at front back attr value are has))) ∙ unmet)
+pub variant_met : (s : Set) (front back : List Attr) (attr : Attr) → AreAttrs (front ++ attr ∷ back) → MeetsVariants s (front ++ attr ∷ back) → MeetsVariant s attr
+variant_met s front back attr are met is = all_of_value (variant_value s attr.key) attr.values (λ value has. met attr.key value is (tag_at front back attr value are has))
 
 -- ---- facets
 
--- the attribute is no facet's tag `all`, or the facet is on
-abbrev pub AllIsMet : Set → Attr → Type 0
-AllIsMet s attr = is_facet attr.key ≡ true → has_value attr.values (codes "all") ≡ true → HasFacet s attr.key true
-
-pub all_met : (s : Set) (attrs : List Attr) → AllByRecursion (AllIsMet s) attrs → MeetsAllFacets s attrs
+pub all_met : (s : Set) (attrs : List Attr) → AllByRecursion (MeetsAll s) attrs → MeetsAllFacets s attrs
 all_met s attrs met key is has =
-    tags_all (λ k v. v ≡ codes "all" → is_facet k ≡ true → HasFacet s k true) attrs (all_weaker (AllIsMet s) _ attrs (λ attr m v h all tag. m tag (subst (λ (w : List ℕ). has_value attr.values w ≡ true) all h)) met) key (codes "all") has refl is
+    tags_all (λ k v. v ≡ codes "all" → is_facet k ≡ true → HasFacet s k true) attrs (all_weaker (MeetsAll s) _ attrs (λ (attr : Attr) m v h all tag. m (and_both (is_facet attr.key) (has_value attr.values (codes "all")) tag (subst (λ (w : List ℕ). has_value attr.values w ≡ true) all h))) met) key (codes "all") has refl is
 
-pub all_unmet : (s : Set) (front back : List Attr) (attr : Attr) → AreAttrs (front ++ attr ∷ back) → is_facet attr.key ≡ true → has_value attr.values (codes "all") ≡ true → HasFacet s attr.key false → MeetsAllFacets s (front ++ attr ∷ back) → ⊥
-all_unmet s front back attr are is has off met = true≢false (facet_once s attr.key true false (met attr.key is (tag_at front back attr (codes "all") are has)) off)
+pub facet_met : (s : Set) (front back : List Attr) (attr : Attr) → AreAttrs (front ++ attr ∷ back) → MeetsAllFacets s (front ++ attr ∷ back) → MeetsAll s attr
+facet_met s front back attr are met is =
+    met attr.key (and_first (is_facet attr.key) (has_value attr.values (codes "all")) is) (tag_at front back attr (codes "all") are (and_second (is_facet attr.key) (has_value attr.values (codes "all")) is))
 
 -- the attribute is no facet's tag `true`, or the facet is off
 abbrev pub TrueIsOff : Set → Attr → Type 0
-TrueIsOff s attr = is_facet attr.key ≡ true → has_value attr.values (codes "true") ≡ true → HasFacet s attr.key false
+TrueIsOff s attr = is_tag attr (codes "true") ≡ true → HasFacet s attr.key false
 
 -- one of these attributes is a facet's tag `true`, or none is
-abbrev pub Seen : List Attr → Bool → Type 0
-Seen attrs true = (key : List ℕ) × IsTrueTag attrs key
-Seen attrs false = AllByRecursion (λ attr. is_facet attr.key ≡ true → has_value attr.values (codes "true") ≡ true → ⊥) attrs
+abbrev pub HasSeen : List Attr → Bool → Type 0
+HasSeen attrs true = (before : List Attr) × (attr : Attr) × (after : List Attr) × (attrs ≡ before ++ attr ∷ after) × (is_tag attr (codes "true") ≡ true)
+HasSeen attrs false = AllByRecursion (λ (attr : Attr). is_tag attr (codes "true") ≡ true → ⊥) attrs
 
-pub some_met : (s : Set) (front back : List Attr) (attr : Attr) → AreAttrs (front ++ attr ∷ back) → is_facet attr.key ≡ true → has_value attr.values (codes "true") ≡ true → HasFacet s attr.key true → MeetsSomeFacet s (front ++ attr ∷ back)
-some_met s front back attr are is has on = inr (attr.key, (is, tag_at front back attr (codes "true") are has), on)
+pub nothing_seen : HasSeen [] false
+nothing_seen = tt
 
-pub none_wanted : (s : Set) (attrs : List Attr) → AllByRecursion (λ (attr : Attr). is_facet attr.key ≡ true → has_value attr.values (codes "true") ≡ true → ⊥) attrs → MeetsSomeFacet s attrs
-none_wanted s attrs none = inl (λ key tag. tags_all (λ k v. v ≡ codes "true" → is_facet k ≡ true → ⊥) attrs (all_weaker _ _ attrs (λ (attr : Attr) n v h same is. n is (subst (λ (w : List ℕ). has_value attr.values w ≡ true) same h)) none) key (codes "true") tag.1 refl tag.0)
+-- a tag `true` was seen
+pub seen_here : (front : List Attr) (attr : Attr) → is_tag attr (codes "true") ≡ true → HasSeen (front ++ attr ∷ []) true
+seen_here front attr is = (front, attr, [], refl, is)
 
-pub some_unmet : (s : Set) (attrs : List Attr) → AllByRecursion (TrueIsOff s) attrs → (key : List ℕ) → IsTrueTag attrs key → MeetsSomeFacet s attrs → ⊥
-some_unmet s attrs off key tag met = elim met [
-  | inl none ↦ none key tag
-  | inr some ↦ true≢false (facet_once s some.0 true false some.2 (tags_all (λ k v. v ≡ codes "true" → is_facet k ≡ true → HasFacet s k false) attrs (all_weaker (TrueIsOff s) _ attrs (λ attr o v h same is. o is (subst (λ (w : List ℕ). has_value attr.values w ≡ true) same h)) off) some.0 (codes "true") some.1.1 refl some.1.0))
+-- another attribute was passed
+pub seen_before : (front : List Attr) (attr : Attr) (any : Bool) → is_tag attr (codes "true") ≡ false → HasSeen front any → HasSeen (front ++ attr ∷ []) any
+seen_before front attr true other seen = (seen.0, seen.1, seen.2 ++ attr ∷ [], ap (λ (l : List Attr). l ++ attr ∷ []) seen.3 ∙ append_assoc seen.0 (seen.1 ∷ seen.2) (attr ∷ []), seen.4)
+seen_before front attr false other none = all_end (λ (a : Attr). is_tag a (codes "true") ≡ true → ⊥) front attr none (λ is. true≢false (sym is ∙ other))
+
+true_tag : (front back : List Attr) (attr : Attr) → AreAttrs (front ++ attr ∷ back) → is_tag attr (codes "true") ≡ true → IsTrueTag (front ++ attr ∷ back) attr.key
+true_tag front back attr are is = (and_first (is_facet attr.key) (has_value attr.values (codes "true")) is, tag_at front back attr (codes "true") are (and_second (is_facet attr.key) (has_value attr.values (codes "true")) is))
+
+pub some_met : (s : Set) (front back : List Attr) (attr : Attr) → AreAttrs (front ++ attr ∷ back) → is_tag attr (codes "true") ≡ true → HasFacet s attr.key true → MeetsSomeFacet s (front ++ attr ∷ back)
+some_met s front back attr are is on = inr (attr.key, true_tag front back attr are is, on)
+
+pub none_wanted : (s : Set) (attrs : List Attr) → HasSeen attrs false → MeetsSomeFacet s attrs
+none_wanted s attrs none = inl (λ key tag. tags_all (λ k v. v ≡ codes "true" → is_facet k ≡ true → ⊥) attrs (all_weaker (λ (attr : Attr). is_tag attr (codes "true") ≡ true → ⊥) _ attrs (λ (attr : Attr) n v h same is. n (and_both (is_facet attr.key) (has_value attr.values (codes "true")) is (subst (λ (w : List ℕ). has_value attr.values w ≡ true) same h))) none) key (codes "true") tag.1 refl tag.0)
+
+-- all tags `true` are of facets that are off, and there is one
+pub some_unmet : (s : Set) (attrs : List Attr) → AreAttrs attrs → AllByRecursion (TrueIsOff s) attrs → HasSeen attrs true → MeetsSomeFacet s attrs → ⊥
+some_unmet s attrs are off seen met = elim met [
+  | inl none ↦ none seen.1.key (subst (λ (l : List Attr). IsTrueTag l seen.1.key) (sym seen.3) (true_tag seen.0 seen.2 seen.1 (subst AreAttrs seen.3 are) seen.4))
+  | inr some ↦ true≢false (facet_once s some.0 true false some.2 (tags_all (λ k v. v ≡ codes "true" → is_facet k ≡ true → HasFacet s k false) attrs (all_weaker (TrueIsOff s) _ attrs (λ (attr : Attr) o v h same is. o (and_both (is_facet attr.key) (has_value attr.values (codes "true")) is (subst (λ (w : List ℕ). has_value attr.values w ≡ true) same h))) off) some.0 (codes "true") some.1.1 refl some.1.0))
 ]
+
+-- at the end: met where no tag `true` was seen
+pub decided_by : (s : Set) (attrs : List Attr) (any : Bool) → AreAttrs attrs → AllByRecursion (TrueIsOff s) attrs → HasSeen attrs any → (not any ≡ true → MeetsSomeFacet s attrs) × (MeetsSomeFacet s attrs → not any ≡ true)
+decided_by s attrs true are off seen = (λ h. absurd (true≢false (sym h)), λ met. absurd (some_unmet s attrs are off seen met))
+decided_by s attrs false are off seen = (λ h. none_wanted s attrs seen, λ met. refl)

@@ -1,6 +1,6 @@
 -- Which actions an image takes: those whose tags are as the image has variants and facets set.
-use Rattle.std.specs.Prelude.{◌≡◌, ◌⊎◌, ◌==◌, ℕ, Bool, true, List, codes}
-use Rattle.std.specs.List.{starts_with, list_any}
+use Rattle.std.specs.Prelude.{◌≡◌, ◌⊎◌, ◌==◌, ◌&&◌, ℕ, Bool, true, List, codes}
+use Rattle.std.specs.List.{starts_with, list_any, list_all}
 use Rattle.std.specs.Str.{bytes_eq}
 use Rattle.ips_action.specs.Attrs.{values_of}
 use Rattle.ips_action.specs.Judging.{is_facet}
@@ -15,6 +15,18 @@ is_variant key = starts_with ◌==◌ key (codes "variant.")
 -- The value is one of these.
 abbrev pub has_value : List (List ℕ) → List ℕ → Bool
 has_value values value = list_any (bytes_eq value) values
+
+-- The attribute is no variant's tag, or each of its values is the one that the variant has.
+abbrev pub MeetsVariant : Set → Attr → Type 0
+MeetsVariant s attr = is_variant attr.key ≡ true → list_all (bytes_eq (variant_value s attr.key)) attr.values ≡ true
+
+-- The attribute is a facet's tag with this value.
+abbrev pub is_tag : Attr → List ℕ → Bool
+is_tag attr value = is_facet attr.key && has_value attr.values value
+
+-- The attribute is no facet's tag `all`, or the facet is on.
+abbrev pub MeetsAll : Set → Attr → Type 0
+MeetsAll s attr = is_tag attr (codes "all") ≡ true → HasFacet s attr.key true
 
 -- Among the attributes stands the key with this value.
 abbrev pub HasTag : List Attr → List ℕ → List ℕ → Type 0

@@ -1,4 +1,5 @@
 use crate::settings::Settings;
+use ips_action::parse_line;
 use std::test::Fail;
 
 #[test]
@@ -60,5 +61,49 @@ fn the_longest_pattern_decides_a_facet(rt: HostRuntime) -> Result<(), Fail> {
     assert!(rt; settings.facet_at(1) == Some(("facet.*.pdf", true)));
     assert!(rt; settings.facet_at(5) == Some(("facet.locale.*", false)));
     assert!(rt; settings.facet_at(6).is_none());
+    Ok(())
+}
+
+#[test]
+fn an_action_is_taken_by_its_variants_and_facets(rt: HostRuntime) -> Result<(), Fail> {
+    let alloc = rt.alloc();
+    let mut settings = Settings::new(alloc);
+    settings.set_variant(alloc, "variant.arch", "i386")?;
+    settings.set_facet(alloc, "facet.locale.*", Some(false))?;
+    settings.set_facet(alloc, "facet.locale.fr", Some(true))?;
+    for (tags, taken) in [
+        ("", true),
+        ("variant.arch=i386", true),
+        ("variant.arch=sparc", false),
+        // Two values are never both the variant's.
+        ("variant.arch=i386 variant.arch=sparc", false),
+        ("variant.debug=false", true),
+        ("variant.debug=true", false),
+        ("facet.doc=true", true),
+        ("facet.locale.de=true", false),
+        ("facet.locale.de=all", false),
+        ("facet.locale.fr=all facet.doc=all", true),
+        ("facet.locale.de=all facet.doc=all", false),
+        // One of those that are `true` is enough, but each that is `all` is needed.
+        ("facet.locale.de=true facet.doc=true", true),
+        ("facet.locale.de=true facet.locale.it=true", false),
+        ("facet.doc=true facet.locale.de=all", false),
+        ("facet.locale.de=true facet.doc=all", false),
+        ("facet.locale.de=true facet.locale.de=all", false),
+        ("variant.arch=sparc facet.doc=true", false),
+        ("other=facet.locale.de", true),
+    ] {
+        let line = format!(in alloc; "dir path=usr mode=0755 owner=root group=sys {tags}")?;
+        let action = parse_line(alloc, line.as_str())?;
+        assert!(rt; settings.admits(&action) == taken, "{tags}");
+    }
+    // A longer pattern decides.
+    let action = parse_line(
+        alloc,
+        "file da39a3ee5e6b4b0d3255bfef95601890afd80709 path=usr/share/x mode=0644 owner=root group=bin facet.doc=true facet.locale.de=all",
+    )?;
+    assert!(rt; !settings.admits(&action));
+    settings.set_facet(alloc, "facet.locale.de", Some(true))?;
+    assert!(rt; settings.admits(&action));
     Ok(())
 }
