@@ -1,0 +1,3 @@
+mod Views
+mod Facets
+mod Tags

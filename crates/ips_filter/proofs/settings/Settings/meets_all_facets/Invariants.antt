@@ -1,0 +1,10 @@
+use Rattle.std.proofs.Common.{length}
+use Rattle.ips_filter.specs.Admitted.{MeetsAll}
+use Rattle.ips_filter.proofs.Tags.{Passed}
+use Rattle.ips_filter.proofs.settings.Settings.meets_all_facets.Given as goal
+
+abbrev pub invariant-loop-attr : goal.invariant-loop-attr
+invariant-loop-attr l = Passed (MeetsAll l.self) l.attrs l.left
+
+abbrev pub decreases-loop-attr : goal.decreases-loop-attr
+decreases-loop-attr l = length l.left

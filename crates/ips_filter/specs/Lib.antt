@@ -1,0 +1,4 @@
+pub mod Settings
+pub mod Facet
+pub mod View
+pub mod Admitted
