@@ -59,7 +59,7 @@ entry_at publisher stem index before entry = do
   version ← version_in stem text
   with_next stem before version
 
--- the versions of a package: its entries in their order, from the one with this index on
+-- the versions of a package: its entries in their order, from the one with this index on, put among those before
 unfoldable pub versions_at : List ℕ → List ℕ → ℕ → List Parts → Items → Result (List Parts) CatalogFault
 versions_at publisher stem index before no_items = Ok before
 versions_at publisher stem index before (item entry entries) = do

@@ -10,7 +10,6 @@ ghost use Rattle.ips_text.specs.Reading.{Gives};
 ghost use Rattle.ips_catalog.specs.Seen.{seen};
 ghost use Rattle.ips_catalog.specs.Listed.{Listed, IsInOrder, versions_of, count_of};
 ghost use Rattle.ips_catalog.specs.Catalog.{IsCatalogText};
-ghost use Rattle.ips_catalog.specs.Reading as reading;
 ghost use Rattle.ips_catalog.specs.Reading.{read_catalog, catalog_of, published_at};
 
 use crate::fault::CatalogFault;

@@ -10,12 +10,14 @@ use ips_text::Text;
 /// each in their order.
 #[derive(Debug, PartialEq, Eq, Drop)]
 pub enum CatalogFault {
-    /// The bytes aren't a JSON text (RFC 8259) in UTF-8, or it nests too deep.
+    /// The bytes aren't a JSON text (RFC 8259) in UTF-8, nest more than 127 deep, or have a number too large for a float or half of
+    /// a surrogate pair.
     NotJson,
     /// A value has another shape than stands there in a catalog, is missing, or stands at a key that is no stem. The pointer
     /// (RFC 6901) leads from the top to the place of the value.
     WrongShape { pointer: Text },
-    /// A version of the package is none. The place, counted in bytes, is that of the first byte that no version continues.
+    /// A version of the package is none. The place, counted in bytes, is that of the first byte with which no version goes on, or the
+    /// end, where the text stops too early or is too long to name a file.
     BadVersion { stem: Text, place: u64 },
     /// The version stands at an earlier entry of the package too.
     Repeated { stem: Text, version: Text },

@@ -99,6 +99,9 @@ fn tells_what_is_no_json(rt: HostRuntime) -> Result<(), Fail> {
         r#"{"test": {"hello": [{"version": "1""#,
         r#"{"test": {}} x"#,
         r#"{'test': {}}"#,
+        // Also what isn't looked at has to be JSON.
+        r#"{"x": 1e999}"#,
+        r#"{"x": "\ud800"}"#,
     ] {
         assert!(rt; is_not_json(&read(alloc, text)), "{text}");
     }
