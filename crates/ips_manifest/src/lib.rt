@@ -1,0 +1,11 @@
+//! Manifests: what a package consists of, read exactly and printed in one spelling.
+//!
+//! A manifest is UTF-8 text whose logical lines are actions. It is read exactly where each of them is one, and else the first
+//! line is told that isn't, with its fault. What is printed reads back.
+#![tactic(auto)]
+
+mod logical;
+mod physical;
+
+#[cfg(test)]
+mod tests;
