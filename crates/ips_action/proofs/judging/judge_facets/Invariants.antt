@@ -1,0 +1,8 @@
+use Rattle.std.proofs.Common.{map, drop}
+use Rattle.std.specs.Option.{option_map}
+use Rattle.ips_action.specs.Judging.{facet_rows}
+use Rattle.ips_action.proofs.Judged.{Decides, brought, tag_row}
+use Rattle.ips_action.proofs.judging.judge_facets.Given as goal
+
+abbrev pub invariant-loop-attr : goal.invariant-loop-attr
+invariant-loop-attr l = Decides (option_map (λ w. w.now) l.payload) l.attrs (brought tag_row (drop l.attr-index l.attr-items)) (facet_rows l.attrs)

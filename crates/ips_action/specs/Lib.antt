@@ -1,0 +1,9 @@
+pub mod Kind
+pub mod Target
+pub mod Check
+pub mod Table
+pub mod Attrs
+pub mod Gathering
+pub mod Judging
+pub mod Action
+pub mod Meaning

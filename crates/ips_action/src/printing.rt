@@ -1,0 +1,70 @@
+//! The canonical spelling of actions.
+
+ghost use Rattle.std.specs.Prelude.{◌≡◌, ◌++◌, IfOk, OnOk, string_bytes, map};
+ghost use Rattle.std.specs.List.{flat_map};
+ghost use Rattle.ips_line.specs.Canonical.{pair_text, payload_text};
+ghost use Rattle.ips_digest.specs.Name.{IsName, spelling};
+ghost use Rattle.ips_action.specs.Action.{line_text, payload_word, pairs_of, pairs_of_one, IfName, Fields, IsAction};
+ghost use Rattle.ips_action.specs.Meaning.{Means};
+
+use crate::action::Action;
+use crate::attrs::Attr;
+use ips_digest::PayloadName;
+use ips_line::{push_pair, push_payload};
+use ips_text::Text;
+use std::alloc::{AllocError, Global};
+
+/// The canonical line of an action: its name, its payload's name, and its attributes by the bytes of their keys, those of a list
+/// in their order, divided by one blank. A value stands in `"` where it is empty or has a blank, tab, quote or backslash;
+/// inside, `"` and backslash get a backslash.
+pub fn print_line(alloc: Global, action: &Action) -> Result<Text, AllocError>
+    ensures { IfOk result (λ text. text ≡ line_text action.now) }
+{
+    let mut out = String::new(alloc);
+    out.push_str(action.kind.name())?;
+    push_name(&mut out, &action.payload)?;
+    push_attrs(&mut out, action.attrs.list())?;
+    Ok(Text::from_string(out))
+}
+
+// Writes a blank and the payload's name, where there is one.
+fn push_name(out: &mut String, payload: &Option<PayloadName>) -> Result<(), AllocError>
+    requires { IfName payload.now }
+    ensures { OnOk result (string_bytes out.new ≡ string_bytes out.old ++ payload_text (payload_word payload.now)) }
+{
+    let Some(name) = payload else {
+        return push_payload(out, None);
+    };
+    let mut digits = [0; 64];
+    let count = name.print(&mut digits);
+    match str::from_utf8(&digits[..count]) {
+        Ok(word) => push_payload(out, Some(word)),
+        Err(_) => unreachable!(),
+    }
+}
+
+// Writes each attribute.
+fn push_attrs(out: &mut String, attrs: &[Attr]) -> Result<(), AllocError>
+    ensures { OnOk result (string_bytes out.new ≡ string_bytes out.old ++ flat_map pair_text (pairs_of attrs.now)) }
+{
+    for attr in attrs {
+        push_values(out, attr.key.as_str(), attr.values.as_slice())?;
+    }
+    Ok(())
+}
+
+// Writes a `key=value` for each value.
+fn push_values(out: &mut String, key: &str, values: &[Text]) -> Result<(), AllocError>
+    ensures { OnOk result (string_bytes out.new ≡ string_bytes out.old ++ flat_map pair_text (pairs_of_one (record { key = key.now; values = values.now }))) }
+{
+    for value in values {
+        push_pair(out, key, value.as_str())?;
+    }
+    Ok(())
+}
+
+/// The law of actions' lines: no two actions have one canonical line, and it reads as the action.
+pub fn actions_read_back()
+    ensures one { (a b : Fields) → IsAction a → IsAction b → line_text a ≡ line_text b → a ≡ b }
+    ensures back { (a : Fields) → IsAction a → Means (line_text a) a }
+{}
