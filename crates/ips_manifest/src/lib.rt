@@ -4,8 +4,17 @@
 //! line is told that isn't, with its fault. What is printed reads back.
 #![tactic(auto)]
 
+mod fault;
+mod line;
 mod logical;
+mod manifest;
+mod package;
 mod physical;
+
+pub use fault::{LineFault, ManifestFault};
+pub use line::Line;
+pub use manifest::Manifest;
+pub use package::Package;
 
 #[cfg(test)]
 mod tests;
