@@ -5,3 +5,10 @@ pub mod KeyOrder
 pub mod Gathered
 pub mod Found
 pub mod Judged
+pub mod Slashes
+pub mod Tabled
+pub mod Spelled
+pub mod One
+pub mod Lines
+pub mod ReadBack
+pub mod Told

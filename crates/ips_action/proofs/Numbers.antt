@@ -76,7 +76,7 @@ not_numerals value h w =
     at.2 [] (number_at_all w.0 w.1 at.0 [] at.1)
 
 pub numerals_are : (value : List ℕ) (t : Bool) → MatchBool t (AllWithin IsNumber (slice_split (λ b. eqb b 46) value) 0 (length (slice_split (λ b. eqb b 46) value)))
-        ((k : ℕ) × (k < length (slice_split (λ b. eqb b 46) value)) × HoldsAt (λ part. IsNumber part → ⊥) (slice_split (λ b. eqb b 46) value) k)
+    ((k : ℕ) × (k < length (slice_split (λ b. eqb b 46) value)) × HoldsAt (λ part. IsNumber part → ⊥) (slice_split (λ b. eqb b 46) value) k)
     → (IsTrue t → IsNumerals value) × (IsNumerals value → IsTrue t)
 numerals_are value true h =
     let all = all_numbers (slice_split (λ b. eqb b 46) value) (omega (arith, length-slice_split (λ b. eqb b 46) value)) (λ k lt. h k [] (omega arith) lt) in

@@ -4,7 +4,7 @@ use Rattle.std.specs.List.{AllByRecursion, flat_map}
 use Rattle.std.specs.Option.{option_map}
 use Rattle.ips_line.specs.declared.words.Pair.{Pair}
 use Rattle.ips_line.specs.Line.{in_key, IsRun}
-use Rattle.ips_line.specs.Canonical.{words_text}
+use Rattle.ips_line.specs.Canonical.{words_text, pair_text}
 use Rattle.ips_digest.specs.declared.name.PayloadName.{PayloadName}
 use Rattle.ips_digest.specs.Name.{IsName, spelling}
 use Rattle.ips_action.specs.declared.kind.ActionKind.{ActionKind}
@@ -70,6 +70,10 @@ pairs_of_one attr = map (λ value. record { key = attr.key; value = value }) att
 -- a `key=value` for each value of each attribute
 abbrev pub pairs_of : List Attr → List Pair
 pairs_of attrs = flat_map pairs_of_one attrs
+
+-- the bytes of the `key=value` of an attribute in a canonical line
+abbrev pub attr_text : Attr → List ℕ
+attr_text attr = flat_map pair_text (pairs_of_one attr)
 
 -- the canonical line of an action: its name, its payload, and its attributes by the bytes of their keys
 abbrev pub line_text : Fields → List ℕ

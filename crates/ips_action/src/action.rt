@@ -60,6 +60,7 @@ impl Action {
     pub fn get(&self, name: &str) -> Option<&str>
         ensures some { IfSome result (λ value. slice_get (values_of name.now self.now.attrs) 0 ≡ Some value.now) }
         ensures none { IfNone result (values_of name.now self.now.attrs ≡ []) }
+        ensures action { IsAction self.now }
     {
         self.attrs.get(name)
     }
@@ -96,12 +97,12 @@ impl Action {
         ensures file { self.now.kind ≡ ActionKind.File → values_of (codes "preserve") self.now.attrs ≡ preserve_values result }
         ensures other { (self.now.kind ≡ ActionKind.File → ⊥) → result ≡ Preserve.None }
     {
-        if !matches!(self.kind, ActionKind::File) {
-            return Preserve::None;
-        }
-        match self.attrs.get("preserve") {
-            Some(word) => preserve_named(word),
-            None => Preserve::None,
+        match self.kind {
+            ActionKind::File => match self.attrs.get("preserve") {
+                Some(word) => preserve_named(word),
+                None => Preserve::None,
+            },
+            _ => Preserve::None,
         }
     }
 

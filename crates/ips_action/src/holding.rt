@@ -45,7 +45,8 @@ fn is_path_key(kind: ActionKind, key: &str) -> bool
 fn has_path_row(rows: &[Row<'_>], key: &str) -> bool
     ensures { result ≡ list_any (λ (row : DefinedRow). meaning.is_path row.check && is_same row.name key.now) (map row_seen rows.now) }
 {
-    rows.iter().any(|row| row.check.is_path() && row.name == key)
+    rows.iter()
+        .any(|row| row.check.is_path() && row.name == key)
 }
 
 // The path without the `/` before it.

@@ -86,11 +86,7 @@ fn judge_rows(
 }
 
 // The first fault that the rows of the facets' tags find.
-fn judge_facets(
-    alloc: Global,
-    payload: Option<&str>,
-    attrs: &Attrs,
-) -> Result<(), Or<ActionFault>>
+fn judge_facets(alloc: Global, payload: Option<&str>, attrs: &Attrs) -> Result<(), Or<ActionFault>>
     ensures kept { OnOk result (AllByRecursion (KeepsRow (option_map (λ w. w.now) payload.entry) attrs.now) (facet_rows attrs.now)) }
     ensures fault { IfBad result (λ fault. FindsFirst (option_map (λ w. w.now) payload.entry) attrs.now (facet_rows attrs.now) fault) }
 {
@@ -153,11 +149,7 @@ fn path_of(attrs: &Attrs) -> &str
 }
 
 // The fault that a row finds in the payload word.
-fn judge_payload(
-    alloc: Global,
-    payload: Option<&str>,
-    row: &Row<'_>,
-) -> Result<(), Or<ActionFault>>
+fn judge_payload(alloc: Global, payload: Option<&str>, row: &Row<'_>) -> Result<(), Or<ActionFault>>
     requires { judging.is_payload row.now.check ≡ true }
     ensures kept { OnOk result ((attrs : List DefinedAttr) → KeepsRow (option_map (λ w. w.now) payload.entry) attrs (row_seen row.now)) }
     ensures fault { IfBad result (λ fault. (attrs : List DefinedAttr) → Finds (judging.path_of attrs) (judging.standing (option_map (λ w. w.now) payload.entry) attrs (row_seen row.now)) (row_seen row.now) fault) }

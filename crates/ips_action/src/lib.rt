@@ -26,3 +26,6 @@ pub use printing::{actions_read_back, print_line};
 pub use reading::parse_line;
 pub use table::{Row, Times, rows};
 pub use target::leads_to;
+
+#[cfg(test)]
+mod tests;

@@ -1,10 +1,9 @@
 //! The canonical spelling of actions.
 
-ghost use Rattle.std.specs.Prelude.{◌≡◌, ◌++◌, IfOk, OnOk, string_bytes, map};
+ghost use Rattle.std.specs.Prelude.{◌≡◌, ◌++◌, IfOk, OnOk, string_bytes, List, ℕ};
 ghost use Rattle.std.specs.List.{flat_map};
-ghost use Rattle.ips_line.specs.Canonical.{pair_text, payload_text};
-ghost use Rattle.ips_digest.specs.Name.{IsName, spelling};
-ghost use Rattle.ips_action.specs.Action.{line_text, payload_word, pairs_of, pairs_of_one, IfName, Fields, IsAction};
+ghost use Rattle.ips_line.specs.Canonical.{payload_text};
+ghost use Rattle.ips_action.specs.Action.{line_text, attr_text, payload_word, IfName, Fields, IsAction};
 ghost use Rattle.ips_action.specs.Meaning.{Means};
 
 use crate::action::Action;
@@ -45,7 +44,7 @@ fn push_name(out: &mut String, payload: &Option<PayloadName>) -> Result<(), Allo
 
 // Writes each attribute.
 fn push_attrs(out: &mut String, attrs: &[Attr]) -> Result<(), AllocError>
-    ensures { OnOk result (string_bytes out.new ≡ string_bytes out.old ++ flat_map pair_text (pairs_of attrs.now)) }
+    ensures { OnOk result (string_bytes out.new ≡ string_bytes out.old ++ flat_map attr_text attrs.now) }
 {
     for attr in attrs {
         push_values(out, attr.key.as_str(), attr.values.as_slice())?;
@@ -55,7 +54,7 @@ fn push_attrs(out: &mut String, attrs: &[Attr]) -> Result<(), AllocError>
 
 // Writes a `key=value` for each value.
 fn push_values(out: &mut String, key: &str, values: &[Text]) -> Result<(), AllocError>
-    ensures { OnOk result (string_bytes out.new ≡ string_bytes out.old ++ flat_map pair_text (pairs_of_one (record { key = key.now; values = values.now }))) }
+    ensures { OnOk result (string_bytes out.new ≡ string_bytes out.old ++ attr_text (record { key = key.now; values = values.now })) }
 {
     for value in values {
         push_pair(out, key, value.as_str())?;
@@ -63,8 +62,9 @@ fn push_values(out: &mut String, key: &str, values: &[Text]) -> Result<(), Alloc
     Ok(())
 }
 
-/// The law of actions' lines: no two actions have one canonical line, and it reads as the action.
+/// The law of actions' lines: no two actions have one canonical line, which means the action, and no line means two.
 pub fn actions_read_back()
     ensures one { (a b : Fields) → IsAction a → IsAction b → line_text a ≡ line_text b → a ≡ b }
     ensures back { (a : Fields) → IsAction a → Means (line_text a) a }
+    ensures alone { (text : List ℕ) (a b : Fields) → Means text a → Means text b → a ≡ b }
 {}

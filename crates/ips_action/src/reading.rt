@@ -5,9 +5,7 @@ ghost use Rattle.std.specs.List.{AllByRecursion};
 ghost use Rattle.std.specs.Option.{option_map};
 ghost use Rattle.ips_text.specs.Reading.{Gives, IfBad};
 ghost use Rattle.ips_line.specs.declared.words.Pair as line_pair;
-ghost use Rattle.ips_line.specs.declared.fault.WordFault as word_faults;
-ghost use Rattle.ips_line.specs.Line.{Said, Says, IsRun, in_key};
-ghost use Rattle.ips_line.specs.Reading as line_reading;
+ghost use Rattle.ips_line.specs.Line.{IsRun, in_key};
 ghost use Rattle.ips_line.specs.Seen.{seen};
 ghost use Rattle.ips_digest.specs.Name.{AreNameDigits};
 ghost use Rattle.ips_action.specs.declared.attrs.Attr.{Attr};
@@ -24,7 +22,7 @@ use crate::holding::hold;
 use crate::judging::{judge, takes_payload};
 use crate::kind::ActionKind;
 use ips_digest::PayloadName;
-use ips_line::{Pair, Word, WordFault, Words, read_words};
+use ips_line::{Pair, WordFault, Words, read_words};
 use ips_text::Or;
 use std::alloc::Global;
 
@@ -36,8 +34,7 @@ pub fn parse_line(alloc: Global, line: &str) -> Result<Action, Or<ActionFault>>
     ensures found { IfOk result (λ action. Means line.now action) }
     ensures only { (action : Fields) → Means line.now action → Gives (λ x. x) result (Ok action) }
     ensures first { IfBad result (λ fault. IsFirstFault line.now fault) }
-    ensures words { (fault : word_faults.WordFault) → line_reading.read_words line.now ≡ Err fault → Gives (λ x. x) result (Err (word_fault fault)) }
-    ensures faults { (said : Said) (fault : faults.ActionFault) → Says said line.now → FaultOf said fault → Gives (λ x. x) result (Err fault) }
+    ensures faults { (fault : faults.ActionFault) → IsFirstFault line.now fault → Gives (λ x. x) result (Err fault) }
 {
     match read_words(alloc, line) {
         Ok(words) => action_of(alloc, words),
@@ -70,18 +67,12 @@ fn action_of(alloc: Global, words: Words<'_>) -> Result<Action, Or<ActionFault>>
     let Some(kind) = ActionKind::named(name.text) else {
         return Err(Or::Bad(ActionFault::UnknownAction { place: name.place }));
     };
-    if let Some(word) = payload && !takes_payload(kind) {
-        return Err(Or::Bad(ActionFault::BadWord { place: word.place }));
-    }
-    judged(alloc, kind, text_of(payload), pairs)
-}
-
-fn text_of(word: Option<Word<'_>>) -> Option<&str>
-    ensures { option_map (λ w. w.now) result ≡ option_map (λ w. w.text.now) word.entry }
-{
-    match word {
-        Some(word) => Some(word.text),
-        None => None,
+    match payload {
+        Some(word) if !takes_payload(kind) => {
+            Err(Or::Bad(ActionFault::BadWord { place: word.place }))
+        }
+        Some(word) => judged(alloc, kind, Some(word.text), pairs),
+        None => judged(alloc, kind, None, pairs),
     }
 }
 

@@ -245,13 +245,11 @@ static GROUP: [Row<'static>; 2] = [
     },
 ];
 
-static DRIVER: [Row<'static>; 1] = [
-    Row {
-        name: "name",
-        times: Times::Once,
-        check: Check::Anything,
-    },
-];
+static DRIVER: [Row<'static>; 1] = [Row {
+    name: "name",
+    times: Times::Once,
+    check: Check::Anything,
+}];
 
 static LICENSE: [Row<'static>; 4] = [
     Row {
@@ -276,21 +274,17 @@ static LICENSE: [Row<'static>; 4] = [
     },
 ];
 
-static LEGACY: [Row<'static>; 1] = [
-    Row {
-        name: "pkg",
-        times: Times::Once,
-        check: Check::FileName,
-    },
-];
+static LEGACY: [Row<'static>; 1] = [Row {
+    name: "pkg",
+    times: Times::Once,
+    check: Check::FileName,
+}];
 
-static SIGNATURE: [Row<'static>; 1] = [
-    Row {
-        name: "payload",
-        times: Times::AtMostOnce,
-        check: Check::Payload,
-    },
-];
+static SIGNATURE: [Row<'static>; 1] = [Row {
+    name: "payload",
+    times: Times::AtMostOnce,
+    check: Check::Payload,
+}];
 
 /// The rows of a kind of action, in the order in which they are judged. The first is the attribute that names the action,
 /// where the kind has one (pkg(7), "Actions").
