@@ -1,7 +1,10 @@
 -- Manifests: which lines a text means, the first fault of a text that means none, and the canonical text.
-use Rattle.std.specs.Prelude.{◌≡◌, ℕ, ◌+◌, Bool, true, false, not, ◌==◌, ◌⊎◌, List, [], ◌∷◌, ◌++◌, Option, Some, None}
-use Rattle.std.specs.List.{list_all, flat_map}
+use Rattle.std.specs.Prelude.{◌≡◌, ℕ, ◌+◌, Bool, true, false, not, ◌&&◌, ◌==◌, ◌⊎◌, List, [], ◌∷◌, ◌++◌, Option, Some, None, codes}
+use Rattle.std.specs.List.{list_all, list_any, flat_map}
 use Rattle.std.specs.Str.{IsUtf8}
+use Rattle.ips_action.specs.declared.kind.ActionKind.{ActionKind}
+use Rattle.ips_action.specs.declared.kind.ActionKind.TheVariants.{Set, Depend, Dir, File, Link, Hardlink, User, Group, Driver, License, Legacy, Signature}
+use Rattle.ips_action.specs.Attrs.{is_same, values_of}
 use Rattle.ips_action.specs.Action.{Fields, IsAction, line_text}
 use Rattle.ips_action.specs.Meaning.{Means, IsFirstFault}
 use Rattle.ips_manifest.specs.declared.line.Line.{Line}
@@ -75,3 +78,28 @@ pub record StandsOnLine (line : Line) : Type 0 where
   pub action : IsAction line.action
   pub text : IsUtf8 (line_text line.action)
   pub single : list_all (λ b. not (b == 10)) (line_text line.action) ≡ true
+
+-- ---- what a manifest says of its package
+
+-- the kind is `set`
+abbrev pub is_set : ActionKind → Bool
+is_set Set = true
+is_set Depend = false
+is_set Dir = false
+is_set File = false
+is_set Link = false
+is_set Hardlink = false
+is_set User = false
+is_set Group = false
+is_set Driver = false
+is_set License = false
+is_set Legacy = false
+is_set Signature = false
+
+-- the key has this value
+abbrev pub has_value : List ℕ → List ℕ → Fields → Bool
+has_value key value action = list_any (is_same value) (values_of key action.attrs)
+
+-- the action tells that the package is obsolete: it is a `set` with `name=pkg.obsolete` and a value `true`
+abbrev pub tells_obsolete : Fields → Bool
+tells_obsolete action = is_set action.kind && has_value (codes "name") (codes "pkg.obsolete") action && has_value (codes "value") (codes "true") action

@@ -13,7 +13,7 @@ mod physical;
 
 pub use fault::{LineFault, ManifestFault};
 pub use line::Line;
-pub use manifest::Manifest;
+pub use manifest::{Manifest, manifests_read_back};
 pub use package::Package;
 
 #[cfg(test)]

@@ -24,7 +24,11 @@ pub struct Line {
 }
 
 /// The action that a logical line of this number means, and none where the line is skipped.
-pub fn read_action(alloc: Global, number: u64, text: &str) -> Result<Option<Action>, Or<ManifestFault>>
+pub fn read_action(
+    alloc: Global,
+    number: u64,
+    text: &str,
+) -> Result<Option<Action>, Or<ManifestFault>>
     ensures found { IfOk result (λ action. TextGives text.now action) }
     ensures only { (action : Fields) → spec.is_skipped text.now ≡ false → Means text.now action → Gives (λ a. a) result (Ok (Some action)) }
     ensures bad { IfBad result (λ f. (spec.is_skipped text.now ≡ false) × (f.line ≡ number) × IsActionFault text.now f.fault) }

@@ -53,7 +53,13 @@ pub fn next_logical<'a>(
     match next_line(rest.bytes) {
         Some((line, behind)) if !is_continued(line) => {
             let text = readable(rest.number, line)?;
-            Ok((Held::Borrowed(text), Remaining { number: rest.number + 1, bytes: behind }))
+            Ok((
+                Held::Borrowed(text),
+                Remaining {
+                    number: rest.number + 1,
+                    bytes: behind,
+                },
+            ))
         }
         _ => {
             let (text, behind) = joined(alloc, rest)?;
@@ -76,7 +82,10 @@ fn joined<'a>(
     let mut left = rest;
     while let Some((line, behind)) = next_line(left.bytes) {
         let line = readable(left.number, line)?;
-        left = Remaining { number: left.number + 1, bytes: behind };
+        left = Remaining {
+            number: left.number + 1,
+            bytes: behind,
+        };
         match continued(line) {
             Some(front) => text.push_str(front)?,
             None => {

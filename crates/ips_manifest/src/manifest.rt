@@ -1,14 +1,17 @@
 //! Manifests.
 
-ghost use Rattle.std.specs.Prelude.{◌≡◌, ◌++◌, ◌+◌, ◌<◌, ◌^◌, List, ℕ, Ok, IfOk, OnOk, length, string_bytes};
+ghost use Rattle.std.specs.Prelude.{◌≡◌, ◌++◌, ◌+◌, ◌<◌, ◌^◌, List, ℕ, Ok, IfOk, OnOk, length, map, string_bytes};
+ghost use Rattle.std.specs.List.{list_any, AllByRecursion};
 ghost use Rattle.ips_text.specs.Reading.{Gives, IfBad};
+ghost use Rattle.ips_action.specs.Attrs.{is_same};
 ghost use Rattle.ips_manifest.specs.declared.line.Line as declared;
-ghost use Rattle.ips_manifest.specs.Manifest.{IsManifestOf, IsFaultOf, manifest_text};
+ghost use Rattle.ips_manifest.specs.Manifest as spec;
+ghost use Rattle.ips_manifest.specs.Manifest.{IsManifestOf, IsFaultOf, manifest_text, renumbered, StandsOnLine};
 
 use crate::fault::ManifestFault;
 use crate::line::{Line, add, read_action};
 use crate::logical::{Remaining, next_logical};
-use ips_action::print_line;
+use ips_action::{Action, ActionKind, actions_read_back, print_line};
 use ips_text::{Or, Text};
 use std::alloc::{AllocError, Global};
 
@@ -40,6 +43,39 @@ impl Manifest {
         push_lines(alloc, &mut out, &self.lines)?;
         Ok(Text::from_string(out))
     }
+
+    /// Whether the package is obsolete (pkg(7), "Set Actions"): some `set` has `name=pkg.obsolete` and a value `true`.
+    pub fn is_obsolete(&self) -> bool
+        ensures { result ≡ list_any (λ line. spec.tells_obsolete line.action) self.now.lines.items }
+    {
+        for line in &self.lines {
+            if tells_obsolete(&line.action) {
+                return true;
+            }
+        }
+        false
+    }
+}
+
+// Whether an action tells that the package is obsolete.
+fn tells_obsolete(action: &Action) -> bool
+    ensures { result ≡ spec.tells_obsolete action.now }
+{
+    matches!(action.kind, ActionKind::Set)
+        && has_value(action.attrs.values("name"), "pkg.obsolete")
+        && has_value(action.attrs.values("value"), "true")
+}
+
+// Whether the value is one of these.
+fn has_value(values: &[Text], value: &str) -> bool
+    ensures { result ≡ list_any (is_same value.now) values.now }
+{
+    for text in values {
+        if value == text.as_str() {
+            return true;
+        }
+    }
+    false
 }
 
 // The lines of a manifest.
@@ -70,4 +106,13 @@ fn push_lines(alloc: Global, out: &mut String, lines: &[Line]) -> Result<(), All
         out.push_str("\n")?;
     }
     Ok(())
+}
+
+/// The law of manifests' texts: where each action stands on a line, the canonical text reads as the manifest, with the numbers
+/// 1, 2 and so on; and no two manifests have one text, where the numbers are left out.
+pub fn manifests_read_back()
+    ensures one { (lines others : List declared.Line) → AllByRecursion StandsOnLine lines → AllByRecursion StandsOnLine others → manifest_text lines ≡ manifest_text others → map (λ line. line.action) lines ≡ map (λ line. line.action) others }
+    ensures back { (lines : List declared.Line) → AllByRecursion StandsOnLine lines → IsManifestOf (manifest_text lines) (renumbered 1 lines) }
+{
+    actions_read_back();
 }

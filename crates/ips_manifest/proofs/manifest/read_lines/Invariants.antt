@@ -6,7 +6,7 @@ use Rattle.ips_manifest.proofs.manifest.read_lines.Given as goal
 abbrev pub invariant-loop-rest : goal.invariant-loop-rest
 invariant-loop-rest l = record {
   gone : Gone (lines_of l.bytes) (logical_lines l.rest.number (physical_lines l.rest.bytes.now)) l.lines.items;
-  room : l.rest.number + length l.rest.bytes.now ≤ 1 + length l.bytes
+  room : l.rest.number + length l.rest.bytes.now ≤ 1 + length l.bytes;
 }
 
 abbrev pub decreases-loop-rest : goal.decreases-loop-rest
