@@ -1,0 +1,7 @@
+pub mod FirstLine
+pub mod Ends
+pub mod Joins
+pub mod Judged
+pub mod Gone
+pub mod Endings
+pub mod Laws

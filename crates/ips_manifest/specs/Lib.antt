@@ -1,0 +1,4 @@
+pub mod Logical
+pub mod Manifest
+pub mod Next
+pub mod Seen
