@@ -1,34 +1,29 @@
 -- Actions that are read from the words of a line.
-use Rattle.std.proofs.Common.{◌≡◌, ℕ, suc, ◌+◌, ◌<◌, ◌≤◌, Bool, true, false, cond, ◌||◌, List, [], ◌∷◌, ◌++◌, map, length, Option, Some, None, Result, Ok, Err, Bor, refl, sym, ◌∙◌, ap, subst, arith, ◌⊎◌, inl, inr}
-use Rattle.std.specs.Prelude.{filter, IfOk, IfSome}
-use Rattle.std.specs.List.{AllByRecursion, list_any}
-use Rattle.std.specs.Option.{option_map, option_to_list}
+use Rattle.std.proofs.Common.{◌≡◌, ℕ, ◌<◌, Bool, true, false, cond, List, [], ◌∷◌, map, length, Option, Some, None, Result, Ok, Err, Bor, refl, sym, ◌∙◌, ap, subst, arith, inl, inr}
+use Rattle.std.specs.Prelude.{filter, IfOk}
+use Rattle.std.specs.List.{AllByRecursion}
+use Rattle.std.specs.Option.{option_map}
 use Rattle.ips_text.specs.declared.refusal.Or.{Or}
 use Rattle.ips_text.specs.declared.refusal.Or.TheVariants.{Bad, OutOfMemory}
 use Rattle.ips_text.specs.Reading.{Gives, IfBad}
 use Rattle.ips_digest.specs.declared.name.PayloadName.{PayloadName}
-use Rattle.ips_digest.specs.Name.{AreNameDigits, spelling}
 use Rattle.ips_line.specs.declared.words.Pair.{Pair}
 use Rattle.ips_line.specs.declared.words.Word.{Word}
 use Rattle.ips_line.specs.declared.words.Words.{Words}
 use Rattle.ips_line.specs.declared.fault.WordFault.{WordFault}
-use Rattle.ips_line.specs.declared.fault.WordFault.TheVariants as words
-use Rattle.ips_line.specs.Line.{Line, Attribute, IsAttribute, IsWrittenLine, line_written, words_of, pair_of, Said, Says, Placed, IsLine, IsFault, IsRun, in_key}
+use Rattle.ips_line.specs.Line.{Line, Attribute, IsAttribute, IsWrittenLine, line_written, words_of, pair_of, Said, Says, IsRun, in_key}
 use Rattle.ips_line.specs.Reading.{read_words}
 use Rattle.ips_line.specs.Seen.{seen, seen_payload}
 use Rattle.ips_action.specs.declared.kind.ActionKind.{ActionKind}
-use Rattle.ips_action.specs.declared.check.Check.{Check}
-use Rattle.ips_action.specs.declared.check.Check.TheVariants.{Anything, Path, Mode, Payload, Preserve, Overlay, LinkTarget, HardlinkTarget, Numbers, Priority, Account, Id, Field, FileName, Flag, FacetTag}
 use Rattle.ips_action.specs.declared.fault.ActionFault.{ActionFault}
 use Rattle.ips_action.specs.declared.fault.ActionFault.TheVariants.{UnknownAction, BadWord, OpenQuote, MissingKey, BadValue}
 use Rattle.ips_action.specs.declared.attrs.Attr.{Attr}
 use Rattle.ips_action.specs.Kind.{kind_name}
-use Rattle.ips_action.specs.Table.{Row, table}
-use Rattle.ips_action.specs.Check.{Meets}
+use Rattle.ips_action.specs.Table.{Row}
 use Rattle.ips_action.specs.Attrs.{is_same, AreAttrs, values_of, values_in, Gathers}
-use Rattle.ips_action.specs.Judging.{Keeps, KeepsRow, Finds, FindsFirst, is_payload, standing, path_of, facet_rows, rows_of, takes_payload}
+use Rattle.ips_action.specs.Judging.{KeepsRow, Finds, FindsFirst, standing, path_of, rows_of, takes_payload}
 use Rattle.ips_action.specs.Action.{Fields, IsAction, IfName, IfTaken, payload_word}
-use Rattle.ips_action.specs.Meaning.{held, word_of, Means, IsSaid, IsReadAs, IsRefusedAs, IsJudged, FaultOf, IsFirstFault, word_fault}
+use Rattle.ips_action.specs.Meaning.{held, word_of, Means, IsSaid, IsRefusedAs, IsJudged, FaultOf, IsFirstFault}
 use Rattle.ips_action.proofs.KeyOrder.{same_true, same_self}
 use Rattle.ips_action.proofs.One.{one_said, fault_not_said, one_fault}
 
@@ -78,40 +73,6 @@ pub texts_taken : (kind : ActionKind) (payload : Option (Bor (List ℕ))) → If
 texts_taken kind None h = tt
 texts_taken kind (Some w) h = h
 
-digits_met : (check : Check) (path value : List ℕ) → is_payload check ≡ true → Meets check path value → AreNameDigits value
-digits_met Anything path value e m = absurd cc
-digits_met Path path value e m = absurd cc
-digits_met Mode path value e m = absurd cc
-digits_met Payload path value e m = m
-digits_met Preserve path value e m = absurd cc
-digits_met Overlay path value e m = absurd cc
-digits_met LinkTarget path value e m = absurd cc
-digits_met HardlinkTarget path value e m = absurd cc
-digits_met Numbers path value e m = absurd cc
-digits_met Priority path value e m = absurd cc
-digits_met Account path value e m = absurd cc
-digits_met Id path value e m = absurd cc
-digits_met Field path value e m = absurd cc
-digits_met FileName path value e m = absurd cc
-digits_met Flag path value e m = absurd cc
-digits_met FacetTag path value e m = absurd cc
-
-all_digits : (check : Check) (path : List ℕ) (values : List (List ℕ)) → is_payload check ≡ true → AllByRecursion (Meets check path) values → AllByRecursion AreNameDigits values
-all_digits check path [] e h = tt
-all_digits check path (value ∷ values) e h = (digits_met check path value e h.0, all_digits check path values e h.1)
-
-payload_kept : (payload : Option (List ℕ)) (attrs : List Attr) (rows more : List Row) → list_any (λ (row : Row). is_payload row.check) rows ≡ true → AllByRecursion (KeepsRow payload attrs) (rows ++ more) → AllByRecursion AreNameDigits (option_to_list payload)
-payload_kept payload attrs [] more e h = absurd cc
-payload_kept payload attrs (row ∷ rows) more e h = go (is_payload row.check) refl e (λ f. payload_kept payload attrs rows more f h.1)
-  where
-    go : (t : Bool) → is_payload row.check ≡ t → (t || list_any (λ (r : Row). is_payload r.check) rows) ≡ true → (list_any (λ (r : Row). is_payload r.check) rows ≡ true → AllByRecursion AreNameDigits (option_to_list payload)) → AllByRecursion AreNameDigits (option_to_list payload)
-    go true f g rest = all_digits row.check (path_of attrs) (option_to_list payload) f (rw f at h.0.each)
-    go false f g rest = rest g
-
-pub payload_digits : (kind : ActionKind) (payload : Option (Bor (List ℕ))) (attrs : List Attr) → IfTaken kind payload → AllByRecursion (KeepsRow (texts payload) attrs) (rows_of kind attrs) → IfSome payload (λ w. AreNameDigits w.now)
-payload_digits kind None attrs t h = tt
-payload_digits kind (Some w) attrs t h = (payload_kept (Some w.now) attrs (table kind) (facet_rows attrs) t h).0
-
 name_taken : (kind : ActionKind) (payload : Option (List ℕ)) (name : Option PayloadName) → IfTaken kind payload → payload_word name ≡ payload → IfTaken kind name
 name_taken kind payload None t e = tt
 name_taken kind None (Some n) t e = absurd cc
@@ -150,14 +111,6 @@ refused said kind payload fault name taken word r = go fault r
     go (MissingKey name) r = first (MissingKey name) r
     go (BadValue name) r = first (BadValue name) r
 
-pub read_said : (said : Said) (kind : ActionKind) (payload : Option (List ℕ)) (a : Fields) → said.name.text ≡ kind_name kind → payload ≡ word_of said.payload → IsReadAs kind payload said.pairs a → IsSaid said a
-read_said said kind payload a name word r = record {
-  kind = name ∙ ap kind_name (sym r.of_kind);
-  payload = sym word ∙ r.of_payload;
-  attrs = (let P : ActionKind → Type 0 = λ k. Gathers (map (held k) said.pairs) a.attrs in subst P (sym r.of_kind) r.of_attrs);
-  action = r.action;
-}
-
 -- ---- from a line
 
 abbrev pub Only : Said → List ℕ → Type 0
@@ -186,10 +139,6 @@ faults_said said text r only found first other fault says h = go r found first
     go (Err (Bad f)) found first = ap (λ (x : ActionFault). Err x) (one_fault said fault f here first)
     go (Err OutOfMemory) found first = tt
 
-pub found_said : (said : Said) (text : List ℕ) (r : Result Fields (Or ActionFault)) → Says said text → IfOk r (λ a. IsSaid said a) → IfOk r (λ a. Means text a)
-found_said said text (Ok b) says found = (said, says, found)
-found_said said text (Err e) says found = tt
-
 pub first_said : (said : Said) (text : List ℕ) (r : Result Fields (Or ActionFault)) → Says said text → IfBad r (λ f. FaultOf said f) → IfBad r (λ f. IsFirstFault text f)
 first_said said text (Ok b) says first = tt
 first_said said text (Err OutOfMemory) says first = tt
@@ -201,26 +150,6 @@ first_said said text (Err (Bad f)) says first = go f first
     go (OpenQuote place) h = absurd h
     go (MissingKey name) h = (said, says, h)
     go (BadValue name) h = (said, says, h)
-
-read_or_not : {A B : Type 0} (r : Result A B) (a : A) (b : B) → r ≡ Ok a → r ≡ Err b → ⊥
-read_or_not r a b e f = let both : Ok a ≡ Err b = sym e ∙ f in cc
-
-pub words_said : (said : Said) (text : List ℕ) (r : Result Fields (Or ActionFault)) → read_words text ≡ Ok said → (fault : WordFault) → read_words text ≡ Err fault → Gives (λ x. x) r (Err (word_fault fault))
-words_said said text r e fault f = absurd (read_or_not (read_words text) said fault e f)
-
-says_line : (said : Said) (text : List ℕ) → Says said text → IsLine text
-says_line said text says = (says.0, says.1, says.3)
-
-no_line : (text : List ℕ) (fault : WordFault) → IsFault text fault → IsLine text → ⊥
-no_line text (words.OpenQuote place) h = h.2
-no_line text (words.BadWord place) h = h.2
-
-pub no_meaning : (text : List ℕ) (fault : WordFault) → IsFault text fault → (said : Said) → Says said text → ⊥
-no_meaning text fault h said says = no_line text fault h (says_line said text says)
-
-pub first_words : (text : List ℕ) (fault : WordFault) → IsFault text fault → IsFirstFault text (word_fault fault)
-first_words text (words.OpenQuote place) h = h
-first_words text (words.BadWord place) h = inl h
 
 pub same_fault : (text : List ℕ) (fault other : WordFault) → read_words text ≡ Err fault → read_words text ≡ Err other → other ≡ fault
 same_fault text fault other e f = let both : Err fault ≡ Err other = sym e ∙ f in cc
@@ -257,13 +186,3 @@ pub first_none : (w : Words) (kind : ActionKind) (r : Result Fields (Or ActionFa
 first_none w kind (Ok a) e name h = tt
 first_none w kind (Err OutOfMemory) e name h = tt
 first_none w kind (Err (Bad f)) e name h = refused_none w kind f e name h
-
-pub found_some : (w : Words) (kind : ActionKind) (word : Word) (r : Result Fields (Or ActionFault)) → w.payload ≡ Some word → w.name.text.now ≡ kind_name kind
-    → IfOk r (λ a. IsReadAs kind (Some word.text.now) w.pairs.items a) → IfOk r (λ a. IsSaid (seen w) a)
-found_some w kind word (Ok a) e name h = read_said (seen w) kind (Some word.text.now) a name (ap (λ (p : Option Word). word_of (seen_payload p)) (sym e)) h
-found_some w kind word (Err f) e name h = tt
-
-pub found_none : (w : Words) (kind : ActionKind) (r : Result Fields (Or ActionFault)) → w.payload ≡ None → w.name.text.now ≡ kind_name kind
-    → IfOk r (λ a. IsReadAs kind None w.pairs.items a) → IfOk r (λ a. IsSaid (seen w) a)
-found_none w kind (Ok a) e name h = read_said (seen w) kind None a name (ap (λ (p : Option Word). word_of (seen_payload p)) (sym e)) h
-found_none w kind (Err f) e name h = tt

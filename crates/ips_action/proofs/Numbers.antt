@@ -1,5 +1,5 @@
 -- Numbers in decimal digits, alone and joined by dots.
-use Rattle.std.proofs.Common.{◌≡◌, ℕ, zero, suc, ◌+◌, ◌<◌, ◌≤◌, ◌^◌, Bool, true, false, eqb, ltb, IsTrue, List, [], ◌∷◌, ◌++◌, map, length, get_or, MatchBool, refl, sym, ◌∙◌, ap, subst, arith}
+use Rattle.std.proofs.Common.{◌≡◌, ℕ, zero, suc, ◌<◌, ◌≤◌, ◌^◌, Bool, true, false, eqb, ltb, IsTrue, List, [], ◌∷◌, map, length, get_or, MatchBool, refl, sym, ◌∙◌, ap, subst, arith}
 use Rattle.std.specs.Prelude.{All}
 use Rattle.std.specs.Char.{digit_value}
 use Rattle.std.specs.Str.Parse.{AllDigits}
@@ -9,7 +9,6 @@ use Rattle.std.specs.Fmt.{decimal}
 use Rattle.std.proofs.lemmas.Bool.{eqb-true, ltb-true, ltb-false}
 use Rattle.std.proofs.lemmas.Fmt.{decimal_injective, decimal_is_IsNumeral}
 use Rattle.std.proofs.lemmas.List.Splits.{join_with_byte-slice_split, slice_split_at, slice_split_none, length-slice_split}
-use Rattle.ips_text.specs.Reading.{AllFit}
 use Rattle.ips_fmri.specs.Version.{AreNumbers, numerals}
 use Rattle.ips_action.specs.Check.{IsNumber, IsNumerals, IsId}
 

@@ -1,12 +1,11 @@
 -- No line means two actions, and its first fault is one.
-use Rattle.std.proofs.Common.{◌≡◌, ℕ, suc, ◌+◌, ◌<◌, ◌≤◌, Bool, true, false, cond, List, [], ◌∷◌, ◌++◌, map, length, Option, Some, None, refl, sym, ◌∙◌, ap, subst, arith, ◌⊎◌, inl, inr}
+use Rattle.std.proofs.Common.{◌≡◌, ℕ, ◌<◌, Bool, true, false, cond, List, [], ◌∷◌, map, length, Option, Some, None, refl, sym, ◌∙◌, ap, subst, arith, inl, inr}
 use Rattle.std.specs.declared.cmp.Ordering.{Ordering}
 use Rattle.std.specs.declared.cmp.Ordering.TheVariants.{Less, Equal, Greater}
 use Rattle.std.specs.Ordering.{ordering_reverse}
 use Rattle.std.specs.List.{AllByRecursion}
-use Rattle.std.specs.Option.{option_map}
 use Rattle.ips_digest.specs.declared.name.PayloadName.{PayloadName}
-use Rattle.ips_digest.specs.Name.{IsName, spelling}
+use Rattle.ips_digest.specs.Name.{spelling}
 use Rattle.ips_digest.proofs.Names.{spelled_once}
 use Rattle.ips_line.specs.declared.words.Pair.{Pair}
 use Rattle.ips_line.specs.Line.{Said, Placed}
@@ -19,7 +18,7 @@ use Rattle.ips_action.specs.Kind.{kind_name}
 use Rattle.ips_action.specs.Table.{Row}
 use Rattle.ips_action.specs.Attrs.{is_same, IsBefore, AreAttrs, values_of, Gathers}
 use Rattle.ips_action.specs.Judging.{Keeps, KeepsRow, Finds, FindsFirst, path_of, standing, rows_of, takes_payload}
-use Rattle.ips_action.specs.Action.{Fields, IsAction, IfName, IfTaken, payload_word}
+use Rattle.ips_action.specs.Action.{Fields, IfName, IfTaken, payload_word}
 use Rattle.ips_action.specs.Meaning.{held, word_of, IsSaid, IsJudged, IsNotTaken, FaultOf}
 use Rattle.ips_action.proofs.KeyOrder.{by_bytes, same_true, same_self, after_other, before_trans, equal_is, turned}
 

@@ -1,7 +1,7 @@
 -- The canonical line of an action says that action.
-use Rattle.std.proofs.Common.{◌≡◌, ℕ, suc, ◌+◌, ◌<◌, ◌≤◌, Bool, true, false, cond, ◌||◌, ◌&&◌, List, [], ◌∷◌, ◌++◌, map, length, get_or, Option, Some, None, refl, sym, ◌∙◌, ap, subst, arith, ◌⊎◌, inl, inr, append_assoc}
+use Rattle.std.proofs.Common.{◌≡◌, ℕ, ◌<◌, Bool, true, false, cond, ◌||◌, ◌&&◌, List, [], ◌∷◌, ◌++◌, map, length, get_or, Option, Some, None, refl, sym, ◌∙◌, ap, subst}
 use Rattle.std.specs.Prelude.{filter}
-use Rattle.std.specs.List.{AllByRecursion, list_any, flat_map}
+use Rattle.std.specs.List.{AllByRecursion, list_any}
 use Rattle.std.proofs.lemmas.Bool.{and_parts}
 use Rattle.std.proofs.lemmas.List.{append-nil}
 use Rattle.std.proofs.lemmas.List.Elements.{recursion_from_All}
@@ -9,8 +9,8 @@ use Rattle.ips_text.specs.declared.path.PathFault.TheVariants.{Absolute}
 use Rattle.ips_text.specs.Path.{begins_at_root}
 use Rattle.ips_digest.specs.declared.name.PayloadName.{PayloadName}
 use Rattle.ips_line.specs.declared.words.Pair.{Pair}
-use Rattle.ips_line.specs.Line.{Said, Placed, IsRun, in_word, in_key}
-use Rattle.ips_line.specs.Canonical.{AreWords, IfPayload, payload_placed, said, words_text}
+use Rattle.ips_line.specs.Line.{IsRun, in_word, in_key}
+use Rattle.ips_line.specs.Canonical.{AreWords, IfPayload, payload_placed, said}
 use Rattle.ips_action.specs.declared.kind.ActionKind.{ActionKind}
 use Rattle.ips_action.specs.declared.kind.ActionKind.TheVariants.{Set, Depend, Dir, File, Link, Hardlink, User, Group, Driver, License, Legacy, Signature}
 use Rattle.ips_action.specs.declared.check.Check.{Check}
@@ -19,11 +19,11 @@ use Rattle.ips_action.specs.declared.attrs.Attr.{Attr}
 use Rattle.ips_action.specs.Kind.{kind_name}
 use Rattle.ips_action.specs.Table.{Row, table}
 use Rattle.ips_action.specs.Check.{Meets, IsActionPath}
-use Rattle.ips_action.specs.Attrs.{is_same, IsBefore, AreAttrs, values_of, values_in, Gathers}
-use Rattle.ips_action.specs.Judging.{KeepsRow, is_payload, path_of, facet_rows, rows_of}
-use Rattle.ips_action.specs.Action.{Fields, IsAction, IfName, payload_word, pairs_of, pairs_of_one, line_text}
+use Rattle.ips_action.specs.Attrs.{is_same, IsBefore, AreAttrs, values_of, values_in}
+use Rattle.ips_action.specs.Judging.{KeepsRow, is_payload, path_of, facet_rows}
+use Rattle.ips_action.specs.Action.{Fields, IsAction, IfName, payload_word, pairs_of, pairs_of_one}
 use Rattle.ips_action.specs.Meaning.{is_path, is_path_key, without_slashes, held, word_of, IsSaid}
-use Rattle.ips_action.proofs.KeyOrder.{by_bytes, same_true, same_self, self_equal}
+use Rattle.ips_action.proofs.KeyOrder.{same_true, self_equal}
 use Rattle.ips_action.proofs.Found.{found_at}
 use Rattle.ips_action.proofs.Slashes.{bare_already}
 use Rattle.ips_action.proofs.Spelled.{name_runs}

@@ -1,5 +1,5 @@
 -- Paths without the `/` before them.
-use Rattle.std.proofs.Common.{◌≡◌, ◌≢◌, ℕ, ◌<◌, Bool, true, false, cond, eqb, List, [], ◌∷◌, length, refl, sym, ◌∙◌, ap, subst, arith}
+use Rattle.std.proofs.Common.{◌≡◌, ◌≢◌, ℕ, Bool, true, false, eqb, List, [], ◌∷◌, refl, ap}
 use Rattle.std.proofs.lemmas.Bool.{eqb-true}
 use Rattle.ips_text.specs.Path.{begins_at_root}
 use Rattle.ips_action.specs.Meaning.{without_slashes}
@@ -15,6 +15,3 @@ no_slash_before (b ∷ bytes) h = go (eqb b 47) refl
     go : (t : Bool) → eqb b 47 ≡ t → b ∷ bytes ≡ without_slashes (b ∷ bytes)
     go true e = absurd (h bytes (ap (λ (x : ℕ). x ∷ bytes) (eqb-true b 47 e)))
     go false e = rw e refl
-
-pub slash_before : (path rest : List ℕ) → path ≡ 47 ∷ rest → without_slashes path ≡ without_slashes rest
-slash_before path rest e = rw e refl

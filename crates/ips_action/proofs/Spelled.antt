@@ -1,5 +1,5 @@
 -- Names of payloads as words of a line, and the canonical lines of attributes.
-use Rattle.std.proofs.Common.{◌≡◌, ℕ, suc, ◌+◌, ◌<◌, ◌≤◌, Bool, true, false, ◌||◌, not, eqb, List, [], ◌∷◌, ◌++◌, map, length, take, get_or, Option, Some, None, refl, sym, ◌∙◌, ap, subst, arith, append_assoc, ◌⊎◌, inl, inr}
+use Rattle.std.proofs.Common.{◌≡◌, ℕ, ◌<◌, ◌≤◌, Bool, true, false, List, [], ◌∷◌, ◌++◌, length, get_or, Some, None, refl, sym, ◌∙◌, ap, arith, append_assoc, ◌⊎◌, inl, inr}
 use Rattle.std.specs.List.{AllPass, AllByRecursion, flat_map, list_all}
 use Rattle.std.specs.Str.{IsUtf8, IsAscii}
 use Rattle.std.proofs.lemmas.Bool.{cases_lt}
@@ -9,7 +9,6 @@ use Rattle.std.proofs.lemmas.List.Elements.{recursion_from_All}
 use Rattle.ips_digest.specs.declared.name.PayloadName.{PayloadName}
 use Rattle.ips_digest.specs.Name.{IsName, AreNameDigits, is_lower_digit, spelling}
 use Rattle.ips_digest.proofs.Names.{read_only}
-use Rattle.ips_line.specs.declared.words.Pair.{Pair}
 use Rattle.ips_line.specs.Line.{IsRun, in_payload}
 use Rattle.ips_line.specs.Canonical.{pair_text}
 use Rattle.ips_action.specs.declared.attrs.Attr.{Attr}

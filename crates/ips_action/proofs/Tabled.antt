@@ -1,5 +1,5 @@
 -- What the rows of the table say of an action.
-use Rattle.std.proofs.Common.{◌≡◌, ℕ, suc, ◌+◌, ◌<◌, ◌≤◌, Bool, true, false, List, [], ◌∷◌, length, Option, Some, None, refl, sym, ◌∙◌, ap, subst, arith}
+use Rattle.std.proofs.Common.{◌≡◌, ℕ, ◌<◌, ◌≤◌, false, List, [], ◌∷◌, length, Option, Some, None, refl, sym, ◌∙◌, ap, subst, arith}
 use Rattle.std.specs.Prelude.{codes, slice_get, IfNone, IfSome}
 use Rattle.std.specs.List.{AllByRecursion}
 use Rattle.ips_action.specs.declared.kind.ActionKind.{ActionKind}

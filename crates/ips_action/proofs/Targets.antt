@@ -1,5 +1,5 @@
 -- Paths that are followed part by part.
-use Rattle.std.proofs.Common.{◌≡◌, ℕ, suc, ◌+◌, ◌-◌, ◌<◌, ◌≤◌, Bool, true, false, cond, eqb, ltb, not, ◌==◌, List, [], ◌∷◌, ◌++◌, length, take, drop, Option, Some, None, refl, sym, ◌∙◌, ap, subst, arith}
+use Rattle.std.proofs.Common.{◌≡◌, ℕ, suc, ◌+◌, ◌-◌, ◌≤◌, Bool, true, false, cond, eqb, ltb, not, ◌==◌, List, [], ◌∷◌, length, take, drop, Option, Some, None, refl, sym, ap, arith}
 use Rattle.std.specs.Prelude.{unwrap_or}
 use Rattle.std.specs.List.{position_or_len, onto_first}
 use Rattle.std.proofs.lemmas.Bool.{ltb-true, ltb-false}
@@ -8,6 +8,11 @@ use Rattle.std.proofs.lemmas.List.Splits.{slice_split_first}
 use Rattle.ips_text.specs.Path.{parts}
 use Rattle.ips_text.specs.Ancestry.{parent, behind}
 use Rattle.ips_action.specs.Target.{holder, above}
+
+-- the parts that are left
+abbrev pub parts_left : Option (List ℕ) → List (List ℕ)
+parts_left None = []
+parts_left (Some bytes) = parts bytes
 
 -- the parent is a beginning of the path
 parent_take : (p q : List ℕ) → parent p ≡ Some q → take (length q) p ≡ q

@@ -1,9 +1,8 @@
 -- What a line says is one thing, and so is its fault.
-use Rattle.std.proofs.Common.{◌≡◌, ℕ, ◌+◌, ◌-◌, ◌<◌, ◌≤◌, List, [], ◌∷◌, ◌++◌, length, Result, Ok, Err, refl, sym, ◌∙◌, ap, subst, arith, ◌⊎◌, inl, inr}
+use Rattle.std.proofs.Common.{◌≡◌, ℕ, ◌-◌, ◌<◌, ◌≤◌, List, [], ◌∷◌, ◌++◌, length, Result, Ok, Err, refl, sym, ◌∙◌, ap, subst, arith, inl, inr}
 use Rattle.std.proofs.lemmas.List.{length-append}
 use Rattle.ips_text.specs.declared.refusal.Stop.{Stop}
 use Rattle.ips_text.specs.declared.refusal.Or.{Or}
-use Rattle.ips_text.specs.declared.refusal.Or.TheVariants.{Bad, OutOfMemory}
 use Rattle.ips_text.specs.Reading.{Gives, IfBad}
 use Rattle.ips_text.proofs.Readers.{one_place}
 use Rattle.std.specs.Prelude.{IfOk}
@@ -12,7 +11,7 @@ use Rattle.ips_line.specs.declared.fault.Part.TheVariants as part
 use Rattle.ips_line.specs.declared.fault.WordFault.{WordFault}
 use Rattle.ips_line.specs.declared.fault.WordFault.TheVariants as words
 use Rattle.ips_line.specs.Line.{Line, IsWrittenLine, line_written, words_of, Said, Says, IsLine, IsFault, EndsInQuote}
-use Rattle.ips_line.specs.Canonical.{words_text, said}
+use Rattle.ips_line.specs.Canonical.{said}
 use Rattle.ips_line.specs.Reading.{read_line, said_line, placed, fault_of, read_words}
 use Rattle.ips_line.proofs.Whole.{line_only, line_found}
 use Rattle.ips_line.proofs.Opened.{open_told, fault_told}
@@ -24,7 +23,7 @@ use Rattle.ips_action.specs.Kind.{kind_name}
 use Rattle.ips_action.specs.Action.{Fields, IsAction, payload_word, pairs_of, line_text}
 use Rattle.ips_action.specs.Meaning.{Means, IsSaid, FaultOf, HasFault, IsFirstFault, word_fault}
 use Rattle.ips_action.proofs.One.{one_said}
-use Rattle.ips_action.proofs.Lines.{Only, faults_said, no_meaning, same_fault}
+use Rattle.ips_action.proofs.Lines.{Only, faults_said, same_fault}
 use Rattle.ips_action.proofs.ReadBack.{are_words, said_back, one_action}
 
 -- ---- one thing is said

@@ -1,5 +1,5 @@
 -- How attributes are gathered from `key=value` that stand by their keys.
-use Rattle.std.specs.Prelude.{ℕ, if◌then◌else◌, List, [], ◌∷◌, ◌++◌}
+use Rattle.std.specs.Prelude.{if◌then◌else◌, List, [], ◌∷◌, ◌++◌}
 use Rattle.ips_line.specs.declared.words.Pair.{Pair}
 use Rattle.ips_action.specs.declared.attrs.Attr.{Attr}
 use Rattle.ips_action.specs.Attrs.{is_same}

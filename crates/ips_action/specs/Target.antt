@@ -47,8 +47,3 @@ start path target = if begins_at_root target then [] else holder path
 pub record LeadsTo (path target found : List ℕ) : Type 0 where
   pub walked : walk (parts target) (start path target) ≡ Some found
   pub inside : IsPath found
-
--- the parts that are left
-abbrev pub parts_left : Option (List ℕ) → List (List ℕ)
-parts_left None = []
-parts_left (Some bytes) = parts bytes

@@ -1,4 +1,3 @@
-use Rattle.std.specs.Option.{option_map}
 use Rattle.ips_action.proofs.Judged.{decides_tags}
 use Rattle.ips_action.proofs.judging.judge_facets.Goals as goal
 

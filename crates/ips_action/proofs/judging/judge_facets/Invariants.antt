@@ -1,4 +1,4 @@
-use Rattle.std.proofs.Common.{map, drop}
+use Rattle.std.proofs.Common.{drop}
 use Rattle.std.specs.Option.{option_map}
 use Rattle.ips_action.specs.Judging.{facet_rows}
 use Rattle.ips_action.proofs.Judged.{Decides, brought, tag_row}

@@ -1,7 +1,6 @@
-use Rattle.std.proofs.Common.{List, map, refl, sym, subst}
+use Rattle.std.proofs.Common.{List, refl, sym, subst}
 use Rattle.ips_line.specs.declared.words.Pair.{Pair}
 use Rattle.ips_action.specs.Attrs.{Gathers}
-use Rattle.ips_action.specs.Meaning.{held}
 use Rattle.ips_action.proofs.Lines.{texts, texts_taken, is_action}
 use Rattle.ips_action.proofs.reading.judged.Goals as goal
 

@@ -1,4 +1,4 @@
-use Rattle.std.proofs.Common.{◌≡◌, ◌∙◌, ap, sym, Some, length, take, false, eqb, List, ℕ, rules}
+use Rattle.std.proofs.Common.{◌≡◌, ◌∙◌, ap, Some, length, take, false, eqb, List, ℕ, rules}
 use Rattle.ips_action.specs.Target.{holder}
 use Rattle.ips_action.proofs.Targets.{above_take}
 use Rattle.ips_action.proofs.target.leave.Goals as goal

@@ -1,7 +1,5 @@
-use Rattle.std.proofs.Common.{◌≡◌, ℕ, List, Some, sym}
-use Rattle.std.specs.Prelude.{slice_get}
-use Rattle.ips_action.specs.Attrs.{values_of}
-use Rattle.ips_action.specs.Action.{naming_key, payload_word}
+use Rattle.std.proofs.Common.{sym}
+use Rattle.ips_action.specs.Action.{payload_word}
 use Rattle.ips_action.proofs.Tabled.{named, none_refuted, some_then}
 use Rattle.ips_action.proofs.action.Action.key.Goals as goal
 

@@ -1,4 +1,3 @@
-use Rattle.std.proofs.Common.{List, ℕ}
 use Rattle.std.specs.Prelude.{codes}
 use Rattle.ips_action.specs.declared.kind.ActionKind.TheVariants.{File}
 use Rattle.ips_action.specs.Attrs.{values_of}
