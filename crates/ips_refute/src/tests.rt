@@ -70,7 +70,10 @@ fn the_checker_takes_what_follows_and_nothing_else(rt: HostRuntime) -> Result<()
     ];
     for (text, accepted) in rows {
         let refutation = Refutation::read(alloc, text.as_bytes())?;
-        assert!(rt; check(&excluding, &refutation) == accepted, "{text}");
+        assert!(rt;
+            check(&excluding, &refutation) == accepted,
+            "{refutation:?}"
+        );
         let printed = refutation.print(alloc)?;
         assert!(rt; printed.as_str() == text, "{text}");
     }
