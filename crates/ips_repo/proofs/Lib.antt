@@ -1,0 +1,5 @@
+pub mod Calls
+pub mod Parts
+pub mod Scans
+pub mod Found
+pub mod Pieces

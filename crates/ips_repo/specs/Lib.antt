@@ -1,0 +1,6 @@
+pub mod Places
+pub mod Files
+pub mod Payload
+pub mod Start
+pub mod Mark
+pub mod Scan
