@@ -1,8 +1,7 @@
 -- What is found at a place.
-use Rattle.std.proofs.Common.{◌≡◌, ℕ, ◌≤◌, Bool, true, IsTrue, List, length, take, take_all, Option, Some, None, refl, sym, ◌∙◌, arith}
+use Rattle.std.proofs.Common.{◌≡◌, ℕ, List, length, Option, Some, None, refl}
 use Rattle.ips_text.specs.Path.{IsPath}
 use Rattle.ips_outside.specs.Image.{Entry, Image, IsImage, file_bytes}
-use Rattle.ips_outside.specs.Outside.{readable}
 use Rattle.ips_repo.specs.Files.{file_at, HasSize}
 
 none_there : (t : Image) (q : List ℕ) (e : Option Entry) → IsImage t → t.look q ≡ e → (IsPath q → ⊥) → file_bytes e ≡ None

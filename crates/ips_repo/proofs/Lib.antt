@@ -3,3 +3,5 @@ pub mod Parts
 pub mod Scans
 pub mod Found
 pub mod Pieces
+pub mod Joined
+pub mod FileNames

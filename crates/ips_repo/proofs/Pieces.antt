@@ -1,10 +1,9 @@
 -- A payload, piece by piece.
-use Rattle.std.proofs.Common.{◌≡◌, ◌+◌, ◌-◌, ◌<◌, ◌≤◌, ◌==◌, ℕ, List, [], ◌++◌, length, take, drop, take_all, take-add, Option, Some, unwrap_or, IsTrue, refl, sym, ◌∙◌, ap, subst, arith, length-take, length-drop, length-append, length-take-le}
+use Rattle.std.proofs.Common.{◌≡◌, ◌+◌, ◌-◌, ◌<◌, ◌≤◌, ℕ, List, [], length, take, drop, take_all, Option, unwrap_or, refl, sym, ◌∙◌, ap, subst, arith, length-take, length-drop, length-take-le}
 use Rattle.std.proofs.lemmas.Bool.{eqb-true}
 use Rattle.std.proofs.lemmas.List.{drop-take, take-take}
 use Rattle.ips_outside.specs.Image.{Image}
 use Rattle.ips_outside.specs.Outside.{readable, IsRead}
-use Rattle.ips_repo.specs.Files.{file_at}
 use Rattle.ips_repo.specs.Payload.{Reading, given, IsFrontOf}
 use Rattle.ips_repo.proofs.Parts.{part_more, part_end}
 

@@ -1,5 +1,5 @@
 -- The search for a mark line tells whether there is one.
-use Rattle.std.proofs.Common.{◌≡◌, ℕ, ◌+◌, ◌<◌, ◌≤◌, Bool, true, false, ◌||◌, ◌&&◌, ◌==◌, cond, nat_lt, not, List, [], ◌∷◌, length, slice_index, drop, fold, Option, Some, None, refl, sym, ◌∙◌, ap, subst, arith, drop-cons, add-one, ⊎_elim}
+use Rattle.std.proofs.Common.{◌≡◌, ℕ, ◌+◌, ◌<◌, ◌≤◌, Bool, true, false, ◌||◌, ◌&&◌, ◌==◌, cond, nat_lt, List, [], ◌∷◌, slice_index, drop, fold, Option, Some, None, refl, sym, ◌∙◌, ap, subst, arith, drop-cons, add-one, ⊎_elim}
 use Rattle.std.specs.Cmp.Lexicographic.{pointwise}
 use Rattle.std.specs.List.{slice_split, list_any, onto_first}
 use borrow.Author.Tests.{ltb-true}

@@ -13,6 +13,7 @@ mod start;
 
 pub use fault::RepoFault;
 pub use payload::Payload;
+pub use places::places_are_paths;
 pub use reading::{FileFault, read_whole};
 
 #[cfg(test)]

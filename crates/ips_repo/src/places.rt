@@ -1,11 +1,17 @@
 //! Where the files of a repository stand.
 
-ghost use Rattle.std.specs.Prelude.{◌≤◌, ◌∷◌, ◌++◌, IfOk, length, take, codes};
+ghost use Rattle.std.specs.Prelude.{ℕ, ◌≤◌, List, false, ◌∷◌, ◌++◌, IfOk, length, take, codes};
+ghost use Rattle.ips_text.specs.Path.{IsPath};
+ghost use Rattle.ips_fmri.specs.Name.{IsPublisher, IsStem};
+ghost use Rattle.ips_fmri.specs.Version.{Parts, IsVersion};
+ghost use Rattle.ips_digest.specs.Name.{IsName};
+ghost use Rattle.ips_digest.specs.declared.name.PayloadName.{PayloadName};
 ghost use Rattle.ips_repo.specs.Places as place;
 ghost use Rattle.ips_repo.specs.Places.{publisher_place, IsPlace};
 
 use ips_digest::PayloadName;
-use ips_text::{Or, RelPath};
+use ips_fmri::Version;
+use ips_text::{Or, RelPath, quote};
 use std::alloc::{AllocError, Global};
 
 /// The path of these bytes, where they are one. Nothing stands elsewhere.
@@ -24,6 +30,51 @@ pub(crate) fn mark_place(alloc: Global) -> Result<Option<RelPath>, AllocError>
     ensures { IfOk result (IsPlace place.mark_place) }
 {
     path_of(alloc, b"pkg5.repository")
+}
+
+/// Where the catalog of a publisher stands, where that is a path.
+pub(crate) fn catalog_place(alloc: Global, publisher: &str) -> Result<Option<RelPath>, AllocError>
+    ensures { IfOk result (IsPlace (place.catalog_place publisher.now)) }
+{
+    let mut bytes = Vec::new(alloc);
+    bytes.extend_from_slice(b"publisher/")?;
+    bytes.extend_from_slice(publisher.as_bytes())?;
+    bytes.extend_from_slice(b"/catalog/catalog.base.C")?;
+    path_of(alloc, bytes.as_slice())
+}
+
+/// Where the manifest of a version of a stem stands, where that is a path.
+pub(crate) fn manifest_place(
+    alloc: Global,
+    publisher: &str,
+    stem: &str,
+    version: &Version,
+) -> Result<Option<RelPath>, AllocError>
+    ensures { IfOk result (IsPlace (place.manifest_place publisher.now stem.now version.now)) }
+{
+    let stem = quote(alloc, stem.as_bytes())?;
+    let version = version.print(alloc)?;
+    let version = quote(alloc, version.as_str().as_bytes())?;
+    place_of_quoted(alloc, publisher, stem.as_str(), version.as_str())
+}
+
+// Where the manifest of these quoted forms of a stem and a version stands, where that is a path.
+fn place_of_quoted(
+    alloc: Global,
+    publisher: &str,
+    stem: &str,
+    version: &str,
+) -> Result<Option<RelPath>, AllocError>
+    ensures { IfOk result (IsPlace (publisher_place publisher.now ++ codes "/pkg/" ++ stem.now ++ 47 ∷ version.now)) }
+{
+    let mut bytes = Vec::new(alloc);
+    bytes.extend_from_slice(b"publisher/")?;
+    bytes.extend_from_slice(publisher.as_bytes())?;
+    bytes.extend_from_slice(b"/pkg/")?;
+    bytes.extend_from_slice(stem.as_bytes())?;
+    bytes.push(b'/')?;
+    bytes.extend_from_slice(version.as_bytes())?;
+    path_of(alloc, bytes.as_slice())
 }
 
 /// Where the payload of this name stands, where that is a path.
@@ -58,3 +109,10 @@ fn place_of_digits(
     bytes.extend_from_slice(digits)?;
     path_of(alloc, bytes.as_slice())
 }
+
+/// The law of places: where the publisher, the stem, the version and the payload's name are such, their places are paths.
+pub fn places_are_paths()
+    ensures catalogs { (publisher : List ℕ) → IsPublisher publisher → IsPath (place.catalog_place publisher) }
+    ensures manifests { (publisher stem : List ℕ) (version : Parts) → IsPublisher publisher → IsStem false stem → IsVersion version → IsPath (place.manifest_place publisher stem version) }
+    ensures payloads { (publisher : List ℕ) (name : PayloadName) → IsPublisher publisher → IsName name → IsPath (place.payload_place publisher name) }
+{}

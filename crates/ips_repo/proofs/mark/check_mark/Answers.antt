@@ -1,5 +1,4 @@
-use Rattle.std.proofs.Common.{◌≡◌, ℕ, List, true, IsErr, refl, sym, ◌∙◌, ap}
-use Rattle.ips_outside.specs.Image.{Image}
+use Rattle.std.proofs.Common.{ℕ, List, IsErr, refl, sym, ◌∙◌, ap}
 use Rattle.ips_repo.specs.Files.{file_at}
 use Rattle.ips_repo.specs.Mark.{is_mark_file}
 use Rattle.ips_repo.proofs.Calls.{answered, reads_as}

@@ -1,4 +1,4 @@
-use Rattle.std.proofs.Common.{◌≡◌, ◌≤◌, ◌<◌, ℕ, List, ◌+◌, IsErr, ◌++◌, length, fold, take, take_all, refl, sym, ◌∙◌, ap, arith}
+use Rattle.std.proofs.Common.{◌≡◌, ◌≤◌, ◌<◌, ℕ, ◌+◌, IsErr, length, fold, take, take_all, sym, ◌∙◌, ap, arith}
 use Rattle.std.proofs.lemmas.List.Sums.{fold-append}
 use Rattle.ips_outside.specs.State.{State}
 use Rattle.ips_outside.specs.Outside.{readable}

@@ -1,6 +1,5 @@
-use Rattle.std.proofs.Common.{◌≡◌, ℕ, List, ◌∷◌, ◌++◌, take, refl, subst}
+use Rattle.std.proofs.Common.{ℕ, List, ◌∷◌, ◌++◌, take, subst}
 use Rattle.std.specs.Prelude.{IfOk, codes}
-use Rattle.ips_digest.specs.Name.{spelling}
 use Rattle.ips_repo.specs.Places.{publisher_place, IsPlace}
 use Rattle.ips_repo.proofs.places.payload_place.Goals as goal
 

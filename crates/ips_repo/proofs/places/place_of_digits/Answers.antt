@@ -1,4 +1,4 @@
-use Rattle.std.proofs.Common.{◌≡◌, ℕ, List, ◌∷◌, ◌++◌, take, append_assoc, refl, subst}
+use Rattle.std.proofs.Common.{◌≡◌, ℕ, List, ◌∷◌, ◌++◌, take, append_assoc, subst}
 use Rattle.std.specs.Prelude.{IfOk, codes}
 use Rattle.ips_repo.specs.Places.{publisher_place, IsPlace}
 use Rattle.ips_repo.proofs.places.place_of_digits.Goals as goal

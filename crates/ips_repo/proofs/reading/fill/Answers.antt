@@ -1,4 +1,4 @@
-use Rattle.std.proofs.Common.{◌+◌, IsErr, ◌++◌, take, drop, take-add, refl, sym, ◌∙◌, ap, arith}
+use Rattle.std.proofs.Common.{◌+◌, IsErr, take, drop, take-add, sym, ◌∙◌, ap, arith}
 use Rattle.ips_outside.specs.State.{State}
 use Rattle.ips_outside.specs.Outside.{readable}
 use Rattle.ips_repo.proofs.Calls.{answered, reads_then}

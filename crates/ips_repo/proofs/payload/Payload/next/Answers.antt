@@ -1,4 +1,4 @@
-use Rattle.std.proofs.Common.{◌≡◌, ◌≤◌, ◌<◌, ◌==◌, ℕ, List, ◌+◌, ◌++◌, length, take, refl, sym, ◌∙◌, ap, subst, arith}
+use Rattle.std.proofs.Common.{◌==◌, length, take, sym, subst, arith}
 use Rattle.ips_outside.specs.Outside.{readable, IsRead}
 use Rattle.ips_digest.specs.Digest.{Hashing}
 use Rattle.ips_repo.specs.Payload.{Reading, given, IsFrontOf}
