@@ -1,6 +1,8 @@
+pub mod Answer
 pub mod Places
 pub mod Files
 pub mod Payload
 pub mod Start
 pub mod Mark
 pub mod Scan
+pub mod Opening

@@ -1,5 +1,5 @@
 -- The mark of a repository.
-use Rattle.std.specs.Prelude.{ℕ, Bool, false, ◌||◌, ◌==◌, not, List, filter, Option, Some, None, codes}
+use Rattle.std.specs.Prelude.{ℕ, Bool, false, ◌||◌, ◌==◌, not, if◌then◌else◌, List, filter, Option, Some, None, Result, Ok, Err, codes}
 use Rattle.std.specs.List.{slice_split, list_any}
 use Rattle.std.specs.Cmp.Lexicographic.{pointwise}
 use Rattle.ips_outside.specs.Image.{Image}
@@ -37,9 +37,14 @@ is_mark_file (Some bytes) = has_mark_line bytes
 abbrev pub is_repository : Image → Bool
 is_repository t = is_mark_file (file_at t mark_place)
 
+-- what judging the mark means
+abbrev pub marking : Image → Result (Unit {0}) RepoFault
+marking t = if is_repository t then Ok tt else Err fault.NoRepository
+
 -- The faults of looking for the mark: there is none, or a call failed.
 abbrev pub IsMarkFault : RepoFault → Type 0
 IsMarkFault fault.NoRepository = Unit {0}
+IsMarkFault (fault.BadCatalog why) = ⊥
 IsMarkFault fault.PayloadMissing = ⊥
 IsMarkFault (fault.PayloadDamaged found) = ⊥
 IsMarkFault (fault.Compressed found) = ⊥

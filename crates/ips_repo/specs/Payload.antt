@@ -1,10 +1,11 @@
 -- Payloads, given piece by piece and judged by their digest.
-use Rattle.std.specs.Prelude.{◌≡◌, ℕ, ◌<◌, ◌≤◌, Bool, false, ◌&&◌, ◌==◌, IsTrue, IsFalse, List, [], ◌∷◌, ◌++◌, length, take, Option, Some, None}
+use Rattle.std.specs.Prelude.{◌≡◌, ℕ, ◌<◌, ◌≤◌, Bool, false, ◌&&◌, ◌==◌, nat_lt, if◌then◌else◌, IsTrue, IsFalse, List, [], ◌∷◌, ◌++◌, length, take, Option, Some, None, Result, Ok, Err}
 use Rattle.ips_text.specs.declared.limits.Which.TheVariants.{PayloadBytes}
 use Rattle.ips_outside.specs.Image.{Image}
 use Rattle.ips_digest.specs.Digest.{algorithm_of, digest_of}
 use Rattle.ips_digest.specs.declared.name.PayloadName.{PayloadName}
-use Rattle.ips_repo.specs.Files.{file_at, HasSize}
+use Rattle.ips_repo.specs.Files.{file_at}
+use Rattle.ips_repo.specs.Places.{payload_place}
 use Rattle.ips_repo.specs.declared.reading.FileFault.{FileFault}
 use Rattle.ips_repo.specs.declared.reading.FileFault.TheVariants as file
 use Rattle.ips_repo.specs.declared.fault.RepoFault.{RepoFault}
@@ -31,18 +32,23 @@ pub record IsOpened (place : List ℕ) (name : PayloadName) (r : Reading) : Type
   pub not_ended : r.ended ≡ false
   pub within : r.size ≤ payload_limit
 
--- Why the payload of this file isn't opened: there is no file, or it has so many bytes.
-abbrev pub IsOpenRefusal : Option (List ℕ) → RepoFault → Type 0
-IsOpenRefusal file fault.NoRepository = ⊥
-IsOpenRefusal file fault.PayloadMissing = file ≡ None
-IsOpenRefusal file (fault.PayloadDamaged found) = ⊥
-IsOpenRefusal file (fault.Compressed found) = ⊥
-IsOpenRefusal file (fault.TooLarge which count) = HasSize file count
-IsOpenRefusal file fault.SourceFault = Unit {0}
+-- what opening the payload of this name in this file means: it is missing, too large, or opened with the size of the file
+abbrev pub payload_in : PayloadName → List ℕ → Option (List ℕ) → Result Reading RepoFault
+payload_in name place None = Err fault.PayloadMissing
+payload_in name place (Some bytes) =
+    if nat_lt payload_limit (length bytes)
+    then Err (fault.TooLarge PayloadBytes (length bytes))
+    else Ok (record { name = name; place = place; size = length bytes; bytes = []; ended = false })
+
+-- what opening a payload of the publisher means, by the file at its place
+abbrev pub payload_opening : List ℕ → PayloadName → Image → Result Reading RepoFault
+payload_opening publisher name t =
+    let place = payload_place publisher name in payload_in name place (file_at t place)
 
 -- The faults of opening a payload: it is missing, it has more bytes than a payload may have, or a call failed.
 abbrev pub IsOpenFault : RepoFault → Type 0
 IsOpenFault fault.NoRepository = ⊥
+IsOpenFault (fault.BadCatalog why) = ⊥
 IsOpenFault fault.PayloadMissing = Unit {0}
 IsOpenFault (fault.PayloadDamaged found) = ⊥
 IsOpenFault (fault.Compressed found) = ⊥
@@ -82,6 +88,7 @@ digest_by name bytes = digest_of (algorithm_of name) bytes
 -- file does, or they don't.
 abbrev pub IsDamage : PayloadName → List ℕ → RepoFault → Type 0
 IsDamage name bytes fault.NoRepository = ⊥
+IsDamage name bytes (fault.BadCatalog why) = ⊥
 IsDamage name bytes fault.PayloadMissing = ⊥
 IsDamage name bytes (fault.PayloadDamaged found) = (found ≡ digest_by name bytes) × (found ≡ name → ⊥) × IsFalse (is_gzip bytes)
 IsDamage name bytes (fault.Compressed found) = (found ≡ digest_by name bytes) × (found ≡ name → ⊥) × IsTrue (is_gzip bytes)

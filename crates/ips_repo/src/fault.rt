@@ -1,5 +1,6 @@
 //! Why something of a repository isn't given.
 
+use ips_catalog::CatalogFault;
 use ips_digest::PayloadName;
 use ips_text::Which;
 
@@ -8,6 +9,8 @@ use ips_text::Which;
 pub enum RepoFault {
     /// The folder isn't marked as a repository of format 4.
     NoRepository,
+    /// The publisher's catalog isn't one; where its file is absent it is `NotJson`.
+    BadCatalog(CatalogFault),
     /// No file stands at the payload's place.
     PayloadMissing,
     /// The payload's bytes have another digest, and don't begin as a gzip file does.

@@ -9,12 +9,14 @@ mod mark;
 mod payload;
 mod places;
 mod reading;
+mod repository;
 mod start;
 
 pub use fault::RepoFault;
 pub use payload::Payload;
 pub use places::places_are_paths;
 pub use reading::{FileFault, read_whole};
+pub use repository::Repo;
 
 #[cfg(test)]
 mod tests;

@@ -4,7 +4,8 @@ ghost use Rattle.std.specs.Prelude.{◌≡◌, ◌<◌, IsTrue, IsFalse, IfOk, I
 ghost use Rattle.ips_text.specs.Reading.{IfBad};
 ghost use Rattle.ips_text.specs.declared.refusal.Or.TheVariants.{Bad};
 ghost use Rattle.ips_outside.specs.Outside.{Reads, readable};
-ghost use Rattle.ips_repo.specs.Mark.{is_repository, IsMarkFault};
+ghost use Rattle.ips_repo.specs.Answer.{Answers};
+ghost use Rattle.ips_repo.specs.Mark.{marking, IsMarkFault};
 ghost use Rattle.ips_repo.specs.Mark as marked;
 ghost use Rattle.ips_repo.specs.Files.{file_at};
 ghost use Rattle.ips_repo.specs.Scan.{unscanned, stepped};
@@ -88,8 +89,7 @@ fn advanced(matched: Option<usize>, byte: u8) -> Option<usize>
 
 /// Whether the folder is a repository of format 4: it is answered with `NoRepository` where it isn't.
 pub(crate) fn check_mark<S: Source>(alloc: Global, source: &mut S) -> Result<(), Or<RepoFault>>
-    ensures found { IsTrue (S.outside.tells source.old) → OnOk result (IsTrue (is_repository (S.outside.state source.old).held)) }
-    ensures refused { IsTrue (S.outside.tells source.old) → IfBad result (λ why. why ≡ fault.NoRepository → IsFalse (is_repository (S.outside.state source.old).held)) }
+    ensures marked { IsTrue (S.outside.tells source.old) → Answers (λ done. done) result (marking (S.outside.state source.old).held) }
     ensures faults { IfBad result IsMarkFault }
     ensures reads { Reads S.outside source.old source.new (result ≡ Err (Bad fault.SourceFault)) }
 {

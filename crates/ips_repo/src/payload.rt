@@ -5,8 +5,8 @@ ghost use Rattle.ips_text.specs.Reading.{IfBad};
 ghost use Rattle.ips_text.specs.declared.refusal.Or.TheVariants.{Bad};
 ghost use Rattle.ips_outside.specs.Outside.{Reads, readable, IsRead};
 ghost use Rattle.ips_repo.specs.Places as place;
-ghost use Rattle.ips_repo.specs.Files.{file_at};
-ghost use Rattle.ips_repo.specs.Payload.{IsOpened, given, IsFrontOf, digest_by, IsDamage, IsOpenRefusal, IsOpenFault, fault_of_opening};
+ghost use Rattle.ips_repo.specs.Answer.{Answers};
+ghost use Rattle.ips_repo.specs.Payload.{IsOpened, payload_opening, given, IsFrontOf, digest_by, IsDamage, IsOpenFault, fault_of_opening};
 ghost use Rattle.ips_repo.specs.declared.fault.RepoFault.TheVariants as fault;
 
 use crate::fault::RepoFault;
@@ -57,8 +57,8 @@ impl Payload {
         name: &PayloadName,
     ) -> Result<Payload, Or<RepoFault>>
         ensures opened { IfOk result (IsOpened (place.payload_place publisher.now name.now) name.now) }
-        ensures found { IsTrue (S.outside.tells source.old) → IfOk result (IsFrontOf (S.outside.state source.old).held) }
-        ensures refused { IsTrue (S.outside.tells source.old) → IfBad result (IsOpenRefusal (file_at (S.outside.state source.old).held (place.payload_place publisher.now name.now))) }
+        ensures front { IsTrue (S.outside.tells source.old) → IfOk result (IsFrontOf (S.outside.state source.old).held) }
+        ensures meant { IsTrue (S.outside.tells source.old) → Answers (λ payload. payload) result (payload_opening publisher.now name.now (S.outside.state source.old).held) }
         ensures faults { IfBad result IsOpenFault }
         ensures reads { Reads S.outside source.old source.new (result ≡ Err (Bad fault.SourceFault)) }
     {

@@ -1,7 +1,10 @@
+ghost use Rattle.std.specs.Prelude.{◌<◌};
+
 use crate::fault::RepoFault;
 use crate::mark::check_mark;
 use crate::payload::Payload;
 use crate::reading::{FileFault, read_whole};
+use crate::repository::Repo;
 use ips_digest::PayloadName;
 use ips_outside::{Failed, Look, MemSource, Source, SureSource, Tree};
 use ips_text::{Or, RelPath, Which};
@@ -64,6 +67,7 @@ fn digits_of(alloc: Global, name: &PayloadName) -> Result<String, Fail> {
 fn words_of(alloc: Global, fault: &RepoFault) -> Result<String, Fail> {
     let text = match fault {
         RepoFault::NoRepository => format!(in alloc; "no repository")?,
+        RepoFault::BadCatalog(fault) => format!(in alloc; "bad catalog {fault:?}")?,
         RepoFault::PayloadMissing => format!(in alloc; "missing")?,
         RepoFault::PayloadDamaged { found } => {
             let digits = digits_of(alloc, found)?;
@@ -352,5 +356,142 @@ fn marks_are_found_in_long_files_and_each_fault_is_told(rt: HostRuntime) -> Resu
         };
         assert!(rt; told.as_str() == want, "{place} {fails}: {told}");
     }
+    Ok(())
+}
+
+// A repository with this catalog of the publisher `test`.
+fn repository(alloc: Global, catalog: &[u8]) -> Result<Tree, Fail> {
+    let mut tree = tree_of(alloc, "pkg5.repository", b"[repository]\nversion = 4\n")?;
+    add(
+        alloc,
+        &mut tree,
+        "publisher/test/catalog/catalog.base.C",
+        catalog,
+    )?;
+    Ok(tree)
+}
+
+// What is told of the repository of a publisher: how many stems and versions it has, or its fault.
+fn told_of_repository<S: Source>(
+    alloc: Global,
+    source: &mut S,
+    publisher: &str,
+) -> Result<String, Fail> {
+    match Repo::open(alloc, source, publisher) {
+        Ok(repo) => {
+            let (stems, versions) = (repo.catalog().stems(), repo.catalog().count());
+            Ok(format!(in alloc; "stems {stems} versions {versions}")?)
+        }
+        Err(Or::Bad(fault)) => words_of(alloc, &fault),
+        Err(Or::OutOfMemory) => Ok(format!(in alloc; "no memory")?),
+    }
+}
+
+#[test]
+fn repositories_are_opened_with_their_catalog(rt: HostRuntime) -> Result<(), Fail> {
+    let alloc = rt.alloc();
+    for (catalog, publisher, want) in [
+        (
+            r#"{"test": {"hello": [{"version": "1.0"}, {"version": "2"}], "lib/a": []}}"#,
+            "test",
+            "stems 2 versions 2",
+        ),
+        (r#"{"other": {}}"#, "test", "stems 0 versions 0"),
+        // no file at the place of another publisher's catalog, and of one with which the place is no path
+        (r#"{"other": {}}"#, "other", "bad catalog NotJson"),
+        (r#"{}"#, "..", "bad catalog NotJson"),
+        (
+            r#"{"test": {"hello": [{"version": "1""#,
+            "test",
+            "bad catalog NotJson",
+        ),
+        (
+            r#"{"test": {"hello": {}}}"#,
+            "test",
+            r#"bad catalog WrongShape { pointer: Text { text: "/test/hello" } }"#,
+        ),
+    ] {
+        let mut source = SureSource::new(repository(alloc, catalog.as_bytes())?);
+        let told = told_of_repository(alloc, &mut source, publisher)?;
+        assert!(rt; told.as_str() == want, "{catalog}: {told}");
+    }
+    // the mark is judged before the catalog
+    let place = "publisher/test/catalog/catalog.base.C";
+    let mut source = SureSource::new(tree_of(alloc, place, b"{}")?);
+    let told = told_of_repository(alloc, &mut source, "test")?;
+    assert!(rt; told.as_str() == "no repository", "{told}");
+    Ok(())
+}
+
+#[test]
+fn an_opened_repository_has_its_versions(rt: HostRuntime) -> Result<(), Fail> {
+    let alloc = rt.alloc();
+    let catalog = br#"{"test": {"hello": [{"version": "2"}, {"version": "1.0"}]}}"#;
+    let mut source = SureSource::new(repository(alloc, catalog)?);
+    let repo = Repo::open(alloc, &mut source, "test").expect(&rt, "opened");
+    assert!(rt; repo.catalog().stem(0) == Some("hello"));
+    assert!(rt; repo.catalog().stem(1).is_none());
+    let versions = repo.catalog().versions("hello");
+    assert_eq!(rt; versions.len(), 2);
+    assert!(rt; versions.first().ok_or("none")?.release() == [1, 0].as_slice());
+    Ok(())
+}
+
+#[test]
+fn each_fault_of_opening_is_told(rt: HostRuntime) -> Result<(), Fail> {
+    let alloc = rt.alloc();
+    for (fails, want) in [
+        // the mark looked for and read, the catalog looked for and read, and no further call
+        (1, "fault"),
+        (2, "fault"),
+        (3, "fault"),
+        (4, "fault"),
+        (5, "stems 0 versions 0"),
+    ] {
+        let tree = repository(alloc, b"{}")?;
+        let mut source = MemSource::new(tree, Vec::from_slice(alloc, &[fails])?);
+        let told = told_of_repository(alloc, &mut source, "test")?;
+        assert!(rt; told.as_str() == want, "{fails}: {told}");
+    }
+    Ok(())
+}
+
+// A catalog of so many stems without versions, and of one stem with so many versions.
+fn large_catalog(alloc: Global, stems: u32, versions: u32) -> Result<String, Fail> {
+    let mut text = String::from_str(alloc, "{\"test\": {")?;
+    for i in 0..stems {
+        write!(text, "\"s{i}\": [], ")?;
+    }
+    text.push_str("\"x\": [")?;
+    for i in 0..versions {
+        write!(text, "{{\"version\": \"{i}\"}}, ")?;
+    }
+    text.push_str("{\"version\": \"1.0\"}]}}")?;
+    Ok(text)
+}
+
+#[test]
+fn catalogs_are_within_their_limits(rt: HostRuntime) -> Result<(), Fail> {
+    let alloc = rt.alloc();
+    for (stems, versions, want) in [
+        (19_999, 9, "stems 20000 versions 10"),
+        (20_000, 9, "too large Stems 20001"),
+        (0, 199_999, "stems 1 versions 200000"),
+        (0, 200_000, "too large Versions 200001"),
+        (20_000, 200_000, "too large Stems 20001"),
+    ] {
+        let catalog = large_catalog(alloc, stems, versions)?;
+        let mut source = SureSource::new(repository(alloc, catalog.as_bytes())?);
+        let told = told_of_repository(alloc, &mut source, "test")?;
+        assert!(rt; told.as_str() == want, "{stems} {versions}: {told}");
+    }
+    // one byte too many, though they are no JSON text
+    let blanks = vec![in alloc; b' '; 67_108_865]?;
+    let mut source = SureSource::new(repository(alloc, blanks.as_slice())?);
+    let told = told_of_repository(alloc, &mut source, "test")?;
+    assert!(rt;
+        told.as_str() == "too large CatalogBytes 67108865",
+        "{told}"
+    );
     Ok(())
 }
