@@ -1,0 +1,19 @@
+//! The catalog of a repository: which versions of which packages a publisher has.
+//!
+//! A catalog is read exactly where the JSON value of its text holds one, and else its first fault is told: packages are read by
+//! the bytes of their stems, and the entries of each in their order. A catalog lists its packages by stem, each with its
+//! versions ascending.
+#![tactic(auto)]
+
+mod catalog;
+mod entries;
+mod fault;
+mod packages;
+mod pointers;
+mod stems;
+
+pub use catalog::Catalog;
+pub use fault::CatalogFault;
+
+#[cfg(test)]
+mod tests;
