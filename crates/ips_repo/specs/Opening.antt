@@ -1,5 +1,5 @@
 -- What the repository of a publisher is: its mark, and its catalog within the limits.
-use Rattle.std.specs.Prelude.{◌≡◌, ℕ, ◌<◌, ◌≤◌, nat_lt, if◌then◌else◌, List, length, Option, Some, None, Result, Ok, Err}
+use Rattle.std.specs.Prelude.{ℕ, ◌<◌, ◌≤◌, nat_lt, if◌then◌else◌, List, length, Option, Some, None, Result, Ok, Err}
 use Rattle.ips_text.specs.declared.limits.Which.{Which}
 use Rattle.ips_text.specs.declared.limits.Which.TheVariants as which
 use Rattle.ips_outside.specs.Image.{Image}
