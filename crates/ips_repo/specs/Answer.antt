@@ -9,6 +9,7 @@ use Rattle.ips_repo.specs.declared.fault.RepoFault.TheVariants as fault
 abbrev pub IsMeantFault : {Y : Type 0} → RepoFault → Result Y RepoFault → Type 0
 IsMeantFault fault.NoRepository meant = meant ≡ Err fault.NoRepository
 IsMeantFault (fault.BadCatalog why) meant = meant ≡ Err (fault.BadCatalog why)
+IsMeantFault fault.ManifestMissing meant = meant ≡ Err fault.ManifestMissing
 IsMeantFault fault.PayloadMissing meant = meant ≡ Err fault.PayloadMissing
 IsMeantFault (fault.PayloadDamaged found) meant = meant ≡ Err (fault.PayloadDamaged found)
 IsMeantFault (fault.Compressed found) meant = meant ≡ Err (fault.Compressed found)

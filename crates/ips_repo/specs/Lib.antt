@@ -6,3 +6,4 @@ pub mod Start
 pub mod Mark
 pub mod Scan
 pub mod Opening
+pub mod Manifest

@@ -45,6 +45,7 @@ marking t = if is_repository t then Ok tt else Err fault.NoRepository
 abbrev pub IsMarkFault : RepoFault → Type 0
 IsMarkFault fault.NoRepository = Unit {0}
 IsMarkFault (fault.BadCatalog why) = ⊥
+IsMarkFault fault.ManifestMissing = ⊥
 IsMarkFault fault.PayloadMissing = ⊥
 IsMarkFault (fault.PayloadDamaged found) = ⊥
 IsMarkFault (fault.Compressed found) = ⊥

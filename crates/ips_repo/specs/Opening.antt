@@ -81,6 +81,7 @@ PassesLimit which.Steps count = ⊥
 abbrev pub IsOpeningFault : RepoFault → Type 0
 IsOpeningFault fault.NoRepository = Unit {0}
 IsOpeningFault (fault.BadCatalog why) = Unit {0}
+IsOpeningFault fault.ManifestMissing = ⊥
 IsOpeningFault fault.PayloadMissing = ⊥
 IsOpeningFault (fault.PayloadDamaged found) = ⊥
 IsOpeningFault (fault.Compressed found) = ⊥

@@ -49,6 +49,7 @@ payload_opening publisher name t =
 abbrev pub IsOpenFault : RepoFault → Type 0
 IsOpenFault fault.NoRepository = ⊥
 IsOpenFault (fault.BadCatalog why) = ⊥
+IsOpenFault fault.ManifestMissing = ⊥
 IsOpenFault fault.PayloadMissing = Unit {0}
 IsOpenFault (fault.PayloadDamaged found) = ⊥
 IsOpenFault (fault.Compressed found) = ⊥
@@ -89,6 +90,7 @@ digest_by name bytes = digest_of (algorithm_of name) bytes
 abbrev pub IsDamage : PayloadName → List ℕ → RepoFault → Type 0
 IsDamage name bytes fault.NoRepository = ⊥
 IsDamage name bytes (fault.BadCatalog why) = ⊥
+IsDamage name bytes fault.ManifestMissing = ⊥
 IsDamage name bytes fault.PayloadMissing = ⊥
 IsDamage name bytes (fault.PayloadDamaged found) = (found ≡ digest_by name bytes) × (found ≡ name → ⊥) × IsFalse (is_gzip bytes)
 IsDamage name bytes (fault.Compressed found) = (found ≡ digest_by name bytes) × (found ≡ name → ⊥) × IsTrue (is_gzip bytes)

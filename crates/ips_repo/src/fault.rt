@@ -11,6 +11,8 @@ pub enum RepoFault {
     NoRepository,
     /// The publisher's catalog isn't one; where its file is absent it is `NotJson`.
     BadCatalog(CatalogFault),
+    /// No file stands at the manifest's place.
+    ManifestMissing,
     /// No file stands at the payload's place.
     PayloadMissing,
     /// The payload's bytes have another digest, and don't begin as a gzip file does.

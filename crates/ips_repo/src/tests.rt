@@ -6,6 +6,7 @@ use crate::payload::Payload;
 use crate::reading::{FileFault, read_whole};
 use crate::repository::Repo;
 use ips_digest::PayloadName;
+use ips_fmri::Version;
 use ips_outside::{Failed, Look, MemSource, Source, SureSource, Tree};
 use ips_text::{Or, RelPath, Which};
 use std::alloc::Global;
@@ -68,6 +69,7 @@ fn words_of(alloc: Global, fault: &RepoFault) -> Result<String, Fail> {
     let text = match fault {
         RepoFault::NoRepository => format!(in alloc; "no repository")?,
         RepoFault::BadCatalog(fault) => format!(in alloc; "bad catalog {fault:?}")?,
+        RepoFault::ManifestMissing => format!(in alloc; "no manifest")?,
         RepoFault::PayloadMissing => format!(in alloc; "missing")?,
         RepoFault::PayloadDamaged { found } => {
             let digits = digits_of(alloc, found)?;
@@ -164,7 +166,7 @@ fn payloads_are_judged_by_their_digest(rt: HostRuntime) -> Result<(), Fail> {
         for length in [1, 2, 3, 64] {
             let mut source = SureSource::new(tree_of(alloc, place.as_str(), bytes)?);
             let told = told_of(alloc, &mut source, "test", digits, length)?;
-            assert!(rt; told.as_str() == want, "{want}: {told}");
+            assert!(rt; told.as_str() == want, "{told}");
         }
     }
     Ok(())
@@ -456,34 +458,97 @@ fn each_fault_of_opening_is_told(rt: HostRuntime) -> Result<(), Fail> {
     Ok(())
 }
 
-// A catalog of so many stems without versions, and of one stem with so many versions.
-fn large_catalog(alloc: Global, stems: u32, versions: u32) -> Result<String, Fail> {
+// What is told of a manifest of the publisher `test`: how many bytes it has, or its fault.
+fn told_of_manifest<S: Source>(
+    alloc: Global,
+    source: &mut S,
+    stem: &str,
+    version: &str,
+) -> Result<String, Fail> {
+    let repo = match Repo::open(alloc, source, "test") {
+        Ok(repo) => repo,
+        Err(Or::Bad(fault)) => return words_of(alloc, &fault),
+        Err(Or::OutOfMemory) => return Ok(format!(in alloc; "no memory")?),
+    };
+    let version = Version::parse(alloc, version)?;
+    match repo.manifest_bytes(alloc, source, stem, &version) {
+        Ok(bytes) => Ok(format!(in alloc; "bytes {}", bytes.len())?),
+        Err(Or::Bad(fault)) => words_of(alloc, &fault),
+        Err(Or::OutOfMemory) => Ok(format!(in alloc; "no memory")?),
+    }
+}
+
+#[test]
+fn manifests_stand_at_their_places_alone(rt: HostRuntime) -> Result<(), Fail> {
+    let alloc = rt.alloc();
+    let hello = "publisher/test/pkg/hello/1.0%2C5.11-1%3A20240102T030405Z";
+    let text = "set name=a value=b\n";
+    for (stem, version, fails, want) in [
+        ("hello", "1.0,5.11-1:20240102T030405Z", 0, "bytes 19"),
+        ("a/b+c", "1", 0, "bytes 0"),
+        ("hello", "1.0,5.11-1", 0, "no manifest"),
+        ("hell", "1.0,5.11-1:20240102T030405Z", 0, "no manifest"),
+        // stems with which the place is no path
+        ("", "1", 0, "no manifest"),
+        ("..", "1", 0, "no manifest"),
+        // the look and the read, behind the four calls that open the repository
+        ("hello", "1.0,5.11-1:20240102T030405Z", 5, "fault"),
+        ("hello", "1.0,5.11-1:20240102T030405Z", 6, "fault"),
+        ("hello", "1.0,5.11-1:20240102T030405Z", 7, "bytes 19"),
+    ] {
+        let mut tree = repository(alloc, b"{}")?;
+        add(alloc, &mut tree, hello, text.as_bytes())?;
+        add(alloc, &mut tree, "publisher/test/pkg/a%2Fb%2Bc/1", b"")?;
+        let mut source = MemSource::new(tree, Vec::from_slice(alloc, &[fails])?);
+        let told = told_of_manifest(alloc, &mut source, stem, version)?;
+        assert!(rt; told.as_str() == want, "{fails}: {told}");
+    }
+    Ok(())
+}
+
+#[test]
+fn manifests_are_within_their_limit(rt: HostRuntime) -> Result<(), Fail> {
+    let alloc = rt.alloc();
+    for (size, want) in [
+        (16_777_216, "bytes 16777216"),
+        (16_777_217, "too large ManifestBytes 16777217"),
+    ] {
+        let mut tree = repository(alloc, b"{}")?;
+        let text = vec![in alloc; b'#'; size]?;
+        add(
+            alloc,
+            &mut tree,
+            "publisher/test/pkg/hello/1",
+            text.as_slice(),
+        )?;
+        let mut source = SureSource::new(tree);
+        let told = told_of_manifest(alloc, &mut source, "hello", "1")?;
+        assert!(rt; told.as_str() == want, "{told}");
+    }
+    Ok(())
+}
+
+// A catalog of so many stems without versions.
+fn large_catalog(alloc: Global, stems: u32) -> Result<String, Fail> {
     let mut text = String::from_str(alloc, "{\"test\": {")?;
-    for i in 0..stems {
+    for i in 1..stems {
         write!(text, "\"s{i}\": [], ")?;
     }
-    text.push_str("\"x\": [")?;
-    for i in 0..versions {
-        write!(text, "{{\"version\": \"{i}\"}}, ")?;
-    }
-    text.push_str("{\"version\": \"1.0\"}]}}")?;
+    text.push_str("\"x\": []}}")?;
     Ok(text)
 }
 
 #[test]
 fn catalogs_are_within_their_limits(rt: HostRuntime) -> Result<(), Fail> {
     let alloc = rt.alloc();
-    for (stems, versions, want) in [
-        (19_999, 9, "stems 20000 versions 10"),
-        (20_000, 9, "too large Stems 20001"),
-        (0, 199_999, "stems 1 versions 200000"),
-        (0, 200_000, "too large Versions 200001"),
-        (20_000, 200_000, "too large Stems 20001"),
+    for (stems, want) in [
+        (20_000, "stems 20000 versions 0"),
+        (20_001, "too large Stems 20001"),
     ] {
-        let catalog = large_catalog(alloc, stems, versions)?;
+        let catalog = large_catalog(alloc, stems)?;
         let mut source = SureSource::new(repository(alloc, catalog.as_bytes())?);
         let told = told_of_repository(alloc, &mut source, "test")?;
-        assert!(rt; told.as_str() == want, "{stems} {versions}: {told}");
+        assert!(rt; told.as_str() == want, "{told}");
     }
     // one byte too many, though they are no JSON text
     let blanks = vec![in alloc; b' '; 67_108_865]?;
