@@ -15,7 +15,6 @@ use Rattle.ips_text.specs.declared.refusal.Or.{Or}
 use Rattle.ips_text.specs.Reading.{◌>>=◌, Gives}
 use Rattle.ips_text.proofs.Readers.{bind_ok, ok_is, ok_not_err}
 use Rattle.ips_fmri.specs.declared.fault.Part.{Part}
-use Rattle.ips_fmri.specs.declared.fault.FmriFault.{FmriFault}
 use Rattle.ips_fmri.specs.Version.{Parts, IsVersion, version_text}
 use Rattle.ips_fmri.specs.Name.{IsStem}
 use Rattle.ips_fmri.specs.Order.{version_cmp, version_total}
@@ -25,7 +24,6 @@ use Rattle.ips_catalog.specs.declared.fault.CatalogFault.{CatalogFault}
 use Rattle.ips_catalog.specs.declared.fault.CatalogFault.TheVariants.{NotJson, WrongShape, BadVersion}
 use Rattle.ips_catalog.specs.Listed.{Listed}
 use Rattle.ips_catalog.specs.Pointer.{pointer}
-use Rattle.ips_catalog.specs.Stem.{is_stem}
 use Rattle.ips_catalog.specs.Reading.{shaped, text_at, or_bad, version_in, with_next, is_among, entry_at, versions_at, package_at, packages_at, published_at, catalog_of, json_value, catalog_of_json, read_catalog}
 use Rattle.ips_catalog.specs.Catalog.{IsEntry, AreEntries, HasVersions, HasPackages, IsPublished, HoldsCatalog, IsJson, IsCatalogText}
 use Rattle.ips_catalog.proofs.StemKeys.{stem_is, stem_tested}

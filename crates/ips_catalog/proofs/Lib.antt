@@ -5,3 +5,4 @@ pub mod Walks
 pub mod Orders
 pub mod Ascending
 pub mod Grammar
+pub mod Escapes

@@ -1,5 +1,5 @@
 -- The packages that a walk answers are in order.
-use Rattle.std.proofs.Common.{◌≡◌, ℕ, suc, Bool, true, false, cond, List, [], ◌∷◌, map, Option, Some, None, Result, Ok, Err, String, Global, string_bytes, string_cmp, Ordering, Less, Equal, Greater, refl, sym, ap, subst, ◌∙◌, inl, inr}
+use Rattle.std.proofs.Common.{◌≡◌, ℕ, suc, Bool, true, false, cond, List, [], ◌∷◌, map, Option, Some, None, Ok, Err, String, Global, string_bytes, string_cmp, Ordering, Less, Equal, Greater, refl, sym, ap, subst, ◌∙◌, inl, inr}
 use Rattle.std.specs.List.{AllByRecursion}
 use Rattle.std.specs.List.Sorted.{IsStrictlySortedBy}
 use Rattle.std.specs.Map.{keys_of}
@@ -18,7 +18,7 @@ use Rattle.ips_fmri.specs.Version.{Parts, version_text}
 use Rattle.ips_fmri.specs.Order.{version_cmp, version_total}
 use Rattle.ips_catalog.specs.declared.fault.CatalogFault.{CatalogFault}
 use Rattle.ips_catalog.specs.declared.fault.CatalogFault.TheVariants.{WrongShape, Repeated}
-use Rattle.ips_catalog.specs.Listed.{Listed, StemsAscend, VersionsAscend, IsInOrder, versions_of}
+use Rattle.ips_catalog.specs.Listed.{Listed, VersionsAscend, IsInOrder, versions_of}
 use Rattle.ips_catalog.specs.Pointer.{pointer}
 use Rattle.ips_catalog.specs.Stem.{is_stem}
 use Rattle.ips_catalog.specs.Reading.{shaped, text_at, version_in, is_among, with_next, entry_at, versions_at, package_at, packages_at}

@@ -14,6 +14,7 @@ mod stems;
 
 pub use catalog::Catalog;
 pub use fault::CatalogFault;
+pub use pointers::pointers_lead;
 
 #[cfg(test)]
 mod tests;

@@ -1,12 +1,21 @@
 //! JSON pointers (RFC 6901) to the parts of a catalog.
 
-ghost use Rattle.std.specs.Prelude.{◌≡◌, ◌++◌, ◌∷◌, [], OnOk, IfOk, string_bytes, codes, encode_utf8};
+ghost use Rattle.std.specs.Prelude.{◌≡◌, ◌++◌, ◌∷◌, [], List, ℕ, OnOk, IfOk, string_bytes, codes, encode_utf8};
 ghost use Rattle.std.specs.List.{flat_map};
 ghost use Rattle.std.specs.Fmt.{decimal};
-ghost use Rattle.ips_catalog.specs.Pointer.{escaped, pointer};
+ghost use Rattle.serde_json.specs.Data.{Members};
+ghost use Rattle.serde_json.specs.Find.{unescape};
+ghost use Rattle.ips_catalog.specs.Pointer.{escaped, pointer, LeadsOn};
 
 use ips_text::Text;
 use std::alloc::{AllocError, Global};
+
+/// The law of pointers: the pointer to keys leads through objects to what stands at these keys, and no key is spelled as
+/// another.
+pub fn pointers_lead()
+    ensures on { (key : List ℕ) (keys : List (List ℕ)) (members : Members) → LeadsOn key keys members }
+    ensures back { (key : List ℕ) → unescape (flat_map escaped key) ≡ key }
+{}
 
 /// The pointer to the top value.
 pub fn top_pointer(alloc: Global) -> Result<Text, AllocError>

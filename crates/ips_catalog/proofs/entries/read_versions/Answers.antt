@@ -1,4 +1,4 @@
-use Rattle.std.proofs.Common.{◌≡◌, ◌+◌, drop, Result, Ok, ap, sym, ◌∙◌, arith, List}
+use Rattle.std.proofs.Common.{◌+◌, drop, Result, Ok, ap, sym, ◌∙◌, List}
 use Rattle.std.proofs.lemmas.Result.{err_from_is_err_and}
 use Rattle.serde_json.specs.View.{view, items_view}
 use Rattle.ips_text.specs.Reading.{◌>>=◌}

@@ -1,9 +1,8 @@
-use Rattle.std.proofs.Common.{[], map, ◌∙◌, ap, sym, rules}
+use Rattle.std.proofs.Common.{map}
 use Rattle.std.proofs.lemmas.Result.{err_from_is_err_and}
 use Rattle.serde_json.proofs.Views.{Entry}
 use Rattle.ips_catalog.specs.Seen.{seen}
-use Rattle.ips_catalog.specs.Reading.{packages_at}
-use Rattle.ips_catalog.proofs.Walks.{package_fails, package_more, packages_end, behind_nothing}
+use Rattle.ips_catalog.proofs.Walks.{package_fails, package_more, packages_end}
 use Rattle.ips_catalog.proofs.Orders.{in_order}
 use Rattle.ips_catalog.proofs.packages.read_packages.Goals as goal
 

@@ -1,5 +1,4 @@
 use Rattle.std.proofs.Common.{rules}
-use Rattle.std.proofs.lemmas.Result.{on_ok_weaker}
 use Rattle.ips_catalog.proofs.PlainBytes.{plain_character}
 use Rattle.ips_catalog.proofs.pointers.push_character.Goals as goal
 

@@ -1,4 +1,4 @@
-use Rattle.std.proofs.Common.{append_assoc, ap, ◌∙◌}
+use Rattle.std.proofs.Common.{append_assoc}
 use Rattle.ips_catalog.proofs.PlainBytes.{plain_decimal}
 use Rattle.ips_catalog.proofs.pointers.push_index.Goals as goal
 

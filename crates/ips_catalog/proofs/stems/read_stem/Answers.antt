@@ -1,4 +1,3 @@
-use Rattle.std.proofs.Common.{ap, ◌∙◌}
 use Rattle.ips_catalog.proofs.StemKeys.{same_stem, other_stem, no_stem}
 use Rattle.ips_catalog.proofs.stems.read_stem.Goals as goal
 
