@@ -1,0 +1,7 @@
+pub mod Calls
+pub mod Parts
+pub mod Scans
+pub mod Found
+pub mod Pieces
+pub mod Joined
+pub mod FileNames

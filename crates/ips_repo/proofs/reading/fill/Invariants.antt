@@ -1,0 +1,13 @@
+use Rattle.std.proofs.Common.{◌≡◌, ◌≤◌, IsTrue, length, take, ◌-◌}
+use Rattle.ips_outside.specs.Outside.{Reads, readable}
+use Rattle.ips_repo.proofs.reading.fill.Given as goal
+
+abbrev pub invariant-loop-at : goal.invariant-loop-at
+invariant-loop-at g l = record {
+  within : l.at ≤ length l.bytes;
+  reads : Reads g.S.Source.outside l.fn.source l.source ⊥;
+  found : IsTrue (g.S.Source.outside.tells l.fn.source) → take l.at l.bytes ≡ take l.at (readable ((g.S.Source.outside.state l.fn.source).held.look l.path.bytes));
+}
+
+abbrev pub decreases-loop-at : goal.decreases-loop-at
+decreases-loop-at g l = length l.initial.bytes - l.at

@@ -1,0 +1,9 @@
+pub mod Answer
+pub mod Places
+pub mod Files
+pub mod Payload
+pub mod Start
+pub mod Mark
+pub mod Scan
+pub mod Opening
+pub mod Manifest
