@@ -1,6 +1,7 @@
-//! A repository that is a folder: its mark, and its payloads, each judged by the digest that is its name.
+//! A repository that is a folder of format 4 (pkgrepo(1)): its mark, and the catalog, manifests and payloads of a publisher.
 //!
-//! Files are read piece by piece, and whole only under a limit. A payload is never held whole in memory: its bytes are given
+//! Where the source tells what it holds, each call answers what the files at their places mean, and else just why: places, the
+//! limits of files and the first fault are definitions of `specs/`. A payload is never held whole in memory: its bytes are given
 //! in pieces, and then it is told whether their digest is its name.
 #![tactic(auto)]
 
