@@ -1,45 +1,48 @@
 //! A folder in memory, which keeps a record of its calls.
 
-ghost use Rattle.std.specs.Prelude.{◌≡◌, ◌⊎◌, ◌+◌, ◌==◌, ◌++◌, ◌∷◌, [], Bool, ◌||◌, not, is_err, IfOk, OnOk, OnErr};
+ghost use Rattle.std.specs.Prelude.{◌≡◌, ◌⊎◌, ◌+◌, ◌==◌, Bool, ◌||◌, not, true, false, is_err, IfOk};
 ghost use Rattle.std.specs.List.{list_any};
-ghost use Rattle.ips_outside.specs.State.{untouched};
 ghost use Rattle.ips_outside.specs.Tree.{tree_image};
-ghost use Rattle.ips_folder.specs.History.{IsLeft, CanDo, effect};
+ghost use Rattle.ips_folder.specs.History.{CanDo, is_change};
+ghost use Rattle.ips_folder.specs.Memory.{mem_folder, starved, Begins, is_over, is_past, is_stopped, must_fail, IsActed, IsCounted, IsRefused};
 
 mod calls;
 
 use crate::call::Call;
+use crate::log::CallLog;
+use crate::stop::Stop;
 use ips_outside::{Failed, Tree};
 use std::alloc::{AllocError, Global};
 
-/// A folder in memory. Its calls are numbered from 1, and those whose numbers are listed fail: a call that writes has
-/// its whole effect all the same, and a sync has none. A call to which memory is refused fails and has no effect.
+/// A folder in memory. Its calls are numbered from 1 on. Those whose numbers are listed fail, and so does each from the
+/// stop on. A call that writes has its whole effect all the same, if it doesn't come after the stop; a sync that fails has
+/// none. A call to which memory is refused fails and has no effect.
 #[derive(Drop)]
 pub struct MemFolder {
     alloc: Global,
-    first: Tree,
-    tree: Tree,
-    calls: Vec<Call>,
+    log: CallLog,
     fails: Vec<u64>,
+    stop: Option<Stop>,
     made: u64,
     faults: u64,
     starved: u64,
-    ghost left: { IsLeft (tree_image first) (tree_image tree) calls.items },
 }
 
 impl MemFolder {
-    ghost use Rattle.ips_folder.specs.Memory.{mem_folder, starved, Begins, must_fail, IsCounted, IsRecorded, IsRefused};
-
-    /// A folder that holds the tree, of which the calls with the listed numbers fail.
-    pub fn new(alloc: Global, tree: Tree, fails: Vec<u64>) -> Result<MemFolder, AllocError>
-        ensures begins { IfOk result (Begins tree fails.items) }
+    /// A folder that holds the tree. The calls with the listed numbers fail, and each from the stop on.
+    pub fn new(
+        alloc: Global,
+        tree: Tree,
+        fails: Vec<u64>,
+        stop: Option<Stop>,
+    ) -> Result<MemFolder, AllocError>
+        ensures begins { IfOk result (Begins tree fails.items stop) }
     {
         Ok(MemFolder {
             alloc,
-            first: tree.copy(alloc)?,
-            tree,
-            calls: Vec::new(alloc),
+            log: CallLog::new(alloc, tree)?,
             fails,
+            stop,
             made: 0,
             faults: 0,
             starved: 0,
@@ -50,7 +53,7 @@ impl MemFolder {
     pub fn tree(&self) -> &Tree
         ensures held { tree_image result.now ≡ (mem_folder.state self.now).held }
     {
-        &self.tree
+        self.log.tree()
     }
 
     /// How many calls failed because memory was refused to them.
@@ -60,20 +63,25 @@ impl MemFolder {
         self.starved
     }
 
+    // Whether the next call comes after the stop.
+    fn is_over(&self) -> bool
+        ensures { result ≡ is_over self.now }
+    {
+        is_past(&self.stop, self.made)
+    }
+
     // Whether the next call is one of those that fail.
     fn must_fail(&self) -> bool
         ensures { result ≡ must_fail self.now }
     {
-        is_listed(&self.fails, self.made)
+        is_listed(&self.fails, self.made) || is_stopped(&self.stop, self.made)
     }
 
     // Counts a call, which fails where it must or where memory was refused to it, and its failure.
     fn answer(&mut self, served: bool) -> Result<(), Failed>
         ensures failed { is_err result ≡ (must_fail self.old || not served) }
         ensures counted { IsCounted self.old self.new (is_err result) }
-        ensures first { self.new.first ≡ self.old.first }
-        ensures tree { self.new.tree ≡ self.old.tree }
-        ensures calls { self.new.calls.items ≡ self.old.calls.items }
+        ensures log { self.new.log ≡ self.old.log }
         ensures starved { self.new.starved ≡ self.old.starved }
     {
         let fails = self.must_fail() || !served;
@@ -93,30 +101,31 @@ impl MemFolder {
         self.answer(false)
     }
 
-    // Carries a call out and records it, unless memory is refused.
+    // Carries a call out that changes something and records it, unless it comes after the stop or memory is refused.
     fn act(&mut self, call: Call) -> Result<(), Failed>
-        requires { CanDo call (tree_image self.old.tree) }
-        ensures { IsRecorded call self.old self.new (is_err result) ⊎ IsRefused self.old self.new (is_err result) }
+        requires change { is_change call ≡ true }
+        requires can { CanDo call (tree_image self.old.log.tree) }
+        ensures { IsActed call self.old self.new (is_err result) }
     {
-        match keep(self.alloc, &mut self.tree, &mut self.calls, call) {
+        if self.is_over() {
+            return self.answer(true);
+        }
+        match self.log.keep(self.alloc, call) {
             Ok(()) => self.answer(true),
             Err(_) => self.starve(),
         }
     }
-}
 
-// Carries a call out and records it, or does neither where memory is refused.
-fn keep(alloc: Global, tree: &mut Tree, calls: &mut Vec<Call>, call: Call) -> Result<(), AllocError>
-    requires { CanDo call (tree_image tree.old) }
-    ensures effect { OnOk result (tree_image tree.new ≡ (effect call (untouched (tree_image tree.old))).held) }
-    ensures recorded { OnOk result (calls.new.items ≡ calls.old.items ++ call ∷ []) }
-    ensures no_effect { OnErr result (tree_image tree.new ≡ tree_image tree.old) }
-    ensures not_recorded { OnErr result (calls.new.items ≡ calls.old.items) }
-{
-    calls.reserve(1)?;
-    call.carry_out(alloc, tree)?;
-    calls.push_reserved(call);
-    Ok(())
+    // Records a sync, unless memory is refused.
+    fn settle(&mut self) -> Result<(), Failed>
+        requires { must_fail self.old ≡ false }
+        ensures { IsActed Call.Sync self.old self.new (is_err result) }
+    {
+        match self.log.settle() {
+            Ok(()) => self.answer(true),
+            Err(_) => self.starve(),
+        }
+    }
 }
 
 // Whether the call after so many is listed. No number past the counter's last value is.
@@ -125,6 +134,26 @@ fn is_listed(listed: &[u64], made: u64) -> bool
 {
     match made.checked_add(1) {
         Some(number) => listed.contains(&number),
+        None => false,
+    }
+}
+
+// Whether the call after so many is the stop or comes after it.
+fn is_stopped(stop: &Option<Stop>, made: u64) -> bool
+    ensures { result ≡ is_stopped stop.now made }
+{
+    match stop {
+        Some(stop) => stop.call.saturating_sub(1) <= made,
+        None => false,
+    }
+}
+
+// Whether the call after so many comes after the stop.
+fn is_past(stop: &Option<Stop>, made: u64) -> bool
+    ensures { result ≡ is_past stop.now made }
+{
+    match stop {
+        Some(stop) => stop.call <= made,
         None => false,
     }
 }

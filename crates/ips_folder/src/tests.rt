@@ -19,7 +19,8 @@ fn folder(alloc: Global, dir: &RelPath, file: &RelPath, fails: &[u64]) -> Result
     let mut tree = Tree::new(alloc);
     tree.dir(alloc, dir, 0o755)?;
     tree.file(alloc, file, 0o644, b"ab")?;
-    Ok(MemFolder::new(alloc, tree, Vec::from_slice(alloc, fails)?)?)
+    let fails = Vec::from_slice(alloc, fails)?;
+    Ok(MemFolder::new(alloc, tree, fails, None)?)
 }
 
 // Whether something can be made at the path.
