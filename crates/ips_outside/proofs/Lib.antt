@@ -9,5 +9,6 @@ pub mod Maps
 pub mod Order
 pub mod Trees
 pub mod Rooms
+pub mod Children
 pub mod Copies
 pub mod Tallies

@@ -31,7 +31,7 @@ pub kind_at-get : (entries : List (Vec ℕ Global × Kind)) (q : List ℕ) → l
 kind_at-get entries q = λ i. lookup (λ k. is_eq-path q k.items i) entries
 
 -- where the order says so, two keys are one path or two
-one_path : (p q : List ℕ) → slice_cmp nat_cmp p q ≡ Equal → q ≡ p
+pub one_path : (p q : List ℕ) → slice_cmp nat_cmp p q ≡ Equal → q ≡ p
 one_path p q e = same_path-true q p (sym (is_eq-path p q) ∙ ap is_eq e)
 
 module _ (v : Kind) (q : List ℕ) where

@@ -22,7 +22,7 @@ use Rattle.ips_outside.proofs.Maps.{kind_at-get}
 
 -- ---- bytes
 
-then_after : (a b : ℕ) (o : Ordering) → is_gt (ordering_then (nat_cmp a b) o) ≡ false → (a < b) ⊎ ((a ≡ b) × (is_gt o ≡ false))
+pub then_after : (a b : ℕ) (o : Ordering) → is_gt (ordering_then (nat_cmp a b) o) ≡ false → (a < b) ⊎ ((a ≡ b) × (is_gt o ≡ false))
 then_after a b o h = go (nat_lt a b) refl (a == b) refl h
   where
     go : (l : Bool) → nat_lt a b ≡ l → (e : Bool) → (a == b) ≡ e → is_gt (ordering_then (cond l Less (cond e Equal Greater)) o) ≡ false → (a < b) ⊎ ((a ≡ b) × (is_gt o ≡ false))
@@ -36,7 +36,7 @@ after_itself p = ap is_gt (tied_itself nat_list_cmp_total p)
 pub after_trans : (p q r : List ℕ) → comes_after p q ≡ false → comes_after q r ≡ false → comes_after p r ≡ false
 after_trans p q r a b = upto nat_list_cmp_total p q r a b
 
-same_head : (a : ℕ) (p q : List ℕ) → comes_after (a ∷ p) (a ∷ q) ≡ comes_after p q
+pub same_head : (a : ℕ) (p q : List ℕ) → comes_after (a ∷ p) (a ∷ q) ≡ comes_after p q
 same_head a p q = ap (λ (o : Ordering). is_gt (ordering_then o (slice_cmp nat_cmp p q))) (sym (nat_cmp_is a a Equal refl))
 
 -- a path stands before all that is below it

@@ -17,18 +17,22 @@ some_file : (e : Option Entry) → is_file e ≡ true → is_some e ≡ true
 some_file (Some e) h = refl
 some_file None h = cc
 
--- what the table has stands at a path
-pub path_at : (paths : List (Vec ℕ Global × Kind)) (nodes : List Node) (q : List ℕ) → IsImage (image_of paths nodes) → is_some (kind_at paths q) ≡ true → IsPath q
-path_at paths nodes q formed some = formed.paths q (go (kind_at paths q) refl some)
+-- what the table has stands in the image
+pub stands : (paths : List (Vec ℕ Global × Kind)) (nodes : List Node) (q : List ℕ) → IsImage (image_of paths nodes) → is_some (entry_of nodes (kind_at paths q)) ≡ is_some (kind_at paths q)
+stands paths nodes q formed = go (kind_at paths q) refl
   where
-    go : (k : Option Kind) → kind_at paths q ≡ k → is_some k ≡ true → is_some (entry_of nodes (kind_at paths q)) ≡ true
-    go (Some (kind.Dir m foreign)) is h = ap (λ (k : Option Kind). is_some (entry_of nodes k)) is
-    go (Some (kind.File n)) is h =
+    go : (k : Option Kind) → kind_at paths q ≡ k → is_some (entry_of nodes (kind_at paths q)) ≡ is_some k
+    go (Some (kind.Dir m foreign)) is = ap (λ (k : Option Kind). is_some (entry_of nodes k)) is
+    go (Some (kind.File n)) is =
         let own : one_node (node_of (kind_at paths q)) (node_of (kind_at paths q)) ≡ true = ap (λ (k : Option Kind). one_node (node_of k) (node_of k)) is ∙ one_node-self n in
         some_file (entry_of nodes (kind_at paths q)) (formed.files q q own).0
-    go (Some (kind.Link target)) is h = ap (λ (k : Option Kind). is_some (entry_of nodes k)) is
-    go (Some kind.Other) is h = ap (λ (k : Option Kind). is_some (entry_of nodes k)) is
-    go None is h = cc
+    go (Some (kind.Link target)) is = ap (λ (k : Option Kind). is_some (entry_of nodes k)) is
+    go (Some kind.Other) is = ap (λ (k : Option Kind). is_some (entry_of nodes k)) is
+    go None is = ap (λ (k : Option Kind). is_some (entry_of nodes k)) is
+
+-- so it stands at a path
+pub path_at : (paths : List (Vec ℕ Global × Kind)) (nodes : List Node) (q : List ℕ) → IsImage (image_of paths nodes) → is_some (kind_at paths q) ≡ true → IsPath q
+path_at paths nodes q formed some = formed.paths q (stands paths nodes q formed ∙ some)
 
 pub path_fits : (q : List ℕ) → IsPath q → length q ≤ 1023
 path_fits q path = elim (cases_lt 1023 (length q)) [ inl long ↦ absurd (path TooLong (inl long)) | inr few ↦ few ]

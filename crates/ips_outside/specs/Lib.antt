@@ -6,6 +6,7 @@ pub mod Taking
 pub mod Tally
 pub mod Table
 pub mod Order
+pub mod Children
 pub mod Making
 pub mod Tree
 pub mod Memory

@@ -6,7 +6,8 @@ ghost use Rattle.ips_outside.specs.Tally.{fresh, next_fails, after_call};
 
 use std::marker::Model;
 
-/// Calls, numbered from 1 on, of which the listed ones fail.
+/// The count of the calls on an object in memory, numbered from 1 on, of which the listed ones fail, and of those that
+/// failed. Both counts stop at their last value, and no call past it is listed.
 #[derive(Drop)]
 pub struct Calls {
     listed: Vec<u64>,
@@ -26,6 +27,7 @@ impl Model for Calls {
 }
 
 impl Calls {
+    /// A count before the first call, with the numbers of the calls that are to fail.
     pub fn new(listed: Vec<u64>) -> Calls
         ensures { result ≡ fresh listed.items }
     {
@@ -34,6 +36,20 @@ impl Calls {
             made: 0,
             failed: 0,
         }
+    }
+
+    /// How many calls were made.
+    pub fn made(&self) -> u64
+        ensures { result ≡ self.now.made }
+    {
+        self.made
+    }
+
+    /// Whether the next call is listed.
+    pub fn next_fails(&self) -> bool
+        ensures { result ≡ next_fails self.now }
+    {
+        is_listed(&self.listed, self.made)
     }
 
     /// Counts a call, and answers whether it fails: where it is listed, or refused for a cause of its own.

@@ -3,6 +3,7 @@
 #![tactic(auto)]
 
 mod calls;
+mod listing;
 mod outside;
 mod refusal;
 mod sink;
@@ -11,6 +12,7 @@ mod subtree;
 mod table;
 mod tree;
 
+pub use calls::Calls;
 pub use outside::{Failed, Look, Sink, Source};
 pub use refusal::TreeFault;
 pub use sink::MemSink;

@@ -1,7 +1,7 @@
 //! What stands below a path, by the order of bytes. All that is below a path begins with it and a `/`, so it stands
 //! together there, though not right behind the path: `a-b` stands between `a` and `a/b`.
 
-ghost use Rattle.std.specs.Prelude.{◌≡◌, ◌≤◌, ◌+◌, List, ℕ, cond, None, IfOk, OnOk, IsTrue, IsFalse, MatchOption, is_some, length, vec_capacity};
+ghost use Rattle.std.specs.Prelude.{◌≡◌, ◌≤◌, ◌+◌, ◌++◌, ◌∷◌, [], List, ℕ, cond, None, IfOk, OnOk, IsTrue, IsFalse, MatchOption, is_some, length, vec_capacity};
 ghost use Rattle.ips_text.specs.Ancestry.{covers};
 ghost use Rattle.ips_text.specs.Path.{IsPath};
 ghost use Rattle.ips_outside.specs.Table.{kind_at};
@@ -67,14 +67,14 @@ fn rewrite(spare: &mut Vec<u8>, bytes: &[u8])
     }
 }
 
-// Writes the front of all that is below a path.
-fn write_front(spare: &mut Vec<u8>, path: &[u8])
+/// Writes a path with one more byte over the spare bytes, which have room for it.
+pub fn write_behind(spare: &mut Vec<u8>, path: &[u8], byte: u8)
     requires { length path.now + 1 ≤ vec_capacity spare.old }
-    ensures written { spare.new.items ≡ front_below path.now }
+    ensures written { spare.new.items ≡ path.now ++ byte ∷ [] }
     ensures grows { vec_capacity spare.old ≤ vec_capacity spare.new }
 {
     rewrite(spare, path);
-    match spare.push(b'/') {
+    match spare.push(byte) {
         Ok(()) => {}
         Err(_) => unreachable!(),
     }
@@ -88,7 +88,7 @@ pub fn take_away(paths: &mut Paths, spare: &mut Vec<u8>, path: &[u8])
     ensures taken { (q : List ℕ) → kind_at paths.new.entries q ≡ cond (covers path.now q) None (kind_at paths.old.entries q) }
     ensures grows { vec_capacity spare.old ≤ vec_capacity spare.new }
 {
-    write_front(spare, path);
+    write_behind(spare, path, b'/');
     while let Some(next) = next_below(paths, path, spare) {
         rewrite(spare, next);
         take(paths, spare);

@@ -206,6 +206,50 @@ fn appends(rt: HostRuntime) -> Result<(), Fail> {
     Ok(())
 }
 
+#[test]
+fn lists_children_by_bytes(rt: HostRuntime) -> Result<(), Fail> {
+    let alloc = rt.alloc();
+    let mut tree = Tree::new(alloc);
+    for path in [
+        "d", "d0", "d-", "d/a0", "d/a", "d/a/z", "d/a/z/y", "d/a-b", "d/a-b/c", "d/a/b", "d/\u{e9}",
+    ] {
+        tree.dir(alloc, &RelPath::parse(alloc, path.as_bytes())?, 0o755)?;
+    }
+    tree.file(alloc, &RelPath::parse(alloc, b"d/a!")?, 0o644, b"")?;
+    tree.link(alloc, &RelPath::parse(alloc, b"d/a/now")?, b"z")?;
+    assert!(rt; tree.mark_foreign(&RelPath::parse(alloc, b"d/a")?));
+    for (dir, want, foreign) in [
+        ("d", "d/a d/a! d/a-b d/a0 d/\u{e9} ", false),
+        ("d/a", "d/a/b d/a/now d/a/z ", true),
+        ("d/a/b", "", false),
+        ("d0", "", false),
+        // no directories
+        ("d/a!", "", false),
+        ("d/a/now", "", false),
+        ("e", "", false),
+    ] {
+        let dir = RelPath::parse(alloc, dir.as_bytes())?;
+        let mut shown = Vec::new(alloc);
+        for child in &tree.children(alloc, &dir)? {
+            shown.extend_from_slice(child.bytes())?;
+            shown.push(b' ')?;
+        }
+        assert!(rt; shown.as_slice() == want.as_bytes(), "{dir:?}");
+        assert_eq!(rt; tree.is_foreign(&dir), foreign, "{dir:?}");
+    }
+    // a copy has the mark too, and a mode leaves it
+    let mut copy = tree.copy(alloc)?;
+    let marked = RelPath::parse(alloc, b"d/a")?;
+    copy.set_mode(&marked, 0o700);
+    assert!(rt; copy.is_foreign(&marked));
+    copy.remove(&marked);
+    assert_eq!(rt;
+        copy.children(alloc, &RelPath::parse(alloc, b"d")?)?.len(),
+        4
+    );
+    Ok(())
+}
+
 fn sample(alloc: Global) -> Result<Tree, Fail> {
     let mut tree = Tree::new(alloc);
     tree.dir(alloc, &RelPath::parse(alloc, b"etc")?, 0o755)?;

@@ -8,8 +8,10 @@ ghost use Rattle.ips_outside.specs.Change.{placed, joined, moded, appended, mark
 ghost use Rattle.ips_outside.specs.Outside.{look_of, IsSmall, readable, IsRead};
 ghost use Rattle.ips_outside.specs.Table.{image_of, entry_of, node_of};
 ghost use Rattle.ips_outside.specs.Order.{HasRoom};
+ghost use Rattle.ips_outside.specs.Children.{is_foreign, AreChildren, bytes_of};
 ghost use Rattle.ips_outside.specs.Making.{fault_at, hard_fault_at, Refuses};
 
+use crate::listing::children;
 use crate::outside::Look;
 use crate::refusal::TreeFault;
 use crate::subtree::{key, spare, take_away};
@@ -108,6 +110,25 @@ impl Tree {
             (Some(first), Some(second)) => first == second,
             _ => false,
         }
+    }
+
+    /// Whether the directory at the path is marked as one that also holds names that are no paths; false where no
+    /// directory stands.
+    pub fn is_foreign(&self, path: &RelPath) -> bool
+        ensures { result ≡ is_foreign ((tree_image self.now).look path.now.bytes) }
+    {
+        match find(&self.paths, path.bytes()) {
+            Some(Kind::Dir { foreign, .. }) => *foreign,
+            _ => false,
+        }
+    }
+
+    /// The paths of all that stands right below the directory at the path, each once, in the order of their bytes; none
+    /// where no directory stands.
+    pub fn children(&self, alloc: Global, dir: &RelPath) -> Result<Vec<RelPath>, AllocError>
+        ensures { IfOk result (λ paths. AreChildren (tree_image self.now) dir.now.bytes (bytes_of paths.items)) }
+    {
+        children(alloc, &self.paths, dir.bytes())
     }
 
     // Why nothing can be made at the path.

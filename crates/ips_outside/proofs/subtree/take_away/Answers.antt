@@ -8,10 +8,10 @@ use Rattle.ips_outside.proofs.subtree.take_away.Goals as goal
 pub loop-next-init : goal.loop-next-init
 loop-next-init c = record {
   others = λ q off. refl;
-  each = λ q some. omega (arith, c.requires.each q some, c.write_front.ensures.grows);
-  begun = subst (λ (x : List ℕ). comes_after (front_below c.args.path.now) x ≡ false) (sym c.write_front.ensures.written) (after_itself (front_below c.args.path.now));
-  left = λ q below some. subst (λ (x : List ℕ). comes_after x q ≡ false) (sym c.write_front.ensures.written) (below_from c.args.path.now q below);
-  grows = c.write_front.ensures.grows;
+  each = λ q some. omega (arith, c.requires.each q some, c.write_behind.ensures.grows);
+  begun = subst (λ (x : List ℕ). comes_after (front_below c.args.path.now) x ≡ false) (sym c.write_behind.ensures.written) (after_itself (front_below c.args.path.now));
+  left = λ q below some. subst (λ (x : List ℕ). comes_after x q ≡ false) (sym c.write_behind.ensures.written) (below_from c.args.path.now q below);
+  grows = c.write_behind.ensures.grows;
 }
 
 pub loop-next-preserved : goal.loop-next-preserved
