@@ -41,7 +41,7 @@ past_stopped (Some stop) made past = grind (arith, nat_tests)
 past_stopped None made past = cc
 
 pub late_fails : (f : MemFolder) → is_over f ≡ true → must_fail f ≡ true
-late_fails f over = ap (λ (b : Bool). next_fails (tally_of f) || b) (past_stopped f.stop f.made over) ∙ or_last (next_fails (tally_of f))
+late_fails f over = ap (λ (b : Bool). next_fails (tally_of f) || b) (past_stopped f.stop f.calls.made over) ∙ or_last (next_fails (tally_of f))
   where
     or_last : (b : Bool) → (b || true) ≡ true
     or_last true = refl

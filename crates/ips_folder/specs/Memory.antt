@@ -45,7 +45,7 @@ mem_folder = record {
   state = λ f. (moment f).state;
   clock = λ f. length f.log.calls.items;
   states = λ f time s. Since f.log.calls.items (first_moment f.log) time s;
-  faults = λ f. f.faults;
+  faults = λ f. f.calls.failed;
 }
 
 -- how many calls failed because memory was refused to them
@@ -54,7 +54,7 @@ starved f = f.starved
 
 -- the calls on the folder so far, and which of them are listed to fail
 abbrev pub tally_of : MemFolder → Tally
-tally_of f = record { listed = f.fails.items; made = f.made; failed = f.faults }
+tally_of f = f.calls
 
 -- where the folder is to stop
 abbrev pub stop_of : MemFolder → Option Stop
@@ -72,11 +72,11 @@ is_past None made = false
 
 -- the next call comes after the stop, so it changes nothing
 abbrev pub is_over : MemFolder → Bool
-is_over f = is_past f.stop f.made
+is_over f = is_past f.stop f.calls.made
 
 -- the next call is one of those that fail: it is listed, or at or after the stop
 abbrev pub must_fail : MemFolder → Bool
-must_fail f = next_fails (tally_of f) || is_stopped f.stop f.made
+must_fail f = next_fails (tally_of f) || is_stopped f.stop f.calls.made
 
 -- what a crash does: what the stop says, and nothing where there is none
 abbrev pub choice_of : Option Stop → Choice
@@ -128,7 +128,7 @@ pub record Passes (old new : MemFolder) (failed : Bool) : Type 0 where
 -- A call is counted, and so is its failure, which has its cause; nothing else changes.
 pub record IsCounted (old new : MemFolder) (failed : Bool) : Type 0 where
   pub tallied : IsTallied old new failed
-  pub cause : HasCause old.faults new.faults (IsTrue failed)
+  pub cause : HasCause old.calls.failed new.calls.failed (IsTrue failed)
 
 -- The record goes on with this call.
 pub record IsRecorded (call : Call) (old new : CallLog) : Type 0 where

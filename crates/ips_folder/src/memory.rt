@@ -1,7 +1,6 @@
 //! A folder in memory, which keeps a record of its calls.
 
-ghost use Rattle.std.specs.Prelude.{◌≡◌, ◌⊎◌, ◌+◌, ◌==◌, Bool, ◌||◌, not, true, false, is_err, IfOk};
-ghost use Rattle.std.specs.List.{list_any};
+ghost use Rattle.std.specs.Prelude.{◌≡◌, ◌||◌, not, true, false, is_err, IfOk};
 ghost use Rattle.ips_outside.specs.Tree.{tree_image};
 ghost use Rattle.ips_folder.specs.History.{CanDo, is_change};
 ghost use Rattle.ips_folder.specs.Memory.{mem_folder, starved, Begins, is_over, is_past, is_stopped, must_fail, IsActed, IsCounted, IsRefused};
@@ -11,7 +10,7 @@ mod calls;
 use crate::call::Call;
 use crate::log::CallLog;
 use crate::stop::Stop;
-use ips_outside::{Failed, Tree};
+use ips_outside::{Calls, Failed, Tree};
 use std::alloc::{AllocError, Global};
 
 /// A folder in memory. Its calls are numbered from 1 on. Those whose numbers are listed fail, and so does each from the
@@ -21,10 +20,8 @@ use std::alloc::{AllocError, Global};
 pub struct MemFolder {
     alloc: Global,
     log: CallLog,
-    fails: Vec<u64>,
+    calls: Calls,
     stop: Option<Stop>,
-    made: u64,
-    faults: u64,
     starved: u64,
 }
 
@@ -41,10 +38,8 @@ impl MemFolder {
         Ok(MemFolder {
             alloc,
             log: CallLog::new(alloc, tree)?,
-            fails,
+            calls: Calls::new(fails),
             stop,
-            made: 0,
-            faults: 0,
             starved: 0,
         })
     }
@@ -67,14 +62,21 @@ impl MemFolder {
     fn is_over(&self) -> bool
         ensures { result ≡ is_over self.now }
     {
-        is_past(&self.stop, self.made)
+        is_past(&self.stop, self.calls.made())
+    }
+
+    // Whether the next call is the stop or comes after it.
+    fn is_stopped(&self) -> bool
+        ensures { result ≡ is_stopped self.now.stop self.now.calls.made }
+    {
+        is_stopped(&self.stop, self.calls.made())
     }
 
     // Whether the next call is one of those that fail.
     fn must_fail(&self) -> bool
         ensures { result ≡ must_fail self.now }
     {
-        is_listed(&self.fails, self.made) || is_stopped(&self.stop, self.made)
+        self.calls.next_fails() || self.is_stopped()
     }
 
     // Counts a call, which fails where it must or where memory was refused to it, and its failure.
@@ -84,13 +86,12 @@ impl MemFolder {
         ensures log { self.new.log ≡ self.old.log }
         ensures starved { self.new.starved ≡ self.old.starved }
     {
-        let fails = self.must_fail() || !served;
-        self.made = self.made.saturating_add(1);
-        if fails {
-            self.faults = self.faults.saturating_add(1);
-            return Err(Failed);
+        let refused = self.is_stopped() || !served;
+        if self.calls.fails(refused) {
+            Err(Failed)
+        } else {
+            Ok(())
         }
-        Ok(())
     }
 
     // A call to which memory was refused.
@@ -125,16 +126,6 @@ impl MemFolder {
             Ok(()) => self.answer(true),
             Err(_) => self.starve(),
         }
-    }
-}
-
-// Whether the call after so many is listed. No number past the counter's last value is.
-fn is_listed(listed: &[u64], made: u64) -> bool
-    ensures { result ≡ list_any (λ n. n == made + 1) listed.now }
-{
-    match made.checked_add(1) {
-        Some(number) => listed.contains(&number),
-        None => false,
     }
 }
 

@@ -13,7 +13,7 @@ ghost use Rattle.ips_folder.specs.Memory.{mem_folder, mem_folder_sane, moment, m
 
 use crate::call::Call;
 use crate::folder::Folder;
-use crate::listing::{ListFault, Listing};
+use crate::listing::{ListFault, Listing, Paths};
 use crate::memory::MemFolder;
 use ips_outside::{Failed, Look, Source};
 use ips_text::RelPath;
@@ -53,8 +53,9 @@ impl Folder for MemFolder {
         ensures found { IfOk result (IsListing (mem_folder.state self.old).held dir.now.bytes) }
     {
         self.answer(true)?;
-        let _ = alloc; let _ = dir;
-        Err(ListFault::OutOfMemory)
+        let names = Paths::new(self.log.tree().children(alloc, dir)?);
+        let foreign = self.log.tree().is_foreign(dir);
+        Ok(Listing { names, foreign })
     }
 
     fn target(&mut self, alloc: Global, path: &RelPath) -> Result<Vec<u8>, ListFault>
