@@ -120,7 +120,7 @@ mode_given_kept mode p m kept =
 pub begun_kept : (t : Image) → IsKept (begun t)
 begun_kept t = record { names = λ q. refl; alike = record { look = λ q. refl; same = λ a b. refl }; zeroed = agrees_self nowhere nowhere t; safe = agrees_self nowhere nowhere t }
 
-effect_kept : (c : Call) (m : Moment) → IsKept m → IsKept (effect c m)
+pub effect_kept : (c : Call) (m : Moment) → IsKept m → IsKept (effect c m)
 effect_kept (call.MakeDir path mode) m kept = changed_kept path.bytes _ m (placed_alike path.bytes _) kept
 effect_kept (call.MakeFile path) m kept = changed_kept path.bytes _ m (placed_alike path.bytes _) kept
 effect_kept (call.Append path bytes) m kept = changed_kept path.bytes _ m (appended_alike path.bytes bytes.items) kept

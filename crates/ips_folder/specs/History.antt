@@ -1,5 +1,5 @@
 -- What calls leave of a folder that keeps a record of them.
-use Rattle.std.specs.Prelude.{◌≡◌, ℕ, ◌+◌, ◌<◌, ◌≤◌, Bool, true, false, IsTrue, List, [], ◌∷◌, length, take, drop, None, Some}
+use Rattle.std.specs.Prelude.{◌≡◌, ℕ, ◌+◌, ◌<◌, ◌≤◌, Bool, true, false, IsTrue, List, [], ◌∷◌, length, take, drop, Option, None, Some}
 use Rattle.std.specs.List.{list_all}
 use Rattle.std.specs.Coded.{×_prop, Unit-prop}
 use Rattle.std.proofs.Props.{props}
@@ -79,6 +79,28 @@ effect call.Sync m = begun m.state.held
 abbrev pub replay : List Call → Moment → Moment
 replay [] m = m
 replay (c ∷ calls) m = replay calls (effect c m)
+
+-- the name that a call touches
+abbrev pub name_of : Call → Option (List ℕ)
+name_of (call.MakeDir path mode) = Some path.bytes
+name_of (call.MakeFile path) = Some path.bytes
+name_of (call.Append path bytes) = Some path.bytes
+name_of (call.MakeLink path target) = Some path.bytes
+name_of (call.MakeHard path to) = Some path.bytes
+name_of (call.Remove path) = Some path.bytes
+name_of (call.SetMode path mode) = None
+name_of call.Sync = None
+
+-- the call with mode 0 in place of the mode that it sets
+abbrev pub zeroing : Call → Call
+zeroing (call.MakeDir path mode) = call.MakeDir path mode
+zeroing (call.MakeFile path) = call.MakeFile path
+zeroing (call.Append path bytes) = call.Append path bytes
+zeroing (call.MakeLink path target) = call.MakeLink path target
+zeroing (call.MakeHard path to) = call.MakeHard path to
+zeroing (call.Remove path) = call.Remove path
+zeroing (call.SetMode path mode) = call.SetMode path 0
+zeroing call.Sync = call.Sync
 
 -- what one call makes of a tree
 abbrev pub change_of : Call → Image → Image

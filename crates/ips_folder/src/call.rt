@@ -1,6 +1,6 @@
 //! The calls that change a folder, as a record keeps them.
 
-ghost use Rattle.std.specs.Prelude.{◌≡◌, OnOk, OnErr, Ok, Err};
+ghost use Rattle.std.specs.Prelude.{◌≡◌, OnOk, OnErr, Ok, Err, Some, None, MatchOption};
 ghost use Rattle.ips_text.specs.declared.refusal.Or.TheVariants.{OutOfMemory};
 ghost use Rattle.ips_text.specs.Reading.{IfBad};
 ghost use Rattle.ips_outside.specs.Tree.{tree_image};
@@ -23,7 +23,7 @@ pub enum Call {
 }
 
 impl Call {
-    ghost use Rattle.ips_folder.specs.History.{change_of, CanDo};
+    ghost use Rattle.ips_folder.specs.History.{change_of, zeroing, name_of, CanDo};
 
     /// Carries the call out on a tree.
     pub fn carry_out(&self, alloc: Global, tree: &mut Tree) -> Result<(), AllocError>
@@ -46,6 +46,35 @@ impl Call {
                 Ok(())
             }
             Call::Sync => Ok(()),
+        }
+    }
+
+    /// Carries the call out, but where it sets a mode, that is 0.
+    pub fn carry_out_zeroing(&self, alloc: Global, tree: &mut Tree) -> Result<(), AllocError>
+        requires { CanDo (zeroing self.now) (tree_image tree.old) }
+        ensures done { OnOk result (tree_image tree.new ≡ change_of (zeroing self.now) (tree_image tree.old)) }
+    {
+        match self {
+            Call::SetMode { path, .. } => {
+                tree.set_mode(path, 0);
+                Ok(())
+            }
+            _ => self.carry_out(alloc, tree),
+        }
+    }
+
+    /// The name that the call touches.
+    pub fn name(&self) -> Option<&RelPath>
+        ensures { MatchOption result (name_of self.now ≡ None) (λ name. name_of self.now ≡ Some name.now.bytes) }
+    {
+        match self {
+            Call::MakeDir { path, .. }
+            | Call::MakeFile { path }
+            | Call::Append { path, .. }
+            | Call::MakeLink { path, .. }
+            | Call::MakeHard { path, .. }
+            | Call::Remove { path } => Some(path),
+            Call::SetMode { .. } | Call::Sync => None,
         }
     }
 }

@@ -4,6 +4,9 @@ ghost use Rattle.std.specs.Prelude.{◌≡◌, ◌++◌, ◌∷◌, [], true, le
 ghost use Rattle.ips_outside.specs.Tree.{tree_image};
 ghost use Rattle.ips_folder.specs.History.{IsLeft, IsSynced, CanAll, CanAll-prop, CanDo, change_of, is_change, begun};
 
+mod crash;
+mod junk;
+
 use crate::call::Call;
 use ips_outside::Tree;
 use std::alloc::{AllocError, Global};

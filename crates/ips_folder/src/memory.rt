@@ -1,15 +1,17 @@
 //! A folder in memory, which keeps a record of its calls.
 
 ghost use Rattle.std.specs.Prelude.{◌≡◌, ◌||◌, not, true, false, is_err, IfOk};
+ghost use Rattle.ips_outside.specs.State.{MayLeave};
 ghost use Rattle.ips_outside.specs.Tree.{tree_image};
+ghost use Rattle.ips_folder.specs.Crash.{IsLeftBy};
 ghost use Rattle.ips_folder.specs.History.{CanDo, is_change};
-ghost use Rattle.ips_folder.specs.Memory.{mem_folder, starved, Begins, is_over, is_past, is_stopped, must_fail, IsActed, IsCounted, IsRefused};
+ghost use Rattle.ips_folder.specs.Memory.{mem_folder, moment, stop_of, choice_of, starved, Begins, is_over, is_past, is_stopped, must_fail, IsActed, IsCounted, IsRefused};
 
 mod calls;
 
 use crate::call::Call;
 use crate::log::CallLog;
-use crate::stop::Stop;
+use crate::stop::{Choice, Stop};
 use ips_outside::{Calls, Failed, Tree};
 use std::alloc::{AllocError, Global};
 
@@ -47,8 +49,19 @@ impl MemFolder {
     /// What the folder holds.
     pub fn tree(&self) -> &Tree
         ensures held { tree_image result.now ≡ (mem_folder.state self.now).held }
+        ensures may_stay { MayLeave (mem_folder.state self.now) (tree_image result.now) }
     {
         self.log.tree()
+    }
+
+    /// The tree that a crash leaves now: what the stop says of the names that were touched since the last sync, or what
+    /// is held, where the folder has no stop. A touched name whose parent is no directory there is left out. After Gone,
+    /// Junk and Torn each mode that was set since the last sync is 0.
+    pub fn crashed(&self, alloc: Global) -> Result<Tree, AllocError>
+        ensures left { IfOk result (λ tree. IsLeftBy (choice_of (stop_of self.now)) (moment self.now) (tree_image tree)) }
+        ensures may_be { IfOk result (λ tree. MayLeave (mem_folder.state self.now) (tree_image tree)) }
+    {
+        self.log.crashed(alloc, choice(&self.stop))
     }
 
     /// How many calls failed because memory was refused to them.
@@ -126,6 +139,16 @@ impl MemFolder {
             Ok(()) => self.answer(true),
             Err(_) => self.starve(),
         }
+    }
+}
+
+// What a crash does.
+fn choice(stop: &Option<Stop>) -> Choice
+    ensures { result ≡ choice_of stop.now }
+{
+    match stop {
+        Some(stop) => stop.choice,
+        None => Choice::After,
     }
 }
 

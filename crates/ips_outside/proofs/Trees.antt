@@ -81,17 +81,17 @@ none_of None y h e = refl
 
 module _ (t : Image) (p : List ℕ) (formed : IsImage t) (absent : t.look p ≡ None) where
   -- nothing stands at or below the path
-  nothing_below : (q : List ℕ) → covers p q ≡ true → t.look q ≡ None
+  pub nothing_below : (q : List ℕ) → covers p q ≡ true → t.look q ≡ None
   nothing_below q c = go (same_path p q) refl
     where
       go : (s : Bool) → same_path p q ≡ s → t.look q ≡ None
       go true s = ap t.look (sym (same_path-true p q s)) ∙ absent
       go false s = none_of (t.look q) (t.look p) (formed.below_dirs p q c s) absent
 
-  alone : (q x : List ℕ) → covers p q ≡ true → t.same q x ≡ false
+  pub alone : (q x : List ℕ) → covers p q ≡ true → t.same q x ≡ false
   alone q x c = false_from_ne_true _ (λ one. let file = (formed.files q x one).0 in let none : is_file (t.look q) ≡ false = ap is_file (nothing_below q c) in cc)
 
-  alone-back : (q x : List ℕ) → covers p q ≡ true → t.same x q ≡ false
+  pub alone-back : (q x : List ℕ) → covers p q ≡ true → t.same x q ≡ false
   alone-back q x c = formed.sym x q ∙ alone q x c
 
 look_put : (s c : Bool) (e x : Option Entry) → (s ≡ true → c ≡ true) → (c ≡ true → x ≡ None) → cond s e x ≡ cond s e (cond c None x)
