@@ -109,9 +109,9 @@ module _ (m : Moment) (kept : IsKept m) (is_named : List ℕ → Bool) (same_nam
   alone : (a b : List ℕ) → m.state.whole a ≡ true → left.same a b ≡ true → b ≡ a
   alone a b on one = ⊎_elim
       (λ some. absurd (
-          let file = (formed_left.files a b one).0 in
-          let plain : is_file (left.look a) ≡ false = ap is_file (has_junk.old a some) ∙ plain_on a on (is_named a) refl in
-          cc))
+      let file = (formed_left.files a b one).0 in
+      let plain : is_file (left.look a) ≡ false = ap is_file (has_junk.old a some) ∙ plain_on a on (is_named a) refl in
+      cc))
       (λ none. has_junk.alone a b none one)
       (some_or_none (dirs.look a))
 

@@ -143,10 +143,10 @@ not_before : (p : Vec ℕ Global) (rest : List (Vec ℕ Global)) (q : List ℕ) 
 not_before p [] q all here = cc
 not_before p (k ∷ rest) q all here = ⊎_elim
     (λ one. false_from_ne_true _ (λ same.
-        let e : k.items ≡ q = same_path-true k.items q one in
-        let f : p.items ≡ q = same_path-true p.items q same in
-        let less : slice_cmp nat_cmp q q ≡ Less = subst (λ (x : List ℕ). slice_cmp nat_cmp x q ≡ Less) f (subst (λ (x : List ℕ). slice_cmp nat_cmp p.items x ≡ Less) e all.0) in
-        not_both q q less less))
+    let e : k.items ≡ q = same_path-true k.items q one in
+    let f : p.items ≡ q = same_path-true p.items q same in
+    let less : slice_cmp nat_cmp q q ≡ Less = subst (λ (x : List ℕ). slice_cmp nat_cmp x q ≡ Less) f (subst (λ (x : List ℕ). slice_cmp nat_cmp p.items x ≡ Less) e all.0) in
+    not_both q q less less))
     (λ later. not_before p rest q all.1 later)
     (one_of (same_path k.items q) (in_list rest q) here)
   where
@@ -278,8 +278,8 @@ module _ (is_named : List ℕ → Bool) (t u v : Image) (p : Vec ℕ Global) (re
   was_dir dir = ⊎_elim
       (λ some. sym (ap is_dir (so_far.old p.items some)) ∙ dir)
       (λ none. absurd (⊎_elim
-          (λ gone. let no : is_dir (u.look p.items) ≡ false = ap is_dir gone in cc)
-          (λ file. let no : is_dir (u.look p.items) ≡ false = ap is_dir file in cc) (so_far.fresh p.items none)))
+      (λ gone. let no : is_dir (u.look p.items) ≡ false = ap is_dir gone in cc)
+      (λ file. let no : is_dir (u.look p.items) ≡ false = ap is_dir file in cc) (so_far.fresh p.items none)))
       (some_or_none (t.look p.items))
 
   -- what the file at the path of junk becomes

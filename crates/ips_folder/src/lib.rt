@@ -5,8 +5,8 @@
 mod call;
 mod folder;
 mod listing;
-mod memory;
 mod log;
+mod memory;
 mod stop;
 
 pub use folder::Folder;

@@ -1,5 +1,7 @@
 //! Calls on a small folder in memory, which of them fail, and what stands in it after each.
 
+mod crashes;
+
 ghost use Rattle.std.specs.Prelude.{◌≡◌, IsTrue, IfOk};
 ghost use Rattle.ips_folder.specs.Calls.{CanMake, IsSole, has_mode};
 ghost use Rattle.ips_folder.specs.Memory.{mem_folder};
@@ -24,7 +26,7 @@ fn folder(alloc: Global, dir: &RelPath, file: &RelPath, fails: &[u64]) -> Result
 }
 
 // Whether something can be made at the path.
-fn is_free(alloc: Global, folder: &MemFolder, path: &RelPath) -> bool
+pub fn is_free(alloc: Global, folder: &MemFolder, path: &RelPath) -> bool
     ensures { IsTrue result → CanMake (mem_folder.state folder.now).held path.now.bytes }
 {
     match folder.tree().copy(alloc) {
@@ -34,7 +36,7 @@ fn is_free(alloc: Global, folder: &MemFolder, path: &RelPath) -> bool
 }
 
 // Whether what stands at the path has a mode.
-fn has_mode(folder: &MemFolder, path: &RelPath) -> bool
+pub fn has_mode(folder: &MemFolder, path: &RelPath) -> bool
     ensures { IsTrue result → IsTrue (has_mode ((mem_folder.state folder.now).held.look path.now.bytes)) }
 {
     matches!(

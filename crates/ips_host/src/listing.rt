@@ -1,7 +1,7 @@
 //! The names in a directory of the host.
 
 use ips_folder::{Listing, Paths};
-use ips_text::{Or, RelPath};
+use ips_text::{Or, PathFault, RelPath};
 use std::alloc::{AllocError, Global};
 use std::io;
 use std::io::{Error, ErrorKind, Read};
@@ -25,6 +25,14 @@ pub fn list<N: Read>(alloc: Global, names: &mut N, dir: &RelPath) -> io::Result<
     Err(ErrorKind::Other.into())
 }
 
+// The path of a child, where it has one.
+fn child(alloc: Global, dir: &RelPath, name: &[u8]) -> Result<RelPath, Or<PathFault>> {
+    let mut bytes = Vec::from_slice(alloc, dir.bytes())?;
+    bytes.push(b'/')?;
+    bytes.extend_from_slice(name)?;
+    RelPath::parse(alloc, &bytes)
+}
+
 // Adds the paths of the children with these names, and answers whether each has one.
 fn add_all(
     alloc: Global,
@@ -34,7 +42,7 @@ fn add_all(
 ) -> Result<bool, AllocError> {
     let mut have_paths = true;
     for name in names.split(|byte| *byte == 0) {
-        if name.is_empty() || name == b"." || name == b".." {
+        if matches!(name, [] | [b'.'] | [b'.', b'.']) {
             continue;
         }
         match child(alloc, dir, name) {

@@ -154,11 +154,7 @@ fn names(alloc: Global, calls: &[Call]) -> Result<BTreeSet<Vec<u8>>, AllocError>
 }
 
 // Adds the name that a call touched.
-fn add_name(
-    alloc: Global,
-    names: &mut BTreeSet<Vec<u8>>,
-    call: &Call,
-) -> Result<(), AllocError>
+fn add_name(alloc: Global, names: &mut BTreeSet<Vec<u8>>, call: &Call) -> Result<(), AllocError>
     ensures names { OnOk result ((q : List ℕ) → in_set names.new q ≡ (name_it (name_of call.now) q || in_set names.old q)) }
     ensures path { OnOk result ((q : List ℕ) → IsTrue (name_it (name_of call.now) q) → IsPath q) }
 {

@@ -45,11 +45,7 @@ fn make_dir(alloc: Global, tree: &mut Tree, name: &[u8]) -> Result<(), AllocErro
 }
 
 /// Puts an empty file `junk` of mode 0600 into each of the directories at these names, where nothing stands there.
-pub fn add_junk(
-    alloc: Global,
-    tree: &mut Tree,
-    names: &BTreeSet<Vec<u8>>,
-) -> Result<(), AllocError>
+pub fn add_junk(alloc: Global, tree: &mut Tree, names: &BTreeSet<Vec<u8>>) -> Result<(), AllocError>
     requires { (q : List ℕ) → IsTrue (in_set names.now q) → IsPath q }
     ensures { OnOk result (HasJunk (in_set names.now) (tree_image tree.old) (tree_image tree.new)) }
 {
