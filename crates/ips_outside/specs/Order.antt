@@ -16,26 +16,25 @@ comes_after p q = is_gt (slice_cmp nat_cmp p q)
 abbrev pub front_below : List ℕ → List ℕ
 front_below p = p ++ 47 ∷ []
 
-module _ (paths : List (Vec ℕ Global × Kind)) where
-  -- The table has this path, and none between these bytes and it.
-  pub record IsFirstFrom (from first : List ℕ) : Type 0 where
-    pub stands : IsTrue (is_some (kind_at paths first))
-    pub late : IsFalse (comes_after from first)
-    pub least : (q : List ℕ) → IsTrue (is_some (kind_at paths q)) → IsFalse (comes_after from q) → IsFalse (comes_after first q)
+-- The table has this path, and none between these bytes and it.
+pub record IsFirstFrom (paths : List (Vec ℕ Global × Kind)) (from first : List ℕ) : Type 0 where
+  pub stands : IsTrue (is_some (kind_at paths first))
+  pub late : IsFalse (comes_after from first)
+  pub least : (q : List ℕ) → IsTrue (is_some (kind_at paths q)) → IsFalse (comes_after from q) → IsFalse (comes_after first q)
 
-  -- the table has no path from these bytes on
-  abbrev pub IsNoneFrom : List ℕ → Type 0
-  IsNoneFrom from = (q : List ℕ) → IsFalse (comes_after from q) → IsNone (kind_at paths q)
+-- the table has no path from these bytes on
+abbrev pub IsNoneFrom : List (Vec ℕ Global × Kind) → List ℕ → Type 0
+IsNoneFrom paths from = (q : List ℕ) → IsFalse (comes_after from q) → IsNone (kind_at paths q)
 
-  -- The first path from these bytes on is below this path.
-  pub record IsNextBelow (p from next : List ℕ) : Type 0 where
-    pub first : IsFirstFrom from next
-    pub below : IsTrue (is_below p next)
+-- The first path of the table from these bytes on is below this path.
+pub record IsNextBelow (paths : List (Vec ℕ Global × Kind)) (p from next : List ℕ) : Type 0 where
+  pub first : IsFirstFrom paths from next
+  pub below : IsTrue (is_below p next)
 
-  -- none of what the table has below this path stands at these bytes or behind them
-  abbrev pub IsNoneBelow : List ℕ → List ℕ → Type 0
-  IsNoneBelow p from = (q : List ℕ) → IsTrue (is_below p q) → IsFalse (comes_after from q) → IsNone (kind_at paths q)
+-- nothing that the table has below this path stands at these bytes or behind them
+abbrev pub IsNoneBelow : List (Vec ℕ Global × Kind) → List ℕ → List ℕ → Type 0
+IsNoneBelow paths p from = (q : List ℕ) → IsTrue (is_below p q) → IsFalse (comes_after from q) → IsNone (kind_at paths q)
 
-  -- The bytes have room for each path of the table.
-  pub record HasRoom (spare : Vec ℕ Global) : Type 0 where
-    pub each : (q : List ℕ) → IsTrue (is_some (kind_at paths q)) → 1024 ≤ vec_capacity spare
+-- Where the table has a path, the spare bytes have room for any path with one more byte.
+pub record HasRoom (paths : List (Vec ℕ Global × Kind)) (spare : Vec ℕ Global) : Type 0 where
+  pub each : (q : List ℕ) → IsTrue (is_some (kind_at paths q)) → 1024 ≤ vec_capacity spare

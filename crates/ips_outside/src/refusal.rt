@@ -7,6 +7,6 @@ pub enum TreeFault {
     NoParent,
     /// Something stands at the path.
     Taken,
-    /// No file stands at the path that is to get a further name.
+    /// No file stands at the path that is to get a further name. `Tree::hard` alone tells it.
     NoFile,
 }

@@ -2,13 +2,13 @@
 //! together there, though not right behind the path: `a-b` stands between `a` and `a/b`.
 
 ghost use Rattle.std.specs.Prelude.{◌≡◌, ◌≤◌, ◌+◌, ◌++◌, ◌∷◌, [], List, ℕ, cond, None, IfOk, OnOk, IsTrue, IsFalse, MatchOption, is_some, length, vec_capacity};
-ghost use Rattle.ips_text.specs.Ancestry.{covers};
+ghost use Rattle.ips_text.specs.Ancestry as ancestry;
 ghost use Rattle.ips_text.specs.Path.{IsPath};
 ghost use Rattle.ips_outside.specs.Table.{kind_at};
 ghost use Rattle.ips_outside.specs.Order.{comes_after, front_below, IsFirstFrom, IsNoneFrom, IsNextBelow, IsNoneBelow};
 
 use crate::table::{Paths, take};
-use ips_text::RelPath;
+use ips_text::{RelPath, covers};
 use std::alloc::{AllocError, Global};
 
 // The greatest length of a path, and a `/` behind it.
@@ -48,10 +48,9 @@ pub fn next_below<'a>(paths: &'a Paths, path: &[u8], from: &Vec<u8>) -> Option<&
     requires { IsFalse (comes_after (front_below path.now) from.now.items) }
     ensures { MatchOption result (IsNoneBelow paths.now.entries path.now from.now.items) (λ next. IsNextBelow paths.now.entries path.now from.now.items next.now) }
 {
-    match first_from(paths, from) {
-        Some(first) if ips_text::covers(path, first) => Some(first),
-        _ => None,
-    }
+    let first = first_from(paths, from)?;
+    let below = covers(path, first);
+    if below { Some(first) } else { None }
 }
 
 // Writes bytes over others, which have room for them.
@@ -85,7 +84,7 @@ pub fn write_behind(spare: &mut Vec<u8>, path: &[u8], byte: u8)
 pub fn take_away(paths: &mut Paths, spare: &mut Vec<u8>, path: &[u8])
     requires room { length path.now + 1 ≤ vec_capacity spare.old }
     requires each { (q : List ℕ) → IsTrue (is_some (kind_at paths.old.entries q)) → length q ≤ vec_capacity spare.old }
-    ensures taken { (q : List ℕ) → kind_at paths.new.entries q ≡ cond (covers path.now q) None (kind_at paths.old.entries q) }
+    ensures taken { (q : List ℕ) → kind_at paths.new.entries q ≡ cond (ancestry.covers path.now q) None (kind_at paths.old.entries q) }
     ensures grows { vec_capacity spare.old ≤ vec_capacity spare.new }
 {
     write_behind(spare, path, b'/');

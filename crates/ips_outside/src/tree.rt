@@ -27,6 +27,7 @@ use std::collections::{BTreeMap, BTreeSet};
 #[derive(Drop)]
 pub struct Tree {
     paths: Paths,
+    // A node whose names are all gone stays until the tree goes.
     nodes: Vec<Node>,
     // What `remove` goes by, so that it takes no memory.
     spare: Vec<u8>,
@@ -249,14 +250,16 @@ impl Tree {
         ensures as_before { OnErr result (tree_image self.new ≡ tree_image self.old) }
         ensures refused { Refuses (hard_fault_at (tree_image self.old) path.now.bytes to.now.bytes) result }
     {
+        let file = node_at(&self.paths, to.bytes());
         if let Some(fault) = self.fault(path) {
             return Err(Or::Bad(fault));
         }
-        let Some(node) = node_at(&self.paths, to.bytes()) else {
+        let Some(node) = file else {
             return Err(Or::Bad(TreeFault::NoFile));
         };
         let key = key(alloc, path, &mut self.spare)?;
-        put(&mut self.paths, key, Kind::File { node })?;
+        let name = Kind::File { node };
+        put(&mut self.paths, key, name)?;
         Ok(())
     }
 

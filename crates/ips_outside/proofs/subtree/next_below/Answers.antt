@@ -1,13 +1,9 @@
 use Rattle.std.proofs.Common.{◌∙◌, sym}
 use Rattle.ips_outside.proofs.Order.{next_found, none_below}
 use Rattle.ips_outside.proofs.subtree.next_below.Goals as goal
-use Rattle.ips_outside.proofs.subtree.next_below.Goals.{in_default-via-in-Some+else-covers, in_default-via-in_default}
 
-pub returns-in-Some : goal.returns-in-Some
-returns-in-Some c = next_found c.args.paths.now.entries c.args.path.now c.args.from.now.items c.requires c.in-Some.first.now c.in-Some.ensures (sym c.covers.ensures ∙ c.if-covers.true)
+pub returns-then-below : goal.returns-then-below
+returns-then-below c = next_found c.args.paths.now.entries c.args.path.now c.args.from.now.items c.requires c.in_ok-first.first.now c.in_ok-first.ensures (sym c.covers-below.ensures ∙ c.if-below.true)
 
-pub returns-in_default : goal.returns-in_default
-returns-in_default c = elim c.in_default.branch [
-  | in_default-via-in-Some+else-covers w ↦ none_below c.args.paths.now.entries c.args.path.now c.args.from.now.items c.requires w.in-Some.first.now w.in-Some.ensures (sym w.covers.ensures ∙ w.if-covers.false)
-  | in_default-via-in_default w ↦ λ q below late. w.in_default.ensures q late
-]
+pub returns-else-below : goal.returns-else-below
+returns-else-below c = none_below c.args.paths.now.entries c.args.path.now c.args.from.now.items c.requires c.in_ok-first.first.now c.in_ok-first.ensures (sym c.covers-below.ensures ∙ c.if-below.false)

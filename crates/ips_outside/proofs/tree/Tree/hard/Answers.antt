@@ -13,10 +13,10 @@ invariant_of-self-2 c =
     let key = c.in_ok-key.key.items in
     let same : key ≡ c.args.path.now.bytes = c.in_ok-key.ensures.key in
     let can : fault_at (tree_image t) key ≡ None = ap (fault_at (tree_image t)) same ∙ sym c.in_default.ensures in
-    let at = file_at t.paths.entries c.args.to.now.bytes c.bytes.result.now c.in-Some-node_at.node c.bytes.ensures.value c.in-Some-node_at.ensures in
+    let at = file_at t.paths.entries c.args.to.now.bytes c.bytes.result.now c.in-Some-file.node c.bytes.ensures.value c.in-Some-file.ensures in
     record {
       room = room_made c.put.new.paths.entries c.key.new.spare c.in_ok-key.ensures.room;
-      formed = formed_named t.paths.entries c.put.new.paths.entries t.nodes.items key c.args.to.now.bytes c.in-Some-node_at.node t.formed can at c.put.result c.in_ok-key.ensures.path c.put.ensures.put c.put.ensures.as_before;
+      formed = formed_named t.paths.entries c.put.new.paths.entries t.nodes.items key c.args.to.now.bytes c.in-Some-file.node t.formed can at c.put.result c.in_ok-key.ensures.path c.put.ensures.put c.put.ensures.as_before;
     }
 
 pub returns-clause-made : goal.returns-clause-made
@@ -26,6 +26,6 @@ returns-clause-made c =
     let key = c.in_ok-key.key.items in
     let same : key ≡ c.args.path.now.bytes = c.in_ok-key.ensures.key in
     let can : fault_at (tree_image t) key ≡ None = ap (fault_at (tree_image t)) same ∙ sym c.in_default.ensures in
-    let at = file_at t.paths.entries c.args.to.now.bytes c.bytes.result.now c.in-Some-node_at.node c.bytes.ensures.value c.in-Some-node_at.ensures in
-    image_joined t.paths.entries c.put.new.paths.entries t.nodes.items key c.args.to.now.bytes c.in-Some-node_at.node t.formed can at c.in_ok-put.ensures.put
+    let at = file_at t.paths.entries c.args.to.now.bytes c.bytes.result.now c.in-Some-file.node c.bytes.ensures.value c.in-Some-file.ensures in
+    image_joined t.paths.entries c.put.new.paths.entries t.nodes.items key c.args.to.now.bytes c.in-Some-file.node t.formed can at c.in_ok-put.ensures.put
     ∙ ap (λ (p : List ℕ). joined p c.args.to.now.bytes (tree_image t)) same
