@@ -66,7 +66,7 @@ all_cut first nodes kept cut n = cut n ∙ go (get_or kept n true) refl
     go : (b : Bool) → get_or kept n true ≡ b → cond (ltb n (length kept) && not b) (halved (file_of first n)) (file_of first n) ≡ cond b (file_of first n) (halved (file_of first n))
     go true is = let e : (ltb n (length kept) && not true) ≡ false = grind (arith, nat_tests) in ap (λ (b : Bool). cond b (halved (file_of first n)) (file_of first n)) e
     go false is =
-        let lt : n < length kept = elim (cases_lt n (length kept)) [ | inl lt ↦ lt | inr ge ↦ absurd (let past : get_or kept n true ≡ true = get_or-eq_default kept true ge in cc) ] in
+        let lt : n < length kept = elim (cases_lt n (length kept)) [ inl lt ↦ lt | inr ge ↦ absurd (let past : get_or kept n true ≡ true = get_or-eq_default kept true ge in cc) ] in
         let e : (ltb n (length kept) && not false) ≡ true = grind (arith, nat_tests) in
         ap (λ (b : Bool). cond b (halved (file_of first n)) (file_of first n)) e
 
