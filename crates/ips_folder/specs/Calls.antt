@@ -1,6 +1,6 @@
 -- What the calls on a folder say, and runs of them.
-use Rattle.std.specs.Prelude.{◌≡◌, ◌⊎◌, ℕ, ◌≤◌, Bool, ◌||◌, IsTrue, List, Option, None, Result, IsErr, OnOk, OnErr}
-use Rattle.ips_outside.specs.Image.{Entry, Image, is_file, is_dir, has_parent}
+use Rattle.std.specs.Prelude.{◌≡◌, ◌⊎◌, ℕ, ◌≤◌, Bool, true, false, ◌||◌, IsTrue, List, Option, Some, None, Result, IsErr, OnOk, OnErr}
+use Rattle.ips_outside.specs.Image.{Entry, Dir, File, Link, Other, Image, is_file, is_dir, has_parent}
 use Rattle.ips_outside.specs.State.{State, MayChange, Within, settled}
 use Rattle.ips_outside.specs.Outside.{Outside, IsCall}
 
@@ -26,6 +26,14 @@ pub record CanMake (t : Image) (p : List ℕ) : Type 0 where
 pub record IsSole (t : Image) (p : List ℕ) : Type 0 where
   pub file : IsTrue (is_file (t.look p))
   pub sole : (q : List ℕ) → IsTrue (t.same p q) → q ≡ p
+
+-- a symbolic link stands there
+abbrev pub is_link : Option Entry → Bool
+is_link (Some (Dir m f)) = false
+is_link (Some (File m b)) = false
+is_link (Some (Link g)) = true
+is_link (Some Other) = false
+is_link None = false
 
 -- What stands there has a mode.
 abbrev pub has_mode : Option Entry → Bool

@@ -4,10 +4,15 @@
 
 mod call;
 mod folder;
+mod listing;
+mod log;
 mod memory;
+mod stop;
 
 pub use folder::Folder;
+pub use listing::{ListFault, Listing, Paths};
 pub use memory::MemFolder;
+pub use stop::{Choice, Stop};
 
 #[cfg(test)]
 mod tests;

@@ -1,5 +1,7 @@
 //! Calls on a small folder in memory, which of them fail, and what stands in it after each.
 
+mod crashes;
+
 ghost use Rattle.std.specs.Prelude.{◌≡◌, IsTrue, IfOk};
 ghost use Rattle.ips_folder.specs.Calls.{CanMake, IsSole, has_mode};
 ghost use Rattle.ips_folder.specs.Memory.{mem_folder};
@@ -19,11 +21,12 @@ fn folder(alloc: Global, dir: &RelPath, file: &RelPath, fails: &[u64]) -> Result
     let mut tree = Tree::new(alloc);
     tree.dir(alloc, dir, 0o755)?;
     tree.file(alloc, file, 0o644, b"ab")?;
-    Ok(MemFolder::new(alloc, tree, Vec::from_slice(alloc, fails)?)?)
+    let fails = Vec::from_slice(alloc, fails)?;
+    Ok(MemFolder::new(alloc, tree, fails, None)?)
 }
 
 // Whether something can be made at the path.
-fn is_free(alloc: Global, folder: &MemFolder, path: &RelPath) -> bool
+pub fn is_free(alloc: Global, folder: &MemFolder, path: &RelPath) -> bool
     ensures { IsTrue result → CanMake (mem_folder.state folder.now).held path.now.bytes }
 {
     match folder.tree().copy(alloc) {
@@ -33,7 +36,7 @@ fn is_free(alloc: Global, folder: &MemFolder, path: &RelPath) -> bool
 }
 
 // Whether what stands at the path has a mode.
-fn has_mode(folder: &MemFolder, path: &RelPath) -> bool
+pub fn has_mode(folder: &MemFolder, path: &RelPath) -> bool
     ensures { IsTrue result → IsTrue (has_mode ((mem_folder.state folder.now).held.look path.now.bytes)) }
 {
     matches!(

@@ -5,9 +5,10 @@ ghost use Rattle.ips_host.specs.Silent.{silent, silent_is_sane};
 
 use crate::fault::counted;
 use crate::root::Root;
-use ips_folder::Folder;
+use ips_folder::{Folder, ListFault, Listing};
 use ips_outside::{Failed, Look, Source};
 use ips_text::{RelPath, Text};
+use std::alloc::Global;
 use std::rt::{Processes, Runtime};
 
 /// The files below a root of the host, to be read and changed.
@@ -50,6 +51,21 @@ impl<R: Runtime + Processes> Source for HostFolder<R> {
 }
 
 impl<R: Runtime + Processes> Folder for HostFolder<R> {
+    fn list(&mut self, alloc: Global, dir: &RelPath) -> Result<Listing, ListFault> {
+        let answer = self.root.list(alloc, dir);
+        Ok(counted(&mut self.faults, answer)?)
+    }
+
+    fn target(&mut self, alloc: Global, path: &RelPath) -> Result<Vec<u8>, ListFault> {
+        let answer = self.root.target(alloc, path);
+        Ok(counted(&mut self.faults, answer)?)
+    }
+
+    fn same(&mut self, a: &RelPath, b: &RelPath) -> Result<bool, Failed> {
+        let answer = self.root.same(a, b);
+        counted(&mut self.faults, answer)
+    }
+
     fn make_dir(&mut self, path: &RelPath, mode: u16) -> Result<(), Failed> {
         let answer = self.root.make_dir(path, mode);
         counted(&mut self.faults, answer)
@@ -62,6 +78,21 @@ impl<R: Runtime + Processes> Folder for HostFolder<R> {
 
     fn append(&mut self, path: &RelPath, bytes: &[u8]) -> Result<(), Failed> {
         let answer = self.root.append(path, bytes);
+        counted(&mut self.faults, answer)
+    }
+
+    fn make_link(&mut self, path: &RelPath, target: &[u8]) -> Result<(), Failed> {
+        let answer = self.root.make_link(path, target);
+        counted(&mut self.faults, answer)
+    }
+
+    fn make_hard(&mut self, path: &RelPath, to: &RelPath) -> Result<(), Failed> {
+        let answer = self.root.make_hard(path, to);
+        counted(&mut self.faults, answer)
+    }
+
+    fn remove(&mut self, path: &RelPath) -> Result<(), Failed> {
+        let answer = self.root.remove(path);
         counted(&mut self.faults, answer)
     }
 

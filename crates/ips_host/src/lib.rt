@@ -6,6 +6,7 @@
 
 mod fault;
 mod folder;
+mod listing;
 mod root;
 mod sink;
 mod source;

@@ -3,15 +3,21 @@
 ghost use Rattle.std.specs.Prelude.{◌≤◌, IfOk, length};
 ghost use Rattle.ips_outside.specs.Outside.{IsSmall};
 
+use crate::listing::list;
 use crate::standing::{give_mode, is_directory, look_of, standing};
+use ips_folder::Listing;
 use ips_outside::Look;
 use ips_text::{RelPath, Text};
-use std::fs::{DirBuilder, Files, OpenOptions};
+use std::alloc::Global;
+use std::fs::{DirBuilder, Files, Metadata, OpenOptions};
 use std::io::{Error, ErrorKind, Read, Seek, SeekFrom, Write};
-use std::os::unix::fs::{DirBuilderExt, OpenOptionsExt};
+use std::os::unix::fs::{DirBuilderExt, MetadataExt, OpenOptionsExt};
 use std::process::{Command, Stdio};
 use std::rt::{Processes, Runtime};
-use std::{io, str};
+use std::{fs, io, str};
+
+// The greatest length of a path of the host, PATH_MAX of Linux.
+const TARGET_ROOM: usize = 4096;
 
 /// A root, which may be a link, and the files below it, where no link is followed. An empty root has none: an empty
 /// path of the host names nothing (POSIX, Pathname Resolution).
@@ -104,6 +110,64 @@ impl<R: Runtime + Processes> Root<R> {
         }
     }
 
+    /// Makes a symbolic link to a target, whatever bytes it has.
+    pub fn make_link(&mut self, path: &RelPath, target: &[u8]) -> io::Result<()> {
+        self.close();
+        let place = self.place_or_error(path)?;
+        if os::symlink(target, place.as_bytes()) == 0 {
+            Ok(())
+        } else {
+            Err(ErrorKind::Other.into())
+        }
+    }
+
+    /// Makes a further name of the file at `to`.
+    pub fn make_hard(&mut self, path: &RelPath, to: &RelPath) -> io::Result<()> {
+        self.close();
+        let place = self.place_or_error(path)?;
+        let (to, _) = self.file_or_error(to)?;
+        fs::hard_link(&self.rt, to.as_str(), place.as_str())
+    }
+
+    /// Takes away what stands at the path, with all below it. No link is followed.
+    pub fn remove(&mut self, path: &RelPath) -> io::Result<()> {
+        self.close();
+        let Some(place) = self.place(path)? else {
+            return Ok(());
+        };
+        match standing(&self.rt, place.as_str())? {
+            Some(metadata) if metadata.is_dir() => fs::remove_dir_all(&self.rt, place.as_str()),
+            Some(_) => fs::remove_file(&self.rt, place.as_str()),
+            None => Ok(()),
+        }
+    }
+
+    /// The children of a directory.
+    pub fn list(&mut self, alloc: Global, dir: &RelPath) -> io::Result<Listing> {
+        self.close();
+        let place = self.place_or_error(dir)?;
+        let mut names = self.rt.open_dir(place.as_str())?;
+        list(alloc, &mut names, dir)
+    }
+
+    /// The target of a symbolic link, whatever bytes it has.
+    pub fn target(&self, alloc: Global, path: &RelPath) -> io::Result<Vec<u8>> {
+        let place = self.place_or_error(path)?;
+        let mut buffer = [0; TARGET_ROOM];
+        match usize::try_from(os::readlink(place.as_bytes(), &mut buffer)) {
+            // Linux makes no link whose target fills the buffer.
+            Ok(count) if count < TARGET_ROOM => Ok(Vec::from_slice(alloc, &buffer[..count])?),
+            _ => Err(ErrorKind::Other.into()),
+        }
+    }
+
+    /// Whether two files are one: the same node of the same device.
+    pub fn same(&self, a: &RelPath, b: &RelPath) -> io::Result<bool> {
+        let (_, a) = self.file_or_error(a)?;
+        let (_, b) = self.file_or_error(b)?;
+        Ok(a.dev() == b.dev() && a.ino() == b.ino())
+    }
+
     /// Gives a directory or file just this mode.
     pub fn set_mode(&mut self, path: &RelPath, mode: u16) -> io::Result<()> {
         self.close();
@@ -165,6 +229,15 @@ impl<R: Runtime + Processes> Root<R> {
         match self.place(path)? {
             Some(place) => Ok(place),
             None => Err(nothing_there()),
+        }
+    }
+
+    // The host's path of the file at the path, and what the host says of it.
+    fn file_or_error(&self, path: &RelPath) -> io::Result<(String<R::A>, Metadata)> {
+        let place = self.place_or_error(path)?;
+        match standing(&self.rt, place.as_str())? {
+            Some(metadata) if metadata.is_file() => Ok((place, metadata)),
+            _ => Err(nothing_there()),
         }
     }
 

@@ -12,8 +12,8 @@ ghost use Rattle.ips_install.specs.declared.fault.InstallFault.TheVariants as fa
 
 use crate::fault::InstallFault;
 use crate::step::{Payload, Step};
-use ips_plain::Item;
 use ips_outside::{Look, Source};
+use ips_plain::Item;
 use ips_text::{Or, RelPath};
 use std::alloc::{AllocError, Global};
 

@@ -15,8 +15,8 @@ ghost use Rattle.ips_install.specs.declared.fault.InstallFault.TheVariants as fa
 use crate::delivered::Delivered;
 use crate::fault::InstallFault;
 use ips_folder::Folder;
-use ips_plain::{Item, next_line, read_line};
 use ips_outside::Look;
+use ips_plain::{Item, next_line, read_line};
 use ips_text::{Or, RelPath, parent};
 use std::alloc::Global;
 

@@ -45,7 +45,7 @@ fn image(alloc: Global, fails: &[u64]) -> Result<MemFolder, Fail> {
     let mut tree = Tree::new(alloc);
     tree.dir(alloc, &RelPath::parse(alloc, b"etc")?, 0o755)?;
     let fails = Vec::from_slice(alloc, fails)?;
-    Ok(MemFolder::new(alloc, tree, fails)?)
+    Ok(MemFolder::new(alloc, tree, fails, None)?)
 }
 
 #[test]

@@ -10,5 +10,6 @@ pub mod Order
 pub mod Trees
 pub mod Rooms
 pub mod Children
+pub mod Cuts
 pub mod Copies
 pub mod Tallies

@@ -24,7 +24,7 @@ bytes_eq-same_path (a ∷ p) [] = refl
 bytes_eq-same_path (a ∷ p) (b ∷ q) = λ i. nat_eq_equiv.symm a b i && bytes_eq-same_path p q i
 
 -- a key is found by its bytes
-is_eq-path : (p q : List ℕ) → is_eq (slice_cmp nat_cmp p q) ≡ same_path q p
+pub is_eq-path : (p q : List ℕ) → is_eq (slice_cmp nat_cmp p q) ≡ same_path q p
 is_eq-path p q = is_eq-slice_cmp p q ∙ bytes_eq-same_path p q
 
 pub kind_at-get : (entries : List (Vec ℕ Global × Kind)) (q : List ℕ) → lookup (is_at (λ k. slice_cmp nat_cmp q k.items)) entries ≡ kind_at entries q

@@ -46,7 +46,7 @@ file_of-get [] n d lt = absurd (omega arith)
 file_of-get (node ∷ nodes) zero d lt = refl
 file_of-get (node ∷ nodes) (suc n) d lt = file_of-get nodes n d (omega arith)
 
-file_at-node : (k : Option Kind) (n : ℕ) → node_of k ≡ Some n → k ≡ Some (kind.File n)
+pub file_at-node : (k : Option Kind) (n : ℕ) → node_of k ≡ Some n → k ≡ Some (kind.File n)
 file_at-node (Some (kind.Dir m foreign)) n is = cc
 file_at-node (Some (kind.File m)) n is = let one : m ≡ n = cc in ap (λ (x : ℕ). Some (kind.File x)) one
 file_at-node (Some (kind.Link target)) n is = cc
@@ -81,17 +81,17 @@ none_of None y h e = refl
 
 module _ (t : Image) (p : List ℕ) (formed : IsImage t) (absent : t.look p ≡ None) where
   -- nothing stands at or below the path
-  nothing_below : (q : List ℕ) → covers p q ≡ true → t.look q ≡ None
+  pub nothing_below : (q : List ℕ) → covers p q ≡ true → t.look q ≡ None
   nothing_below q c = go (same_path p q) refl
     where
       go : (s : Bool) → same_path p q ≡ s → t.look q ≡ None
       go true s = ap t.look (sym (same_path-true p q s)) ∙ absent
       go false s = none_of (t.look q) (t.look p) (formed.below_dirs p q c s) absent
 
-  alone : (q x : List ℕ) → covers p q ≡ true → t.same q x ≡ false
+  pub alone : (q x : List ℕ) → covers p q ≡ true → t.same q x ≡ false
   alone q x c = false_from_ne_true _ (λ one. let file = (formed.files q x one).0 in let none : is_file (t.look q) ≡ false = ap is_file (nothing_below q c) in cc)
 
-  alone-back : (q x : List ℕ) → covers p q ≡ true → t.same x q ≡ false
+  pub alone-back : (q x : List ℕ) → covers p q ≡ true → t.same x q ≡ false
   alone-back q x c = formed.sym x q ∙ alone q x c
 
 look_put : (s c : Bool) (e x : Option Entry) → (s ≡ true → c ≡ true) → (c ≡ true → x ≡ None) → cond s e x ≡ cond s e (cond c None x)
@@ -226,12 +226,12 @@ or_true : (b : Bool) → (b || true) ≡ true
 or_true true = refl
 or_true false = refl
 
-file_of-set_here : (nodes : List Node) (n : ℕ) (node : Node) → n < length nodes → file_of (set nodes n node) n ≡ Some (File node.mode node.bytes.items)
+pub file_of-set_here : (nodes : List Node) (n : ℕ) (node : Node) → n < length nodes → file_of (set nodes n node) n ≡ Some (File node.mode node.bytes.items)
 file_of-set_here [] n node lt = absurd (omega arith)
 file_of-set_here (x ∷ nodes) zero node lt = refl
 file_of-set_here (x ∷ nodes) (suc n) node lt = file_of-set_here nodes n node (omega arith)
 
-file_of-set_other : (nodes : List Node) (n m : ℕ) (node : Node) → (n ≡ m → ⊥) → file_of (set nodes n node) m ≡ file_of nodes m
+pub file_of-set_other : (nodes : List Node) (n m : ℕ) (node : Node) → (n ≡ m → ⊥) → file_of (set nodes n node) m ≡ file_of nodes m
 file_of-set_other [] n m node apart = refl
 file_of-set_other (x ∷ nodes) zero zero node apart = absurd (apart refl)
 file_of-set_other (x ∷ nodes) zero (suc m) node apart = refl

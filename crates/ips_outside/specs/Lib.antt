@@ -7,6 +7,7 @@ pub mod Tally
 pub mod Table
 pub mod Order
 pub mod Children
+pub mod Tearing
 pub mod Making
 pub mod Tree
 pub mod Memory

@@ -15,6 +15,7 @@ mod sink;
 mod source;
 mod subtree;
 mod table;
+mod tearing;
 mod tree;
 
 pub use calls::Calls;

@@ -9,6 +9,7 @@ ghost use Rattle.ips_outside.specs.Outside.{look_of, IsSmall, readable, IsRead};
 ghost use Rattle.ips_outside.specs.Table.{image_of, entry_of, node_of};
 ghost use Rattle.ips_outside.specs.Order.{HasRoom};
 ghost use Rattle.ips_outside.specs.Children.{is_foreign, AreChildren, bytes_of};
+ghost use Rattle.ips_outside.specs.Tearing.{IsTorn, in_set};
 ghost use Rattle.ips_outside.specs.Making.{fault_at, hard_fault_at, Refuses};
 
 use crate::listing::children;
@@ -16,9 +17,10 @@ use crate::outside::Look;
 use crate::refusal::TreeFault;
 use crate::subtree::{key, spare, take_away};
 use crate::table::{Kind, Node, Paths, find, mark_dir, node_at, put, set_dir_mode};
+use crate::tearing::{cut_others, kept_nodes};
 use ips_text::{Or, RelPath, parent};
 use std::alloc::{AllocError, Global};
-use std::collections::BTreeMap;
+use std::collections::{BTreeMap, BTreeSet};
 
 /// Directories, files, links and others by their paths. What stands above each of them is a directory, and each file
 /// is a name of a node, which has a mode and bytes. Modes are permission bits, below 0o10000.
@@ -305,6 +307,16 @@ impl Tree {
             Some(node) => self.nodes[node].mode = mode,
             None => set_dir_mode(&mut self.paths, name, mode),
         }
+    }
+
+    /// Cuts to half its length each file that has no name but these, as a crash may that tears them.
+    pub fn tear(&mut self, alloc: Global, names: &BTreeSet<Vec<u8>>) -> Result<(), AllocError>
+        ensures torn { OnOk result (IsTorn (in_set names.now) (tree_image self.old) (tree_image self.new)) }
+        ensures as_before { OnErr result (tree_image self.new ≡ tree_image self.old) }
+    {
+        let kept = kept_nodes(alloc, &self.paths, self.nodes.len(), names)?;
+        cut_others(&mut self.nodes, &kept);
+        Ok(())
     }
 
     /// Another tree that holds the same.

@@ -71,7 +71,7 @@ fn run_line(
 fn tells_each_outcome(rt: HostRuntime) -> Result<(), Fail> {
     let alloc = rt.alloc();
     let mut repo = MemSource::new(repository(alloc)?, Vec::new(alloc));
-    let mut image = MemFolder::new(alloc, Tree::new(alloc), Vec::new(alloc))?;
+    let mut image = MemFolder::new(alloc, Tree::new(alloc), Vec::new(alloc), None)?;
     // each on the image that the one before left
     for (line, number, report) in [
         (INSTALL_HELLO, 0, "done\n"),
@@ -147,7 +147,7 @@ fn image(alloc: Global, has_usr: bool, fails: Vec<u64>) -> Result<MemFolder, Fai
     if has_usr {
         tree.dir(alloc, &RelPath::parse(alloc, b"usr")?, 0o755)?;
     }
-    Ok(MemFolder::new(alloc, tree, fails)?)
+    Ok(MemFolder::new(alloc, tree, fails, None)?)
 }
 
 // The words, whether `usr` stands in the image before, and the calls on the repository and on the image of such a run:
