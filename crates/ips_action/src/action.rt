@@ -56,7 +56,7 @@ pub enum Preserve {
 }
 
 impl Action {
-    /// The first value of the key, or None where it doesn't stand.
+    /// The first value of the key, or None where it doesn't stand. It also says that an action always meets the table.
     pub fn get(&self, name: &str) -> Option<&str>
         ensures some { IfSome result (λ value. slice_get (values_of name.now self.now.attrs) 0 ≡ Some value.now) }
         ensures none { IfNone result (values_of name.now self.now.attrs ≡ []) }

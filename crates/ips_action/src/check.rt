@@ -32,13 +32,13 @@ pub enum Check {
     LinkTarget,
     /// The target of a hardlink: it leads to a path inside the image.
     HardlinkTarget,
-    /// Numbers joined by dots, as in a version's release.
+    /// Numbers without needless leading zeros joined by dots, as in a version's release.
     Numbers,
     /// Who chooses a mediated link: `vendor` or `site`.
     Priority,
     /// The name of a user or of a group of users: not empty, without `:` and `,`, and not beginning with `#`, `+` or `-`.
     Account,
-    /// The number of a user or of a group of users: decimal digits, below 2^32.
+    /// The number of a user or of a group of users: decimal digits without needless leading zeros, below 2^32.
     Id,
     /// A field of an account file: it has no `:`.
     Field,

@@ -7,7 +7,7 @@ use ips_text::Text;
 pub enum ActionFault {
     /// No action has the name that begins here.
     UnknownAction { place: u64 },
-    /// No line continues this byte, or the line ends here too early; or a payload word begins here, and the action has no
+    /// The first byte with which no line goes on, or the end, where the line stops too early; or a payload word begins here, and the action has no
     /// payload.
     BadWord { place: u64 },
     /// The quote isn't closed.

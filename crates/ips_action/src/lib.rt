@@ -28,4 +28,6 @@ pub use table::{Row, Times, rows};
 pub use target::leads_to;
 
 #[cfg(test)]
+mod rows_tests;
+#[cfg(test)]
 mod tests;

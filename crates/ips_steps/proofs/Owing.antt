@@ -102,12 +102,19 @@ open_laying text a t u o n h = record {
   ready = ready_laying text a t u o.ready n h;
 }
 
+-- modes that are loose at freed paths besides don't matter, since what stands there is free
+agrees_kept : (free loose : List ℕ → Bool) (t u : Image) → Agrees free (λ q. free q || loose q) t u → Agrees free loose t u
+agrees_kept free loose t u h = record { look = λ q f l. h.look q f (or_from _ _ f l); but_mode = h.but_mode; same = h.same }
+
 -- From an open gate with nothing touched, whatever the steps have changed and touched so far, the folder owes the same.
 pub owes_laying : (text : List Step → List ℕ) (b a : Image) (due : Bool) (old s : State) (o : IsOpen text a old.held) → HasNodes old.held → IsSettled old
-    → Within (freed (left_of text a old.held o.ready)) (met (stage_of old.held) (left_of text a old.held o.ready) old.held) old s → FolderOwes text b (Some a) due s
+    → Within (freed (left_of text a old.held o.ready)) (λ q. freed (left_of text a old.held o.ready) q || met (stage_of old.held) (left_of text a old.held o.ready) old.held q) old s
+    → FolderOwes text b (Some a) due s
 owes_laying text b a due old s o n clean w = record {
-  now = Open (open_laying text a old.held s.held o n w.agrees);
-  left = λ c may. Open (open_laying text a old.held c o n (agrees_less _ _ _ _ old.held c (λ q f. or_from _ _ f (clean.whole q)) (λ q l. or_from _ _ l (clean.modes q)) (within_crash _ _ old s c w may)));
+  now = Open (open_laying text a old.held s.held o n (agrees_kept _ _ old.held s.held w.agrees));
+  left = λ c may.
+      let crashed = agrees_less _ _ _ _ old.held c (λ q f. or_from _ _ f (clean.whole q)) (λ q l. or_from _ _ l (clean.modes q)) (within_crash _ _ old s c w may) in
+      Open (open_laying text a old.held c o n (agrees_kept _ _ old.held c crashed));
 }
 
 -- ---- as the gate opens and closes

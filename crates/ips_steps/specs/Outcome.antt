@@ -5,7 +5,7 @@ use Rattle.ips_outside.specs.Image.{Entry, Dir, File, Link, Image, is_file, with
 use Rattle.ips_outside.specs.Change.{names}
 use Rattle.ips_steps.specs.Steps.{Step, Gone, Fresh, Mode, Put, Symlink, Hard, Stage, bytes_of, freed, can_lay}
 
--- the path, or in place of a hard link its target
+-- the path that a step's file comes from: at a hard link's own path its target, else the path itself
 abbrev pub back : Step → List ℕ → List ℕ
 back (Gone p) q = q
 back (Fresh m p) q = q

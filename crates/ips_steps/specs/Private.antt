@@ -32,7 +32,7 @@ begins [] q = true
 begins (a ∷ p) [] = false
 begins (a ∷ p) (b ∷ q) = (a == b) && begins p q
 
--- the path is at or below the stage, the journal, the gate or a mark
+-- the path is at or below the stage, the journal or the gate, or begins as the names of marks do
 abbrev pub is_private : List ℕ → Bool
 is_private q = covers stage_name q || (covers journal_name q || (covers gate_name q || begins mark_front q))
 

@@ -11,7 +11,8 @@ ghost use Rattle.ips_steps.specs.Outcome.{outcome, all_fit, IsLaidByPath};
 ghost use Rattle.ips_steps.specs.Owed.{steps_left, IsReady, IsOpen, Owes, FolderOwes, IsPrivate};
 
 /// Laying again gives the same image: a sound list of a journal that is possible on an image is possible on each image
-/// that agrees with it but at the list's own paths and in the modes that it sets, and leaves the same there.
+/// that agrees with it but at and below the paths of its steps other than modes and in the modes that it sets, and leaves the same
+/// there.
 pub fn laid_again()
     ensures { (steps : List Step) (t u : Image) → IsImage t → IsTrue (allowed steps) → IsTrue (sound steps) → IsTrue (possible (stage_of t) steps t)
         → Agrees (freed steps) (met (stage_of t) steps t) t u → IsTrue (possible (stage_of u) steps u) × (after steps u ≡ after steps t) }
@@ -87,7 +88,8 @@ pub fn numbered_apart()
 /// image is already seen, it owes that. Where a thousand steps are laid and the next mark is made, it owes the same.
 pub fn still_owed()
     ensures laying { (text : List Step → List ℕ) (b a : Image) (due : Bool) (old s : State) (o : IsOpen text a old.held) → IsImage old.held → IsSettled old
-        → Within (freed (steps_left o.ready.marks o.ready.steps)) (met (stage_of old.held) (steps_left o.ready.marks o.ready.steps) old.held) old s
+        → Within (freed (steps_left o.ready.marks o.ready.steps))
+        (λ q. freed (steps_left o.ready.marks o.ready.steps) q || met (stage_of old.held) (steps_left o.ready.marks o.ready.steps) old.held q) old s
         → FolderOwes text b (Some a) due s }
     ensures opening { (text : List Step → List ℕ) (a : Image) (old s : State) → IsReady text a old.held → IsImage old.held → IsSettled old
         → Within (covers gate_name) nowhere old s → FolderOwes text (visible old.held) (Some a) false s }
