@@ -288,14 +288,12 @@ fn a_stop_ends_all(rt: HostRuntime) -> Result<(), Fail> {
     assert_eq!(rt; folder.sync(), Ok(()));
     assert_eq!(rt; folder.remove(&file), Ok(()));
     assert_eq!(rt; folder.look(&file), Err(Failed));
-    assert!(rt; has_mode(&folder, &path(alloc, "usr")?));
-    assert_eq!(rt; folder.set_mode(&path(alloc, "usr")?, 0), Err(Failed));
+    let usr = path(alloc, "usr")?;
+    assert!(rt; has_mode(&folder, &usr));
+    assert_eq!(rt; folder.set_mode(&usr, 0), Err(Failed));
     assert_eq!(rt; folder.sync(), Err(Failed));
     assert!(rt; show(alloc, folder.tree())?.as_str() == "");
-    assert_eq!(rt;
-        folder.tree().look(&path(alloc, "usr")?),
-        Look::Dir { mode: 0o755 }
-    );
+    assert_eq!(rt; folder.tree().look(&usr), Look::Dir { mode: 0o755 });
     assert!(rt; show(alloc, &folder.crashed(alloc)?)?.as_str() == "usr/a 644=abcd ");
     Ok(())
 }

@@ -1,9 +1,9 @@
 use Rattle.std.proofs.Common.{◌≡◌, ℕ, List, Some, sym, ◌∙◌, ap, subst}
 use Rattle.ips_outside.specs.Image.{File, Image, is_file}
 use Rattle.ips_outside.specs.Change.{placed}
-use Rattle.ips_outside.specs.State.{State}
 use Rattle.ips_outside.proofs.Placed.{look_placed, placed_sole}
 use Rattle.ips_folder.specs.Calls.{IsSole}
+use Rattle.ips_folder.specs.History.{Moment}
 use Rattle.ips_folder.proofs.tests.folder.Goals as goal
 
 -- a file that was made has one name
@@ -14,4 +14,4 @@ sole_at-placed p bytes mode t u is = subst (λ (v : Image). IsSole v p) (sym is)
 })
 
 pub returns : goal.returns
-returns c = sole_at-placed _ _ _ _ _ (ap (λ (s : State). s.held) c.in_ok-new.ensures.begins.state ∙ c.in_ok-file.ensures.made)
+returns c = sole_at-placed _ _ _ _ _ (ap (λ (m : Moment). m.state.held) c.in_ok-new.ensures.begins.moment ∙ c.in_ok-file.ensures.made)
