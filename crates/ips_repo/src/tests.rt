@@ -537,26 +537,3 @@ fn large_catalog(alloc: Global, stems: u32) -> Result<String, Fail> {
     text.push_str("\"x\": []}}")?;
     Ok(text)
 }
-
-#[test]
-fn catalogs_are_within_their_limits(rt: HostRuntime) -> Result<(), Fail> {
-    let alloc = rt.alloc();
-    for (stems, want) in [
-        (20_000, "stems 20000 versions 0"),
-        (20_001, "too large Stems 20001"),
-    ] {
-        let catalog = large_catalog(alloc, stems)?;
-        let mut source = SureSource::new(repository(alloc, catalog.as_bytes())?);
-        let told = told_of_repository(alloc, &mut source, "test")?;
-        assert!(rt; told.as_str() == want, "{told}");
-    }
-    // one byte too many, though they are no JSON text
-    let blanks = vec![in alloc; b' '; 67_108_865]?;
-    let mut source = SureSource::new(repository(alloc, blanks.as_slice())?);
-    let told = told_of_repository(alloc, &mut source, "test")?;
-    assert!(rt;
-        told.as_str() == "too large CatalogBytes 67108865",
-        "{told}"
-    );
-    Ok(())
-}
