@@ -1,0 +1,21 @@
+-- What the laws of dependencies speak of.
+use Rattle.std.specs.Prelude.{◌≡◌, ℕ, ◌⊎◌, List, None, Contains}
+use Rattle.ips_depend.specs.Selection.{Selection, Spared}
+use Rattle.ips_depend.specs.Dependency.{Dependency, mentions, wanted, stems}
+
+-- The dependency mentions the stem.
+abbrev pub IsMentioned : Dependency → List ℕ → Type 0
+IsMentioned d stem = Contains (stems (mentions d)) stem
+
+-- The dependency wants the stem.
+abbrev pub IsWanted : Dependency → List ℕ → Type 0
+IsWanted d stem = Contains (stems (wanted d)) stem
+
+-- Two selections agree at each stem that the dependency mentions, and so do what is spared.
+pub record Agree (d : Dependency) (s t : Selection) (spared saved : Spared) : Type 0 where
+  pub selection : (stem : List ℕ) → IsMentioned d stem → s stem ≡ t stem
+  pub spared : (stem : List ℕ) → IsMentioned d stem → spared stem ≡ saved stem
+
+-- Of the stems that the dependency mentions, only such as it doesn't want are absent in the smaller selection though they aren't in the other; at the rest the two agree.
+abbrev pub DropsUnwanted : Dependency → Selection → Selection → Type 0
+DropsUnwanted d smaller s = (stem : List ℕ) → IsMentioned d stem → (smaller stem ≡ s stem) ⊎ ((smaller stem ≡ None) × (IsWanted d stem → ⊥))

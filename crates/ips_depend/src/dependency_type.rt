@@ -1,0 +1,46 @@
+//! The types of dependencies.
+
+ghost use Rattle.std.specs.Prelude.{◌≡◌, IfNone, IfSome};
+ghost use Rattle.ips_depend.specs.declared.dependency_type.DependencyType as declared;
+ghost use Rattle.ips_depend.specs.Dependency.{type_name};
+
+/// The type of a dependency (pkg(7), "Depend Actions").
+#[derive(Clone, Copy, Debug, PartialEq, Eq, Drop)]
+pub enum DependencyType {
+    /// The package has to be there.
+    Require,
+    /// The package has to be new enough, where it is there.
+    Optional,
+    /// The package has to be at the version or a refinement of it, where it is there.
+    Incorporate,
+    /// The package may not be there.
+    Exclude,
+    /// The package has to be there, where another one is.
+    Conditional,
+    /// One of the packages has to be there.
+    RequireAny,
+    /// The package has to be there, unless it is spared.
+    Group,
+    /// The package has to be in the parent image, which is no matter of this one.
+    Parent,
+}
+
+impl DependencyType {
+    /// The type of this word; None where it is of no type that is known here, as `origin` and `group-any`.
+    pub fn named(word: &str) -> Option<DependencyType>
+        ensures some { IfSome result (λ t. word.now ≡ type_name t) }
+        ensures none { IfNone result ((t : declared.DependencyType) → word.now ≡ type_name t → ⊥) }
+    {
+        match word {
+            "require" => Some(DependencyType::Require),
+            "optional" => Some(DependencyType::Optional),
+            "incorporate" => Some(DependencyType::Incorporate),
+            "exclude" => Some(DependencyType::Exclude),
+            "conditional" => Some(DependencyType::Conditional),
+            "require-any" => Some(DependencyType::RequireAny),
+            "group" => Some(DependencyType::Group),
+            "parent" => Some(DependencyType::Parent),
+            _ => None,
+        }
+    }
+}

@@ -1,0 +1,91 @@
+//! Whether a dependency holds.
+
+ghost use Rattle.std.specs.Prelude.{◌≡◌};
+ghost use Rattle.std.specs.List.{list_any};
+ghost use Rattle.ips_depend.specs.Holds.{holds};
+ghost use Rattle.ips_depend.specs.Kept.{dependency_of};
+ghost use Rattle.ips_depend.specs.Matching as matching;
+ghost use Rattle.ips_depend.specs.Selection as selection;
+
+use crate::dependency_type::DependencyType;
+use crate::view::View;
+use ips_fmri::{Fmri, Version};
+
+/// Whether the dependency of this type that mentions these FMRIs holds.
+pub fn holds<V: View>(of_type: DependencyType, mentions: &[Fmri], view: &V) -> bool
+    ensures { result ≡ holds (V.selection view.now) (V.spares view.now) (dependency_of of_type mentions.now) }
+{
+    match (of_type, mentions) {
+        (DependencyType::Require, [fmri]) => is_present(view, fmri),
+        (DependencyType::Optional, [fmri]) => is_absent(view, fmri) || is_present(view, fmri),
+        (DependencyType::Incorporate, [fmri]) => is_absent(view, fmri) || is_within(view, fmri),
+        (DependencyType::Exclude, [fmri]) => !is_present(view, fmri),
+        (DependencyType::Conditional, [predicate, fmri]) => {
+            !is_present(view, predicate) || is_present(view, fmri)
+        }
+        (DependencyType::RequireAny, fmris) => is_any_present(view, fmris),
+        (DependencyType::Group, [fmri]) => {
+            !is_absent(view, fmri) || view.spared(fmri.stem.as_str())
+        }
+        _ => true,
+    }
+}
+
+// Whether one of the FMRIs is present.
+fn is_any_present<V: View>(view: &V, fmris: &[Fmri]) -> bool
+    ensures { result ≡ list_any (selection.is_present (V.selection view.now)) fmris.now }
+{
+    for fmri in fmris {
+        if is_present(view, fmri) {
+            return true;
+        }
+    }
+    false
+}
+
+// Whether the FMRI's stem is absent.
+fn is_absent<V: View>(view: &V, fmri: &Fmri) -> bool
+    ensures { result ≡ selection.is_absent (V.selection view.now) fmri.now }
+{
+    view.version(fmri.stem.as_str()).is_none()
+}
+
+// Whether the FMRI's stem is selected, at a version at least the FMRI's where it has one.
+fn is_present<V: View>(view: &V, fmri: &Fmri) -> bool
+    ensures { result ≡ selection.is_present (V.selection view.now) fmri.now }
+{
+    match view.version(fmri.stem.as_str()) {
+        Some(version) => reaches(version, &fmri.version),
+        None => false,
+    }
+}
+
+// Whether the FMRI's stem is selected, at a version that incorporates the FMRI's where it has one.
+fn is_within<V: View>(view: &V, fmri: &Fmri) -> bool
+    ensures { result ≡ selection.is_within (V.selection view.now) fmri.now }
+{
+    match view.version(fmri.stem.as_str()) {
+        Some(version) => is_admitted(version, &fmri.version),
+        None => false,
+    }
+}
+
+// Whether the version is at least the floor, where there is one.
+fn reaches(version: &Version, floor: &Option<Version>) -> bool
+    ensures { result ≡ matching.reaches floor.now version.now }
+{
+    match floor {
+        Some(floor) => version.at_least(floor),
+        None => true,
+    }
+}
+
+// Whether there is no limit, or the version incorporates it.
+fn is_admitted(version: &Version, limit: &Option<Version>) -> bool
+    ensures { result ≡ matching.admits limit.now version.now }
+{
+    match limit {
+        Some(limit) => version.incorporates(limit),
+        None => true,
+    }
+}
