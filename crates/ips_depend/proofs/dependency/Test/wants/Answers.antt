@@ -1,4 +1,4 @@
-use Rattle.ips_depend.proofs.Kept.{wanted_last}
+use Rattle.ips_depend.proofs.Wanted.{wanted_last}
 use Rattle.ips_depend.proofs.dependency.Test.wants.Goals as goal
 
 pub returns-clause-last : goal.returns-clause-last
