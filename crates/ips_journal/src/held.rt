@@ -7,6 +7,7 @@ ghost use Rattle.ips_journal.specs.Holding.{HaveRoom, Fits, IsReady, step_by, st
 use crate::parts::Parts;
 use ips_steps::{Sort, Step, Target};
 use ips_text::RelPath;
+use std::alloc::{AllocError, Global};
 use std::mem;
 
 /// What a step leaves of the parts that it was made of.
@@ -27,6 +28,15 @@ pub enum Held {
 }
 
 impl Held {
+    /// Parts with room for whatever a line can say.
+    pub fn new(alloc: Global) -> Result<Held, AllocError>
+        ensures ready { IfOk result IsReady }
+        ensures none_lent { IfOk result (λ held. step_in held ≡ None) }
+    {
+        let parts = Parts::new(alloc)?;
+        Ok(Held::Spare(parts))
+    }
+
     /// The parts; the step isn't lent any more.
     pub fn release(&mut self) -> Parts
         requires { IsReady self.old }

@@ -45,7 +45,8 @@ fn write_line(alloc: Global, step: &Step, text: &mut Vec<u8>) -> Result<(), Allo
         Step::Link { path, target } => write_link(alloc, path, target, text)?,
         Step::Hard { path, to } => write_hard(alloc, path, to, text)?,
     }
-    text.push(b'\n')
+    text.push(b'\n')?;
+    Ok(())
 }
 
 fn write_gone(alloc: Global, path: &RelPath, text: &mut Vec<u8>) -> Result<(), AllocError>
@@ -124,7 +125,8 @@ fn write_path(alloc: Global, path: &RelPath, text: &mut Vec<u8>) -> Result<(), A
     ensures { OnOk result (text.new.items ≡ text.old.items ++ shown path.now.bytes) }
 {
     let shown = show_path(alloc, path)?;
-    text.extend_from_slice(shown.as_str().as_bytes())
+    text.extend_from_slice(shown.as_str().as_bytes())?;
+    Ok(())
 }
 
 // A mode in four octal digits.
@@ -137,7 +139,8 @@ fn write_mode(mode: u16, text: &mut Vec<u8>) -> Result<(), AllocError>
         b'0' + (mode / 8 % 8) as u8,
         b'0' + (mode % 8) as u8,
     ];
-    text.extend_from_slice(&digits)
+    text.extend_from_slice(&digits)?;
+    Ok(())
 }
 
 // A number in decimal digits.
@@ -145,5 +148,6 @@ fn write_number(number: u64, text: &mut Vec<u8>) -> Result<(), AllocError>
     ensures { OnOk result (text.new.items ≡ text.old.items ++ decimal number) }
 {
     let mut buffer = Buffer::new();
-    text.extend_from_slice(buffer.format(number).as_bytes())
+    text.extend_from_slice(buffer.format(number).as_bytes())?;
+    Ok(())
 }
