@@ -5,3 +5,4 @@ pub mod FieldForms
 pub mod StepLines
 pub mod Journals
 pub mod JournalLaws
+pub mod PrivateNames
