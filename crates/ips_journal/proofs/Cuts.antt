@@ -65,6 +65,10 @@ none_lacks b bytes e = go (ltb (first_of_byte b bytes) (length bytes)) refl e
     go true t h = absurd cc
     go false t h = first_lacks b bytes (ltb-false _ _ t)
 
+pub some_there : (bytes : List ℕ) → eqb (length bytes) 0 ≡ false → 0 < length bytes
+some_there [] e = cc
+some_there (b ∷ bytes) e = omega arith
+
 -- a list that lacks the byte isn't cut at it
 pub not_cut : (b : ℕ) (bytes x a : List ℕ) → has b bytes ≡ false → bytes ≡ x ++ b ∷ a → ⊥
 not_cut b bytes [] a h e = let here : has b (b ∷ a) ≡ false = ap (has b) (sym e) ∙ h in eqb-false b b (or_parts (eqb b b) (has b a) here).0 refl

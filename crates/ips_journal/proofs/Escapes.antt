@@ -92,6 +92,44 @@ front_told slash (b ∷ front) rest (c ∷ list) hf hl e =
     let later = front_told slash front rest list hf.1 hl.1 once.1 in
     record { more = later.more; parts = ap₂ (λ (x : ℕ) (l : List ℕ). x ∷ l) (sym once.0) later.parts; behind = later.behind; bytes = later.bytes }
 
+-- the front isn't all, where more is behind it
+none_behind : (slash : Bool) (more : List ℕ) → length more ≡ 0 → escaped slash more ≡ []
+none_behind slash [] e = refl
+none_behind slash (b ∷ more) e = absurd (omega arith)
+
+-- where the front of the rest tells no byte, nothing else does
+pub none_told : (slash : Bool) (front rest list : List ℕ) → AreBytes front → AreBytes list → 0 < length rest → ((b : ℕ) (x : List ℕ) → b < 256 → rest ≡ escaped_byte slash b ++ x → ⊥) → escaped slash front ++ rest ≡ escaped slash list → ⊥
+none_told slash front rest list hf hl some none e =
+    let h = front_told slash front rest list hf hl e in
+    go h.more h.behind h.bytes
+  where
+    go : (more : List ℕ) → rest ≡ escaped slash more → AreBytes more → ⊥
+    go [] behind bytes = omega (arith, some, ap length behind)
+    go (b ∷ more) behind bytes = none b (escaped slash more) bytes.0 behind
+
+-- and where the front fills what there is room for, the list is longer
+pub too_long : (slash : Bool) (front rest list : List ℕ) → AreBytes front → AreBytes list → 0 < length rest → length list ≤ length front → escaped slash front ++ rest ≡ escaped slash list → ⊥
+too_long slash front rest list hf hl some le e =
+    let h = front_told slash front rest list hf hl e in
+    omega (arith, some, ap length h.behind, ap length (none_behind slash h.more (omega (arith, le, ap length h.parts, length-append front h.more))))
+
+-- each byte has an escaped form
+pub rest_shorter : (slash : Bool) (b : ℕ) (rest after : List ℕ) → rest ≡ escaped_byte slash b ++ after → length after < length rest
+rest_shorter slash b rest after e = rw e (go (is_kept slash b))
+  where
+    go : (s : Bool) → length after < length (cond s (b ∷ []) (37 ∷ digit_glyph true (b / 16) ∷ digit_glyph true (b % 16) ∷ []) ++ after)
+    go true = omega arith
+    go false = omega arith
+
+-- one more byte was told
+pub told_more : (slash : Bool) (bytes front rest after : List ℕ) (b : ℕ) → bytes ≡ escaped slash front ++ rest → rest ≡ escaped_byte slash b ++ after → bytes ≡ escaped slash (front ++ b ∷ []) ++ after
+told_more slash bytes front rest after b told e =
+    told
+    ∙ ap (λ (l : List ℕ). escaped slash front ++ l) e
+    ∙ sym (append_assoc (escaped slash front) (escaped_byte slash b) after)
+    ∙ ap (λ (l : List ℕ). (escaped slash front ++ l) ++ after) (sym (append-nil (escaped_byte slash b)))
+    ∙ ap (λ (l : List ℕ). l ++ after) (sym (escaped_more slash front (b ∷ [])))
+
 -- no two lists have one escaped form
 pub escaped_apart : (slash : Bool) (x y : List ℕ) → AreBytes x → AreBytes y → escaped slash x ≡ escaped slash y → x ≡ y
 escaped_apart slash [] [] hx hy e = refl

@@ -1,5 +1,5 @@
 -- The fields of lines, and the modes and numbers that they tell.
-use Rattle.std.proofs.Common.{◌≡◌, ℕ, zero, suc, ◌+◌, ◌-◌, ◌*◌, ◌/◌, ◌%◌, ◌^◌, ◌<◌, ◌≤◌, true, false, List, [], ◌∷◌, ◌++◌, length, inl, inr, refl, sym, ap, ◌∙◌, subst, arith}
+use Rattle.std.proofs.Common.{◌≡◌, ℕ, zero, suc, ◌+◌, ◌-◌, ◌*◌, ◌/◌, ◌%◌, ◌^◌, ◌<◌, ◌≤◌, true, false, List, [], ◌∷◌, ◌++◌, length, Option, Some, None, IfSome, inl, inr, refl, sym, ap, ◌∙◌, subst, arith}
 use Rattle.std.specs.Char.{digit_value}
 use Rattle.std.specs.Fmt.{decimal}
 use Rattle.std.specs.Str.Parse.{AllDigits, digits_value}
@@ -38,6 +38,10 @@ octal_text (a ∷ b ∷ []) e h = absurd (omega arith)
 octal_text (a ∷ b ∷ c ∷ []) e h = absurd (omega arith)
 octal_text (a ∷ b ∷ c ∷ d ∷ []) e h = four_digits a b c d h.0 h.1.0 h.1.1.0 h.1.1.1.0
 octal_text (a ∷ b ∷ c ∷ d ∷ f ∷ bytes) e h = absurd (omega arith)
+
+pub mode_found : (found : Option ℕ) (bytes : List ℕ) → length bytes ≡ 4 → IfSome found (λ n. IsOctal bytes × (n ≡ digits_value 8 bytes)) → IfSome found (λ n. n < 4096) → IfSome found (λ m. (m < 4096) × (bytes ≡ mode_text m))
+mode_found None bytes four octal small = tt
+mode_found (Some n) bytes four octal small = (small, octal_text bytes four octal.0.digits ∙ ap mode_text (sym octal.1))
 
 value_of_digit : (d : ℕ) → d < 8 → digit_value (48 + d) < 8
 value_of_digit d lt = grind arith

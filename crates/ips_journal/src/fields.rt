@@ -1,6 +1,6 @@
 //! The fields of a line, read without memory.
 
-ghost use Rattle.std.specs.Prelude.{◌≡◌, ◌∷◌, ◌++◌, ◌<◌, ◌≤◌, ◌==◌, ℕ, List, IsTrue, IsFalse, IfNone, IfSome, length, take};
+ghost use Rattle.std.specs.Prelude.{◌≡◌, [], ◌∷◌, ◌++◌, ◌<◌, ◌≤◌, ◌==◌, ℕ, List, true, IsFalse, IfNone, IfSome, length, take};
 ghost use Rattle.std.specs.List.{position};
 ghost use Rattle.std.specs.Fmt.{digit_glyph};
 ghost use Rattle.ips_text.specs.Quote.{AreBytes, is_plain as is_plain_byte};
@@ -66,6 +66,7 @@ pub fn decode(slash: bool, bytes: &[u8], buffer: &mut [u8]) -> Option<usize>
 
 // The byte that the front of the bytes tells, and what stands behind.
 fn next_byte(slash: bool, bytes: &[u8]) -> Option<(u8, &[u8])>
+    ensures small { IfSome result (λ x. x.0 < 256) }
     ensures some { IfSome result (λ x. bytes.now ≡ escaped_byte slash x.0 ++ x.1.now) }
     ensures none { IfNone result ((b : ℕ) (rest : List ℕ) → b < 256 → bytes.now ≡ escaped_byte slash b ++ rest → ⊥) }
 {
