@@ -6,3 +6,4 @@ pub mod StepLines
 pub mod Journals
 pub mod JournalLaws
 pub mod PrivateNames
+pub mod PartForms

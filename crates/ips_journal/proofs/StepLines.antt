@@ -89,13 +89,13 @@ pub two_fields : (x a y b : List ℕ) → has 32 x ≡ false → has 32 y ≡ fa
 two_fields x a y b hx hy e = cut_once 32 x a y b hx hy e
 
 -- a field has no blank
-mode_whole : (m : ℕ) → has 32 (mode_text m) ≡ false
+pub mode_whole : (m : ℕ) → has 32 (mode_text m) ≡ false
 mode_whole m = clear_lacks 32 (mode_text m) (omega arith) (mode_clear m)
 
-path_whole : (p : List ℕ) → IsPath p → has 32 (shown p) ≡ false
+pub path_whole : (p : List ℕ) → IsPath p → has 32 (shown p) ≡ false
 path_whole p h = clear_lacks 32 (shown p) (omega arith) (path_clear p h)
 
-number_whole : (n : ℕ) → n < 2 ^ 64 → has 32 (decimal n) ≡ false
+pub number_whole : (n : ℕ) → n < 2 ^ 64 → has 32 (decimal n) ≡ false
 number_whole n lt = clear_lacks 32 (decimal n) (omega arith) (number_clear n lt)
 
 moded_apart : (m k : ℕ) (p q : List ℕ) → m < 4096 → k < 4096 → IsPath p → IsPath q → mode_text m ++ 32 ∷ shown p ≡ mode_text k ++ 32 ∷ shown q → (m ≡ k) × (p ≡ q)
@@ -166,10 +166,10 @@ step_one_line s h n = lacks_append 10 (word (sort_of s)) (fields_of s) (word_lin
 pub end_one_line : (n : ℕ) → n < 2 ^ 64 → has 10 (end_line n) ≡ false
 end_one_line n lt = clear_lacks 10 (decimal n) (omega arith) (number_clear n lt)
 
-path_short : (p : List ℕ) → IsPath p → length p ≤ 1023
+pub path_short : (p : List ℕ) → IsPath p → length p ≤ 1023
 path_short p h = elim (cases_lt 1023 (length p)) [ inl long ↦ absurd (h TooLong (inl long)) | inr few ↦ few ]
 
-target_short : (t : List ℕ) → IsTarget t → length t ≤ 4095
+pub target_short : (t : List ℕ) → IsTarget t → length t ≤ 4095
 target_short t h = elim (cases_lt 4095 (length t)) [ inl long ↦ absurd (h target.TooLong long) | inr few ↦ few ]
 
 word_short : (s : Sort) → length (word s) ≤ 6

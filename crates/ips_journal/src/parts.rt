@@ -1,6 +1,6 @@
 //! The parts of a step, read from its line without memory.
 
-ghost use Rattle.std.specs.Prelude.{◌≡◌, ◌∷◌, ◌++◌, ◌<◌, ◌≤◌, ◌^◌, ◌&&◌, ◌==◌, ℕ, List, IsTrue, IsFalse, IfNone, IfSome, IfOk, length};
+ghost use Rattle.std.specs.Prelude.{◌≡◌, ◌∷◌, ◌++◌, ◌<◌, ◌≤◌, ◌^◌, ◌&&◌, ◌==◌, [], ℕ, List, IsTrue, IsFalse, IfNone, IfSome, IfOk, length};
 ghost use Rattle.std.specs.Fmt.{decimal as decimal_text};
 ghost use Rattle.ips_text.specs.Path.{IsPath};
 ghost use Rattle.ips_text.specs.Quote.{AreBytes, quoted, shown};
