@@ -7,3 +7,5 @@ pub mod Journals
 pub mod JournalLaws
 pub mod PrivateNames
 pub mod PartForms
+pub mod Calls
+pub mod Paths
