@@ -9,3 +9,4 @@ pub mod PrivateNames
 pub mod PartForms
 pub mod Calls
 pub mod Paths
+pub mod LinePieces
