@@ -10,3 +10,4 @@ pub mod PartForms
 pub mod Calls
 pub mod Paths
 pub mod LinePieces
+pub mod Standing
