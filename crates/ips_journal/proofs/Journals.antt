@@ -3,14 +3,14 @@ use lib.Chars.{codes}
 use Rattle.std.proofs.Common.{◌≡◌, ℕ, zero, suc, ◌+◌, ◌^◌, ◌<◌, ◌≤◌, Bool, true, false, ◌&&◌, ◌==◌, eqb, List, [], ◌∷◌, ◌++◌, length, take, inl, inr, ◌⊎◌, refl, sym, ap, ◌∙◌, subst, arith, append_assoc, append-nil, length-append}
 use Rattle.std.specs.List.{AllByRecursion}
 use Rattle.std.proofs.Math.Seq.{take-append_seam}
-use Rattle.std.proofs.lemmas.Bool.{and_parts, eqb-true}
+use Rattle.std.proofs.lemmas.Bool.{and_parts, eqb-true, true≢false}
 use Rattle.std.proofs.lemmas.Fmt.{decimal_injective}
 use Rattle.ips_steps.specs.Steps.{Step, Gone, Fresh, Mode, Put, Symlink, Hard}
 use Rattle.ips_steps.specs.Journal.{IsJournal, IsProper, AllProper, allowed, step_allowed, numbered}
 use Rattle.ips_journal.specs.Text.{head_line, line, step_line, step_lines, end_line, headed, journal_text}
 use Rattle.ips_journal.specs.Line.{has}
 use Rattle.ips_journal.specs.Reading.{puts_in}
-use Rattle.ips_journal.specs.Holding.{IsNumberSmall, IsSafe}
+use Rattle.ips_journal.specs.Holding.{IsNumberSmall, IsSafe, IsStepLine}
 use Rattle.ips_journal.proofs.Cuts.{cut_once}
 use Rattle.ips_journal.proofs.StepLines.{line_apart, not_end, step_one_line, end_one_line}
 
@@ -200,3 +200,16 @@ front_of steps front n x rest lt hs hf e = elim (fronts steps front (line (end_l
     whole : (more : List Step) → front ≡ steps ++ more → line (end_line n) x ≡ step_lines more rest → AllTold (steps ++ more) → GoesOnFrom front steps rest (line (end_line n) x)
     whole [] parts behind told = record { more = []; parts = sym (append-nil front ∙ parts ∙ append-nil steps); behind = sym behind }
     whole (s ∷ more) parts behind told = absurd (step_or_end s n (step_lines more rest) x (told_behind steps (s ∷ more) told).0 lt (sym behind))
+
+-- ---- a line that tells a step
+
+-- another step that the line tells is that one
+pub told_once : (s t : Step) (put : ℕ) (bytes : List ℕ) → put < 2 ^ 64 → IsProper t → IsNumberSmall t → bytes ≡ step_line t → IsStepLine bytes put s → s ≡ t
+told_once s t put bytes lt ht nt e is = line_apart s t is.safe.0 ht (number_small put s lt is.number) nt (sym is.spelled ∙ e)
+
+-- so it may name its paths, and its number is right
+pub told_allowed : (s t : Step) (put : ℕ) (bytes : List ℕ) (b : Bool) → put < 2 ^ 64 → IsProper t → IsNumberSmall t → bytes ≡ step_line t → b ≡ step_allowed t → b ≡ false → IsStepLine bytes put s → ⊥
+told_allowed s t put bytes b lt ht nt e is off h = true≢false (sym h.safe.1 ∙ ap step_allowed (told_once s t put bytes lt ht nt e h) ∙ sym is ∙ off)
+
+pub told_next : (s t : Step) (put : ℕ) (bytes : List ℕ) (b : Bool) → put < 2 ^ 64 → IsProper t → IsNumberSmall t → bytes ≡ step_line t → b ≡ numbered put (t ∷ []) → b ≡ false → IsStepLine bytes put s → ⊥
+told_next s t put bytes b lt ht nt e is off h = true≢false (sym h.number ∙ ap (λ (x : Step). numbered put (x ∷ [])) (told_once s t put bytes lt ht nt e h) ∙ sym is ∙ off)

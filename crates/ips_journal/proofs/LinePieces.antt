@@ -1,11 +1,11 @@
 -- A line that is read piece by piece.
-use Rattle.std.proofs.Common.{◌≡◌, ℕ, suc, ◌+◌, ◌-◌, ◌^◌, ◌<◌, ◌≤◌, true, false, List, [], ◌∷◌, ◌++◌, length, take, drop, take-add, take_all, inl, inr, refl, sym, ap, ◌∙◌, subst, arith, append_assoc, length-append, length-drop, length-take, length-take-le}
+use Rattle.std.proofs.Common.{◌≡◌, ℕ, suc, ◌+◌, ◌-◌, ◌^◌, ◌<◌, ◌≤◌, true, false, List, [], ◌∷◌, ◌++◌, length, Option, take, drop, take-add, take_all, inl, inr, refl, sym, ap, ◌∙◌, subst, arith, append_assoc, length-append, length-drop, length-take, length-take-le}
 use Rattle.std.proofs.Math.Seq.{drop-append-add}
 use Rattle.std.proofs.lemmas.Bool.{cases_lt}
 use Rattle.std.proofs.lemmas.List.{take-take, take-append-drop, drop-drop}
 use Rattle.ips_outside.specs.Outside.{IsRead}
 use Rattle.ips_journal.specs.Text.{line}
-use Rattle.ips_journal.specs.Line.{has, IsCut, BeginsLine}
+use Rattle.ips_journal.specs.Line.{has, IsCut, BeginsLine, IsLineFound}
 use Rattle.ips_journal.proofs.Cuts.{lacks_append}
 
 -- The buffer has so many bytes of what lies ahead, none of them a newline.
@@ -81,3 +81,8 @@ filled_within file buffer place filled is le within = omega (arith, length-take-
 
 pub piece_read : (file now buffer : List ℕ) (place filled count : ℕ) → now ≡ file → IsRead now (place + filled) buffer count → IsRead (drop place file) filled buffer count
 piece_read file now buffer place filled count same read = read_ahead file buffer place filled count (subst (λ (f : List ℕ). IsRead f (place + filled) buffer count) same read)
+
+-- what was found in a file is found in the text that it is
+pub line_found : (text now buffer : List ℕ) (place : ℕ) (found seen : Option ℕ) → now ≡ text → found ≡ seen → (place ≤ length now → length now < 2 ^ 64 → IsLineFound (drop place now) buffer found) → place ≤ length text → length text < 2 ^ 64 → IsLineFound (drop place text) buffer seen
+line_found text now buffer place found seen e is h within small =
+    subst (IsLineFound (drop place text) buffer) is (subst (λ (t : List ℕ). place ≤ length t → length t < 2 ^ 64 → IsLineFound (drop place t) buffer found) e h within small)

@@ -1,14 +1,20 @@
 -- What reading and writing a line do to where a reader or a text stands.
 use Rattle.std.proofs.Common.{◌≡◌, ℕ, suc, ◌+◌, ◌-◌, ◌^◌, ◌<◌, ◌≤◌, min, true, false, List, [], ◌∷◌, ◌++◌, length, take, drop, map, get_or, Option, Some, None, Result, Ok, Err, inl, inr, refl, sym, ap, ◌∙◌, subst, arith, append_assoc, append-nil, length-append, length-drop, length-take-le}
-use Rattle.std.proofs.Math.Seq.{take-append-add}
+use Rattle.std.proofs.Math.Seq.{take-append-add, take-append_seam}
 use Rattle.std.proofs.lemmas.List.{take_more, map-append, drop-drop, drop_all}
 use Rattle.ips_steps.specs.Steps.{Step}
 use Rattle.ips_steps.specs.Journal.{IsJournal, numbered}
 use Rattle.ips_journal.specs.Text.{head_line, line, step_line, step_lines, end_line, headed, journal_text}
 use Rattle.ips_journal.specs.Bad.{HasBadStep, GoesOn, IsBadLine}
 use Rattle.ips_journal.specs.Line.{has, BeginsLine}
-use Rattle.ips_journal.specs.Reading.{Reading, Stands, puts_in, text_from}
-use Rattle.ips_journal.specs.Holding.{IsHeaded, IsStepLine, clipped}
+use Rattle.ips_journal.specs.Reading.{Reading, Stands, IsFaultOf, puts_in, text_from}
+use Rattle.ips_journal.specs.Holding.{IsHeaded, IsStepLine, ReadMeans, TellsMore, clipped}
+use Rattle.ips_journal.specs.declared.cursor.Cursor.{Cursor}
+use Rattle.ips_journal.specs.declared.parts.Parts.{Parts}
+use Rattle.ips_steps.specs.declared.step.Sort.{Sort}
+use Rattle.std.specs.Result.{IsErrAnd}
+use Rattle.ips_journal.specs.declared.fault.StepFault.{StepFault}
+use Rattle.ips_journal.specs.declared.fault.StepFault.TheVariants.{BadJournal, FolderFault}
 use Rattle.ips_journal.proofs.Cuts.{cut_once, not_cut}
 use Rattle.ips_journal.proofs.StepLines.{step_one_line, end_one_line, step_short, end_short}
 use Rattle.ips_journal.proofs.Journals.{journal_more, journal_last, last_told, puts_few, puts_more, lines_more, headed_long}
@@ -154,3 +160,20 @@ module _ (text : List ℕ) (front : List Step) (r : Reading) (h : Stands (headed
     more_behind number is there e =
         let third : number ≡ suc (suc (length front + 1)) = omega (arith, e, h.steps, long, small) in
         subst (IsBadLine text) (sym third) (inr (record { front = front; rest = drop (r.place + (count + 1)) text; listed = h.listed; counted = refl; parts = whole is; there = omega (arith, there, length-drop (r.place + (count + 1)) text) }))
+
+    -- what a fault behind the last line tells
+    pub fault_behind : (now : List ℕ) (place number : ℕ) (f : StepFault) → bytes ≡ end_line r.steps → now ≡ text → place ≡ r.place + (count + 1) → number ≡ clipped (clipped r.steps 2) 1 → TellsMore number place now f → IsFaultOf text f
+    fault_behind now place number (BadJournal told) is same at e h = subst (IsBadLine text) (sym h.0) (more_behind number is (omega (arith, h.1, at, ap length same)) e)
+    fault_behind now place number FolderFault is same at e h = tt
+
+    pub end_behind : (now : List ℕ) (place : ℕ) → bytes ≡ end_line r.steps → now ≡ text → place ≡ r.place + (count + 1) → length now ≤ place → IsJournal front × (text ≡ journal_text front)
+    end_behind now place is same at h = all_read is (omega (arith, h, at, ap length same))
+
+-- a buffer that was read into as a slice
+pub kept_buffer : (new old : List ℕ) (len : ℕ) → length new ≡ len → take len (new ++ drop (length new) old) ≡ new
+kept_buffer new old len e = ap (λ (n : ℕ). take n (new ++ drop (length new) old)) (sym e) ∙ take-append_seam new (drop (length new) old)
+
+-- a fault that is handed on
+pub fault_handed : (text : List ℕ) (front : List Step) (new : Cursor) (parts : Parts) (r : Result (Option Sort) StepFault) (f : StepFault) → IsErrAnd r (λ e. e ≡ f) → IsFaultOf text f → ReadMeans text front new parts r
+fault_handed text front new parts (Ok x) f h is = absurd h
+fault_handed text front new parts (Err e) f h is = subst (IsFaultOf text) (sym h) is

@@ -16,7 +16,8 @@ use Rattle.ips_steps.specs.declared.step.Sort.{Sort}
 use Rattle.ips_steps.specs.declared.step.Sort.TheVariants as sort
 use Rattle.ips_journal.specs.Text.{mode_text, word, fields_of, step_line, end_line}
 use Rattle.ips_journal.specs.Line.{has}
-use Rattle.ips_journal.specs.Holding.{IsNumberSmall}
+use Rattle.ips_journal.specs.Holding.{IsNumberSmall, step_by}
+use Rattle.ips_journal.specs.declared.parts.Parts.{Parts}
 use Rattle.ips_journal.proofs.Cuts.{cut_once, clear_lacks, lacks_append}
 use Rattle.ips_journal.proofs.FieldForms.{mode_apart, mode_clear, number_clear, number_long, path_clear, path_apart, shown_long, target_clear, target_apart, quoted_long}
 
@@ -194,3 +195,19 @@ step_short s h n = omega (arith, word_short (sort_of s), fields_short s h n, len
 
 pub end_short : (n : ℕ) → n < 2 ^ 64 → length (end_line n) < 16384
 end_short n lt = omega (arith, number_long n lt, length-append (codes "end ") (decimal n))
+
+-- ---- what a line tells
+
+pub end_same : (digits rest line : List ℕ) → line ≡ codes "end " ++ digits → line ≡ codes "end " ++ rest → digits ≡ rest
+end_same digits rest line e f = let same : codes "end " ++ digits ≡ codes "end " ++ rest = sym e ∙ f in cc
+
+sort_by : (sort : Sort) (parts : Parts) → sort_of (step_by sort parts) ≡ sort
+sort_by sort.Gone parts = refl
+sort_by sort.Fresh parts = refl
+sort_by sort.Mode parts = refl
+sort_by sort.Put parts = refl
+sort_by sort.Link parts = refl
+sort_by sort.Hard parts = refl
+
+pub line_by : (sort : Sort) (parts : Parts) (fields line : List ℕ) → line ≡ word sort ++ fields → fields ≡ fields_of (step_by sort parts) → line ≡ step_line (step_by sort parts)
+line_by sort parts fields line e f = e ∙ ap (λ (l : List ℕ). word sort ++ l) f ∙ ap (λ (s : Sort). word s ++ fields_of (step_by sort parts)) (sym (sort_by sort parts))

@@ -78,6 +78,7 @@ impl Parts {
         requires buffer { 4095 ≤ length buffer.old }
         ensures room { HaveRoom self.new }
         ensures found { IsTrue result → IsProper (step_by sort self.new) × (fields.now ≡ fields_of (step_by sort self.new)) }
+        ensures small { IsTrue result → IsNumberSmall (step_by sort self.new) }
         ensures none { IsFalse result → (s : Step) → sort_of s ≡ sort → IsProper s → IsNumberSmall s → fields.now ≡ fields_of s → ⊥ }
     {
         match sort {
@@ -117,6 +118,7 @@ impl Parts {
         ensures room { HaveRoom self.new }
         ensures path { IsTrue result → IsPath self.new.path.bytes }
         ensures mode { IsTrue result → self.new.mode < 4096 }
+        ensures small { IsTrue result → self.new.stage < 2 ^ 64 }
         ensures found { IsTrue result → fields.now ≡ decimal_text self.new.stage ++ 32 ∷ (mode_text self.new.mode ++ 32 ∷ shown self.new.path.bytes) }
         ensures none { IsFalse result → (n m : ℕ) (p : List ℕ) → n < 2 ^ 64 → m < 4096 → IsPath p
             → fields.now ≡ decimal_text n ++ 32 ∷ (mode_text m ++ 32 ∷ shown p) → ⊥ }
