@@ -5,11 +5,23 @@ ghost use Rattle.ips_outside.specs.Outside.{Reads, readable, IsRead};
 ghost use Rattle.ips_journal.specs.Line.{IsLineFound};
 
 use crate::fields::first_place;
-use ips_outside::{Failed, Source};
+use ips_outside::{Failed, Look, Source};
 use ips_text::RelPath;
 
 /// How many bytes are read at a time.
 const PIECE: usize = 512;
+
+/// How many bytes can be read at the path: none where no file stands.
+pub fn size_of<S: Source>(source: &mut S, path: &RelPath) -> Result<u64, Failed>
+    ensures small { IfOk result (λ size. size < 2 ^ 64) }
+    ensures found { IsTrue (S.outside.tells source.old) → IfOk result (λ size. length (readable ((S.outside.state source.old).held.look path.now.bytes)) ≡ size) }
+    ensures reads { Reads S.outside source.old source.new (IsErr result) }
+{
+    match source.look(path)? {
+        Look::File { size, .. } => Ok(size),
+        Look::Absent | Look::Dir { .. } | Look::Link | Look::Other => Ok(0),
+    }
+}
 
 /// Reads the line that begins at the place into the front of the buffer, and answers its length without the newline. None
 /// where no newline stands among as many bytes as the buffer has. What is behind the line in the buffer isn't told.

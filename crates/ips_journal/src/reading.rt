@@ -11,7 +11,7 @@ ghost use Rattle.ips_journal.specs.declared.fault.StepFault.TheVariants as fault
 
 use crate::cursor::Cursor;
 use crate::fault::StepFault;
-use crate::lines::read_line;
+use crate::lines::{read_line, size_of};
 use crate::parts::Parts;
 use crate::words::{behind_word, sort_of_line};
 use ips_folder::Folder;
@@ -97,7 +97,7 @@ impl Cursor {
         self.read_head(folder)
     }
 
-    // Reads the first line. A look tells before that the size of the file is below 2^64.
+    // Reads the first line. A look tells before that the file has fewer than 2^64 bytes.
     fn read_head<F: Folder>(&mut self, folder: &mut F) -> Result<(), StepFault>
         ensures head { IsTrue (F.outside.tells folder.old) → OnOk result (IsHeaded (journal_of (F.outside.state folder.old).held) self.new.place) }
         ensures bad { IsTrue (F.outside.tells folder.old) → IfErr result (IsFaultOf (journal_of (F.outside.state folder.old).held)) }
@@ -106,7 +106,7 @@ impl Cursor {
         ensures reads { Reads F.outside folder.old folder.new (result ≡ Err fault.FolderFault) }
     {
         self.line = 1;
-        let _seen = folder.look(&self.journal)?;
+        let _size = size_of(folder, &self.journal)?;
         let found = read_line(folder, &self.journal, 0, self.buffer.as_mut_slice())?;
         let Some(length) = found else {
             return Err(StepFault::BadJournal { line: 1 });
