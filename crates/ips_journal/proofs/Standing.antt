@@ -1,5 +1,5 @@
 -- What reading and writing a line do to where a reader or a text stands.
-use Rattle.std.proofs.Common.{◌≡◌, ℕ, suc, ◌+◌, ◌-◌, ◌^◌, ◌<◌, ◌≤◌, min, true, false, List, [], ◌∷◌, ◌++◌, length, take, drop, map, get_or, Option, Some, None, Result, Ok, Err, inl, inr, refl, sym, ap, ◌∙◌, subst, arith, append_assoc, append-nil, length-append, length-drop, length-take-le}
+use Rattle.std.proofs.Common.{◌≡◌, ℕ, suc, ◌+◌, ◌-◌, ◌^◌, ◌<◌, ◌≤◌, min, true, false, List, [], ◌∷◌, ◌++◌, length, take, drop, map, get_or, Option, Some, None, IsTrue, Result, Ok, Err, inl, inr, refl, sym, ap, ◌∙◌, subst, arith, append_assoc, append-nil, length-append, length-drop, length-take-le}
 use Rattle.std.proofs.Math.Seq.{take-append-add, take-append_seam}
 use Rattle.std.proofs.lemmas.List.{take_more, map-append, drop-drop, drop_all}
 use Rattle.ips_steps.specs.Steps.{Step}
@@ -8,11 +8,12 @@ use Rattle.ips_journal.specs.Text.{head_line, line, step_line, step_lines, end_l
 use Rattle.ips_journal.specs.Bad.{HasBadStep, GoesOn, IsBadLine}
 use Rattle.ips_journal.specs.Line.{has, BeginsLine}
 use Rattle.ips_journal.specs.Reading.{Reading, Stands, IsFaultOf, puts_in, text_from}
-use Rattle.ips_journal.specs.Holding.{IsHeaded, IsStepLine, ReadMeans, TellsMore, clipped}
+use Rattle.ips_journal.specs.Holding.{IsHeaded, IsStepLine, ReadMeans, TellsMore, clipped, seen, step_by}
 use Rattle.ips_journal.specs.declared.cursor.Cursor.{Cursor}
 use Rattle.ips_journal.specs.declared.parts.Parts.{Parts}
 use Rattle.ips_steps.specs.declared.step.Sort.{Sort}
 use Rattle.std.specs.Result.{IsErrAnd}
+use Rattle.std.specs.Prelude.{is_some}
 use Rattle.ips_journal.specs.declared.fault.StepFault.{StepFault}
 use Rattle.ips_journal.specs.declared.fault.StepFault.TheVariants.{BadJournal, FolderFault}
 use Rattle.ips_journal.proofs.Cuts.{cut_once, not_cut}
@@ -177,3 +178,15 @@ kept_buffer new old len e = ap (λ (n : ℕ). take n (new ++ drop (length new) o
 pub fault_handed : (text : List ℕ) (front : List Step) (new : Cursor) (parts : Parts) (r : Result (Option Sort) StepFault) (f : StepFault) → IsErrAnd r (λ e. e ≡ f) → IsFaultOf text f → ReadMeans text front new parts r
 fault_handed text front new parts (Ok x) f h is = absurd h
 fault_handed text front new parts (Err e) f h is = subst (IsFaultOf text) (sym h) is
+
+-- the step that is lent is no part of where a reader stands
+pub lending : (before : List ℕ → List ℕ) (text : List ℕ) (front : List Step) (c : Cursor) (a b : Option Step) → Stands before text front (seen c a) → Stands before text front (seen c b)
+lending before text front c a b h = record { listed = h.listed; steps = h.steps; puts = h.puts; line = h.line; place = h.place; begins = h.begins; small = h.small }
+
+-- a step was read, and is lent
+pub step_read : (text : List ℕ) (front : List Step) (old new : Cursor) (held lent : Option Step) (parts : Parts) (sort : Sort) (found : Option Sort) (s : Step) → found ≡ Some sort
+    → (Stands (text_from front) text front (seen old None) → ReadMeans text front new parts (Ok found)) → new.is_open ≡ is_some found → Stands (text_from front) text front (seen old held) → s ≡ step_by sort parts
+    → (x : Step) × (IsTrue new.is_open × Stands (text_from (front ++ x ∷ [])) text (front ++ x ∷ []) (seen new lent)) × (Some s ≡ Some x)
+step_read text front old new held lent parts sort found s is means opened h made =
+    let now : ReadMeans text front new parts (Ok (Some sort)) = subst (λ (f : Option Sort). ReadMeans text front new parts (Ok f)) is (means (lending (text_from front) text front old held None h)) in
+    (step_by sort parts, (opened ∙ ap is_some is, lending (text_from (front ++ step_by sort parts ∷ [])) text (front ++ step_by sort parts ∷ []) new None lent now), ap (λ (x : Step). Some x) made)
