@@ -58,9 +58,9 @@ module _ (ahead old new : List ℕ) (filled : ℕ) (is : IsFilled ahead old fill
       let long : length (take (filled + end) new) ≡ filled + end = length-take-le (filled + end) new (omega arith) in
       let behind : List ℕ = drop (end + 1) piece ++ drop (filled + count) ahead in
       let whole : ahead ≡ take (filled + end) new ++ 10 ∷ behind =
-          sym (take-append-drop (filled + count) ahead)
-          ∙ ap (λ (l : List ℕ). l ++ drop (filled + count) ahead) (sym (piece_more count read) ∙ take-add filled count new ∙ ap (λ (l : List ℕ). take filled new ++ l) cut.parts ∙ sym (append_assoc (take filled new) (take end piece) (10 ∷ drop (end + 1) piece)) ∙ ap (λ (l : List ℕ). l ++ 10 ∷ drop (end + 1) piece) (sym front))
-          ∙ append_assoc (take (filled + end) new) (10 ∷ drop (end + 1) piece) (drop (filled + count) ahead) in
+      sym (take-append-drop (filled + count) ahead)
+      ∙ ap (λ (l : List ℕ). l ++ drop (filled + count) ahead) (sym (piece_more count read) ∙ take-add filled count new ∙ ap (λ (l : List ℕ). take filled new ++ l) cut.parts ∙ sym (append_assoc (take filled new) (take end piece) (10 ∷ drop (end + 1) piece)) ∙ ap (λ (l : List ℕ). l ++ 10 ∷ drop (end + 1) piece) (sym front))
+      ∙ append_assoc (take (filled + end) new) (10 ∷ drop (end + 1) piece) (drop (filled + count) ahead) in
       record {
         parts = whole ∙ ap (λ (l : List ℕ). take (filled + end) new ++ 10 ∷ l) (sym (tail_is (take (filled + end) new) behind ahead whole) ∙ ap (λ (n : ℕ). drop (n + 1) ahead) long);
         one_line = ap (has 10) front ∙ lacks_append 10 (take filled new) (take end piece) (ap (has 10) kept ∙ is.lacks) cut.first_lacks;

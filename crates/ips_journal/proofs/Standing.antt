@@ -120,13 +120,13 @@ module _ (text : List ℕ) (front : List Step) (r : Reading) (h : Stands (headed
     pub no_such_line : (number : ℕ) → number ≡ clipped r.steps 2 → ((s : Step) → IsStepLine bytes r.puts s → ⊥) → (bytes ≡ end_line r.steps → ⊥) → IsBadLine text number
     no_such_line number is no_step no_end = bad_line number is
         (λ s more j e.
-          let told = last_told front s j in
-          let next = journal_last front s j in
-          no_step s (record {
-            safe = next.safe;
-            number = ap (λ (n : ℕ). numbered n (s ∷ [])) h.puts ∙ next.number;
-            spelled = (cut_once 10 bytes (drop (count + 1) (drop r.place text)) (step_line s) more one_line (step_one_line s told.0 told.1) (sym parts ∙ e)).0;
-          }))
+        let told = last_told front s j in
+        let next = journal_last front s j in
+        no_step s (record {
+          safe = next.safe;
+          number = ap (λ (n : ℕ). numbered n (s ∷ [])) h.puts ∙ next.number;
+          spelled = (cut_once 10 bytes (drop (count + 1) (drop r.place text)) (step_line s) more one_line (step_one_line s told.0 told.1) (sym parts ∙ e)).0;
+        }))
         (λ more e. no_end ((cut_once 10 bytes (drop (count + 1) (drop r.place text)) (end_line (length front)) more one_line (end_one_line (length front) h.listed.count) (sym parts ∙ e)).0 ∙ ap end_line (sym h.steps)))
 
     -- the line tells a step

@@ -242,12 +242,7 @@ fn puts_of(sort: Sort) -> u64
 }
 
 // Reads a step from its line into the parts, where it may stand behind so many contents.
-fn read_step(
-    parts: &mut Parts,
-    decoded: &mut [u8],
-    line: &[u8],
-    puts: u64,
-) -> Option<Sort>
+fn read_step(parts: &mut Parts, decoded: &mut [u8], line: &[u8], puts: u64) -> Option<Sort>
     requires room { HaveRoom parts.old }
     requires decoded { 4095 ≤ list_length decoded.old }
     ensures room { HaveRoom parts.new }

@@ -58,12 +58,18 @@ fn tells_the_first_bad_line(rt: HostRuntime) -> Result<(), Fail> {
         (b"journal 1\ngone /a\nend 1\n".as_slice(), 2),
         (b"journal 1\ngone a b\nend 1\n".as_slice(), 2),
         (b"journal 1\ngone var\nend 1\n".as_slice(), 2),
-        (b"journal 1\ngone a\ngone var/pkg/stage/0\nend 2\n".as_slice(), 3),
+        (
+            b"journal 1\ngone a\ngone var/pkg/stage/0\nend 2\n".as_slice(),
+            3,
+        ),
         // a mode of three digits
         (b"journal 1\nfresh 755 a\nend 1\n".as_slice(), 2),
         // contents that aren't numbered one after another
         (b"journal 1\nput 1 0644 a\nend 1\n".as_slice(), 2),
-        (b"journal 1\nput 0 0644 a\nput 0 0644 b\nend 2\n".as_slice(), 3),
+        (
+            b"journal 1\nput 0 0644 a\nput 0 0644 b\nend 2\n".as_slice(),
+            3,
+        ),
         // no target, and one that isn't quoted so
         (b"journal 1\nlink a \nend 1\n".as_slice(), 2),
         (b"journal 1\nlink a %2f\nend 1\n".as_slice(), 2),
@@ -167,11 +173,39 @@ fn is_next(
 fn lends_each_step_with_its_parent_and_file(rt: HostRuntime) -> Result<(), Fail> {
     let alloc = rt.alloc();
     let mut reader = StepReader::new(alloc)?;
-    let journal = b"journal 1\ngone usr%20a/b\nmode 0700 var/pkg\nput 0 0644 a\nlink a/b %2Fc\nhard a/c a/b\nend 5\n";
+    let journal =
+        b"journal 1\ngone usr%20a/b\nmode 0700 var/pkg\nput 0 0644 a\nlink a/b %2Fc\nhard a/c a/b\nend 5\n";
     let mut folder = folder(alloc, journal, 0)?;
-    assert!(rt; is_next(&mut reader, &mut folder, Sort::Gone, b"usr a/b", b"usr a", b""));
-    assert!(rt; is_next(&mut reader, &mut folder, Sort::Mode, b"var/pkg", b"var", b""));
-    assert!(rt; is_next(&mut reader, &mut folder, Sort::Put, b"a", b"", b"var/pkg/stage/0"));
+    assert!(rt;
+        is_next(
+            &mut reader,
+            &mut folder,
+            Sort::Gone,
+            b"usr a/b",
+            b"usr a",
+            b""
+        )
+    );
+    assert!(rt;
+        is_next(
+            &mut reader,
+            &mut folder,
+            Sort::Mode,
+            b"var/pkg",
+            b"var",
+            b""
+        )
+    );
+    assert!(rt;
+        is_next(
+            &mut reader,
+            &mut folder,
+            Sort::Put,
+            b"a",
+            b"",
+            b"var/pkg/stage/0"
+        )
+    );
     assert!(rt; reader.line() == 4);
     assert!(rt; is_next(&mut reader, &mut folder, Sort::Link, b"a/b", b"a", b""));
     assert!(rt; is_next(&mut reader, &mut folder, Sort::Hard, b"a/c", b"a", b""));

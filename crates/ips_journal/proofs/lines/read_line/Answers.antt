@@ -53,7 +53,7 @@ returns-in-Some-clause-found g c = λ told within small.
     let filled = c.loop-filled.invariant.found told within small in
     let same = ap (λ (s : State). readable (s.held.look c.args.path.now.bytes)) c.loop-filled.invariant.reads.kept in
     let read = piece_read file (readable ((g.S.Source.outside.state c.loop-filled.source).held.look c.args.path.now.bytes)) (drop c.loop-filled.filled c.read_piece.new.buffer) c.args.place c.loop-filled.filled c.in_ok-count.count same
-        (c.in_ok-count.ensures.found (c.loop-filled.invariant.reads.call.same_kind ∙ told) (omega (arith, filled_within file c.loop-filled.buffer c.args.place c.loop-filled.filled filled c.loop-filled.invariant.within within, small))) in
+    (c.in_ok-count.ensures.found (c.loop-filled.invariant.reads.call.same_kind ∙ told) (omega (arith, filled_within file c.loop-filled.buffer c.args.place c.loop-filled.filled filled c.loop-filled.invariant.within within, small))) in
     line_at (drop c.args.place file) c.loop-filled.buffer c.read_piece.new.buffer c.loop-filled.filled filled c.in_ok-count.ensures.before c.in_ok-count.count c.in-Some.end read (omega (arith, c.in_ok-count.ensures.fits, c.read_piece.auto.buffer)) cut.0 cut.1
 
 pub loop-filled-preserved : goal.loop-filled-preserved
@@ -66,7 +66,7 @@ loop-filled-preserved g c = record {
       let filled = c.loop-filled.invariant.found told within small in
       let same = ap (λ (s : State). readable (s.held.look c.args.path.now.bytes)) c.loop-filled.invariant.reads.kept in
       let read = piece_read file (readable ((g.S.Source.outside.state c.loop-filled.source).held.look c.args.path.now.bytes)) (drop c.loop-filled.filled c.read_piece.new.buffer) c.args.place c.loop-filled.filled c.in_ok-count.count same
-          (c.in_ok-count.ensures.found (c.loop-filled.invariant.reads.call.same_kind ∙ told) (omega (arith, filled_within file c.loop-filled.buffer c.args.place c.loop-filled.filled filled c.loop-filled.invariant.within within, small))) in
+      (c.in_ok-count.ensures.found (c.loop-filled.invariant.reads.call.same_kind ∙ told) (omega (arith, filled_within file c.loop-filled.buffer c.args.place c.loop-filled.filled filled c.loop-filled.invariant.within within, small))) in
       let count_same : c.loop-filled.filled + c.in_ok-count.count - c.loop-filled.filled ≡ c.in_ok-count.count = omega arith in
       more_filled (drop c.args.place file) c.loop-filled.buffer c.read_piece.new.buffer c.loop-filled.filled filled c.in_ok-count.ensures.before c.in_ok-count.count read
       (ap (λ (n : ℕ). has 10 (take n (drop c.loop-filled.filled c.read_piece.new.buffer))) (sym count_same) ∙ none_lacks 10 (take (c.loop-filled.filled + c.in_ok-count.count - c.loop-filled.filled) (drop c.loop-filled.filled c.read_piece.new.buffer)) (sym c.in_default.is ∙ c.first_place.ensures));

@@ -60,6 +60,6 @@ returns-in_err-check_end-clause-means g c = λ told front h.
     let last = ap (take n) (sym (still.buffer ∙ kept)) ∙ c.is_at_end.ensures.found c.if-not-is_at_end.false ∙ ap end_line still.steps in
     fault_handed text front c.check_end.new.self c.take_step.new.parts c.from_residual-in_err-check_end.result c.in_err-check_end.field-0.0 c.from_residual-in_err-check_end.ensures.1
     (fault_behind text front (seen c.args.self.now None) h.0 h.1 (take n buffer) n found.parts found.one_line sized
-      (journal_of (g.F.Source.outside.state c.read_line.new.source).held) (c.take_step.new.self.place + (n + 1)) _ c.in_err-check_end.field-0.0 last same (ap (λ (k : ℕ). k + (n + 1)) still.place)
-      (ap (λ (k : ℕ). clipped k 1) (still.line ∙ c.saturating_add-self.ensures))
-      (c.in_err-check_end.ensures.more (c.read_line.ensures.reads.call.same_kind ∙ told) (omega (arith, still.place, h.1, line_within text front (seen c.args.self.now None) h.0 h.1 (take n buffer) n found.parts found.one_line sized))))
+    (journal_of (g.F.Source.outside.state c.read_line.new.source).held) (c.take_step.new.self.place + (n + 1)) _ c.in_err-check_end.field-0.0 last same (ap (λ (k : ℕ). k + (n + 1)) still.place)
+    (ap (λ (k : ℕ). clipped k 1) (still.line ∙ c.saturating_add-self.ensures))
+    (c.in_err-check_end.ensures.more (c.read_line.ensures.reads.call.same_kind ∙ told) (omega (arith, still.place, h.1, line_within text front (seen c.args.self.now None) h.0 h.1 (take n buffer) n found.parts found.one_line sized))))
