@@ -2,6 +2,7 @@
 use Rattle.std.specs.Prelude.{ℕ, ◌+◌, ◌^◌, ◌<◌, Bool, true, not, ◌&&◌, ◌==◌, IsTrue, List, [], ◌∷◌, length}
 use Rattle.ips_text.specs.Ancestry.{covers}
 use Rattle.ips_text.specs.Path.{IsPath}
+use Rattle.ips_text.specs.Quote.{AreBytes}
 use Rattle.ips_steps.specs.Targets.{IsTarget}
 use Rattle.ips_steps.specs.Steps.{Step, Gone, Fresh, Mode, Put, Symlink, Hard}
 use Rattle.ips_steps.specs.Private.{records_name, is_private}
@@ -24,13 +25,13 @@ abbrev pub allowed : List Step → Bool
 allowed [] = true
 allowed (s ∷ rest) = step_allowed s && allowed rest
 
--- the step has proper parts: its paths are paths, its mode is one of permission bits, and what a symbolic link says is a target
+-- the step has proper parts: its paths are paths, its mode is one of permission bits, and what a symbolic link says is a target of bytes
 abbrev pub IsProper : Step → Type 0
 IsProper (Gone p) = IsPath p
 IsProper (Fresh m p) = IsPath p × (m < 4096)
 IsProper (Mode m p) = IsPath p × (m < 4096)
 IsProper (Put n m p) = IsPath p × (m < 4096)
-IsProper (Symlink p target) = IsPath p × IsTarget target
+IsProper (Symlink p target) = IsPath p × IsTarget target × AreBytes target
 IsProper (Hard p to) = IsPath p × IsPath to
 
 -- each step of the list has proper parts
