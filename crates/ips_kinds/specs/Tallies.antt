@@ -39,6 +39,11 @@ abbrev pub number_of : Sort → List Step → ℕ
 number_of s [] = 0
 number_of s (x ∷ rest) = cond (same_sort s (sort_of x)) (number_of s rest + 1) (number_of s rest)
 
+-- how many steps the kinds have finished together
+abbrev pub tally_of_all : List Carrier → ℕ
+tally_of_all [] = 0
+tally_of_all (k ∷ rest) = k.finished + tally_of_all rest
+
 -- The kind at this place takes the sort, and none before it does.
 pub record IsFirstTaker (kinds : List Carrier) (s : Sort) (place : ℕ) : Type 0 where
   pub kind : Carrier
