@@ -1,6 +1,6 @@
 //! The steps of a journal laid one after another.
 
-ghost use Rattle.std.specs.Prelude.{◌≡◌, ◌×◌, ◌<◌, ℕ, IsTrue, IsFalse, IsSome, IfErr, OnOk, OnErr, Some, Err, length};
+ghost use Rattle.std.specs.Prelude.{◌≡◌, ◌<◌, ℕ, IsTrue, IsFalse, IsSome, IfErr, OnOk, OnErr, Some, Err, length};
 ghost use Rattle.ips_outside.specs.Outside.{HasCause, Reads};
 ghost use Rattle.ips_steps.specs.Steps.{Step as StepMeant, laid, can_lay, stage_of};
 ghost use Rattle.ips_steps.specs.View.{sort_of};

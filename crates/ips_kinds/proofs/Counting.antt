@@ -17,11 +17,11 @@ counted_more (x ∷ rest) s kinds = counted_more rest s (counted (sort_of x) kin
 
 taken_counted : (s r : Sort) (kinds : List Carrier) → taken (counted s kinds) r ≡ taken kinds r
 taken_counted s r [] = refl
-taken_counted s r (k ∷ rest) = go (k.sorts s)
+taken_counted s r (k ∷ rest) = go (k.sorts s) (taken_counted s r rest)
   where
-    go : (c : Bool) → taken (cond c (one_more k ∷ rest) (k ∷ counted s rest)) r ≡ (k.sorts r || taken rest r)
-    go true = refl
-    go false = ap (λ (b : Bool). k.sorts r || b) (taken_counted s r rest)
+    go : (c : Bool) → taken (counted s rest) r ≡ taken rest r → taken (cond c (one_more k ∷ rest) (k ∷ counted s rest)) r ≡ (k.sorts r || taken rest r)
+    go true later = refl
+    go false later = ap (λ (b : Bool). k.sorts r || b) later
 
 -- what the kinds take stays
 pub taken_stays : (steps : List Step) (r : Sort) (kinds : List Carrier) → taken (all_counted steps kinds) r ≡ taken kinds r
@@ -63,11 +63,11 @@ passed_over s [] place k is off = cc
 passed_over s (x ∷ rest) zero k is off =
     let one : x ≡ k = cc in
     ap (λ (c : Bool). slice_get (cond c (one_more x ∷ rest) (x ∷ counted s rest)) 0) (ap (λ (y : Carrier). y.sorts s) one ∙ off) ∙ is
-passed_over s (x ∷ rest) (suc place) k is off = go (x.sorts s)
+passed_over s (x ∷ rest) (suc place) k is off = go (x.sorts s) (passed_over s rest place k is off)
   where
-    go : (c : Bool) → slice_get (cond c (one_more x ∷ rest) (x ∷ counted s rest)) (suc place) ≡ Some k
-    go true = is
-    go false = passed_over s rest place k is off
+    go : (c : Bool) → slice_get (counted s rest) place ≡ Some k → slice_get (cond c (one_more x ∷ rest) (x ∷ counted s rest)) (suc place) ≡ Some k
+    go true later = is
+    go false later = later
 
 -- the first that takes it counts one more
 counts_one : (s : Sort) (kinds : List Carrier) (place : ℕ) (k : Carrier) → slice_get kinds place ≡ Some k → k.sorts s ≡ true → taken (take place kinds) s ≡ false → slice_get (counted s kinds) place ≡ Some (one_more k)
@@ -82,30 +82,32 @@ counts_one s (x ∷ rest) (suc place) k is takes first =
 taken_front : (s r : Sort) (kinds : List Carrier) (n : ℕ) → taken (take n (counted s kinds)) r ≡ taken (take n kinds) r
 taken_front s r kinds zero = refl
 taken_front s r [] (suc n) = refl
-taken_front s r (k ∷ rest) (suc n) = go (k.sorts s)
+taken_front s r (k ∷ rest) (suc n) = go (k.sorts s) (taken_front s r rest n)
   where
-    go : (c : Bool) → taken (take (suc n) (cond c (one_more k ∷ rest) (k ∷ counted s rest))) r ≡ (k.sorts r || taken (take n rest) r)
-    go true = refl
-    go false = ap (λ (b : Bool). k.sorts r || b) (taken_front s r rest n)
+    go : (c : Bool) → taken (take n (counted s rest)) r ≡ taken (take n rest) r → taken (take (suc n) (cond c (one_more k ∷ rest) (k ∷ counted s rest))) r ≡ (k.sorts r || taken (take n rest) r)
+    go true later = refl
+    go false later = ap (λ (b : Bool). k.sorts r || b) later
 
 -- a kind of one sort alone, the first that takes it, counts the steps of that sort
 pub own_steps : (kinds : List Carrier) (steps : List Step) (s : Sort) (place : ℕ) (k : Carrier) → slice_get kinds place ≡ Some k → ((r : Sort) → k.sorts r ≡ same_sort s r) → taken (take place kinds) s ≡ false
     → k.finished + number_of s steps < 2 ^ 64 → slice_get (all_counted steps kinds) place ≡ Some (record { sorts = k.sorts; finished = k.finished + number_of s steps })
 own_steps kinds [] s place k is one first few = is ∙ ap (λ (n : ℕ). Some (record { sorts = k.sorts; finished = n })) (let same : k.finished ≡ k.finished + 0 = omega arith in same)
 own_steps kinds (x ∷ rest) s place k is one first few = go (same_sort s (sort_of x)) refl
+    (λ k' is' one' few'. own_steps (counted (sort_of x) kinds) rest s place k' is' one' (taken_front (sort_of x) s kinds place ∙ first) few')
   where
-    go : (c : Bool) → same_sort s (sort_of x) ≡ c → slice_get (all_counted rest (counted (sort_of x) kinds)) place ≡ Some (record { sorts = k.sorts; finished = k.finished + cond c (number_of s rest + 1) (number_of s rest) })
-    go true same =
+    go : (c : Bool) → same_sort s (sort_of x) ≡ c
+        → ((k' : Carrier) → slice_get (counted (sort_of x) kinds) place ≡ Some k' → ((r : Sort) → k'.sorts r ≡ same_sort s r) → k'.finished + number_of s rest < 2 ^ 64
+            → slice_get (all_counted rest (counted (sort_of x) kinds)) place ≡ Some (record { sorts = k'.sorts; finished = k'.finished + number_of s rest }))
+        → slice_get (all_counted rest (counted (sort_of x) kinds)) place ≡ Some (record { sorts = k.sorts; finished = k.finished + cond c (number_of s rest + 1) (number_of s rest) })
+    go true same later =
         let own : sort_of x ≡ s = sym (same_sort-true s (sort_of x) same) in
-        let more : (k.finished + 1) + number_of s rest < 2 ^ 64 = let all : k.finished + cond (same_sort s (sort_of x)) (number_of s rest + 1) (number_of s rest) < 2 ^ 64 = few in let here : k.finished + (number_of s rest + 1) < 2 ^ 64 = subst (λ (c : Bool). k.finished + cond c (number_of s rest + 1) (number_of s rest) < 2 ^ 64) same all in omega (arith, here) in
-        let tally : min (k.finished + 1) (2 ^ 64 - 1) ≡ k.finished + 1 = omega (arith, more) in
+        let here : k.finished + (number_of s rest + 1) < 2 ^ 64 = subst (λ (c : Bool). k.finished + cond c (number_of s rest + 1) (number_of s rest) < 2 ^ 64) same few in
+        let tally : min (k.finished + 1) (2 ^ 64 - 1) ≡ k.finished + 1 = omega (arith, here) in
         let stands : slice_get (counted (sort_of x) kinds) place ≡ Some (record { sorts = k.sorts; finished = k.finished + 1 }) =
             counts_one (sort_of x) kinds place k is (ap k.sorts own ∙ one s ∙ same_sort-self s) (ap (λ (r : Sort). taken (take place kinds) r) own ∙ first) ∙ ap (λ (n : ℕ). Some (record { sorts = k.sorts; finished = n })) tally in
-        own_steps (counted (sort_of x) kinds) rest s place (record { sorts = k.sorts; finished = k.finished + 1 }) stands one (taken_front (sort_of x) s kinds place ∙ first) more
-        ∙ ap (λ (n : ℕ). Some (record { sorts = k.sorts; finished = n })) (let same_sum : (k.finished + 1) + number_of s rest ≡ k.finished + (number_of s rest + 1) = omega arith in same_sum)
-    go false other =
-        let fewer : k.finished + number_of s rest < 2 ^ 64 = subst (λ (c : Bool). k.finished + cond c (number_of s rest + 1) (number_of s rest) < 2 ^ 64) other few in
-        own_steps (counted (sort_of x) kinds) rest s place k (passed_over (sort_of x) kinds place k is (one (sort_of x) ∙ other)) one (taken_front (sort_of x) s kinds place ∙ first) fewer
+        let sum : (k.finished + 1) + number_of s rest ≡ k.finished + (number_of s rest + 1) = omega arith in
+        later (record { sorts = k.sorts; finished = k.finished + 1 }) stands one (omega (arith, here)) ∙ ap (λ (n : ℕ). Some (record { sorts = k.sorts; finished = n })) sum
+    go false other later = later k (passed_over (sort_of x) kinds place k is (one (sort_of x) ∙ other)) one (subst (λ (c : Bool). k.finished + cond c (number_of s rest + 1) (number_of s rest) < 2 ^ 64) other few)
 
 -- no tally of them reaches its last value within so many steps
 abbrev pub AllRoom : ℕ → List Carrier → Type 0
@@ -122,21 +124,22 @@ room_less n (k ∷ rest) all = (omega (arith, all.0), room_less n rest all.1)
 
 room_left : (n : ℕ) (s : Sort) (kinds : List Carrier) → AllRoom (n + 1) kinds → AllRoom n (counted s kinds)
 room_left n s [] all = tt
-room_left n s (k ∷ rest) all = go (k.sorts s)
+room_left n s (k ∷ rest) all = go (k.sorts s) (room_left n s rest all.1)
   where
-    go : (c : Bool) → AllRoom n (cond c (one_more k ∷ rest) (k ∷ counted s rest))
-    go true = (omega (arith, all.0), room_less n rest all.1)
-    go false = (omega (arith, all.0), room_left n s rest all.1)
+    go : (c : Bool) → AllRoom n (counted s rest) → AllRoom n (cond c (one_more k ∷ rest) (k ∷ counted s rest))
+    go true later = (omega (arith, all.0), room_less n rest all.1)
+    go false later = (omega (arith, all.0), later)
 
 one_together : (n : ℕ) (s : Sort) (kinds : List Carrier) → taken kinds s ≡ true → AllRoom (n + 1) kinds → tally_of_all (counted s kinds) ≡ tally_of_all kinds + 1
 one_together n s [] takes all = cc
-one_together n s (k ∷ rest) takes all = go (k.sorts s) refl
+one_together n s (k ∷ rest) takes all = go (k.sorts s) refl (λ later. one_together n s rest later all.1)
   where
-    go : (c : Bool) → k.sorts s ≡ c → tally_of_all (cond c (one_more k ∷ rest) (k ∷ counted s rest)) ≡ (k.finished + tally_of_all rest) + 1
-    go true is = let room = all.0 in omega (arith, room)
-    go false is =
-        let later : taken rest s ≡ true = subst (λ (c : Bool). (c || taken rest s) ≡ true) is takes in
-        let more = one_together n s rest later all.1 in
+    go : (c : Bool) → k.sorts s ≡ c → (taken rest s ≡ true → tally_of_all (counted s rest) ≡ tally_of_all rest + 1)
+        → tally_of_all (cond c (one_more k ∷ rest) (k ∷ counted s rest)) ≡ (k.finished + tally_of_all rest) + 1
+    go true is later = let room = all.0 in omega (arith, room)
+    go false is later =
+        let there : taken rest s ≡ true = subst (λ (c : Bool). (c || taken rest s) ≡ true) is takes in
+        let more = later there in
         omega (arith, more)
 
 -- all kinds together count all steps
