@@ -1,20 +1,20 @@
 -- Runs of calls that change what one step changes.
-use Rattle.std.proofs.Common.{◌≡◌, ℕ, Bool, true, false, ◌||◌, List, [], ◌∷◌, Result, refl, sym, ◌∙◌, ap}
+use Rattle.std.proofs.Common.{◌≡◌, ℕ, Bool, true, false, ◌||◌, List, [], ◌∷◌, Option, Some, None, MatchOption, Result, refl, sym, ◌∙◌, ap, subst}
 use Rattle.std.proofs.lemmas.Bool.{and_from, or_parts, or_from, false_from_ne_true}
 use Rattle.ips_text.specs.Ancestry.{same_path, covers}
 use Rattle.ips_outside.specs.Image.{Image}
-use Rattle.ips_outside.specs.Change.{names}
+use Rattle.ips_outside.specs.Change.{placed, names}
 use Rattle.ips_outside.specs.State.{State, nowhere}
 use Rattle.ips_outside.specs.Outside.{Outside, IsOutside, Reads}
 use Rattle.ips_folder.specs.Calls.{Writes, Keeps, IsSole}
-use Rattle.ips_steps.specs.Steps.{Step, Gone, Fresh, Mode, Put, Symlink, Hard, path_of, frees, freed, meets, stage_of}
+use Rattle.ips_steps.specs.Steps.{Step, Gone, Fresh, Mode, Put, Symlink, Hard, path_of, frees, freed, meets, stage_of, stage_path}
 use Rattle.ips_steps.specs.Journal.{step_allowed}
 use Rattle.ips_steps.specs.View.{sort_of}
 use Rattle.ips_steps.specs.declared.step.Sort.TheVariants as sort
 use Rattle.ips_text.proofs.Ancestry.{uncovered, covers-self}
 use Rattle.ips_outside.proofs.Moments.{agrees_less}
 use Rattle.ips_folder.proofs.Runs.{begun, keeps_then, keeps_wider, one_write, one_read}
-use Rattle.ips_steps.proofs.PrivateNames.{same_stage}
+use Rattle.ips_steps.proofs.PrivateNames.{same_stage, content_kept}
 use Rattle.ips_apply.specs.Acting.{cleared}
 use Rattle.ips_apply.specs.Applied.{ChangedBy}
 
@@ -57,6 +57,13 @@ module _ {F : Type 0} (o : Outside F) (sane : IsOutside o) (s : Step) where
   contents_stay old new may run = same_stage (s ∷ []) _ (o.state old).held (o.state new).held (and_from (step_allowed s) true may refl)
       (agrees_less (frees s) _ (freed (s ∷ [])) _ (o.state old).held (o.state new).held (λ q off. (or_parts (frees s q) false off).0) (λ q off. off) run.now.agrees)
 
+-- a look, and then another mode
+pub looked_then_set : {F : Type 0} (o : Outside F) (sane : IsOutside o) (p : List ℕ) (old mid new : F) (failure : Type 0) → Reads o old mid failure → (to : State) {T E : Type 0} (result : Result T E) → Writes o nowhere (names (o.state mid).held p) to mid new result
+    → o.tells old ≡ true → Keeps o nowhere (names (o.state old).held p) old new
+looked_then_set o sane p old mid new failure read to result w told = keeps_then o nowhere (names (o.state old).held p) old mid new
+    (one_read o sane nowhere (names (o.state old).held p) old mid failure read)
+    (subst (λ (t : State). Keeps o nowhere (names t.held p) mid new) read.kept (one_write o sane mid new nowhere (names (o.state mid).held p) to result (read.call.same_kind ∙ told) w))
+
 -- a step other than a mode frees what is at and below its path
 pub frees_path : (s : Step) → (sort_of s ≡ sort.Mode → ⊥) → (q : List ℕ) → frees s q ≡ covers (path_of s) q
 frees_path (Gone p) other q = refl
@@ -65,3 +72,21 @@ frees_path (Mode m p) other q = absurd (other refl)
 frees_path (Put n m p) other q = refl
 frees_path (Symlink p target) other q = refl
 frees_path (Hard p to) other q = refl
+
+cleared_path : (s : Step) (t : Image) → (sort_of s ≡ sort.Mode → ⊥) → cleared s t ≡ placed (path_of s) None t
+cleared_path (Gone p) t other = refl
+cleared_path (Fresh m p) t other = refl
+cleared_path (Mode m p) t other = absurd (other refl)
+cleared_path (Put n m p) t other = refl
+cleared_path (Symlink p target) t other = refl
+cleared_path (Hard p to) t other = refl
+
+-- the file of a content isn't at or below a path that a put may name
+pub content_apart : (n m : ℕ) (p f : List ℕ) → step_allowed (Put n m p) ≡ true → Some (stage_path n) ≡ Some f → covers p f ≡ false
+content_apart n m p f may is =
+    let one : stage_path n ≡ f = cc in
+    subst (λ (q : List ℕ). covers p q ≡ false) one (or_parts (covers p (stage_path n)) false (content_kept (Put n m p ∷ []) n (and_from (step_allowed (Put n m p)) true may refl))).0
+
+-- what is known of an option that is there
+pub known : {A : Type 0} (o : Option A) (x : A) (P : Type 0) (Q : A → Type 0) → o ≡ Some x → MatchOption o P Q → Q x
+known {A = A} o x P Q is h = subst (λ (y : Option A). MatchOption y P Q) is h

@@ -1,5 +1,5 @@
 -- What each act of a step makes of an image, and when it can be done.
-use Rattle.std.specs.Prelude.{IsTrue, List, [], ◌∷◌, Some, None}
+use Rattle.std.specs.Prelude.{false, IsTrue, List, [], ◌∷◌, Some, None}
 use Rattle.ips_outside.specs.Image.{Image, Dir, File, Link, is_file}
 use Rattle.ips_outside.specs.Change.{placed, joined, moded, appended}
 use Rattle.ips_folder.specs.Calls.{CanMake, IsSole}
