@@ -1,11 +1,13 @@
 -- A step carried out act by act.
-use Rattle.std.proofs.Common.{◌≡◌, ℕ, ◌+◌, Bool, true, false, List, slice_get, Some, Result, Ok, Err, refl, sym, ◌∙◌, ap, ap₂, subst}
+use Rattle.std.proofs.Common.{◌≡◌, ℕ, ◌+◌, ◌<◌, Bool, true, false, List, length, slice_get, Some, Result, Ok, Err, refl, sym, ◌∙◌, ap, ap₂, subst, arith}
 use Rattle.ips_outside.specs.Image.{Image}
 use Rattle.ips_outside.specs.Outside.{Outside, IsOutside}
 use Rattle.ips_steps.specs.Steps.{Step, Stage, laid, can_lay, meets, stage_of}
 use Rattle.ips_steps.specs.Journal.{step_allowed}
 use Rattle.ips_steps.specs.View.{sort_of}
-use Rattle.ips_kinds.specs.Acts.{acts}
+use Rattle.ips_steps.specs.declared.step.Sort.{Sort}
+use Rattle.ips_steps.specs.declared.step.Sort.TheVariants as sort
+use Rattle.ips_kinds.specs.Acts.{acts, tally_after}
 use Rattle.ips_kinds.specs.declared.kind.Act.{Act}
 use Rattle.ips_kinds.specs.declared.kind.Act.TheVariants as act
 use Rattle.ips_apply.specs.Acting.{acted, CanAct}
@@ -52,3 +54,23 @@ module _ {F : Type 0} (o : Outside F) (sane : IsOutside o) (s : Step) (may : ste
   -- where the acts are finished the step is laid
   pub last_turn : slice_get (acts (sort_of s)) turn ≡ Some act.Finished → o.tells start ≡ true → (o.state now).held ≡ laid (stage_of (o.state start).held) s (o.state start).held
   last_turn is told = c.held told ∙ act_last (stage_of (o.state start).held) s (o.state start).held turn (can told) is
+
+-- each sort has an act
+pub has_acts : (r : Sort) → 0 < length (acts r)
+has_acts sort.Gone = omega arith
+has_acts sort.Fresh = omega arith
+has_acts sort.Mode = omega arith
+has_acts sort.Put = omega arith
+has_acts sort.Link = omega arith
+has_acts sort.Hard = omega arith
+
+-- an act before the last leaves the tally
+pub tally_stays : (a : Act) (n : ℕ) → (a ≡ act.Finished → ⊥) → tally_after a n ≡ n
+tally_stays act.Clear n other = refl
+tally_stays act.MakeDir n other = refl
+tally_stays act.MakeFile n other = refl
+tally_stays act.Copy n other = refl
+tally_stays act.MakeLink n other = refl
+tally_stays act.MakeHard n other = refl
+tally_stays act.SetMode n other = refl
+tally_stays act.Finished n other = absurd (other refl)

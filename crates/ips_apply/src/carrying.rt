@@ -1,12 +1,12 @@
 //! A step carried out by the first kind that takes it.
 
-ghost use Rattle.std.specs.Prelude.{◌≡◌, ◌<◌, IsTrue, IsFalse, IsErr, IfNone, IfSome, OnOk, OnErr, MatchOption, Some, None, length};
+ghost use Rattle.std.specs.Prelude.{◌≡◌, ◌<◌, IsTrue, IsFalse, IsErr, IfNone, IfSome, OnOk, OnErr, MatchOption, Some, None, length, slice_get};
 ghost use Rattle.ips_outside.specs.Outside.{HasCause};
 ghost use Rattle.ips_steps.specs.Steps.{laid, can_lay, stage_of};
 ghost use Rattle.ips_steps.specs.Journal.{IsProper, step_allowed};
 ghost use Rattle.ips_steps.specs.View.{step_of, sort_of};
 ghost use Rattle.ips_steps.specs.declared.step.Sort.{Sort};
-ghost use Rattle.ips_kinds.specs.Acts.{tally_after};
+ghost use Rattle.ips_kinds.specs.Acts.{acts, tally_after};
 ghost use Rattle.ips_kinds.specs.Tallies.{seen_by, taken, counted, IsFirstTaker};
 ghost use Rattle.ips_kinds.specs.declared.kind.Act.TheVariants as act;
 ghost use Rattle.ips_journal.specs.Reading.{stage_for};
@@ -72,13 +72,24 @@ fn carry_out<F: Folder>(
 {
     let mut turn = 0u8;
     loop {
-        let act = kind.next(step, turn);
-        if act == Act::Finished {
+        let act = next_act(kind, step, turn);
+        if let Act::Finished = act {
             return Ok(());
         }
         perform(folder, step, act, content, buffer)?;
         turn += 1;
     }
+}
+
+/// The act that the kind says for the turn; it counts the step where that is the last.
+fn next_act(kind: &mut Box<dyn Kind>, step: &Step, turn: u8) -> Act
+    requires takes { IsTrue (sorts kind.old (sort_of (step_of step.now))) }
+    requires turn { turn < length (acts (sort_of (step_of step.now))) }
+    ensures act { slice_get (acts (sort_of (step_of step.now))) turn ≡ Some result }
+    ensures tally { finished kind.new ≡ tally_after result (finished kind.old) }
+    ensures sorts { sorts kind.new ≡ sorts kind.old }
+{
+    kind.next(step, turn)
 }
 
 /// The place of the first kind that takes the step.
