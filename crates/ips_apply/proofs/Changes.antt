@@ -90,3 +90,10 @@ content_apart n m p f may is =
 -- what is known of an option that is there
 pub known : {A : Type 0} (o : Option A) (x : A) (P : Type 0) (Q : A → Type 0) → o ≡ Some x → MatchOption o P Q → Q x
 known {A = A} o x P Q is h = subst (λ (y : Option A). MatchOption y P Q) is h
+
+-- a step behind a call that only reads
+pub read_then_changed : {F : Type 0} (o : Outside F) (sane : IsOutside o) (s : Step) (old mid new : F) (failure : Type 0) → Reads o old mid failure → ChangedBy o s mid new → ChangedBy o s old new
+read_then_changed o sane s old mid new failure read step =
+    let loose : List ℕ → Bool = λ q. frees s q || meets s (o.state old).held q in
+    keeps_then o (frees s) loose old mid new (one_read o sane (frees s) loose old mid failure read)
+    (subst (λ (t : State). Keeps o (frees s) (λ q. frees s q || meets s t.held q) mid new) read.kept step)

@@ -6,4 +6,3 @@ pub mod Turns
 pub mod Carried
 pub mod Takers
 pub mod Going
-pub mod Judged
