@@ -15,6 +15,9 @@ use Rattle.ips_apply.proofs.Filled.{appended_none, appended_twice, sole_appended
 pub answered : {T E : Type 0} (r : Result T E) (x : T) → r ≡ Ok x → IsErr r → ⊥
 answered r x is err = let bad : is_err r ≡ false = ap is_err is in cc
 
+pub no_fault : {T E : Type 0} (r : Result T E) (x : T) (e : E) → r ≡ Ok x → r ≡ Err e → ⊥
+no_fault r x e is err = cc
+
 module _ {F : Type 0} (o : Outside F) (p from : List ℕ) where
   -- what can be read of the file that is copied
   abbrev pub source_of : F → List ℕ

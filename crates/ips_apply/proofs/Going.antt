@@ -7,8 +7,9 @@ use Rattle.ips_outside.specs.Outside.{Outside, IsOutside, Reads, HasCause}
 use Rattle.ips_steps.specs.Steps.{Step, laid, can_lay, stage_of}
 use Rattle.ips_steps.specs.Journal.{IsJournal, allowed}
 use Rattle.ips_steps.specs.View.{sort_of}
-use Rattle.ips_kinds.specs.Tallies.{Carrier, counted, all_counted}
-use Rattle.ips_kinds.proofs.Counting.{counted_more}
+use Rattle.ips_steps.specs.declared.step.Sort.{Sort}
+use Rattle.ips_kinds.specs.Tallies.{Carrier, taken, counted, all_counted}
+use Rattle.ips_kinds.proofs.Counting.{counted_more, taken_stays}
 use Rattle.ips_folder.proofs.Runs.{begun}
 use Rattle.ips_journal.specs.Text.{journal_text}
 use Rattle.ips_journal.specs.Reading.{Reading, IsAt, Means, TellsLine, journal_of}
@@ -84,6 +85,12 @@ module _ {F : Type 0} (o : Outside F) (sane : IsOutside o) (old now mid : F) (st
         record { begun = g.done; one_more = inl refl; stands = (r, both.0); can = laid.can; moments = laid.moments };
   }
 
+  pub ends_reading_as : (result : Result ℕ StepFault) (e : StepFault) → result ≡ Err e → answer ≡ Err e → Applied o old mid start before kinds result
+  ends_reading_as result e same is = subst (Applied o old mid start before kinds) (sym same) (ends_reading e is)
+
+  told_mid : o.tells old ≡ true → o.tells mid ≡ true
+  told_mid told = reads.call.same_kind ∙ g.same_kind ∙ told
+
   -- one more step is read
   module _ (x : Step) (is : answer ≡ Ok true) (lent : s.step ≡ Some x) where
     next_at : o.tells old ≡ true → (front : List Step) → IsAt (journal_of (o.state old).held) front start → IsAt (journal_of (o.state old).held) ((front ++ g.done) ++ x ∷ []) s
@@ -130,6 +137,14 @@ module _ {F : Type 0} (o : Outside F) (sane : IsOutside o) (old now mid : F) (st
           );
     }
 
+    pub ends_at_step : (new : F) (more : List Carrier) (result : Result ℕ StepFault) (e : StepFault) → more ≡ kinds → result ≡ Err e → TellsLine s.line e → (o.tells mid ≡ true → ChangedBy o x mid new)
+        → (o.tells mid ≡ true → OnBadJournal {T = Unit {0}} (Err e) (λ line. (can_lay (stage_of (o.state mid).held) x (o.state mid).held ≡ false) × Reads o mid new ⊥))
+        → Applied o old new start before more result
+    ends_at_step new more result (BadJournal line) none same number changed bad =
+        subst (Applied o old new start before more) (sym same) (subst (λ (l : List Carrier). Applied o old new start before l (Err (BadJournal line))) (sym none) (ends_judging new line number (λ told. bad (told_mid told))))
+    ends_at_step new more result FolderFault none same number changed bad =
+        subst (Applied o old new start before more) (sym same) (subst (λ (l : List Carrier). Applied o old new start before l (Err FolderFault)) (sym none) (ends_laying new (λ told. changed (told_mid told))))
+
     -- and is laid
     pub going_on : (new : F) (more : List Carrier) → s.is_open ≡ true → more ≡ counted (sort_of x) kinds → o.tells new ≡ o.tells old → o.faults new ≡ o.faults old
         → (o.tells old ≡ true → (can_lay (stage_of (o.state mid).held) x (o.state mid).held ≡ true) × ((o.state new).held ≡ laid (stage_of (o.state mid).held) x (o.state mid).held) × ChangedBy o x mid new)
@@ -150,16 +165,20 @@ module _ {F : Type 0} (o : Outside F) (sane : IsOutside o) (old now mid : F) (st
           );
     }
 
+-- what all kinds together take stays
+pub takers_stay : {F : Type 0} (o : Outside F) (old now : F) (start r : Reading) (before kinds : List Carrier) (count : ℕ) → Going o old now start r before kinds count → ((t : Sort) → taken before t ≡ true) → (t : Sort) → taken kinds t ≡ true
+takers_stay o old now start r before kinds count g all t = ap (λ (l : List Carrier). taken l t) g.tallies ∙ taken_stays g.done t before ∙ all t
+
 -- no journal has so many steps
-pub too_many : {F : Type 0} (o : Outside F) (old now : F) (start r : Reading) (before kinds : List Carrier) (count : ℕ) → Going o old now start r before kinds count → 2 ^ 64 ≤ count → Applied o old now start before kinds (Ok (2 ^ 64 - 1))
-too_many o old now start r before kinds count g many = record {
+pub too_many : {F : Type 0} (o : Outside F) (old now : F) (start r : Reading) (before kinds : List Carrier) (count : ℕ) → Going o old now start r before kinds (count + 1) → count ≡ 18446744073709551615 → Applied o old now start before kinds (Ok count)
+too_many o old now start r before kinds count g last = record {
   steps = g.done;
   tallies = g.tallies;
-  count = omega (arith, g.number, many);
+  count = omega (arith, g.number, last);
   ends = λ told front at.
       let few = (g.told told front at).0.1.listed.count in
       let all = length-append front g.done in
-      absurd (omega (arith, few, all, g.number, many));
+      absurd (omega (arith, few, all, g.number, last));
 }
 
 -- a reader that answered a step lends one

@@ -38,14 +38,18 @@ pub fn apply<F: Folder>(
     ensures same_kind { F.outside.tells folder.new ≡ F.outside.tells folder.old }
     ensures cause { HasCause (F.outside.faults folder.old) (F.outside.faults folder.new) (result ≡ Err fault.FolderFault) }
 {
-    // a journal lists fewer than 2^64 steps, so the loop is left at its end line
-    for count in 0..=u64::MAX {
+    let mut count = 0u64;
+    loop {
         if !reader.next(folder)? {
             return Ok(count);
         }
         lay_next(folder, reader, kinds, buffer)?;
+        // no journal lists so many steps
+        if count == u64::MAX {
+            return Ok(count);
+        }
+        count += 1;
     }
-    Ok(u64::MAX)
 }
 
 /// Lays the step that the reader lends, where it can be laid.
