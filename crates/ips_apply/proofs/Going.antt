@@ -37,8 +37,8 @@ going_start o sane old r before is_open = record {
   same_kind = refl;
   faults = refl;
   told = λ told front at. (
-      subst (λ (l : List Step). IsAt (journal_of (o.state old).held) l r) (sym (append-nil front)) at,
-      record { can = refl; held = refl; moments = begun o _ _ old (sane.only_now old) },
+    subst (λ (l : List Step). IsAt (journal_of (o.state old).held) l r) (sym (append-nil front)) at,
+    record { can = refl; held = refl; moments = begun o _ _ old (sane.only_now old) },
   );
 }
 

@@ -67,9 +67,9 @@ module _ {F : Type 0} (o : Outside F) (sane : IsOutside o) where
       let loose : List ℕ → Bool = λ q. freed all q || met stage all t q in
       keeps_then o (freed all) loose old mid new
       (keeps_wider o (freed steps) (λ q. freed steps q || met stage steps t q) (freed all) loose old mid (λ q off. (freed_more steps s q off).0)
-          (λ q off. let parts = or_parts (freed all q) _ off in or_from (freed steps q) _ (freed_more steps s q parts.0).0 (met_more stage steps s t q parts.1).0) done.moments)
+      (λ q off. let parts = or_parts (freed all q) _ off in or_from (freed steps q) _ (freed_more steps s q parts.0).0 (met_more stage steps s t q parts.1).0) done.moments)
       (keeps_wider o (frees s) (λ q. frees s q || meets s (o.state mid).held q) (freed all) loose mid new (λ q off. (freed_more steps s q off).1)
-          (λ q off. let parts = or_parts (freed all q) _ off in or_from (frees s q) _ (freed_more steps s q parts.0).1 (ap (λ (u : Image). meets s u q) done.held ∙ (met_more stage steps s t q parts.1).1)) step)
+      (λ q off. let parts = or_parts (freed all q) _ off in or_from (frees s q) _ (freed_more steps s q parts.0).1 (ap (λ (u : Image). meets s u q) done.held ∙ (met_more stage steps s t q parts.1).1)) step)
 
   pub laid_one_more : (steps : List Step) (s : Step) (old mid new : F) → allowed steps ≡ true → AreLaid o steps old mid → can_lay (stage_of (o.state mid).held) s (o.state mid).held ≡ true
       → (o.state new).held ≡ laid (stage_of (o.state mid).held) s (o.state mid).held → ChangedBy o s mid new → AreLaid o (steps ++ s ∷ []) old new

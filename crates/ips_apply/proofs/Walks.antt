@@ -81,19 +81,29 @@ walk stage (Gone p) t can = (record { can = tt; meets = λ q. refl }, (record { 
 walk stage (Fresh m p) t can = (record { can = tt; meets = λ q. refl }, (record { can = cleared_makes p t can; meets = λ q. refl }, (record { can = tt; meets = λ q. refl }, tt)))
 walk stage (Mode m p) t can = (record { can = tt; meets = λ q. refl }, (record { can = tt; meets = λ q. refl }, tt))
 walk stage (Put n m p) t can =
-    let made = sole_placed p 384 [] (placed p None t) in
-    (record { can = tt; meets = λ q. refl },
-    (record { can = cleared_makes p t (and_parts (has_parent t p) _ can).0; meets = λ q. refl },
-    (record { can = made; meets = λ q. refl },
-    (record { can = sole_appended p (bytes_of (stage n)) (placed p (Some (File 384 [])) (placed p None t)) made; meets = λ q. refl },
-    (record { can = tt; meets = λ q. refl }, tt)))))
+    let made = sole_placed p 384 [] (placed p None t) in (
+      record { can = tt; meets = λ q. refl },
+      (
+        record { can = cleared_makes p t (and_parts (has_parent t p) _ can).0; meets = λ q. refl },
+        (
+          record { can = made; meets = λ q. refl },
+          (
+            record { can = sole_appended p (bytes_of (stage n)) (placed p (Some (File 384 [])) (placed p None t)) made; meets = λ q. refl },
+            (record { can = tt; meets = λ q. refl }, tt),
+          ),
+        ),
+      ),
+    )
 walk stage (Symlink p target) t can = (record { can = tt; meets = λ q. refl }, (record { can = cleared_makes p t can; meets = λ q. refl }, (record { can = tt; meets = λ q. refl }, tt)))
 walk stage (Hard p to) t can =
     let parts = and_parts (has_parent t p) _ can in
-    let target = and_parts _ _ parts.1 in
-    (record { can = tt; meets = λ q. refl },
-    (record { can = (cleared_makes p t parts.0, ap is_file (look_off p to None t (not-true (covers p to) target.0)) ∙ target.1); meets = λ q. refl },
-    (record { can = tt; meets = λ q. refl }, tt)))
+    let target = and_parts _ _ parts.1 in (
+      record { can = tt; meets = λ q. refl },
+      (
+        record { can = (cleared_makes p t parts.0, ap is_file (look_off p to None t (not-true (covers p to) target.0)) ∙ target.1); meets = λ q. refl },
+        (record { can = tt; meets = λ q. refl }, tt),
+      ),
+    )
 
 at_turn : (stage : Stage) (s : Step) (start : Image) (list : List Act) (t : Image) (k : ℕ) (a : Act) → Walk stage s start list t → slice_get list k ≡ Some a → AtTurn stage s start a (all_acted stage s (take k list) t)
 at_turn stage s start [] t k a w is = cc

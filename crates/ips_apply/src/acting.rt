@@ -20,7 +20,13 @@ use ips_outside::{Failed, Look, Source};
 use ips_text::RelPath;
 
 /// Does one act of the step, where it can be done.
-pub(crate) fn perform<F: Folder>(folder: &mut F, step: &Step, act: Act, content: Option<&RelPath>, buffer: &mut [u8]) -> Result<(), Failed>
+pub(crate) fn perform<F: Folder>(
+    folder: &mut F,
+    step: &Step,
+    act: Act,
+    content: Option<&RelPath>,
+    buffer: &mut [u8],
+) -> Result<(), Failed>
     requires can { IsTrue (F.outside.tells folder.old) → CanAct (step_of step.now) act (F.outside.state folder.old).held }
     requires proper { IsProper (step_of step.now) }
     requires allowed { IsTrue (step_allowed (step_of step.now)) }
@@ -87,7 +93,12 @@ fn make_file<F: Folder>(folder: &mut F, step: &Step) -> Result<(), Failed>
 }
 
 /// Fills the file of a put with its content.
-fn copy_content<F: Folder>(folder: &mut F, step: &Step, content: Option<&RelPath>, buffer: &mut [u8]) -> Result<(), Failed>
+fn copy_content<F: Folder>(
+    folder: &mut F,
+    step: &Step,
+    content: Option<&RelPath>,
+    buffer: &mut [u8],
+) -> Result<(), Failed>
     requires can { IsTrue (F.outside.tells folder.old) → CanAct (step_of step.now) act.Copy (F.outside.state folder.old).held }
     requires allowed { IsTrue (step_allowed (step_of step.now)) }
     requires content { MatchOption content (stage_for (step_of step.now) ≡ None) (λ p. stage_for (step_of step.now) ≡ Some p.now.bytes) }

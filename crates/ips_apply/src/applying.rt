@@ -77,9 +77,8 @@ fn lay_next<F: Folder>(
     let step = reader.step();
     let content = reader.staged();
     if !is_possible(folder, step, reader.parent(), content)? {
-        return Err(StepFault::BadJournal {
-            line: reader.line(),
-        });
+        let line = reader.line();
+        return Err(StepFault::BadJournal { line });
     }
     lay(folder, kinds, step, content, buffer)?;
     Ok(())

@@ -14,14 +14,14 @@ pub returns-in_err-remove-clause-any_moment : goal.returns-in_err-remove-clause-
 returns-in_err-remove-clause-any_moment g c = λ told.
     let s = step_of c.args.step.now in
     let other : sort_of s ≡ sort.Mode → ⊥ = λ is.
-        let bad : false ≡ true = c.if-eq.ensures ∙ ap (λ (r : Sort). sameb the_type r sort.Mode) (c.sort.ensures ∙ is) in
-        absurd (cc) in
+    let bad : false ≡ true = c.if-eq.ensures ∙ ap (λ (r : Sort). sameb the_type r sort.Mode) (c.sort.ensures ∙ is) in
+    absurd (cc) in
     call_at_path g.F.Source.outside g.met.F.Source.sane s c.path.result.now.bytes c.args.folder.now c.remove.new.self _ c.remove.result (λ q. frees_path s other q ∙ ap (λ (p : List ℕ). covers p q) (sym c.path.ensures)) told c.remove.ensures
 
 pub returns-clause-any_moment : goal.returns-clause-any_moment
 returns-clause-any_moment g c = λ told.
     let s = step_of c.args.step.now in
     let other : sort_of s ≡ sort.Mode → ⊥ = λ is.
-        let bad : false ≡ true = c.if-eq.ensures ∙ ap (λ (r : Sort). sameb the_type r sort.Mode) (c.sort.ensures ∙ is) in
-        absurd (cc) in
+    let bad : false ≡ true = c.if-eq.ensures ∙ ap (λ (r : Sort). sameb the_type r sort.Mode) (c.sort.ensures ∙ is) in
+    absurd (cc) in
     call_at_path g.F.Source.outside g.met.F.Source.sane s c.path.result.now.bytes c.args.folder.now c.remove.new.self _ c.remove.result (λ q. frees_path s other q ∙ ap (λ (p : List ℕ). covers p q) (sym c.path.ensures)) told c.remove.ensures
