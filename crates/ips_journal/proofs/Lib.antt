@@ -1,0 +1,13 @@
+pub mod Cuts
+pub mod Bytes
+pub mod Escapes
+pub mod FieldForms
+pub mod StepLines
+pub mod Journals
+pub mod JournalLaws
+pub mod PrivateNames
+pub mod PartForms
+pub mod Calls
+pub mod Paths
+pub mod LinePieces
+pub mod Standing

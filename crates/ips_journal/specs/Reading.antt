@@ -55,13 +55,17 @@ IsAt text front r = IsTrue r.is_open × Stands (text_from front) text front r
 abbrev pub journal_of : Image → List ℕ
 journal_of t = readable (t.look journal_name)
 
+-- a fault of the text tells the first line that isn't of the grammar
+abbrev pub IsFaultOf : List ℕ → StepFault → Type 0
+IsFaultOf text (BadJournal line) = IsBadLine text line
+IsFaultOf text FolderFault = Unit {0}
+
 -- What an answer of `next` means where the steps of the front were read: one more step stands next and is read; or the text
 -- is just the journal of the front; or that line is the first that isn't of the grammar.
 abbrev pub Means : List ℕ → List Step → Reading → Result Bool StepFault → Type 0
 Means text front new (Ok true) = (s : Step) × IsAt text (front ++ s ∷ []) new × (new.step ≡ Some s)
 Means text front new (Ok false) = IsJournal front × (text ≡ journal_text front)
-Means text front new (Err (BadJournal line)) = IsBadLine text line
-Means text front new (Err FolderFault) = Unit {0}
+Means text front new (Err fault) = IsFaultOf text fault
 
 -- a fault of the text tells this line
 abbrev pub TellsLine : ℕ → StepFault → Type 0

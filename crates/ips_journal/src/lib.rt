@@ -17,6 +17,7 @@ mod lines;
 mod names;
 mod parts;
 mod reader;
+mod reading;
 mod staged;
 mod words;
 mod writing;

@@ -11,7 +11,7 @@ ghost use Rattle.ips_journal.specs.declared.fault.StepFault.TheVariants as fault
 use crate::beside::Beside;
 use crate::cursor::Cursor;
 use crate::fault::StepFault;
-use crate::held::{Held, parts_in, step_from};
+use crate::held::{Held, step_from};
 use ips_folder::Folder;
 use ips_steps::Step;
 use ips_text::RelPath;
