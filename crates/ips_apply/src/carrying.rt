@@ -93,7 +93,7 @@ fn next_act(kind: &mut Box<dyn Kind>, step: &Step, turn: u8) -> Act
 }
 
 /// The place of the first kind that takes the step.
-fn first_taker(kinds: &[Box<dyn Kind>], step: &Step) -> Option<usize>
+pub(crate) fn first_taker(kinds: &[Box<dyn Kind>], step: &Step) -> Option<usize>
     ensures none { IfNone result (IsFalse (taken (seen_by sorts finished kinds.now) (sort_of (step_of step.now)))) }
     ensures first { IfSome result (IsFirstTaker (seen_by sorts finished kinds.now) (sort_of (step_of step.now))) }
 {

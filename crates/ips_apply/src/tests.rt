@@ -1,10 +1,12 @@
-ghost use Rattle.std.specs.Prelude.{◌≡◌, ℕ, IsTrue};
+ghost use Rattle.std.specs.Prelude.{◌≡◌, ℕ, IsTrue, IfOk};
 ghost use Rattle.ips_steps.specs.declared.step.Sort.{Sort as SortMeant};
 ghost use Rattle.ips_steps.specs.declared.step.Sort.TheVariants as of_sort;
+ghost use Rattle.ips_steps.specs.View.{step_of, sort_of};
 ghost use Rattle.ips_kinds.specs.Acts.{same_sort};
 ghost use Rattle.ips_kinds.specs.Tallies.{seen_by, taken};
 
 use crate::applying::apply;
+use crate::carrying::first_taker;
 use ips_folder::MemFolder;
 use ips_journal::{StepFault, StepReader, write_steps};
 use ips_kinds::{
@@ -77,36 +79,62 @@ fn pending(alloc: Global, steps: &[Step], fails: &[u64]) -> Result<MemFolder, Fa
 }
 
 // A step of each sort at the path. A hard link is to `y`.
-fn step(alloc: Global, sort: Sort, at: &[u8]) -> Result<Step, Fail> {
+fn step(alloc: Global, sort: Sort, at: &[u8]) -> Result<Step, Fail>
+    ensures { IfOk result (λ s. sort_of (step_of s) ≡ sort) }
+{
     let path = RelPath::parse(alloc, at)?;
-    Ok(match sort {
-        Sort::Gone => Step::Gone { path },
-        Sort::Fresh => Step::Fresh { path, mode: 0o750 },
-        Sort::Mode => Step::Mode { path, mode: 0o711 },
-        Sort::Put => Step::Put {
+    match sort {
+        Sort::Gone => Ok(Step::Gone { path }),
+        Sort::Fresh => Ok(Step::Fresh { path, mode: 0o750 }),
+        Sort::Mode => Ok(Step::Mode { path, mode: 0o711 }),
+        Sort::Put => Ok(Step::Put {
             path,
             mode: 0o640,
             stage: 0,
-        },
-        Sort::Link => Step::Link {
+        }),
+        Sort::Link => Ok(Step::Link {
             path,
             target: Target::parse(alloc, b"t")?,
-        },
-        Sort::Hard => Step::Hard {
+        }),
+        Sort::Hard => Ok(Step::Hard {
             path,
             to: RelPath::parse(alloc, b"y")?,
-        },
-    })
+        }),
+    }
 }
 
-// Lays the folder's journal from the front, through a buffer of two bytes.
+// Some kind takes the sort.
+fn takes(alloc: Global, kinds: &Vec<Box<dyn Kind>>, sort: Sort) -> Result<bool, Fail>
+    ensures { IfOk result (λ some. some ≡ taken (seen_by sorts finished kinds.now.items) sort) }
+{
+    let wanted = step(alloc, sort, b"n")?;
+    Ok(first_taker(kinds, &wanted).is_some())
+}
+
+// Each sort has a kind that takes it.
+fn takes_all(alloc: Global, kinds: &Vec<Box<dyn Kind>>) -> Result<bool, Fail>
+    ensures { IfOk result (λ all. IsTrue all → (s : SortMeant) → IsTrue (taken (seen_by sorts finished kinds.now.items) s)) }
+{
+    let gone = takes(alloc, kinds, Sort::Gone)?;
+    let fresh = takes(alloc, kinds, Sort::Fresh)?;
+    let mode = takes(alloc, kinds, Sort::Mode)?;
+    let put = takes(alloc, kinds, Sort::Put)?;
+    let link = takes(alloc, kinds, Sort::Link)?;
+    let hard = takes(alloc, kinds, Sort::Hard)?;
+    Ok(gone & fresh & mode & put & link & hard)
+}
+
+// Lays the folder's journal from the front, through a buffer of two bytes. No journal has a line 0: that tells that some
+// sort has no kind.
 fn run(
     alloc: Global,
     folder: &mut MemFolder,
     kinds: &mut Vec<Box<dyn Kind>>,
 ) -> Result<Result<u64, StepFault>, Fail>
-    requires { (s : SortMeant) → IsTrue (taken (seen_by sorts finished kinds.old.items) s) }
 {
+    if !takes_all(alloc, kinds)? {
+        return Ok(Err(StepFault::BadJournal { line: 0 }));
+    }
     let mut reader = StepReader::new(alloc)?;
     let mut buffer = [0u8; 2];
     Ok(apply(folder, &mut reader, kinds, &mut buffer))
