@@ -1,9 +1,12 @@
 //! What a kind is.
 
-ghost use Rattle.std.specs.Prelude.{◌≡◌, ◌≢◌, ℕ, ◌+◌, ◌-◌, ◌^◌, ◌<◌, min, Bool, IsTrue, Some, length, slice_get};
+ghost use Rattle.std.specs.Prelude.{◌≡◌, ◌≢◌, ℕ, ◌+◌, ◌-◌, ◌^◌, ◌<◌, min, Bool, IsTrue, IsFalse, List, Some, length, take, slice_get};
+ghost use Rattle.std.specs.List.{All};
+ghost use Rattle.ips_steps.specs.Steps.{Step as StepMeant};
 ghost use Rattle.ips_steps.specs.View.{step_of, sort_of};
 ghost use Rattle.ips_steps.specs.declared.step.Sort.{Sort};
-ghost use Rattle.ips_kinds.specs.Acts.{acts, tally_after};
+ghost use Rattle.ips_kinds.specs.Acts.{acts, tally_after, same_sort};
+ghost use Rattle.ips_kinds.specs.Tallies.{Carrier, taken, all_counted, number_of, tally_of_all};
 ghost use Rattle.ips_kinds.specs.declared.kind.Act.{Act};
 ghost use Rattle.ips_kinds.specs.declared.kind.Act.TheVariants.{Finished};
 
@@ -69,4 +72,15 @@ pub(crate) fn finish(tally: &mut u64) -> Act
 pub fn ends_once()
     ensures last { (sort : Sort) (turn : ℕ) → slice_get (acts sort) turn ≡ Some Finished → turn + 1 ≡ length (acts sort) }
     ensures on { (sort : Sort) (turn : ℕ) (act : Act) → slice_get (acts sort) turn ≡ Some act → act ≢ Finished → turn + 1 < length (acts sort) }
+{}
+
+/// Steps that are finished one after another, each by the first kind that takes it, are counted so: a kind of one sort
+/// alone, which is the first that takes that sort, counts the steps of the sort; and all kinds together count all steps. No
+/// tally may reach its last value.
+pub fn counts_each_step()
+    ensures own { (kinds : List Carrier) (steps : List StepMeant) (sort : Sort) (place : ℕ) (kind : Carrier) → slice_get kinds place ≡ Some kind
+        → ((other : Sort) → kind.sorts other ≡ same_sort sort other) → IsFalse (taken (take place kinds) sort) → kind.finished + number_of sort steps < 2 ^ 64
+        → slice_get (all_counted steps kinds) place ≡ Some (record { sorts = kind.sorts; finished = kind.finished + number_of sort steps }) }
+    ensures together { (kinds : List Carrier) (steps : List StepMeant) → ((sort : Sort) → IsTrue (taken kinds sort)) → All (λ k. k.finished + length steps < 2 ^ 64) kinds
+        → tally_of_all (all_counted steps kinds) ≡ tally_of_all kinds + length steps }
 {}

@@ -15,10 +15,9 @@ pub record AreMarks (t : Image) (count : ℕ) : Type 0 where
 abbrev pub steps_left : ℕ → List Step → List Step
 steps_left marks steps = drop (1000 * marks) steps
 
--- The journal is the text of a sound list, and the steps that the marks leave can be laid; then this image is seen.
-pub record IsReady (text : List Step → List ℕ) (a : Image) (t : Image) : Type 0 where
-  pub steps : List Step
-  pub marks : ℕ
+-- The journal is the text of this sound list, so many marks stand, and the steps that they leave can be laid; then this
+-- image is seen.
+pub record IsReady (text : List Step → List ℕ) (steps : List Step) (marks : ℕ) (a : Image) (t : Image) : Type 0 where
   pub lists : IsJournal steps
   pub is_sound : IsTrue (sound steps)
   pub journal : file_bytes (t.look journal_name) ≡ Some (text steps)
@@ -27,15 +26,15 @@ pub record IsReady (text : List Step → List ℕ) (a : Image) (t : Image) : Typ
   pub means : visible (after (steps_left marks steps) t) ≡ a
 
 -- It is ready, and something stands at the gate.
-pub record IsOpen (text : List Step → List ℕ) (a : Image) (t : Image) : Type 0 where
+pub record IsOpen (text : List Step → List ℕ) (steps : List Step) (marks : ℕ) (a : Image) (t : Image) : Type 0 where
   pub gate : t.look gate_name ≢ None
-  pub ready : IsReady text a t
+  pub ready : IsReady text steps marks a t
 
 -- An image owes the one before a request and the one that it means, which is due or not: with a closed gate it shows the
 -- first, where the second isn't due, or the second; with an open one it is ready to become the second.
 pub data Owes (text : List Step → List ℕ) : Image → Option Image → Bool → Image → Type 0 where
   Old : {b : Image} {a : Option Image} {t : Image} → t.look gate_name ≡ None → visible t ≡ b → Owes text b a false t
-  Open : {b : Image} {a : Image} {due : Bool} {t : Image} → IsOpen text a t → Owes text b (Some a) due t
+  Open : {b : Image} {a : Image} {due : Bool} {t : Image} (steps : List Step) (marks : ℕ) → IsOpen text steps marks a t → Owes text b (Some a) due t
   New : {b : Image} {a : Image} {due : Bool} {t : Image} → t.look gate_name ≡ None → visible t ≡ a → Owes text b (Some a) due t
 
 -- A folder owes what its held image owes, and each image that a crash now may leave.

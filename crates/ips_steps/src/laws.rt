@@ -3,12 +3,12 @@
 ghost use Rattle.std.specs.Prelude.{◌≡◌, ◌≢◌, ℕ, ◌+◌, ◌^◌, ◌<◌, List, take, drop, slice_get, Bool, false, ◌||◌, IsTrue, IsFalse, Option, Some, None};
 ghost use Rattle.ips_text.specs.Ancestry.{covers};
 ghost use Rattle.ips_outside.specs.Image.{Image, IsImage, Agrees};
-ghost use Rattle.ips_outside.specs.State.{State, MayLeave, Within, IsSettled, nowhere};
+ghost use Rattle.ips_outside.specs.State.{State, MayLeave, Within, IsSettled, nowhere, untouched, settled};
 ghost use Rattle.ips_steps.specs.Steps.{Step, Stage, laid, all_laid, can_lay, possible, sound, frees, freed, meets, met, all_clear_of, distinct, stage_path, stage_of, after};
-ghost use Rattle.ips_steps.specs.Private.{gate_name, mark_name, visible};
+ghost use Rattle.ips_steps.specs.Private.{gate_name, mark_name, is_private, visible};
 ghost use Rattle.ips_steps.specs.Journal.{IsProper, AllProper, allowed};
 ghost use Rattle.ips_steps.specs.Outcome.{outcome, all_fit, IsLaidByPath};
-ghost use Rattle.ips_steps.specs.Owed.{steps_left, IsReady, IsOpen, Owes, FolderOwes, IsPrivate};
+ghost use Rattle.ips_steps.specs.Owed.{AreMarks, steps_left, IsReady, IsOpen, Owes, FolderOwes, IsPrivate};
 
 /// Laying again gives the same image: a sound list of a journal that is possible on an image is possible on each image
 /// that agrees with it but at and below the paths of its steps other than modes and in the modes that it sets, and leaves the same
@@ -85,20 +85,49 @@ pub fn numbered_apart()
 
 /// From a well-formed image with nothing touched: while the steps that are left are laid behind an open gate, the folder
 /// owes the same; while the gate opens it owes the old image or the new one; and while the gate closes, where the new
-/// image is already seen, it owes that. Where a thousand steps are laid and the next mark is made, it owes the same.
+/// image is already seen, it owes that. Where a thousand steps are laid and the next mark is made, it owes the same. While
+/// private names other than the gate are written behind a closed gate, it owes what it owed.
 pub fn still_owed()
-    ensures laying { (text : List Step → List ℕ) (b a : Image) (due : Bool) (old s : State) (o : IsOpen text a old.held) → IsImage old.held → IsSettled old
-        → Within (freed (steps_left o.ready.marks o.ready.steps))
-        (λ q. freed (steps_left o.ready.marks o.ready.steps) q || met (stage_of old.held) (steps_left o.ready.marks o.ready.steps) old.held q) old s
+    ensures laying { (text : List Step → List ℕ) (steps : List Step) (marks : ℕ) (b a : Image) (due : Bool) (old s : State) → IsOpen text steps marks a old.held → IsImage old.held → IsSettled old
+        → Within (freed (steps_left marks steps)) (λ q. freed (steps_left marks steps) q || met (stage_of old.held) (steps_left marks steps) old.held q) old s
         → FolderOwes text b (Some a) due s }
-    ensures opening { (text : List Step → List ℕ) (a : Image) (old s : State) → IsReady text a old.held → IsImage old.held → IsSettled old
+    ensures opening { (text : List Step → List ℕ) (steps : List Step) (marks : ℕ) (a : Image) (old s : State) → IsReady text steps marks a old.held → IsImage old.held → IsSettled old
         → Within (covers gate_name) nowhere old s → FolderOwes text (visible old.held) (Some a) false s }
-    ensures closing { (text : List Step → List ℕ) (b a : Image) (due : Bool) (old s : State) → IsReady text a old.held → IsImage old.held → IsSettled old
+    ensures closing { (text : List Step → List ℕ) (steps : List Step) (marks : ℕ) (b a : Image) (due : Bool) (old s : State) → IsReady text steps marks a old.held → IsImage old.held → IsSettled old
         → visible old.held ≡ a → Within (covers gate_name) nowhere old s → FolderOwes text b (Some a) due s }
-    ensures thousand { (text : List Step → List ℕ) (a t u : Image) (r : IsReady text a t) → u ≡ after (take 1000 (steps_left r.marks r.steps)) t
-        → IsTrue (possible (stage_of u) (steps_left (r.marks + 1) r.steps) u) × (visible (after (steps_left (r.marks + 1) r.steps) u) ≡ a) }
-    ensures marking { (text : List Step → List ℕ) (b a : Image) (due : Bool) (old s : State) (o : IsOpen text a old.held) → IsImage old.held → IsSettled old
-        → o.ready.marks + 2 < 2 ^ 64 → IsTrue (possible (stage_of old.held) (steps_left (o.ready.marks + 1) o.ready.steps) old.held)
-        → visible (after (steps_left (o.ready.marks + 1) o.ready.steps) old.held) ≡ a → old.held.look (mark_name (o.ready.marks + 2)) ≡ None
-        → Within (covers (mark_name (o.ready.marks + 1))) nowhere old s → FolderOwes text b (Some a) due s }
+    ensures marking { (text : List Step → List ℕ) (steps : List Step) (marks : ℕ) (b a : Image) (due : Bool) (old s : State) → IsOpen text steps marks a old.held → IsImage old.held → IsSettled old
+        → marks + 2 < 2 ^ 64 → IsTrue (possible (stage_of old.held) (steps_left (marks + 1) steps) old.held)
+        → visible (after (steps_left (marks + 1) steps) old.held) ≡ a → old.held.look (mark_name (marks + 2)) ≡ None
+        → Within (covers (mark_name (marks + 1))) nowhere old s → FolderOwes text b (Some a) due s }
+    ensures sweeping { (text : List Step → List ℕ) (b : Image) (a : Option Image) (due : Bool) (free : List ℕ → Bool) (old s : State) → Owes text b a due old.held → old.held.look gate_name ≡ None
+        → IsSettled old → ((q : List ℕ) → IsTrue (free q) → IsTrue (is_private q)) → IsFalse (free gate_name)
+        → Within free nowhere old s → FolderOwes text b a due s }
+{}
+
+/// What is ready stays so, for the same steps and marks: as the gate opens, and whatever of the steps that are left is laid,
+/// once or again. Where a thousand of them are laid, the rest can be laid and means the same; with the next mark they are
+/// that many fewer.
+pub fn still_ready()
+    ensures opening { (text : List Step → List ℕ) (steps : List Step) (marks : ℕ) (a t u : Image) → IsReady text steps marks a t → IsImage t
+        → Agrees (covers gate_name) nowhere t u → IsReady text steps marks a u }
+    ensures laying { (text : List Step → List ℕ) (steps : List Step) (marks : ℕ) (a t u : Image) → IsOpen text steps marks a t → IsImage t
+        → Agrees (freed (steps_left marks steps)) (met (stage_of t) (steps_left marks steps) t) t u → IsOpen text steps marks a u }
+    ensures thousand { (text : List Step → List ℕ) (steps : List Step) (marks : ℕ) (a t u : Image) → IsReady text steps marks a t → u ≡ after (take 1000 (steps_left marks steps)) t
+        → IsTrue (possible (stage_of u) (steps_left (marks + 1) steps) u) × (visible (after (steps_left (marks + 1) steps) u) ≡ a) }
+    ensures marking { (text : List Step → List ℕ) (steps : List Step) (marks : ℕ) (a t u : Image) → IsOpen text steps marks a t → IsImage t
+        → marks + 2 < 2 ^ 64 → IsTrue (possible (stage_of t) (steps_left (marks + 1) steps) t)
+        → visible (after (steps_left (marks + 1) steps) t) ≡ a → t.look (mark_name (marks + 2)) ≡ None
+        → Agrees (covers (mark_name (marks + 1))) nowhere t u → u.look (mark_name (marks + 1)) ≢ None → IsOpen text steps (marks + 1) a u }
+{}
+
+/// However a run is stopped, the next one can go on. What a crash leaves of a folder owes the same with nothing touched;
+/// where the gate is open, one list of steps stands in its journal and one number of marks beside it, and to lay the steps
+/// that these leave gives the new image.
+pub fn owed_again()
+    ensures crashed { (text : List Step → List ℕ) (b : Image) (a : Option Image) (due : Bool) (s : State) (left : Image) → FolderOwes text b a due s → MayLeave s left
+        → FolderOwes text b a due (untouched left) }
+    ensures synced { (text : List Step → List ℕ) (b : Image) (a : Option Image) (due : Bool) (s : State) → FolderOwes text b a due s → FolderOwes text b a due (settled s) }
+    ensures gate { (text : List Step → List ℕ) (b a : Image) (due : Bool) (t : Image) → Owes text b (Some a) due t → t.look gate_name ≢ None
+        → (steps : List Step) × (marks : ℕ) × IsOpen text steps marks a t }
+    ensures one_count { (t : Image) (m n : ℕ) → AreMarks t m → AreMarks t n → m ≡ n }
 {}

@@ -10,8 +10,8 @@ mod step;
 mod target;
 
 pub use laws::{
-    laid_again, laid_again_apart, laid_by_path, laid_turn_by_turn, numbered_apart, private_touched,
-    stays_formed, still_owed,
+    laid_again, laid_again_apart, laid_by_path, laid_turn_by_turn, numbered_apart, owed_again,
+    private_touched, stays_formed, still_owed, still_ready,
 };
 pub use step::{Sort, Step};
 pub use target::{Target, TargetFault};

@@ -1,0 +1,187 @@
+-- A run through a journal, from step to step.
+use Rattle.std.proofs.Common.{◌≡◌, ◌≢◌, ◌⊎◌, ⊎_elim, inl, inr, ℕ, ◌+◌, ◌-◌, ◌^◌, ◌<◌, ◌≤◌, min, Bool, true, false, List, [], ◌∷◌, ◌++◌, length, append_assoc, append-nil, Option, Some, None, is_some, Result, Ok, Err, OnOk, OnErr, IfOk, IfErr, refl, sym, ◌∙◌, ap, ap₂, subst, arith}
+use Rattle.std.proofs.lemmas.List.{length-append}
+use Rattle.ips_outside.specs.Image.{Image}
+use Rattle.ips_outside.specs.State.{State}
+use Rattle.ips_outside.specs.Outside.{Outside, IsOutside, Reads, HasCause}
+use Rattle.ips_steps.specs.Steps.{Step, laid, can_lay, stage_of}
+use Rattle.ips_steps.specs.Journal.{IsJournal, allowed}
+use Rattle.ips_steps.specs.View.{sort_of}
+use Rattle.ips_steps.specs.declared.step.Sort.{Sort}
+use Rattle.ips_kinds.specs.Tallies.{Carrier, taken, counted, all_counted}
+use Rattle.ips_kinds.proofs.Counting.{counted_more, taken_stays}
+use Rattle.ips_folder.proofs.Runs.{begun}
+use Rattle.ips_journal.specs.Text.{journal_text}
+use Rattle.ips_journal.specs.Reading.{Reading, IsAt, Means, TellsLine, journal_of}
+use Rattle.ips_journal.specs.declared.fault.StepFault.{StepFault}
+use Rattle.ips_journal.specs.declared.fault.StepFault.TheVariants.{BadJournal, FolderFault}
+use Rattle.ips_apply.specs.Applied.{ChangedBy, OnBadJournal, BeginsWith, AreLaid, IsImpossible, AreBegun, Ends, Applied}
+use Rattle.ips_apply.proofs.Turns.{allowed_behind, laid_then_read, journal_stays, stage_stays, changed_more, laid_one_more}
+
+-- So many steps are finished, and the reader stands behind them.
+pub record Going {F : Type 0} (o : Outside F) (old now : F) (start r : Reading) (before kinds : List Carrier) (count : ℕ) : Type 0 where
+  pub done : List Step
+  pub tallies : kinds ≡ all_counted done before
+  pub number : length done ≡ count
+  pub is_open : r.is_open ≡ true
+  pub same_kind : o.tells now ≡ o.tells old
+  pub faults : o.faults now ≡ o.faults old
+  pub told : o.tells old ≡ true → (front : List Step) → IsAt (journal_of (o.state old).held) front start → IsAt (journal_of (o.state old).held) (front ++ done) r × AreLaid o done old now
+
+pub going_start : {F : Type 0} (o : Outside F) (sane : IsOutside o) (old : F) (r : Reading) (before : List Carrier) → r.is_open ≡ true → Going o old old r r before before 0
+going_start o sane old r before is_open = record {
+  done = [];
+  tallies = refl;
+  number = refl;
+  is_open = is_open;
+  same_kind = refl;
+  faults = refl;
+  told = λ told front at. (
+    subst (λ (l : List Step). IsAt (journal_of (o.state old).held) l r) (sym (append-nil front)) at,
+    record { can = refl; held = refl; moments = begun o _ _ old (sane.only_now old) },
+  );
+}
+
+abbrev WhatIsRead : {F : Type 0} → Outside F → F → Reading → Reading → Result Bool StepFault → Type 0
+WhatIsRead o now r s answer = o.tells now ≡ true → (front : List Step) → IsAt (journal_of (o.state now).held) front r → Means (journal_of (o.state now).held) front s answer
+
+module _ {F : Type 0} (o : Outside F) (sane : IsOutside o) (old now mid : F) (start r s : Reading) (before kinds : List Carrier) (count : ℕ) (g : Going o old now start r before kinds count)
+    (failure : Type 0) (reads : Reads o now mid failure) (answer : Result Bool StepFault) (means : WhatIsRead o now r s answer) where
+  -- what the answer means for the text at the start
+  meant : o.tells old ≡ true → (front : List Step) → IsAt (journal_of (o.state old).held) front start → Means (journal_of (o.state old).held) (front ++ g.done) s answer
+  meant told front at =
+      let both = g.told told front at in
+      let may : allowed g.done ≡ true = allowed_behind front g.done both.0.1.listed.names in
+      let same : journal_of (o.state now).held ≡ journal_of (o.state old).held = journal_stays o sane g.done old now may both.1 in
+      subst (λ (text : List ℕ). Means text (front ++ g.done) s answer) same
+      (means (g.same_kind ∙ told) (front ++ g.done) (subst (λ (text : List ℕ). IsAt text (front ++ g.done) r) (sym same) both.0))
+
+  -- the end line
+  pub ends_there : answer ≡ Ok false → count < 2 ^ 64 → Applied o old mid start before kinds (Ok count)
+  ends_there is few = record {
+    steps = g.done;
+    tallies = g.tallies;
+    count = omega (arith, g.number, few);
+    ends = λ told front at.
+        let whole = subst (Means (journal_of (o.state old).held) (front ++ g.done) s) is (meant told front at) in
+        (whole.0, whole.1, sym g.number, laid_then_read o sane g.done old now mid failure (g.told told front at).1 reads);
+  }
+
+  -- a fault of the reader
+  pub ends_reading : (e : StepFault) → answer ≡ Err e → Applied o old mid start before kinds (Err e)
+  ends_reading (BadJournal line) is = record {
+    steps = g.done;
+    tallies = g.tallies;
+    count = tt;
+    ends = λ told front at. (laid_then_read o sane g.done old now mid failure (g.told told front at).1 reads, inl (subst (Means (journal_of (o.state old).held) (front ++ g.done) s) is (meant told front at)));
+  }
+  ends_reading FolderFault is = record {
+    steps = g.done;
+    tallies = g.tallies;
+    count = tt;
+    ends = λ told front at.
+        let both = g.told told front at in
+        let laid = laid_then_read o sane g.done old now mid failure both.1 reads in
+        record { begun = g.done; one_more = inl refl; stands = (r, both.0); can = laid.can; moments = laid.moments };
+  }
+
+  pub ends_reading_as : (result : Result ℕ StepFault) (e : StepFault) → result ≡ Err e → answer ≡ Err e → Applied o old mid start before kinds result
+  ends_reading_as result e same is = subst (Applied o old mid start before kinds) (sym same) (ends_reading e is)
+
+  told_mid : o.tells old ≡ true → o.tells mid ≡ true
+  told_mid told = reads.call.same_kind ∙ g.same_kind ∙ told
+
+  -- one more step is read
+  module _ (x : Step) (is : answer ≡ Ok true) (lent : s.step ≡ Some x) where
+    next_at : o.tells old ≡ true → (front : List Step) → IsAt (journal_of (o.state old).held) front start → IsAt (journal_of (o.state old).held) ((front ++ g.done) ++ x ∷ []) s
+    next_at told front at =
+        let found = subst (Means (journal_of (o.state old).held) (front ++ g.done) s) is (meant told front at) in
+        let one : found.0 ≡ x = let both = sym found.2 ∙ lent in cc in
+        subst (λ (y : Step). IsAt (journal_of (o.state old).held) ((front ++ g.done) ++ y ∷ []) s) one found.1
+
+    -- and was begun, when a call failed
+    pub ends_laying : (new : F) → (o.tells old ≡ true → ChangedBy o x mid new) → Applied o old new start before kinds (Err FolderFault)
+    ends_laying new changed = record {
+      steps = g.done;
+      tallies = g.tallies;
+      count = tt;
+      ends = λ told front at.
+          let laid = laid_then_read o sane g.done old now mid failure (g.told told front at).1 reads in
+          record {
+            begun = g.done ++ x ∷ [];
+            one_more = inr (x, refl);
+            stands = (s, subst (λ (l : List Step). IsAt (journal_of (o.state old).held) l s) (append_assoc front g.done (x ∷ [])) (next_at told front at));
+            can = laid.can;
+            moments = changed_more o sane g.done x old mid new laid (changed told);
+          };
+    }
+
+    -- and isn't possible
+    pub ends_judging : (new : F) (line : ℕ) → line ≡ s.line → (o.tells old ≡ true → (can_lay (stage_of (o.state mid).held) x (o.state mid).held ≡ false) × Reads o mid new ⊥) → Applied o old new start before kinds (Err (BadJournal line))
+    ends_judging new line number judged = record {
+      steps = g.done;
+      tallies = g.tallies;
+      count = tt;
+      ends = λ told front at.
+          let laid = laid_then_read o sane g.done old now mid failure (g.told told front at).1 reads in
+          let here = next_at told front at in
+          let lines : s.steps ≡ length (front ++ g.done) + 1 = here.1.steps ∙ length-append (front ++ g.done) (x ∷ []) in
+          let wrong = judged told in (
+            laid_then_read o sane g.done old mid new ⊥ laid wrong.1,
+            inr (record {
+              step = x;
+              stands = (s, here);
+              cannot = ap (λ (t : State). can_lay (stage_of t.held) x t.held) wrong.1.kept ∙ wrong.0;
+              number = let there = here.1.line (omega (arith, lines)) in omega (arith, number, there, lines);
+            }),
+          );
+    }
+
+    pub ends_at_step : (new : F) (more : List Carrier) (result : Result ℕ StepFault) (e : StepFault) → more ≡ kinds → result ≡ Err e → TellsLine s.line e → (o.tells mid ≡ true → ChangedBy o x mid new)
+        → (o.tells mid ≡ true → OnBadJournal {T = Unit {0}} (Err e) (λ line. (can_lay (stage_of (o.state mid).held) x (o.state mid).held ≡ false) × Reads o mid new ⊥))
+        → Applied o old new start before more result
+    ends_at_step new more result (BadJournal line) none same number changed bad =
+        subst (Applied o old new start before more) (sym same) (subst (λ (l : List Carrier). Applied o old new start before l (Err (BadJournal line))) (sym none) (ends_judging new line number (λ told. bad (told_mid told))))
+    ends_at_step new more result FolderFault none same number changed bad =
+        subst (Applied o old new start before more) (sym same) (subst (λ (l : List Carrier). Applied o old new start before l (Err FolderFault)) (sym none) (ends_laying new (λ told. changed (told_mid told))))
+
+    -- and is laid
+    pub going_on : (new : F) (more : List Carrier) → s.is_open ≡ true → more ≡ counted (sort_of x) kinds → o.tells new ≡ o.tells old → o.faults new ≡ o.faults old
+        → (o.tells old ≡ true → (can_lay (stage_of (o.state mid).held) x (o.state mid).held ≡ true) × ((o.state new).held ≡ laid (stage_of (o.state mid).held) x (o.state mid).held) × ChangedBy o x mid new)
+        → Going o old new start s before more (count + 1)
+    going_on new more is_open tallied same_kind faults step = record {
+      done = g.done ++ x ∷ [];
+      tallies = tallied ∙ ap (counted (sort_of x)) g.tallies ∙ sym (counted_more g.done x before);
+      number = length-append g.done (x ∷ []) ∙ ap (λ (n : ℕ). n + 1) g.number;
+      is_open = is_open;
+      same_kind = same_kind;
+      faults = faults;
+      told = λ told front at.
+          let laid = laid_then_read o sane g.done old now mid failure (g.told told front at).1 reads in
+          let may : allowed g.done ≡ true = allowed_behind front g.done (g.told told front at).0.1.listed.names in
+          let here = step told in (
+            subst (λ (l : List Step). IsAt (journal_of (o.state old).held) l s) (append_assoc front g.done (x ∷ [])) (next_at told front at),
+            laid_one_more o sane g.done x old mid new may laid here.0 here.1 here.2,
+          );
+    }
+
+-- what all kinds together take stays
+pub takers_stay : {F : Type 0} (o : Outside F) (old now : F) (start r : Reading) (before kinds : List Carrier) (count : ℕ) → Going o old now start r before kinds count → ((t : Sort) → taken before t ≡ true) → (t : Sort) → taken kinds t ≡ true
+takers_stay o old now start r before kinds count g all t = ap (λ (l : List Carrier). taken l t) g.tallies ∙ taken_stays g.done t before ∙ all t
+
+-- no journal has so many steps
+pub too_many : {F : Type 0} (o : Outside F) (old now : F) (start r : Reading) (before kinds : List Carrier) (count : ℕ) → Going o old now start r before kinds (count + 1) → count ≡ 18446744073709551615 → Applied o old now start before kinds (Ok count)
+too_many o old now start r before kinds count g last = record {
+  steps = g.done;
+  tallies = g.tallies;
+  count = omega (arith, g.number, last);
+  ends = λ told front at.
+      let few = (g.told told front at).0.1.listed.count in
+      let all = length-append front g.done in
+      absurd (omega (arith, few, all, g.number, last));
+}
+
+-- a reader that answered a step lends one
+pub lends_one : (e : Option Step) → is_some e ≡ true → (x : Step) × (e ≡ Some x)
+lends_one (Some x) some = (x, refl)
+lends_one None some = cc

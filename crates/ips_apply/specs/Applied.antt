@@ -1,0 +1,67 @@
+-- What is done to a folder while steps are carried out on it.
+use Rattle.std.specs.Prelude.{◌≡◌, ◌⊎◌, ℕ, ◌+◌, ◌-◌, ◌^◌, ◌||◌, min, IfOk, IsTrue, IsFalse, List, [], ◌∷◌, ◌++◌, length, Result, Ok, Err}
+use Rattle.ips_outside.specs.Image.{Image}
+use Rattle.ips_outside.specs.Outside.{Outside}
+use Rattle.ips_folder.specs.Calls.{Keeps}
+use Rattle.ips_steps.specs.Steps.{Step, can_lay, possible, after, frees, freed, meets, met, stage_of}
+use Rattle.ips_steps.specs.Journal.{IsJournal}
+use Rattle.ips_kinds.specs.Tallies.{Carrier, all_counted}
+use Rattle.ips_journal.specs.Text.{journal_text}
+use Rattle.ips_journal.specs.Bad.{IsBadLine}
+use Rattle.ips_journal.specs.Reading.{Reading, IsAt, journal_of}
+use Rattle.ips_journal.specs.declared.fault.StepFault.{StepFault}
+use Rattle.ips_journal.specs.declared.fault.StepFault.TheVariants.{BadJournal, FolderFault}
+
+-- At every moment of the run, and now, nothing is changed and touched but what the step frees and the modes that it meets.
+abbrev pub ChangedBy : {F : Type 0} → Outside F → Step → F → F → Type 0
+ChangedBy o s old new = Keeps o (frees s) (λ q. frees s q || meets s (o.state old).held q) old new
+
+-- The same for steps that are laid one after another.
+abbrev pub ChangedByAll : {F : Type 0} → Outside F → List Step → F → F → Type 0
+ChangedByAll o steps old new = Keeps o (freed steps) (λ q. freed steps q || met (stage_of (o.state old).held) steps (o.state old).held q) old new
+
+-- a fact of the line that a fault of the journal names
+abbrev pub OnBadJournal : {T : Type 0} → Result T StepFault → (ℕ → Type 0) → Type 0
+OnBadJournal (Ok x) P = Unit {0}
+OnBadJournal (Err (BadJournal line)) P = P line
+OnBadJournal (Err FolderFault) P = Unit {0}
+
+-- the text begins as a journal of these steps does: a reader can stand behind them
+abbrev pub BeginsWith : List ℕ → List Step → Type 0
+BeginsWith text steps = (r : Reading) × IsAt text steps r
+
+-- These steps were possible one after another and are laid, and nothing else was changed or touched.
+pub record AreLaid {F : Type 0} (o : Outside F) (steps : List Step) (old new : F) : Type 0 where
+  pub can : IsTrue (possible (stage_of (o.state old).held) steps (o.state old).held)
+  pub held : (o.state new).held ≡ after steps (o.state old).held
+  pub moments : ChangedByAll o steps old new
+
+-- Behind these steps of the text stands one more, which can't be laid on the image; its line has this number.
+pub record IsImpossible (text : List ℕ) (front : List Step) (t : Image) (line : ℕ) : Type 0 where
+  pub step : Step
+  pub stands : BeginsWith text (front ++ step ∷ [])
+  pub cannot : IsFalse (can_lay (stage_of t) step t)
+  pub number : line ≡ length front + 2
+
+-- Behind the front these steps were laid, and one more may have been begun. Nothing else was changed or touched.
+pub record AreBegun {F : Type 0} (o : Outside F) (text : List ℕ) (front steps : List Step) (old new : F) : Type 0 where
+  pub begun : List Step
+  pub one_more : (begun ≡ steps) ⊎ ((s : Step) × (begun ≡ steps ++ s ∷ []))
+  pub stands : BeginsWith text (front ++ begun)
+  pub can : IsTrue (possible (stage_of (o.state old).held) steps (o.state old).held)
+  pub moments : ChangedByAll o begun old new
+
+-- How a run through the steps of the text behind the front ended, when these of them were finished: the text ends there; or
+-- that line is the first that isn't of the grammar, or the step behind isn't possible; or a call on the folder failed.
+abbrev pub Ends : {F : Type 0} → Outside F → List ℕ → List Step → List Step → F → F → Result ℕ StepFault → Type 0
+Ends o text front steps old new (Ok count) = IsJournal (front ++ steps) × (text ≡ journal_text (front ++ steps)) × (count ≡ length steps) × AreLaid o steps old new
+Ends o text front steps old new (Err (BadJournal line)) = AreLaid o steps old new × (IsBadLine text line ⊎ IsImpossible text (front ++ steps) (o.state new).held line)
+Ends o text front steps old new (Err FolderFault) = AreBegun o text front steps old new
+
+-- What a run through a journal does from a reader's place on: some steps are finished, each counted by the first kind that
+-- takes it; where the folder tells its image they are those of its journal behind the front that the reader has read.
+pub record Applied {F : Type 0} (o : Outside F) (old new : F) (r : Reading) (before now : List Carrier) (result : Result ℕ StepFault) : Type 0 where
+  pub steps : List Step
+  pub tallies : now ≡ all_counted steps before
+  pub count : IfOk result (λ n. n ≡ min (length steps) (2 ^ 64 - 1))
+  pub ends : IsTrue (o.tells old) → (front : List Step) → IsAt (journal_of (o.state old).held) front r → Ends o (journal_of (o.state old).held) front steps old new result

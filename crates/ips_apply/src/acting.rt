@@ -1,0 +1,174 @@
+//! The acts of a step, each of them calls on the folder.
+
+ghost use Rattle.std.specs.Prelude.{◌≡◌, ◌<◌, IsTrue, IsErr, OnOk, MatchOption, Some, None, length};
+ghost use Rattle.ips_outside.specs.Outside.{HasCause};
+ghost use Rattle.ips_outside.specs.Change.{moded, names};
+ghost use Rattle.ips_outside.specs.State.{nowhere};
+ghost use Rattle.ips_folder.specs.Calls.{Keeps};
+ghost use Rattle.ips_steps.specs.Steps.{stage_of};
+ghost use Rattle.ips_steps.specs.Journal.{IsProper, step_allowed};
+ghost use Rattle.ips_steps.specs.View.{step_of};
+ghost use Rattle.ips_kinds.specs.declared.kind.Act.TheVariants as act;
+ghost use Rattle.ips_journal.specs.Reading.{stage_for};
+ghost use Rattle.ips_apply.specs.Acting.{acted, cleared, with_dir, with_file, with_content, with_link, with_name, with_step_mode, CanAct};
+ghost use Rattle.ips_apply.specs.Applied.{ChangedBy};
+
+use crate::copying::copy;
+use ips_folder::Folder;
+use ips_kinds::{Act, Sort, Step};
+use ips_outside::{Failed, Look, Source};
+use ips_text::RelPath;
+
+/// Does one act of the step, where it can be done.
+pub(crate) fn perform<F: Folder>(
+    folder: &mut F,
+    step: &Step,
+    act: Act,
+    content: Option<&RelPath>,
+    buffer: &mut [u8],
+) -> Result<(), Failed>
+    requires can { IsTrue (F.outside.tells folder.old) → CanAct (step_of step.now) act (F.outside.state folder.old).held }
+    requires proper { IsProper (step_of step.now) }
+    requires allowed { IsTrue (step_allowed (step_of step.now)) }
+    requires content { MatchOption content (stage_for (step_of step.now) ≡ None) (λ p. stage_for (step_of step.now) ≡ Some p.now.bytes) }
+    requires room { 0 < length buffer.old }
+    ensures done { IsTrue (F.outside.tells folder.old) → OnOk result ((F.outside.state folder.new).held ≡ acted (stage_of (F.outside.state folder.old).held) (step_of step.now) act (F.outside.state folder.old).held) }
+    ensures any_moment { IsTrue (F.outside.tells folder.old) → ChangedBy F.outside (step_of step.now) folder.old folder.new }
+    ensures same_kind { F.outside.tells folder.new ≡ F.outside.tells folder.old }
+    ensures cause { HasCause (F.outside.faults folder.old) (F.outside.faults folder.new) (IsErr result) }
+{
+    match act {
+        Act::Clear => clear(folder, step),
+        Act::MakeDir => make_dir(folder, step),
+        Act::MakeFile => make_file(folder, step),
+        Act::Copy => copy_content(folder, step, content, buffer),
+        Act::MakeLink => make_link(folder, step),
+        Act::MakeHard => make_hard(folder, step),
+        Act::SetMode => set_mode(folder, step),
+        Act::Finished => Ok(()),
+    }
+}
+
+/// Takes away what stands at and below the path of a step other than a mode.
+fn clear<F: Folder>(folder: &mut F, step: &Step) -> Result<(), Failed>
+    ensures done { IsTrue (F.outside.tells folder.old) → OnOk result ((F.outside.state folder.new).held ≡ cleared (step_of step.now) (F.outside.state folder.old).held) }
+    ensures any_moment { IsTrue (F.outside.tells folder.old) → ChangedBy F.outside (step_of step.now) folder.old folder.new }
+    ensures same_kind { F.outside.tells folder.new ≡ F.outside.tells folder.old }
+    ensures cause { HasCause (F.outside.faults folder.old) (F.outside.faults folder.new) (IsErr result) }
+{
+    if step.sort() == Sort::Mode {
+        return Ok(());
+    }
+    folder.remove(step.path())?;
+    Ok(())
+}
+
+/// Makes the step's directory.
+fn make_dir<F: Folder>(folder: &mut F, step: &Step) -> Result<(), Failed>
+    requires can { IsTrue (F.outside.tells folder.old) → CanAct (step_of step.now) act.MakeDir (F.outside.state folder.old).held }
+    requires proper { IsProper (step_of step.now) }
+    ensures done { IsTrue (F.outside.tells folder.old) → OnOk result ((F.outside.state folder.new).held ≡ with_dir (step_of step.now) (F.outside.state folder.old).held) }
+    ensures any_moment { IsTrue (F.outside.tells folder.old) → ChangedBy F.outside (step_of step.now) folder.old folder.new }
+    ensures same_kind { F.outside.tells folder.new ≡ F.outside.tells folder.old }
+    ensures cause { HasCause (F.outside.faults folder.old) (F.outside.faults folder.new) (IsErr result) }
+{
+    match step {
+        Step::Fresh { path, mode } => folder.make_dir(path, *mode),
+        _ => Ok(()),
+    }
+}
+
+/// Makes the empty file of a put.
+fn make_file<F: Folder>(folder: &mut F, step: &Step) -> Result<(), Failed>
+    requires can { IsTrue (F.outside.tells folder.old) → CanAct (step_of step.now) act.MakeFile (F.outside.state folder.old).held }
+    ensures done { IsTrue (F.outside.tells folder.old) → OnOk result ((F.outside.state folder.new).held ≡ with_file (step_of step.now) (F.outside.state folder.old).held) }
+    ensures any_moment { IsTrue (F.outside.tells folder.old) → ChangedBy F.outside (step_of step.now) folder.old folder.new }
+    ensures same_kind { F.outside.tells folder.new ≡ F.outside.tells folder.old }
+    ensures cause { HasCause (F.outside.faults folder.old) (F.outside.faults folder.new) (IsErr result) }
+{
+    match step {
+        Step::Put { path, .. } => folder.make_file(path),
+        _ => Ok(()),
+    }
+}
+
+/// Fills the file of a put with its content.
+fn copy_content<F: Folder>(
+    folder: &mut F,
+    step: &Step,
+    content: Option<&RelPath>,
+    buffer: &mut [u8],
+) -> Result<(), Failed>
+    requires can { IsTrue (F.outside.tells folder.old) → CanAct (step_of step.now) act.Copy (F.outside.state folder.old).held }
+    requires allowed { IsTrue (step_allowed (step_of step.now)) }
+    requires content { MatchOption content (stage_for (step_of step.now) ≡ None) (λ p. stage_for (step_of step.now) ≡ Some p.now.bytes) }
+    requires room { 0 < length buffer.old }
+    ensures done { IsTrue (F.outside.tells folder.old) → OnOk result ((F.outside.state folder.new).held ≡ with_content (stage_of (F.outside.state folder.old).held) (step_of step.now) (F.outside.state folder.old).held) }
+    ensures any_moment { IsTrue (F.outside.tells folder.old) → ChangedBy F.outside (step_of step.now) folder.old folder.new }
+    ensures same_kind { F.outside.tells folder.new ≡ F.outside.tells folder.old }
+    ensures cause { HasCause (F.outside.faults folder.old) (F.outside.faults folder.new) (IsErr result) }
+{
+    match (step, content) {
+        (Step::Put { path, .. }, Some(from)) => copy(folder, from, path, buffer),
+        _ => Ok(()),
+    }
+}
+
+/// Makes the step's symbolic link.
+fn make_link<F: Folder>(folder: &mut F, step: &Step) -> Result<(), Failed>
+    requires can { IsTrue (F.outside.tells folder.old) → CanAct (step_of step.now) act.MakeLink (F.outside.state folder.old).held }
+    ensures done { IsTrue (F.outside.tells folder.old) → OnOk result ((F.outside.state folder.new).held ≡ with_link (step_of step.now) (F.outside.state folder.old).held) }
+    ensures any_moment { IsTrue (F.outside.tells folder.old) → ChangedBy F.outside (step_of step.now) folder.old folder.new }
+    ensures same_kind { F.outside.tells folder.new ≡ F.outside.tells folder.old }
+    ensures cause { HasCause (F.outside.faults folder.old) (F.outside.faults folder.new) (IsErr result) }
+{
+    match step {
+        Step::Link { path, target } => folder.make_link(path, target.bytes()),
+        _ => Ok(()),
+    }
+}
+
+/// Makes the step's path one more name of its target.
+fn make_hard<F: Folder>(folder: &mut F, step: &Step) -> Result<(), Failed>
+    requires can { IsTrue (F.outside.tells folder.old) → CanAct (step_of step.now) act.MakeHard (F.outside.state folder.old).held }
+    ensures done { IsTrue (F.outside.tells folder.old) → OnOk result ((F.outside.state folder.new).held ≡ with_name (step_of step.now) (F.outside.state folder.old).held) }
+    ensures any_moment { IsTrue (F.outside.tells folder.old) → ChangedBy F.outside (step_of step.now) folder.old folder.new }
+    ensures same_kind { F.outside.tells folder.new ≡ F.outside.tells folder.old }
+    ensures cause { HasCause (F.outside.faults folder.old) (F.outside.faults folder.new) (IsErr result) }
+{
+    match step {
+        Step::Hard { path, to } => folder.make_hard(path, to),
+        _ => Ok(()),
+    }
+}
+
+/// Sets the mode that the step names.
+fn set_mode<F: Folder>(folder: &mut F, step: &Step) -> Result<(), Failed>
+    requires can { IsTrue (F.outside.tells folder.old) → CanAct (step_of step.now) act.SetMode (F.outside.state folder.old).held }
+    requires proper { IsProper (step_of step.now) }
+    ensures done { IsTrue (F.outside.tells folder.old) → OnOk result ((F.outside.state folder.new).held ≡ with_step_mode (step_of step.now) (F.outside.state folder.old).held) }
+    ensures any_moment { IsTrue (F.outside.tells folder.old) → ChangedBy F.outside (step_of step.now) folder.old folder.new }
+    ensures same_kind { F.outside.tells folder.new ≡ F.outside.tells folder.old }
+    ensures cause { HasCause (F.outside.faults folder.old) (F.outside.faults folder.new) (IsErr result) }
+{
+    match step {
+        Step::Mode { path, mode } => set_standing_mode(folder, path, *mode),
+        Step::Put { path, mode, .. } => folder.set_mode(path, *mode),
+        _ => Ok(()),
+    }
+}
+
+/// Sets the mode of the directory or file that stands at the path; what has no mode stays.
+fn set_standing_mode<F: Folder>(folder: &mut F, path: &RelPath, mode: u16) -> Result<(), Failed>
+    requires { mode < 4096 }
+    ensures done { IsTrue (F.outside.tells folder.old) → OnOk result ((F.outside.state folder.new).held ≡ moded mode path.now.bytes (F.outside.state folder.old).held) }
+    ensures any_moment { IsTrue (F.outside.tells folder.old) → Keeps F.outside nowhere (names (F.outside.state folder.old).held path.now.bytes) folder.old folder.new }
+    ensures same_kind { F.outside.tells folder.new ≡ F.outside.tells folder.old }
+    ensures cause { HasCause (F.outside.faults folder.old) (F.outside.faults folder.new) (IsErr result) }
+{
+    match folder.look(path)? {
+        Look::Dir { .. } | Look::File { .. } => folder.set_mode(path, mode)?,
+        Look::Absent | Look::Link | Look::Other => {}
+    }
+    Ok(())
+}

@@ -1,0 +1,85 @@
+//! The steps of a journal laid one after another.
+
+ghost use Rattle.std.specs.Prelude.{◌≡◌, ◌<◌, ℕ, IsTrue, IsFalse, IsSome, IfErr, OnOk, OnErr, Some, Err, length};
+ghost use Rattle.ips_outside.specs.Outside.{HasCause, Reads};
+ghost use Rattle.ips_steps.specs.Steps.{Step as StepMeant, laid, can_lay, stage_of};
+ghost use Rattle.ips_steps.specs.View.{sort_of};
+ghost use Rattle.ips_steps.specs.declared.step.Sort.{Sort};
+ghost use Rattle.ips_kinds.specs.Tallies.{seen_by, taken, counted};
+ghost use Rattle.ips_journal.specs.Reading.{TellsLine};
+ghost use Rattle.ips_journal.specs.declared.fault.StepFault.TheVariants as fault;
+ghost use Rattle.ips_apply.specs.Applied.{ChangedBy, OnBadJournal, Applied};
+
+use crate::carrying::lay;
+use crate::judging::is_possible;
+use ips_folder::Folder;
+use ips_journal::{StepFault, StepReader};
+use ips_kinds::Kind;
+use ips_outside::Source;
+
+/// Lays the steps of the journal from the reader's place on, each by the first kind that takes it, and answers how many.
+///
+/// Each sort of step has to have a kind that takes it, and the buffer, through which contents are copied, can't be empty.
+/// `BadJournal` tells the first line that isn't of the journal's grammar, where the steps before it are laid, or the line of
+/// the first step that can't be laid on what those before it left. A step is judged before anything is changed for it. After
+/// a fault the kinds have counted the steps that were finished, and the reader only goes back or tells its line, which is
+/// that of the fault.
+pub fn apply<F: Folder>(
+    folder: &mut F,
+    reader: &mut StepReader,
+    kinds: &mut Vec<Box<dyn Kind>>,
+    buffer: &mut [u8],
+) -> Result<u64, StepFault>
+    requires open { IsTrue reader.old.is_open }
+    requires takers { (s : Sort) → IsTrue (taken (seen_by sorts finished kinds.old.items) s) }
+    requires room { 0 < length buffer.old }
+    ensures applied { Applied F.outside folder.old folder.new reader.old (seen_by sorts finished kinds.old.items) (seen_by sorts finished kinds.new.items) result }
+    ensures line { IfErr result (TellsLine reader.new.line) }
+    ensures same_kind { F.outside.tells folder.new ≡ F.outside.tells folder.old }
+    ensures cause { HasCause (F.outside.faults folder.old) (F.outside.faults folder.new) (result ≡ Err fault.FolderFault) }
+{
+    let mut count = 0u64;
+    loop {
+        if !reader.next(folder)? {
+            return Ok(count);
+        }
+        lay_next(folder, reader, kinds, buffer)?;
+        // no journal lists so many steps
+        if count == u64::MAX {
+            return Ok(count);
+        }
+        count += 1;
+    }
+}
+
+/// Lays the step that the reader lends, where it can be laid.
+fn lay_next<F: Folder>(
+    folder: &mut F,
+    reader: &StepReader,
+    kinds: &mut Vec<Box<dyn Kind>>,
+    buffer: &mut [u8],
+) -> Result<(), StepFault>
+    requires step { IsSome reader.now.step }
+    requires takers { (s : Sort) → IsTrue (taken (seen_by sorts finished kinds.old.items) s) }
+    requires room { 0 < length buffer.old }
+    ensures done { IsTrue (F.outside.tells folder.old) → (s : StepMeant) → reader.now.step ≡ Some s → OnOk result
+        (IsTrue (can_lay (stage_of (F.outside.state folder.old).held) s (F.outside.state folder.old).held)
+        × ((F.outside.state folder.new).held ≡ laid (stage_of (F.outside.state folder.old).held) s (F.outside.state folder.old).held)) }
+    ensures bad { IsTrue (F.outside.tells folder.old) → (s : StepMeant) → reader.now.step ≡ Some s → OnBadJournal result
+        (λ line. IsFalse (can_lay (stage_of (F.outside.state folder.old).held) s (F.outside.state folder.old).held) × Reads F.outside folder.old folder.new ⊥) }
+    ensures any_moment { IsTrue (F.outside.tells folder.old) → (s : StepMeant) → reader.now.step ≡ Some s → ChangedBy F.outside s folder.old folder.new }
+    ensures counted { (s : StepMeant) → reader.now.step ≡ Some s → OnOk result (seen_by sorts finished kinds.new.items ≡ counted (sort_of s) (seen_by sorts finished kinds.old.items)) }
+    ensures uncounted { OnErr result (seen_by sorts finished kinds.new.items ≡ seen_by sorts finished kinds.old.items) }
+    ensures line { IfErr result (TellsLine reader.now.line) }
+    ensures same_kind { F.outside.tells folder.new ≡ F.outside.tells folder.old }
+    ensures cause { HasCause (F.outside.faults folder.old) (F.outside.faults folder.new) (result ≡ Err fault.FolderFault) }
+{
+    let step = reader.step();
+    let content = reader.staged();
+    if !is_possible(folder, step, reader.parent(), content)? {
+        let line = reader.line();
+        return Err(StepFault::BadJournal { line });
+    }
+    lay(folder, kinds, step, content, buffer)?;
+    Ok(())
+}

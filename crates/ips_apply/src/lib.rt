@@ -1,0 +1,21 @@
+//! Lays the steps of a journal on a folder, each carried out by the first kind that takes it.
+//!
+//! A step is judged before it is laid: one that isn't possible then ends the run, and so does a line that isn't of the
+//! journal's grammar. At every moment only what the steps say is changed. No memory is taken.
+//!
+//! In reading order: `applying` goes through the journal, `judging` says whether a step is possible, `carrying` finds its
+//! kind and follows that kind's acts, `acting` does one act, and `copying` fills a file.
+#![tactic(auto)]
+
+mod acting;
+mod applying;
+mod carrying;
+mod copying;
+mod judging;
+
+pub use applying::apply;
+pub use ips_journal::{StepFault, StepReader};
+pub use ips_kinds::{Act, Kind, Step};
+
+#[cfg(test)]
+mod tests;
