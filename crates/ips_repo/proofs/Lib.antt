@@ -5,3 +5,4 @@ pub mod Found
 pub mod Pieces
 pub mod Joined
 pub mod FileNames
+pub mod Manifests

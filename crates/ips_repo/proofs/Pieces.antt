@@ -4,7 +4,7 @@ use Rattle.std.proofs.lemmas.Bool.{eqb-true}
 use Rattle.std.proofs.lemmas.List.{drop-take, take-take}
 use Rattle.ips_outside.specs.Image.{Image}
 use Rattle.ips_outside.specs.Outside.{readable, IsRead}
-use Rattle.ips_repo.specs.Payload.{Reading, given, IsFrontOf}
+use Rattle.ips_repo.specs.Payload.{Reading, from_start, given, IsFrontOf}
 use Rattle.ips_repo.proofs.Parts.{part_more, part_end}
 
 -- a file cut at a size, behind a place before it
@@ -44,3 +44,7 @@ front_more t r buffer count room front read =
           let none = eqb-true count 0 ended in
           more ∙ take_all _ front.file (omega (arith, part_end front.file buffer (length r.bytes) count mine room none));
     }
+
+-- none of it given yet
+pub front_again : (t : Image) (r : Reading) → IsFrontOf t r → IsFrontOf t (from_start r)
+front_again t r front = record { file = front.file; stands = front.stands; sized = front.sized; front = refl; whole = λ ended. cc }

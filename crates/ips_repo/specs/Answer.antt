@@ -10,6 +10,7 @@ abbrev pub IsMeantFault : {Y : Type 0} → RepoFault → Result Y RepoFault → 
 IsMeantFault fault.NoRepository meant = meant ≡ Err fault.NoRepository
 IsMeantFault (fault.BadCatalog why) meant = meant ≡ Err (fault.BadCatalog why)
 IsMeantFault fault.ManifestMissing meant = meant ≡ Err fault.ManifestMissing
+IsMeantFault (fault.BadManifest why) meant = meant ≡ Err (fault.BadManifest why)
 IsMeantFault fault.PayloadMissing meant = meant ≡ Err fault.PayloadMissing
 IsMeantFault (fault.PayloadDamaged found) meant = meant ≡ Err (fault.PayloadDamaged found)
 IsMeantFault (fault.Compressed found) meant = meant ≡ Err (fault.Compressed found)

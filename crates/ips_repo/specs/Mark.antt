@@ -46,6 +46,7 @@ abbrev pub IsMarkFault : RepoFault → Type 0
 IsMarkFault fault.NoRepository = Unit {0}
 IsMarkFault (fault.BadCatalog why) = ⊥
 IsMarkFault fault.ManifestMissing = ⊥
+IsMarkFault (fault.BadManifest why) = ⊥
 IsMarkFault fault.PayloadMissing = ⊥
 IsMarkFault (fault.PayloadDamaged found) = ⊥
 IsMarkFault (fault.Compressed found) = ⊥

@@ -82,6 +82,7 @@ abbrev pub IsOpeningFault : RepoFault → Type 0
 IsOpeningFault fault.NoRepository = Unit {0}
 IsOpeningFault (fault.BadCatalog why) = Unit {0}
 IsOpeningFault fault.ManifestMissing = ⊥
+IsOpeningFault (fault.BadManifest why) = ⊥
 IsOpeningFault fault.PayloadMissing = ⊥
 IsOpeningFault (fault.PayloadDamaged found) = ⊥
 IsOpeningFault (fault.Compressed found) = ⊥

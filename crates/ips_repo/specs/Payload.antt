@@ -50,6 +50,7 @@ abbrev pub IsOpenFault : RepoFault → Type 0
 IsOpenFault fault.NoRepository = ⊥
 IsOpenFault (fault.BadCatalog why) = ⊥
 IsOpenFault fault.ManifestMissing = ⊥
+IsOpenFault (fault.BadManifest why) = ⊥
 IsOpenFault fault.PayloadMissing = Unit {0}
 IsOpenFault (fault.PayloadDamaged found) = ⊥
 IsOpenFault (fault.Compressed found) = ⊥
@@ -61,6 +62,10 @@ abbrev pub fault_of_opening : FileFault → RepoFault
 fault_of_opening file.Missing = fault.PayloadMissing
 fault_of_opening (file.TooLarge count) = fault.TooLarge PayloadBytes count
 fault_of_opening file.SourceFault = fault.SourceFault
+
+-- The same payload before its first piece.
+abbrev pub from_start : Reading → Reading
+from_start r = record r { bytes = []; ended = false }
 
 -- Behind one more piece, of so many bytes from the front of the buffer.
 abbrev pub given : ℕ → List ℕ → Reading → Reading
@@ -91,8 +96,15 @@ abbrev pub IsDamage : PayloadName → List ℕ → RepoFault → Type 0
 IsDamage name bytes fault.NoRepository = ⊥
 IsDamage name bytes (fault.BadCatalog why) = ⊥
 IsDamage name bytes fault.ManifestMissing = ⊥
+IsDamage name bytes (fault.BadManifest why) = ⊥
 IsDamage name bytes fault.PayloadMissing = ⊥
 IsDamage name bytes (fault.PayloadDamaged found) = (found ≡ digest_by name bytes) × (found ≡ name → ⊥) × IsFalse (is_gzip bytes)
 IsDamage name bytes (fault.Compressed found) = (found ≡ digest_by name bytes) × (found ≡ name → ⊥) × IsTrue (is_gzip bytes)
 IsDamage name bytes (fault.TooLarge which count) = ⊥
 IsDamage name bytes fault.SourceFault = ⊥
+
+-- The payload of this name is intact in the repository: its file has these bytes, not too many, and their digest is the name.
+pub record IsIntact (publisher : List ℕ) (t : Image) (name : PayloadName) (bytes : List ℕ) : Type 0 where
+  pub stands : file_at t (payload_place publisher name) ≡ Some bytes
+  pub within : length bytes ≤ payload_limit
+  pub named : digest_by name bytes ≡ name

@@ -2,6 +2,7 @@
 
 use ips_catalog::CatalogFault;
 use ips_digest::PayloadName;
+use ips_manifest::ManifestFault;
 use ips_text::Which;
 
 /// Why something of a repository isn't given.
@@ -13,6 +14,8 @@ pub enum RepoFault {
     BadCatalog(CatalogFault),
     /// No file stands at the manifest's place.
     ManifestMissing,
+    /// The manifest's bytes aren't those of one: its first fault.
+    BadManifest(ManifestFault),
     /// No file stands at the payload's place.
     PayloadMissing,
     /// The payload's bytes have another digest, and don't begin as a gzip file does.

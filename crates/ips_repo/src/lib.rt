@@ -6,6 +6,7 @@
 #![tactic(auto)]
 
 mod fault;
+mod manifest;
 mod mark;
 mod payload;
 mod places;

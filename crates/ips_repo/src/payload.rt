@@ -3,10 +3,11 @@
 ghost use Rattle.std.specs.Prelude.{◌≡◌, ◌+◌, ◌<◌, ◌≤◌, ◌↔◌, [], false, IsTrue, IfOk, IfErr, IsOk, IsErr, OnErr, length, take};
 ghost use Rattle.ips_text.specs.Reading.{IfBad};
 ghost use Rattle.ips_text.specs.declared.refusal.Or.TheVariants.{Bad};
+ghost use Rattle.ips_outside.specs.Image.{Image};
 ghost use Rattle.ips_outside.specs.Outside.{Reads, readable, IsRead};
 ghost use Rattle.ips_repo.specs.Places as place;
 ghost use Rattle.ips_repo.specs.Answer.{Answers};
-ghost use Rattle.ips_repo.specs.Payload.{IsOpened, payload_opening, given, IsFrontOf, digest_by, IsDamage, IsOpenFault, fault_of_opening};
+ghost use Rattle.ips_repo.specs.Payload.{IsOpened, payload_opening, from_start, given, IsFrontOf, digest_by, IsDamage, IsOpenFault, fault_of_opening};
 ghost use Rattle.ips_repo.specs.declared.fault.RepoFault.TheVariants as fault;
 
 use crate::fault::RepoFault;
@@ -16,7 +17,7 @@ use crate::start::Start;
 use ips_digest::{Hasher, PayloadName};
 use ips_outside::{Failed, Source};
 use ips_text::{Or, RelPath, Which};
-use std::alloc::Global;
+use std::alloc::{AllocError, Global};
 use std::marker::Model;
 
 /// The most bytes that a payload may have.
@@ -77,6 +78,30 @@ impl Payload {
             ended: false,
             start: Start::Nothing,
             hasher: Hasher::new(name),
+        })
+    }
+
+    /// The payload's name.
+    pub fn name(&self) -> &PayloadName
+        ensures { result.now ≡ self.now.name }
+    {
+        &self.name
+    }
+
+    /// The same payload from its beginning: nothing of it is given yet. Its file isn't looked for again.
+    pub fn again(&self, alloc: Global) -> Result<Payload, AllocError>
+        ensures begun { IfOk result (λ payload. payload ≡ from_start self.now) }
+        ensures front { (t : Image) → IsFrontOf t self.now → IfOk result (IsFrontOf t) }
+    {
+        let place = self.place.copy(alloc)?;
+        Ok(Payload {
+            name: self.name,
+            place,
+            size: self.size,
+            at: 0,
+            ended: false,
+            start: Start::Nothing,
+            hasher: Hasher::new(&self.name),
         })
     }
 

@@ -1,6 +1,6 @@
 //! The repository of a publisher.
 
-ghost use Rattle.std.specs.Prelude.{◌≡◌, ◌≤◌, IsTrue, IfOk, vec_len};
+ghost use Rattle.std.specs.Prelude.{◌≡◌, ℕ, List, IsTrue, Ok, IfOk};
 ghost use Rattle.ips_text.specs.Reading.{Gives, Sees, IfBad};
 ghost use Rattle.ips_text.specs.declared.refusal.Or.TheVariants.{Bad};
 ghost use Rattle.ips_outside.specs.Outside.{Reads};
@@ -11,16 +11,18 @@ ghost use Rattle.ips_repo.specs.Files.{file_at};
 ghost use Rattle.ips_repo.specs.Places as place;
 ghost use Rattle.ips_repo.specs.Opening as opened;
 ghost use Rattle.ips_repo.specs.Opening.{IsOffered, IsOpeningFault, catalog_in, fault_of_catalog, limited, opening};
-ghost use Rattle.ips_repo.specs.Manifest as manifest;
-ghost use Rattle.ips_repo.specs.Manifest.{IsManifestFault, fault_of_manifest, manifest_limit};
+ghost use Rattle.ips_repo.specs.Manifest.{manifest_file, HoldsManifest, IsSizedManifest, IsManifestRefusal, IsManifestFault};
+ghost use Rattle.ips_manifest.specs.declared.line.Line as declared;
 ghost use Rattle.ips_repo.specs.declared.fault.RepoFault.TheVariants as fault;
 
 use crate::fault::RepoFault;
+use crate::manifest::{manifest_bytes, sized_manifest};
 use crate::mark::check_mark;
-use crate::places::{catalog_place, manifest_place};
+use crate::places::catalog_place;
 use crate::reading::{FileFault, read_whole};
 use ips_catalog::{Catalog, CatalogFault};
 use ips_fmri::Version;
+use ips_manifest::Manifest;
 use ips_outside::Source;
 use ips_text::{Or, Text, Which};
 use std::alloc::Global;
@@ -34,9 +36,6 @@ const STEMS: usize = 20_000;
 
 /// The most versions that a catalog may list, of all stems together.
 const VERSIONS: usize = 200_000;
-
-/// The most bytes that a manifest may have.
-const MANIFEST_BYTES: u64 = 16_777_216;
 
 /// The repository of a publisher, which was opened: a folder of format 4 (pkgrepo(1)). Contracts see the publisher and the
 /// catalog.
@@ -75,21 +74,28 @@ impl Repo {
         Ok(Repo { publisher, catalog })
     }
 
-    /// The bytes of the manifest of a version of a stem, whether or not the catalog lists it.
-    pub fn manifest_bytes<S: Source>(
+    /// The manifest of a version of a stem, whether or not the catalog lists it, and how many bytes it has.
+    pub fn manifest<S: Source>(
         &self,
         alloc: Global,
         source: &mut S,
         stem: &str,
         version: &Version,
-    ) -> Result<Vec<u8>, Or<RepoFault>>
-        ensures meant { IsTrue (S.outside.tells source.old) → Answers (λ bytes. bytes.items) result
-            (manifest.manifest_bytes self.now.publisher stem.now version.now (S.outside.state source.old).held) }
-        ensures within { IfOk result (λ bytes. vec_len bytes ≤ manifest_limit) }
+    ) -> Result<(Manifest, u64), Or<RepoFault>>
+        ensures found { IsTrue (S.outside.tells source.old) → IfOk result (λ m. HoldsManifest
+            (manifest_file self.now.publisher stem.now version.now (S.outside.state source.old).held) m.0.lines.items m.1) }
+        ensures only { IsTrue (S.outside.tells source.old) → (lines : List declared.Line) (size : ℕ)
+            → HoldsManifest (manifest_file self.now.publisher stem.now version.now (S.outside.state source.old).held) lines size
+            → Answers {Y = List declared.Line × ℕ} (λ m. (m.0.lines.items, m.1)) result (Ok (lines, size)) }
+        ensures refused { IsTrue (S.outside.tells source.old)
+            → IfBad result (IsManifestRefusal (manifest_file self.now.publisher stem.now version.now (S.outside.state source.old).held)) }
+        ensures read { IfOk result (λ m. IsSizedManifest m.0.lines.items m.1) }
         ensures faults { IfBad result IsManifestFault }
         ensures reads { Reads S.outside source.old source.new (result ≡ Err (Bad fault.SourceFault)) }
     {
-        read_manifest(alloc, source, self.publisher.as_str(), stem, version)
+        let bytes = manifest_bytes(alloc, source, self.publisher.as_str(), stem, version)?;
+        let manifest = sized_manifest(alloc, bytes.as_slice())?;
+        Ok(manifest)
     }
 
     /// The publisher's catalog.
@@ -156,44 +162,6 @@ fn within_limits(catalog: Catalog) -> Result<Catalog, Or<RepoFault>>
         }));
     }
     Ok(catalog)
-}
-
-// The bytes of the manifest of a version of a stem, from its file.
-fn read_manifest<S: Source>(
-    alloc: Global,
-    source: &mut S,
-    publisher: &str,
-    stem: &str,
-    version: &Version,
-) -> Result<Vec<u8>, Or<RepoFault>>
-    ensures meant { IsTrue (S.outside.tells source.old) → Answers (λ bytes. bytes.items) result
-        (manifest.manifest_bytes publisher.now stem.now version.now (S.outside.state source.old).held) }
-    ensures within { IfOk result (λ bytes. vec_len bytes ≤ manifest_limit) }
-    ensures faults { IfBad result IsManifestFault }
-    ensures reads { Reads S.outside source.old source.new (result ≡ Err (Bad fault.SourceFault)) }
-{
-    let Some(place) = manifest_place(alloc, publisher, stem, version)? else {
-        return Err(Or::Bad(RepoFault::ManifestMissing));
-    };
-    match read_whole(alloc, source, &place, MANIFEST_BYTES) {
-        Ok(bytes) => Ok(bytes),
-        Err(Or::Bad(fault)) => Err(Or::Bad(manifest_fault(fault))),
-        Err(Or::OutOfMemory) => Err(Or::OutOfMemory),
-    }
-}
-
-// Why a manifest isn't read.
-fn manifest_fault(fault: FileFault) -> RepoFault
-    ensures { result ≡ fault_of_manifest fault }
-{
-    match fault {
-        FileFault::Missing => RepoFault::ManifestMissing,
-        FileFault::TooLarge { count } => RepoFault::TooLarge {
-            which: Which::ManifestBytes,
-            count,
-        },
-        FileFault::SourceFault => RepoFault::SourceFault,
-    }
 }
 
 // Why the catalog isn't read.

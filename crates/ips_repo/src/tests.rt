@@ -70,6 +70,7 @@ fn words_of(alloc: Global, fault: &RepoFault) -> Result<String, Fail> {
         RepoFault::NoRepository => format!(in alloc; "no repository")?,
         RepoFault::BadCatalog(fault) => format!(in alloc; "bad catalog {fault:?}")?,
         RepoFault::ManifestMissing => format!(in alloc; "no manifest")?,
+        RepoFault::BadManifest(fault) => format!(in alloc; "bad manifest {fault:?}")?,
         RepoFault::PayloadMissing => format!(in alloc; "missing")?,
         RepoFault::PayloadDamaged { found } => {
             let digits = digits_of(alloc, found)?;
@@ -458,7 +459,7 @@ fn each_fault_of_opening_is_told(rt: HostRuntime) -> Result<(), Fail> {
     Ok(())
 }
 
-// What is told of a manifest of the publisher `test`: how many bytes it has, or its fault.
+// What is told of a manifest of the publisher `test`: how many lines and bytes it has, or its fault.
 fn told_of_manifest<S: Source>(
     alloc: Global,
     source: &mut S,
@@ -471,8 +472,10 @@ fn told_of_manifest<S: Source>(
         Err(Or::OutOfMemory) => return Ok(format!(in alloc; "no memory")?),
     };
     let version = Version::parse(alloc, version)?;
-    match repo.manifest_bytes(alloc, source, stem, &version) {
-        Ok(bytes) => Ok(format!(in alloc; "bytes {}", bytes.len())?),
+    match repo.manifest(alloc, source, stem, &version) {
+        Ok((manifest, size)) => {
+            Ok(format!(in alloc; "lines {} bytes {size}", manifest.lines.len())?)
+        }
         Err(Or::Bad(fault)) => words_of(alloc, &fault),
         Err(Or::OutOfMemory) => Ok(format!(in alloc; "no memory")?),
     }
@@ -484,8 +487,20 @@ fn manifests_stand_at_their_places_alone(rt: HostRuntime) -> Result<(), Fail> {
     let hello = "publisher/test/pkg/hello/1.0%2C5.11-1%3A20240102T030405Z";
     let text = "set name=a value=b\n";
     for (stem, version, fails, want) in [
-        ("hello", "1.0,5.11-1:20240102T030405Z", 0, "bytes 19"),
-        ("a/b+c", "1", 0, "bytes 0"),
+        (
+            "hello",
+            "1.0,5.11-1:20240102T030405Z",
+            0,
+            "lines 1 bytes 19",
+        ),
+        ("a/b+c", "1", 0, "lines 0 bytes 0"),
+        // no action stands on the second line
+        (
+            "bad",
+            "1",
+            0,
+            "bad manifest ManifestFault { line: 2, fault: Action(UnknownAction { place: 0 }) }",
+        ),
         ("hello", "1.0,5.11-1", 0, "no manifest"),
         ("hell", "1.0,5.11-1:20240102T030405Z", 0, "no manifest"),
         // stems with which the place is no path
@@ -494,11 +509,22 @@ fn manifests_stand_at_their_places_alone(rt: HostRuntime) -> Result<(), Fail> {
         // the look and the read, behind the four calls that open the repository
         ("hello", "1.0,5.11-1:20240102T030405Z", 5, "fault"),
         ("hello", "1.0,5.11-1:20240102T030405Z", 6, "fault"),
-        ("hello", "1.0,5.11-1:20240102T030405Z", 7, "bytes 19"),
+        (
+            "hello",
+            "1.0,5.11-1:20240102T030405Z",
+            7,
+            "lines 1 bytes 19",
+        ),
     ] {
         let mut tree = repository(alloc, b"{}")?;
         add(alloc, &mut tree, hello, text.as_bytes())?;
         add(alloc, &mut tree, "publisher/test/pkg/a%2Fb%2Bc/1", b"")?;
+        add(
+            alloc,
+            &mut tree,
+            "publisher/test/pkg/bad/1",
+            b"\nfrob a=b\n",
+        )?;
         let mut source = MemSource::new(tree, Vec::from_slice(alloc, &[fails])?);
         let told = told_of_manifest(alloc, &mut source, stem, version)?;
         assert!(rt; told.as_str() == want, "{fails}: {told}");
@@ -510,7 +536,7 @@ fn manifests_stand_at_their_places_alone(rt: HostRuntime) -> Result<(), Fail> {
 fn manifests_are_within_their_limit(rt: HostRuntime) -> Result<(), Fail> {
     let alloc = rt.alloc();
     for (size, want) in [
-        (16_777_216, "bytes 16777216"),
+        (16_777_216, "lines 0 bytes 16777216"),
         (16_777_217, "too large ManifestBytes 16777217"),
     ] {
         let mut tree = repository(alloc, b"{}")?;
