@@ -130,8 +130,7 @@ fn run(
     alloc: Global,
     folder: &mut MemFolder,
     kinds: &mut Vec<Box<dyn Kind>>,
-) -> Result<Result<u64, StepFault>, Fail>
-{
+) -> Result<Result<u64, StepFault>, Fail> {
     if !takes_all(alloc, kinds)? {
         return Ok(Err(StepFault::BadJournal { line: 0 }));
     }

@@ -97,14 +97,14 @@ own_steps kinds (x ∷ rest) s place k is one first few = go (same_sort s (sort_
   where
     go : (c : Bool) → same_sort s (sort_of x) ≡ c
         → ((k' : Carrier) → slice_get (counted (sort_of x) kinds) place ≡ Some k' → ((r : Sort) → k'.sorts r ≡ same_sort s r) → k'.finished + number_of s rest < 2 ^ 64
-            → slice_get (all_counted rest (counted (sort_of x) kinds)) place ≡ Some (record { sorts = k'.sorts; finished = k'.finished + number_of s rest }))
+        → slice_get (all_counted rest (counted (sort_of x) kinds)) place ≡ Some (record { sorts = k'.sorts; finished = k'.finished + number_of s rest }))
         → slice_get (all_counted rest (counted (sort_of x) kinds)) place ≡ Some (record { sorts = k.sorts; finished = k.finished + cond c (number_of s rest + 1) (number_of s rest) })
     go true same later =
         let own : sort_of x ≡ s = sym (same_sort-true s (sort_of x) same) in
         let here : k.finished + (number_of s rest + 1) < 2 ^ 64 = subst (λ (c : Bool). k.finished + cond c (number_of s rest + 1) (number_of s rest) < 2 ^ 64) same few in
         let tally : min (k.finished + 1) (2 ^ 64 - 1) ≡ k.finished + 1 = omega (arith, here) in
         let stands : slice_get (counted (sort_of x) kinds) place ≡ Some (record { sorts = k.sorts; finished = k.finished + 1 }) =
-            counts_one (sort_of x) kinds place k is (ap k.sorts own ∙ one s ∙ same_sort-self s) (ap (λ (r : Sort). taken (take place kinds) r) own ∙ first) ∙ ap (λ (n : ℕ). Some (record { sorts = k.sorts; finished = n })) tally in
+        counts_one (sort_of x) kinds place k is (ap k.sorts own ∙ one s ∙ same_sort-self s) (ap (λ (r : Sort). taken (take place kinds) r) own ∙ first) ∙ ap (λ (n : ℕ). Some (record { sorts = k.sorts; finished = n })) tally in
         let sum : (k.finished + 1) + number_of s rest ≡ k.finished + (number_of s rest + 1) = omega arith in
         later (record { sorts = k.sorts; finished = k.finished + 1 }) stands one (omega (arith, here)) ∙ ap (λ (n : ℕ). Some (record { sorts = k.sorts; finished = n })) sum
     go false other later = later k (passed_over (sort_of x) kinds place k is (one (sort_of x) ∙ other)) one (subst (λ (c : Bool). k.finished + cond c (number_of s rest + 1) (number_of s rest) < 2 ^ 64) other few)
