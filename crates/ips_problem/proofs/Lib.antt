@@ -1,0 +1,7 @@
+pub mod Members
+pub mod StemLists
+pub mod Reached
+pub mod Restricting
+pub mod Tests
+pub mod Picking
+pub mod Solving

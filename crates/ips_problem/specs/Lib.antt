@@ -1,0 +1,9 @@
+pub mod Stems
+pub mod Case
+pub mod Candidates
+pub mod Reach
+pub mod Selecting
+pub mod Posed
+pub mod Named
+pub mod Fault
+pub mod Laws

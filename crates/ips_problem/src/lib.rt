@@ -1,0 +1,20 @@
+//! What a request on an image asks of its packages, as a puzzle.
+//!
+//! A request names stems by patterns. Each stem has candidates: the versions to which it may come, and absence where it may be
+//! absent. A selection is admissible where it gives each stem one of its candidates, and every dependency of what it selects
+//! holds. The stems in reach are the named and the installed ones, and those that a candidate's dependencies want. The puzzle is
+//! over these alone, and that is enough: it is a law that it has a solution exactly where a selection over all stems is
+//! admissible, and that its first solution is the best selection.
+//!
+//! In reading order: requests (`kind`, `request`, `fault`), and the law (`laws`).
+#![tactic(auto)]
+
+mod fault;
+mod kind;
+mod laws;
+mod request;
+
+pub use fault::ProblemFault;
+pub use kind::Kind;
+pub use laws::reach_is_enough;
+pub use request::Request;
