@@ -1,5 +1,5 @@
 -- How the program keeps a dependency: as its type and the list of what it mentions.
-use Rattle.std.specs.Prelude.{List, [], ◌∷◌}
+use Rattle.std.specs.Prelude.{List, [], ◌∷◌, Option, Some, None}
 use Rattle.ips_fmri.specs.declared.fmri.Fmri.{Fmri}
 use Rattle.ips_depend.specs.declared.dependency_type.DependencyType.{DependencyType}
 use Rattle.ips_depend.specs.declared.dependency_type.DependencyType.TheVariants as of_type
@@ -28,3 +28,9 @@ dependency_of of_type.Conditional fs = of_two Conditional fs
 dependency_of of_type.RequireAny fs = RequireAny fs
 dependency_of of_type.Group fs = of_one Group fs
 dependency_of of_type.Parent fs = Parent fs
+
+-- The FMRI, where there is just one.
+abbrev pub sole_of : List Fmri → Option Fmri
+sole_of [] = None
+sole_of (f ∷ []) = Some f
+sole_of (f ∷ g ∷ fs) = None

@@ -5,3 +5,4 @@ pub mod Holds
 pub mod Asking
 pub mod Laws
 pub mod Kept
+pub mod Read

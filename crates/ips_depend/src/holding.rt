@@ -2,7 +2,7 @@
 
 ghost use Rattle.std.specs.Prelude.{◌≡◌};
 ghost use Rattle.std.specs.List.{list_any};
-ghost use Rattle.ips_depend.specs.Holds.{holds};
+ghost use Rattle.ips_depend.specs.Holds as judged;
 ghost use Rattle.ips_depend.specs.Kept.{dependency_of};
 ghost use Rattle.ips_depend.specs.Matching as matching;
 ghost use Rattle.ips_depend.specs.Selection as selection;
@@ -13,7 +13,7 @@ use ips_fmri::{Fmri, Version};
 
 /// Whether the dependency of this type that mentions these FMRIs holds.
 pub fn holds<V: View>(of_type: DependencyType, mentions: &[Fmri], view: &V) -> bool
-    ensures { result ≡ holds (V.selection view.now) (V.spares view.now) (dependency_of of_type mentions.now) }
+    ensures { result ≡ judged.holds (V.selection view.now) (V.spares view.now) (dependency_of of_type mentions.now) }
 {
     match (of_type, mentions) {
         (DependencyType::Require, [fmri]) => is_present(view, fmri),

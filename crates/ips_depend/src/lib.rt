@@ -6,16 +6,16 @@
 //! that it wants have to be there: the absence of any other breaks none.
 #![tactic(auto)]
 
+mod dependency;
 mod dependency_type;
 mod holding;
 mod laws;
 mod reading;
-mod test;
 mod view;
 
+pub use dependency::Test;
 pub use laws::{asks_for_one_list, judged_by_mentions, only_wanted_drawn_in, versions_are_matched};
 pub use reading::{BadDepend, tests_of};
-pub use test::Test;
 pub use view::View;
 
 #[cfg(test)]

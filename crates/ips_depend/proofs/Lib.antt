@@ -1,0 +1,6 @@
+pub mod Matching
+pub mod Names
+pub mod Written
+pub mod Made
+pub mod Lines
+pub mod Absence

@@ -1,0 +1,150 @@
+//! The dependencies that a manifest asks for.
+
+ghost use Rattle.std.specs.Prelude.{◌≡◌, ◌↔◌, length, true, IsTrue, IfOk, OnOk};
+ghost use Rattle.ips_text.specs.Reading.{IfBad};
+ghost use Rattle.ips_depend.specs.Asking.{LinesAsk, IsJudged, IsBad, IsFirstBad};
+ghost use Rattle.ips_depend.specs.Read as read;
+ghost use Rattle.ips_depend.specs.Read.{HasAdded, HasRead, IsAskedFor, IsReadAs, IsTyped, Reads};
+
+use crate::dependency::Test;
+use crate::dependency_type::DependencyType;
+use ips_action::{Action, ActionKind, Attrs};
+use ips_filter::Settings;
+use ips_fmri::Fmri;
+use ips_manifest::{Line, Manifest};
+use ips_text::{Or, Text};
+use std::alloc::{AllocError, Global};
+
+/// A `depend` action that the image takes is no dependency: its type is unknown, as `origin` and `group-any` are; it has more than
+/// one FMRI, and is neither `require-any` nor `parent`; it has no predicate and is `conditional`, or has one and isn't; or one of
+/// its texts is no FMRI.
+#[derive(Clone, Copy, Debug, PartialEq, Eq, Drop)]
+pub struct BadDepend {
+    /// The number of the line of the manifest.
+    pub line: u64,
+}
+
+/// The dependencies of the `depend` actions that the image takes, in their order. BadDepend comes exactly where one of these
+/// actions is no dependency, and tells the first such line.
+pub fn tests_of(
+    alloc: Global,
+    manifest: &Manifest,
+    settings: &Settings,
+) -> Result<Vec<Test>, Or<BadDepend>>
+    ensures asked { IfOk result (λ tests. LinesAsk settings.now manifest.now.lines.items tests.items) }
+    ensures bad { IfBad result (λ bad. IsFirstBad settings.now manifest.now.lines.items bad.line) }
+{
+    let mut tests = Vec::new(alloc);
+    for line in &manifest.lines {
+        add(alloc, &mut tests, line, settings)?;
+    }
+    Ok(tests)
+}
+
+// Adds the dependency that a line asks for, where it is judged.
+fn add(
+    alloc: Global,
+    tests: &mut Vec<Test>,
+    line: &Line,
+    settings: &Settings,
+) -> Result<(), Or<BadDepend>>
+    ensures asked { OnOk result (HasAdded settings.now line.now tests.old.items tests.new.items) }
+    ensures bad { IfBad result (λ bad. IsBad settings.now line.now × (bad.line ≡ line.now.number)) }
+{
+    if !is_judged(line, settings) {
+        return Ok(());
+    }
+    let action = &line.action;
+    match test_of(alloc, &action.attrs)? {
+        Some(test) => tests.push(test)?,
+        None => return Err(Or::Bad(BadDepend { line: line.number })),
+    }
+    Ok(())
+}
+
+// Whether the line is a `depend` action that the image takes.
+fn is_judged(line: &Line, settings: &Settings) -> bool
+    ensures { IsTrue result ↔ IsJudged settings.now line.now }
+{
+    if !is_depend(&line.action) {
+        return false;
+    }
+    settings.admits(&line.action)
+}
+
+// Whether the action is a `depend` action.
+fn is_depend(action: &Action) -> bool
+    ensures { IsTrue result ↔ (action.now.kind ≡ ActionKind.Depend) }
+{
+    matches!(action.kind, ActionKind::Depend)
+}
+
+// The dependency that a `depend` action of these attributes asks for; None where it asks for none.
+fn test_of(alloc: Global, attrs: &Attrs) -> Result<Option<Test>, AllocError>
+    ensures { IfOk result (λ test. IsAskedFor attrs.now test) }
+{
+    let Some(of_type) = type_of(attrs.values("type")) else {
+        return Ok(None);
+    };
+    let predicates = attrs.values("predicate");
+    let fmris = attrs.values("fmri");
+    if !of_type.takes(predicates.len(), fmris.len()) {
+        return Ok(None);
+    }
+    let test = read_test(alloc, of_type, predicates, fmris)?;
+    Ok(test)
+}
+
+// The type that is the one value; None where there is no such value or type.
+fn type_of(values: &[Text]) -> Option<DependencyType>
+    ensures { IsTyped values.now result }
+{
+    match values {
+        [word] => DependencyType::named(word.as_str()),
+        _ => None,
+    }
+}
+
+// The dependency of this type with these predicates and FMRIs; None where one of the texts is no FMRI.
+fn read_test(
+    alloc: Global,
+    of_type: DependencyType,
+    predicates: &[Text],
+    fmris: &[Text],
+) -> Result<Option<Test>, AllocError>
+    requires { read.takes of_type (length predicates.now) (length fmris.now) ≡ true }
+    ensures { IfOk result (λ test. IsReadAs of_type predicates.now fmris.now test) }
+{
+    let mut mentions = Vec::new(alloc);
+    if !read_fmris(alloc, predicates, &mut mentions)? {
+        return Ok(None);
+    }
+    if !read_fmris(alloc, fmris, &mut mentions)? {
+        return Ok(None);
+    }
+    Ok(Some(Test::new(of_type, mentions)))
+}
+
+// Adds the FMRIs that the texts are; false where one of them is none.
+fn read_fmris(alloc: Global, texts: &[Text], fmris: &mut Vec<Fmri>) -> Result<bool, AllocError>
+    ensures { IfOk result (λ all. HasRead texts.now fmris.old.items fmris.new.items all) }
+{
+    for text in texts {
+        let Some(fmri) = read_fmri(alloc, text)? else {
+            return Ok(false);
+        };
+        fmris.push(fmri)?;
+    }
+    Ok(true)
+}
+
+// The FMRI that the text is; None where it is none.
+fn read_fmri(alloc: Global, text: &Text) -> Result<Option<Fmri>, AllocError>
+    ensures { IfOk result (λ fmri. Reads text.now fmri) }
+{
+    match Fmri::parse(alloc, text.as_str()) {
+        Ok(fmri) => Ok(Some(fmri)),
+        Err(Or::Bad(_)) => Ok(None),
+        Err(Or::OutOfMemory) => Err(AllocError),
+    }
+}
