@@ -1,5 +1,5 @@
 -- A puzzle's tests are facts about the pairs of their stems.
-use Rattle.std.proofs.Common.{◌≡◌, ℕ, zero, suc, ◌+◌, ◌<◌, ◌≤◌, max, Bool, true, false, not, cond, ◌&&◌, ◌||◌, List, [], ◌∷◌, ◌++◌, map, filter_map, position, All, Contains, length, slice_get, get_or, Option, Some, None, is_some, option_map, option_and_then, refl, sym, ap, subst, ◌∙◌, inl, inr, arith, eqb-true, eq-eqb, ne_eqb, bytes_eq}
+use Rattle.std.proofs.Common.{◌≡◌, ℕ, zero, suc, ◌+◌, ◌<◌, ◌≤◌, max, Bool, true, false, not, cond, ◌==◌, ◌&&◌, ◌||◌, List, [], ◌∷◌, ◌++◌, map, filter_map, position, All, Contains, length, slice_get, get_or, Option, Some, None, is_some, option_map, option_and_then, refl, sym, ap, subst, ◌∙◌, inl, inr, arith, eqb-true, eq-eqb, ne_eqb, bytes_eq}
 use Rattle.std.specs.List.{list_any, list_all, cons_option, AllByRecursion}
 use Rattle.std.proofs.lemmas.Bool.{both_ways, cases_Bool, or_cases, or_left, or_right, and_parts, and_from, cond-true, cond-false, cases_lt}
 use Rattle.std.proofs.lemmas.Option.{none-some, same_Some, slice_get_cases}
@@ -29,7 +29,7 @@ has_first stem others = or_left (bytes_eq stem stem) (has stem others) (same_as_
 -- ---- dependencies
 
 -- one of the FMRIs is present, where the selections agree
-any_alike : (s t : Selection) (fs : List Fmri) → ((y : List ℕ) → has y (stems fs) ≡ true → s y ≡ t y) → list_any (is_present s) fs ≡ list_any (is_present t) fs
+pub any_alike : (s t : Selection) (fs : List Fmri) → ((y : List ℕ) → has y (stems fs) ≡ true → s y ≡ t y) → list_any (is_present s) fs ≡ list_any (is_present t) fs
 any_alike s t [] w = refl
 any_alike s t (f ∷ fs) w =
     let first = ap (λ o. is_some_that (reaches f.version) o || list_any (is_present s) fs) (w f.stem (has_first f.stem (stems fs))) in
@@ -78,7 +78,7 @@ passes_too p q bound (i ∷ is) l w h =
 -- ---- candidates of a set
 
 -- what is there is some
-some_of : {A : Type 0} (o : Option A) → is_some o ≡ true → (x : A) × (o ≡ Some x)
+pub some_of : {A : Type 0} (o : Option A) → is_some o ≡ true → (x : A) × (o ≡ Some x)
 some_of None e = absurd (both_ways false refl e)
 some_of (Some x) e = (x, refl)
 

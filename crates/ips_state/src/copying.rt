@@ -68,8 +68,8 @@ pub fn copy_packages(alloc: Global, packages: &[Package]) -> Result<Vec<Package>
 }
 
 // The same package.
-fn copy_package(alloc: Global, package: &Package) -> Result<Package, AllocError>
-    ensures { IfOk result (λ copy. installed copy ≡ installed package.now) }
+fn copy_package(alloc: Global, original: &Package) -> Result<Package, AllocError>
+    ensures { IfOk result (λ copy. installed copy ≡ installed original.now) }
 {
-    package.copy(alloc)
+    original.copy(alloc)
 }
