@@ -1,4 +1,5 @@
 pub mod Members
+pub mod Named
 pub mod StemLists
 pub mod Reached
 pub mod Restricting

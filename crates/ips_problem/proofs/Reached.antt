@@ -9,7 +9,9 @@ use Rattle.ips_problem.specs.declared.kind.Kind.{Kind}
 use Rattle.ips_problem.specs.declared.kind.Kind.TheVariants.{Install, Update, Uninstall, Keep}
 use Rattle.ips_problem.specs.Stems.{has, firsts}
 use Rattle.ips_problem.specs.Case.{Case, Naming, installed_at, installed_version, is_installed, is_named}
-use Rattle.ips_problem.specs.Candidates.{Role, Refused, Gone, Asked, Renewed, Standing, Free, unnamed, is_target_of, role, role_in, candidates, candidates_in, present, coming, is_obsolete, is_standing}
+use Rattle.ips_problem.specs.declared.role.Role.{Role}
+use Rattle.ips_problem.specs.declared.role.Role.TheVariants.{Refused, Gone, Asked, Renewed, Standing, Free}
+use Rattle.ips_problem.specs.Candidates.{is_target_of, role, role_by, candidates, candidates_in, present, coming, is_obsolete, is_standing}
 use Rattle.ips_problem.specs.Reach.{dependencies_of, stems_wanted, drawn_in, seeds, grown, IsReach}
 use Rattle.ips_problem.proofs.Members.{Among}
 use Rattle.ips_problem.proofs.StemLists.{has_left, has_right, has_firsts, has_gathered, same_stem}
@@ -76,22 +78,13 @@ not_target : (ns : List Naming) (c : Case) (x : List ℕ) → is_named c x ≡ f
 not_target [] c x a b = b
 not_target (n ∷ ns) c x a b = a
 
-free : (c : Case) (x : List ℕ) → is_installed c x ≡ false → unnamed c x ≡ Free
-free c x b = cond-false (is_installed c x) Standing Free b
-
-role_apart : (k : Kind) (c : Case) (x : List ℕ) → is_named c x ≡ false → is_installed c x ≡ false → (role_in k c x ≡ Gone) ⊎ (role_in k c x ≡ Free)
-role_apart Install c x a b = elim (cases_Bool (has x c.rejected)) [
-  | inl e ↦ inl (cond-true (has x c.rejected) (cond (is_named c x) Refused Gone) (cond (is_named c x) Asked (unnamed c x)) e ∙ cond-false (is_named c x) Refused Gone a)
-  | inr e ↦ inr (cond-false (has x c.rejected) (cond (is_named c x) Refused Gone) (cond (is_named c x) Asked (unnamed c x)) e ∙ cond-false (is_named c x) Asked (unnamed c x) a ∙ free c x b)
-]
-role_apart Update c x a b = elim (cases_Bool (has x c.rejected)) [
-  | inl e ↦ inl (cond-true (has x c.rejected) Gone (cond (is_target_of c.named c x) Renewed (unnamed c x)) e)
-  | inr e ↦
-      let rest = cond-false (is_target_of c.named c x) Renewed (unnamed c x) (not_target c.named c x a b) in
-      inr (cond-false (has x c.rejected) Gone (cond (is_target_of c.named c x) Renewed (unnamed c x)) e ∙ rest ∙ free c x b)
-]
-role_apart Uninstall c x a b = inr (cond-false (is_named c x) Gone (unnamed c x) a ∙ free c x b)
-role_apart Keep c x a b = inr (free c x b)
+role_apart : (k : Kind) (rejected : Bool) → (role_by k false rejected false false ≡ Gone) ⊎ (role_by k false rejected false false ≡ Free)
+role_apart Install true = inl refl
+role_apart Install false = inr refl
+role_apart Update true = inl refl
+role_apart Update false = inr refl
+role_apart Uninstall rejected = inr refl
+role_apart Keep rejected = inr refl
 
 absent_first : (os : List (Option Parts)) → Contains (None ∷ os) None
 absent_first os = (0, omega arith, refl)
@@ -101,7 +94,10 @@ pub absence_offered : (c : Case) (reach : List (List ℕ)) (x : List ℕ) → Is
 absence_offered c reach x r h =
     let not_named = false_from_ne_true (is_named c x) (λ e. both_ways (has x reach) h (named_in_reach c reach x r e)) in
     let not_installed = false_from_ne_true (is_installed c x) (λ e. both_ways (has x reach) h (installed_in_reach c reach x r e)) in
-    elim (role_apart c.kind c x not_named not_installed) [
-      | inl e ↦ subst (λ q. Contains (candidates_in q c.kind (is_obsolete c x) (is_standing (installed_version c x)) (coming c x)) None) (sym e) (absent_first [])
-      | inr e ↦ subst (λ q. Contains (candidates_in q c.kind (is_obsolete c x) (is_standing (installed_version c x)) (coming c x)) None) (sym e) (absent_first (present (is_obsolete c x) (coming c x)))
+    let target = not_target c.named c x not_named not_installed in
+    let same : role c x ≡ role_by c.kind false (has x c.rejected) false false = λ i. role_by c.kind (not_named i) (has x c.rejected) (target i) (not_installed i) in
+    let offers = λ (q : Role). candidates_in q c.kind (is_obsolete c x) (is_standing (installed_version c x)) (coming c x) in
+    elim (role_apart c.kind (has x c.rejected)) [
+      | inl e ↦ subst (λ q. Contains (offers q) None) (sym (same ∙ e)) (absent_first [])
+      | inr e ↦ subst (λ q. Contains (offers q) None) (sym (same ∙ e)) (absent_first (present (is_obsolete c x) (coming c x)))
     ]

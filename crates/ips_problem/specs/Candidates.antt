@@ -13,6 +13,8 @@ use Rattle.ips_manifest.specs.Manifest.{tells_obsolete}
 use Rattle.ips_depend.specs.Matching.{admits, reaches}
 use Rattle.ips_problem.specs.declared.kind.Kind.{Kind}
 use Rattle.ips_problem.specs.declared.kind.Kind.TheVariants.{Install, Update, Uninstall, Keep}
+use Rattle.ips_problem.specs.declared.role.Role.{Role}
+use Rattle.ips_problem.specs.declared.role.Role.TheVariants.{Refused, Gone, Asked, Renewed, Standing, Free}
 use Rattle.ips_problem.specs.Stems.{has}
 use Rattle.ips_problem.specs.Case.{Case, Naming, Facts, is_same_version, is_named, is_installed, installed_version, said}
 
@@ -70,43 +72,25 @@ abbrev pub present_or_gone : {X : Type 0} → (X → Bool) → List X → List (
 present_or_gone gone [] = []
 present_or_gone gone (x ∷ xs) = if gone x then None ∷ present gone xs else Some x ∷ present_or_gone gone xs
 
--- What a request has in mind for a stem.
-pub data Role : Type 0 where
-  -- it is asked for and rejected at once
-  Refused : Role
-  -- it is to be absent
-  Gone : Role
-  -- it is asked for
-  Asked : Role
-  -- it is to be updated
-  Renewed : Role
-  -- it is installed, and nothing more is said of it
-  Standing : Role
-  -- it isn't installed, and nothing more is said of it
-  Free : Role
+-- the role of a stem of which nothing is said
+abbrev pub unnamed : Bool → Role
+unnamed installed = if installed then Standing else Free
 
--- the role of a stem of which the request says nothing
-abbrev pub unnamed : Case → List ℕ → Role
-unnamed c stem = if is_installed c stem then Standing else Free
+-- The role of a stem in a request of a kind: whether a pattern names it, it is rejected, an update is of it, and it is installed.
+abbrev pub role_by : Kind → Bool → Bool → Bool → Bool → Role
+role_by Install named rejected target installed = if rejected then (if named then Refused else Gone) else (if named then Asked else unnamed installed)
+role_by Update named rejected target installed = if rejected then Gone else (if target then Renewed else unnamed installed)
+role_by Uninstall named rejected target installed = if named then Gone else unnamed installed
+role_by Keep named rejected target installed = unnamed installed
 
 -- an update that names this is of the stem: where it names nothing, of each that is installed
 abbrev pub is_target_of : List Naming → Case → List ℕ → Bool
 is_target_of [] c stem = is_installed c stem
 is_target_of (n ∷ ns) c stem = is_named c stem
 
--- the role of a stem in a request of this kind
-abbrev pub role_in : Kind → Case → List ℕ → Role
-role_in Install c stem =
-    if has stem c.rejected
-    then (if is_named c stem then Refused else Gone)
-    else (if is_named c stem then Asked else unnamed c stem)
-role_in Update c stem = if has stem c.rejected then Gone else (if is_target_of c.named c stem then Renewed else unnamed c stem)
-role_in Uninstall c stem = if is_named c stem then Gone else unnamed c stem
-role_in Keep c stem = unnamed c stem
-
 -- the role of a stem
 abbrev pub role : Case → List ℕ → Role
-role c stem = role_in c.kind c stem
+role c stem = role_by c.kind (is_named c stem) (has stem c.rejected) (is_target_of c.named c stem) (is_installed c stem)
 
 -- those beyond the one that stands: an update lets what is obsolete go
 abbrev pub beyond : {X : Type 0} → Kind → (X → Bool) → List X → List (Option X)

@@ -1,4 +1,5 @@
 pub mod Stems
+pub mod Reads
 pub mod Case
 pub mod Candidates
 pub mod Reach
