@@ -20,14 +20,14 @@ use Rattle.ips_problem.specs.Case.{Case, Naming, Facts, is_same_version, is_name
 
 -- ---- the versions of a stem
 
--- the versions that are listed, and the one that is installed, where one is, newest first
-abbrev pub newest_first : List Parts → Option Parts → List Parts
-newest_first listed None = reverse listed
-newest_first listed (Some v) = filter (λ w. is_lt (version_cmp v w)) (reverse listed) ++ v ∷ filter (λ w. is_lt (version_cmp w v)) (reverse listed)
+-- the versions that are listed, with the installed one, where one is, at its place
+abbrev pub with_installed : List Parts → Option Parts → List Parts
+with_installed listed None = listed
+with_installed listed (Some v) = filter (λ w. is_lt (version_cmp w v)) listed ++ v ∷ filter (λ w. is_lt (version_cmp v w)) listed
 
 -- the versions of a stem, which are those of the catalog and the installed one, newest first
 abbrev pub newest : Case → List ℕ → List Parts
-newest c stem = newest_first (versions_of c.catalog stem) (installed_version c stem)
+newest c stem = reverse (with_installed (versions_of c.catalog stem) (installed_version c stem))
 
 -- each pattern that names the stem admits the version, and each freeze of the stem too
 abbrev pub is_allowed : Case → List ℕ → Parts → Bool

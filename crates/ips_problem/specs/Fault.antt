@@ -9,14 +9,18 @@ use Rattle.ips_manifest.specs.declared.line.Line.{Line}
 use Rattle.ips_manifest.specs.Manifest.{IsManifestOf, IsFaultOf}
 use Rattle.ips_filter.specs.Settings.{Set}
 use Rattle.ips_depend.specs.Asking.{IsFirstBad}
+use Rattle.ips_text.specs.declared.refusal.Or.{Or}
+use Rattle.ips_text.specs.declared.refusal.Or.TheVariants.{Bad, OutOfMemory}
 use Rattle.ips_repo.specs.Manifest.{manifest_limit}
+use Rattle.ips_repo.specs.declared.fault.RepoFault.{RepoFault}
+use Rattle.ips_repo.specs.declared.fault.RepoFault.TheVariants as repo
 use Rattle.ips_state.specs.State.{Installed}
 use Rattle.ips_problem.specs.declared.kind.Kind.{Kind}
 use Rattle.ips_problem.specs.declared.kind.Kind.TheVariants.{Install, Update, Uninstall, Keep}
 use Rattle.ips_problem.specs.declared.fault.ProblemFault.{ProblemFault}
 use Rattle.ips_problem.specs.declared.fault.ProblemFault.TheVariants as fault
 use Rattle.ips_problem.specs.Stems.{has}
-use Rattle.ips_problem.specs.Case.{Case, installed_at, installed_version, said}
+use Rattle.ips_problem.specs.Case.{Case, is_same_version, installed_at, installed_version, said}
 use Rattle.ips_problem.specs.Candidates.{newest, may_come, greatest, is_standing}
 use Rattle.ips_problem.specs.Reach.{grown}
 
@@ -76,12 +80,6 @@ pub record AreRead (c : Case) (ns : List Needed) : Type 0 where
 abbrev pub name_of : Needed → List ℕ
 name_of n = fmri_text (record { publisher = None; stem = n.stem; version = Some n.version })
 
--- the lines of a manifest: the image's where the version is installed, else those of the repository's file
-abbrev pub AreLinesOf : Case → Needed → List Line → Type 0
-AreLinesOf c n lines =
-    ((is_own c n ≡ true) × ((p : Installed) × (installed_at c n.stem ≡ Some p) × (lines ≡ p.lines)))
-    ⊎ ((is_own c n ≡ false) × ((bytes : List ℕ) × (c.file n.stem n.version ≡ Some bytes) × IsManifestOf bytes lines))
-
 -- a file of the repository that isn't too large, by itself or behind so many bytes
 pub record FitsBehind (total : ℕ) (bytes : List ℕ) : Type 0 where
   pub alone : length bytes ≤ manifest_limit
@@ -99,19 +97,46 @@ IsTooLarge total bytes which.ImageFileBytes count = ⊥
 IsTooLarge total bytes which.AccountBytes count = ⊥
 IsTooLarge total bytes which.Steps count = ⊥
 
--- The fault of a manifest that is read behind so many bytes: no file stands in the repository, it is too large, it is no
+-- a file is there, and has this
+abbrev pub IsThere : Option (List ℕ) → (List ℕ → Type 0) → Type 0
+IsThere None P = ⊥
+IsThere (Some bytes) P = P bytes
+
+-- The fault of a manifest of the repository that is read behind so many bytes: no file stands, it is too large, it is no
 -- manifest, or one of its lines should be a dependency and is none. A call that failed says nothing of it.
+abbrev pub IsFileFault : Set → ℕ → Option (List ℕ) → List ℕ → ProblemFault → Type 0
+IsFileFault settings total file name (fault.NoMatch pattern) = ⊥
+IsFileFault settings total file name (fault.Ambiguous pattern stems) = ⊥
+IsFileFault settings total file name (fault.ManifestMissing fmri) = (file ≡ None) × (fmri ≡ name)
+IsFileFault settings total file name (fault.BadManifest fmri why) = IsThere file (λ bytes. FitsBehind total bytes × IsFaultOf bytes why) × (fmri ≡ name)
+IsFileFault settings total file name (fault.BadDepend fmri line) =
+    IsThere file (λ bytes. FitsBehind total bytes × ((lines : List Line) × IsManifestOf bytes lines × IsFirstBad settings lines line)) × (fmri ≡ name)
+IsFileFault settings total file name (fault.TooLarge which count) = IsThere file (λ bytes. IsTooLarge total bytes which count)
+IsFileFault settings total file name fault.SourceFault = Unit {0}
+
+-- the fault of a manifest of the image: one of its lines should be a dependency and is none
+abbrev pub IsOwnFault : Set → List Line → List ℕ → ProblemFault → Type 0
+IsOwnFault settings lines name (fault.NoMatch pattern) = ⊥
+IsOwnFault settings lines name (fault.Ambiguous pattern stems) = ⊥
+IsOwnFault settings lines name (fault.ManifestMissing fmri) = ⊥
+IsOwnFault settings lines name (fault.BadManifest fmri why) = ⊥
+IsOwnFault settings lines name (fault.BadDepend fmri line) = IsFirstBad settings lines line × (fmri ≡ name)
+IsOwnFault settings lines name (fault.TooLarge which count) = ⊥
+IsOwnFault settings lines name fault.SourceFault = ⊥
+
+-- by whether the version is the one that is installed, with these lines, or not
+abbrev pub FaultBy : Bool → Set → List Line → ℕ → Option (List ℕ) → List ℕ → ProblemFault → Type 0
+FaultBy true settings lines total file name why = IsOwnFault settings lines name why
+FaultBy false settings lines total file name why = IsFileFault settings total file name why
+
+-- beside what is installed of the stem
+abbrev pub FaultBeside : Option Installed → Set → Case → ℕ → Needed → ProblemFault → Type 0
+FaultBeside None settings c total n why = IsFileFault settings total (c.file n.stem n.version) (name_of n) why
+FaultBeside (Some p) settings c total n why = FaultBy (is_same_version n.version p.version) settings p.lines total (c.file n.stem n.version) (name_of n) why
+
+-- the fault of a needed manifest that is read behind so many bytes
 abbrev pub IsManifestFault : Set → Case → ℕ → Needed → ProblemFault → Type 0
-IsManifestFault settings c total n (fault.NoMatch pattern) = ⊥
-IsManifestFault settings c total n (fault.Ambiguous pattern stems) = ⊥
-IsManifestFault settings c total n (fault.ManifestMissing fmri) = (is_own c n ≡ false) × (c.file n.stem n.version ≡ None) × (fmri ≡ name_of n)
-IsManifestFault settings c total n (fault.BadManifest fmri why) =
-    (is_own c n ≡ false) × ((bytes : List ℕ) × (c.file n.stem n.version ≡ Some bytes) × FitsBehind total bytes × IsFaultOf bytes why) × (fmri ≡ name_of n)
-IsManifestFault settings c total n (fault.BadDepend fmri line) =
-    (bytes_read c n ≤ manifest_limit) × (total + bytes_read c n ≤ all_manifests_limit) × ((lines : List Line) × AreLinesOf c n lines × IsFirstBad settings lines line) × (fmri ≡ name_of n)
-IsManifestFault settings c total n (fault.TooLarge which count) =
-    (is_own c n ≡ false) × ((bytes : List ℕ) × (c.file n.stem n.version ≡ Some bytes) × IsTooLarge total bytes which count)
-IsManifestFault settings c total n fault.SourceFault = Unit {0}
+IsManifestFault settings c total n why = FaultBeside (installed_at c n.stem) settings c total n why
 
 -- The fault is that of the first needed manifest in the order of reach that has one: the list had grown so far once its first k
 -- stems were gone through, and what was needed for these, and of the next one's before this manifest, was read.
@@ -128,3 +153,43 @@ pub record IsFirstFault (settings : Set) (c : Case) (why : ProblemFault) : Type 
   pub next : needed c stem ≡ before ++ version ∷ behind
   pub read : AreRead c (manifests_of c (take turn reach) ++ manifests_at stem before)
   pub fault : IsManifestFault settings c (all_bytes c (manifests_of c (take turn reach) ++ manifests_at stem before)) (record { stem = stem; version = version }) why
+
+-- ---- one manifest of the repository
+
+-- these lines were read of a file, behind so many bytes, and now so many were read
+pub record IsFetched (before now : ℕ) (lines : List Line) (bytes : List ℕ) : Type 0 where
+  pub fits : FitsBehind before bytes
+  pub manifest : IsManifestOf bytes lines
+  pub counted : now ≡ before + length bytes
+
+-- The fault of reading the lines of a manifest of the repository.
+abbrev pub IsFetchFault : ℕ → Option (List ℕ) → List ℕ → ProblemFault → Type 0
+IsFetchFault total file name (fault.NoMatch pattern) = ⊥
+IsFetchFault total file name (fault.Ambiguous pattern stems) = ⊥
+IsFetchFault total file name (fault.ManifestMissing fmri) = (file ≡ None) × (fmri ≡ name)
+IsFetchFault total file name (fault.BadManifest fmri why) = IsThere file (λ bytes. FitsBehind total bytes × IsFaultOf bytes why) × (fmri ≡ name)
+IsFetchFault total file name (fault.BadDepend fmri line) = ⊥
+IsFetchFault total file name (fault.TooLarge which count) = IsThere file (λ bytes. IsTooLarge total bytes which count)
+IsFetchFault total file name fault.SourceFault = Unit {0}
+
+-- a missing manifest, or no memory for its name
+abbrev pub IsMissing : List ℕ → Or ProblemFault → Type 0
+IsMissing name (Bad (fault.NoMatch pattern)) = ⊥
+IsMissing name (Bad (fault.Ambiguous pattern stems)) = ⊥
+IsMissing name (Bad (fault.ManifestMissing fmri)) = fmri ≡ name
+IsMissing name (Bad (fault.BadManifest fmri why)) = ⊥
+IsMissing name (Bad (fault.BadDepend fmri line)) = ⊥
+IsMissing name (Bad (fault.TooLarge which count)) = ⊥
+IsMissing name (Bad fault.SourceFault) = ⊥
+IsMissing name OutOfMemory = Unit {0}
+
+-- the fault of reading the bytes of a manifest, as one of the problem
+abbrev pub IsUnread : RepoFault → List ℕ → Or ProblemFault → Type 0
+IsUnread repo.NoRepository name why = IsMissing name why
+IsUnread (repo.BadCatalog c) name why = IsMissing name why
+IsUnread repo.ManifestMissing name why = IsMissing name why
+IsUnread repo.PayloadMissing name why = IsMissing name why
+IsUnread (repo.PayloadDamaged found) name why = IsMissing name why
+IsUnread (repo.Compressed found) name why = IsMissing name why
+IsUnread (repo.TooLarge which count) name why = why ≡ Bad (fault.TooLarge which count)
+IsUnread repo.SourceFault name why = why ≡ Bad fault.SourceFault

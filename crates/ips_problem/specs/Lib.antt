@@ -5,6 +5,7 @@ pub mod Candidates
 pub mod Reach
 pub mod Selecting
 pub mod Posed
+pub mod Seen
 pub mod Named
 pub mod Fault
 pub mod Laws

@@ -9,10 +9,16 @@
 //! In reading order: requests (`kind`, `request`, `fault`), and the law (`laws`).
 #![tactic(auto)]
 
+mod arranging;
 mod fault;
 mod kind;
 mod laws;
+mod naming;
+mod picked;
+mod read;
 mod request;
+mod role;
+mod rows;
 
 pub use fault::ProblemFault;
 pub use kind::Kind;
