@@ -1,12 +1,11 @@
 -- What a dependency looks at, and whose absence breaks it.
-use Rattle.std.proofs.Common.{◌≡◌, ◌∙◌, ℕ, suc, Bool, true, false, not, ◌||◌, List, [], ◌∷◌, length, refl, sym, ap, inl, inr, ◌⊎◌, arith}
-use Rattle.std.specs.Prelude.{Option, Some, None, is_some, is_none, Contains}
+use Rattle.std.proofs.Common.{◌≡◌, ◌∙◌, ℕ, suc, Bool, true, not, ◌||◌, List, [], ◌∷◌, refl, ap, inl, inr, ◌⊎◌, arith}
+use Rattle.std.specs.Prelude.{Option, None, is_some, is_none, Contains}
 use Rattle.std.specs.List.{list_any}
-use Rattle.std.proofs.lemmas.Bool.{or_left}
 use Rattle.ips_fmri.specs.declared.fmri.Fmri.{Fmri}
 use Rattle.ips_fmri.specs.Version.{Parts}
 use Rattle.ips_depend.specs.Matching.{reaches, admits}
-use Rattle.ips_depend.specs.Selection.{Selection, Spared, is_some_that, is_absent, is_selected, is_present, is_within}
+use Rattle.ips_depend.specs.Selection.{Selection, Spared, is_some_that, is_selected, is_present}
 use Rattle.ips_depend.specs.Dependency.{Dependency, Require, Optional, Incorporate, Exclude, Conditional, RequireAny, Group, Parent, stems}
 use Rattle.ips_depend.specs.Holds.{holds}
 use Rattle.ips_depend.specs.Laws.{IsMentioned, IsWanted, Agree, DropsUnwanted}
@@ -42,18 +41,18 @@ excluded_at f o = not (is_some_that (reaches f.version) o)
 
 -- the same answer where both look alike at each stem that is mentioned
 pub holds_alike : (d : Dependency) (s t : Selection) (spared saved : Spared) → Agree d s t spared saved → holds s spared d ≡ holds t saved d
-holds_alike (Require f) s t spared saved a = present_same s t f (a.selection f.stem (first_in f.stem []))
-holds_alike (Optional f) s t spared saved a = ap (optional_at f) (a.selection f.stem (first_in f.stem []))
-holds_alike (Incorporate f) s t spared saved a = ap (within_at f) (a.selection f.stem (first_in f.stem []))
-holds_alike (Exclude f) s t spared saved a = ap (excluded_at f) (a.selection f.stem (first_in f.stem []))
+holds_alike (Require f) s t spared saved a = present_same s t f (a.selected f.stem (first_in f.stem []))
+holds_alike (Optional f) s t spared saved a = ap (optional_at f) (a.selected f.stem (first_in f.stem []))
+holds_alike (Incorporate f) s t spared saved a = ap (within_at f) (a.selected f.stem (first_in f.stem []))
+holds_alike (Exclude f) s t spared saved a = ap (excluded_at f) (a.selected f.stem (first_in f.stem []))
 holds_alike (Conditional p f) s t spared saved a =
-    let before = ap (excluded_at p) (a.selection p.stem (first_in p.stem (f.stem ∷ []))) in
-    let then = present_same s t f (a.selection f.stem (next_in p.stem (f.stem ∷ []) f.stem (first_in f.stem []))) in
+    let before = ap (excluded_at p) (a.selected p.stem (first_in p.stem (f.stem ∷ []))) in
+    let then = present_same s t f (a.selected f.stem (next_in p.stem (f.stem ∷ []) f.stem (first_in f.stem []))) in
     ap (λ (b : Bool). b || is_present s f) before ∙ ap (λ (b : Bool). excluded_at p (t p.stem) || b) then
-holds_alike (RequireAny fs) s t spared saved a = any_same s t fs a.selection
+holds_alike (RequireAny fs) s t spared saved a = any_same s t fs a.selected
 holds_alike (Group f) s t spared saved a =
-    let here = ap (λ (o : Option Parts). is_some o) (a.selection f.stem (first_in f.stem [])) in
-    ap (λ (b : Bool). b || spared f.stem) here ∙ ap (λ (b : Bool). is_selected t f || b) (a.spared f.stem (first_in f.stem []))
+    let here = ap (λ (o : Option Parts). is_some o) (a.selected f.stem (first_in f.stem [])) in
+    ap (λ (b : Bool). b || spared f.stem) here ∙ ap (λ (b : Bool). is_selected t f || b) (a.sparing f.stem (first_in f.stem []))
 holds_alike (Parent fs) s t spared saved a = refl
 
 -- a stem that is wanted isn't dropped

@@ -4,3 +4,4 @@ pub mod Written
 pub mod Made
 pub mod Lines
 pub mod Absence
+pub mod Kept

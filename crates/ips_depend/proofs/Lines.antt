@@ -1,11 +1,15 @@
 -- What lines ask for, one after the other.
-use Rattle.std.proofs.Common.{◌≡◌, ◌∙◌, ℕ, suc, ◌+◌, ◌<◌, Bool, true, false, List, [], ◌∷◌, ◌++◌, length, take, drop, get_or, refl, sym, ap, subst, inl, inr, ◌⊎◌, arith, append_assoc}
-use Rattle.std.specs.Prelude.{Option, Some, None}
+use Rattle.std.proofs.Common.{◌≡◌, ◌∙◌, ℕ, ◌+◌, ◌<◌, List, [], ◌∷◌, ◌++◌, length, take, drop, get_or, refl, sym, ap, subst, inl, inr, append_assoc}
+use Rattle.std.specs.Prelude.{Some, Err}
+use Rattle.ips_text.specs.declared.refusal.Or.{Or}
+use Rattle.ips_text.specs.declared.refusal.Or.TheVariants.{Bad, OutOfMemory}
+use Rattle.ips_text.specs.Reading.{IfBad}
+use Rattle.ips_depend.specs.declared.reading.BadDepend.{BadDepend}
 use Rattle.std.proofs.lemmas.List.{take_more, append-nil, take-append-drop}
 use Rattle.ips_manifest.specs.declared.line.Line.{Line}
 use Rattle.ips_filter.specs.Settings.{Set}
 use Rattle.ips_depend.specs.Dependency.{Dependency}
-use Rattle.ips_depend.specs.Asking.{Asks, IsJudged, LineAsks, LinesAsk, IsBad, IsFirstBad}
+use Rattle.ips_depend.specs.Asking.{IsJudged, LineAsks, LinesAsk, IsBad, IsFirstBad}
 use Rattle.ips_depend.specs.Read.{IsAskedFor, HasAdded}
 use Rattle.ips_depend.proofs.Made.{asks_once}
 
@@ -52,14 +56,19 @@ cut_at : (lines : List Line) (k : ℕ) (line : Line) → k < length lines → li
 cut_at lines k line l is =
     sym (take-append-drop (k + 1) lines) ∙ ap (λ (front : List Line). front ++ drop (k + 1) lines) (one_more lines k line l is) ∙ append_assoc (take k lines) (line ∷ []) (drop (k + 1) lines)
 
--- one more line was added
-pub lines_added : (s : Set) (lines : List Line) (k : ℕ) (line : Line) (old new : List Dependency) → k < length lines → line ≡ get_or lines k line → LinesAsk s (take k lines) old → HasAdded s line old new → LinesAsk s (take (k + 1) lines) new
-lines_added s lines k line old new l is asks added =
-    subst (λ (front : List Line). LinesAsk s front new) (sym (one_more lines k line l is))
-    (subst (LinesAsk s (take k lines ++ line ∷ [])) (sym added.2) (lines_more s (take k lines) line old added.0 asks added.1))
+-- one more line was added; the loop goes over the same lines under another name
+pub lines_added : (s : Set) (items lines : List Line) (k : ℕ) (line : Line) (old new : List Dependency) → items ≡ lines → k < length items → line ≡ get_or items k line → LinesAsk s (take k lines) old → HasAdded s line old new → LinesAsk s (take (k + 1) lines) new
+lines_added s items lines k line old new same l is asks added =
+    let one = one_more lines k line (subst (λ (all : List Line). k < length all) same l) (subst (λ (all : List Line). line ≡ get_or all k line) same is) in
+    subst (λ (front : List Line). LinesAsk s front new) (sym one) (subst (LinesAsk s (take k lines ++ line ∷ [])) (sym added.2) (lines_more s (take k lines) line old added.0 asks added.1))
 
--- the first line that is bad
-pub bad_at : (s : Set) (lines : List Line) (k : ℕ) (line : Line) (ds : List Dependency) (number : ℕ) → k < length lines → line ≡ get_or lines k line → LinesAsk s (take k lines) ds → IsBad s line × (number ≡ line.number) → IsFirstBad s lines number
+bad_at : (s : Set) (lines : List Line) (k : ℕ) (line : Line) (ds : List Dependency) (number : ℕ) → k < length lines → line ≡ get_or lines k line → LinesAsk s (take k lines) ds → IsBad s line × (number ≡ line.number) → IsFirstBad s lines number
 bad_at s lines k line ds number l is asks bad =
     subst (IsFirstBad s lines) (sym bad.1)
     (subst (λ (all : List Line). IsFirstBad s all line.number) (sym (cut_at lines k line l is)) (bad_behind s (take k lines) line (drop (k + 1) lines) ds asks bad.0))
+
+-- the first line that is bad
+pub bad_told : (X Y : Type 0) (e : Or BadDepend) (s : Set) (items lines : List Line) (k : ℕ) (line : Line) (ds : List Dependency) → items ≡ lines → k < length items → line ≡ get_or items k line → LinesAsk s (take k lines) ds → IfBad {X = X} (Err e) (λ bad. IsBad s line × (bad.line ≡ line.number)) → IfBad {X = Y} (Err e) (λ bad. IsFirstBad s lines bad.line)
+bad_told X Y (Bad bad) s items lines k line ds same l is asks told =
+    bad_at s lines k line ds bad.line (subst (λ (all : List Line). k < length all) same l) (subst (λ (all : List Line). line ≡ get_or all k line) same is) asks told
+bad_told X Y OutOfMemory s items lines k line ds same l is asks told = tt

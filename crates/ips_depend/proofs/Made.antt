@@ -1,71 +1,28 @@
--- The dependency that texts make, and that no other one does.
-use Rattle.std.proofs.Common.{◌≡◌, ◌∙◌, ℕ, zero, suc, Bool, true, false, eqb, List, [], ◌∷◌, ◌++◌, length, Some, None, refl, sym, ap, subst, arith, append_assoc, eqb-true}
-use Rattle.std.proofs.lemmas.Bool.{true≢false, and_parts}
+-- The dependency that a type and FMRIs make, and that no other one does.
+use Rattle.std.proofs.Common.{◌≡◌, ◌∙◌, List, [], ◌∷◌, refl, sym, ap, subst}
+use Rattle.std.specs.Prelude.{codes, Option, Some, None}
+use Rattle.std.specs.Option.{option_map}
+use Rattle.std.proofs.lemmas.Option.{none-some, same_Some}
 use Rattle.ips_fmri.specs.declared.fmri.Fmri.{Fmri}
 use Rattle.ips_action.specs.declared.attrs.Attr.{Attr}
-use Rattle.std.specs.Prelude.{codes, ◌==◌, ◌&&◌, Option}
 use Rattle.ips_action.specs.Attrs.{values_of}
 use Rattle.ips_depend.specs.declared.dependency_type.DependencyType.{DependencyType}
 use Rattle.ips_depend.specs.declared.dependency_type.DependencyType.TheVariants as of_type
 use Rattle.ips_depend.specs.Dependency.{Dependency, Require, Optional, Incorporate, Exclude, Conditional, RequireAny, Group, Parent, type_of, type_name, predicates, objects}
-use Rattle.ips_depend.specs.Kept.{dependency_of}
+use Rattle.ips_depend.specs.Kept.{sole_of, conditional_made, plain_made, unpredicated_made, made_of}
 use Rattle.ips_depend.specs.Asking.{AreWritten, Asks}
-use Rattle.ips_depend.specs.Read.{takes, HasRead, IsMadeOf, IsReadAs, IsTyped, IsAskedFor}
+use Rattle.ips_depend.specs.Read.{IsTyped, IsAskedFor}
 use Rattle.ips_depend.proofs.Names.{one_type}
-use Rattle.ips_depend.proofs.Written.{written_length, written_once}
+use Rattle.ips_depend.proofs.Written.{written_once}
 
-empty_list : {A : Type 0} (xs : List A) → length xs ≡ 0 → xs ≡ []
-empty_list [] e = refl
-empty_list (x ∷ xs) e = absurd (omega (arith, e))
-
-sole_list : {A : Type 0} (xs : List A) → length xs ≡ 1 → (x : A) × (xs ≡ x ∷ [])
-sole_list [] e = absurd (omega (arith, e))
-sole_list (x ∷ xs) e = (x, ap (λ l. x ∷ l) (empty_list xs (omega (arith, e))))
-
--- the type, the predicates and the FMRIs of the dependency that is made of them
-abbrev IsMade : DependencyType → List Fmri → List Fmri → Type 0
-IsMade t ps os = (type_of (dependency_of t (ps ++ os)) ≡ t) × (predicates (dependency_of t (ps ++ os)) ≡ ps) × (objects (dependency_of t (ps ++ os)) ≡ os)
-
-made_one : (t : DependencyType) (ps os : List Fmri) → ((f : Fmri) → IsMade t [] (f ∷ [])) → ((length ps == 0) && (length os == 1)) ≡ true → IsMade t ps os
-made_one t ps os at e =
-    let p = and_parts _ _ e in
-    let none = empty_list ps (eqb-true (length ps) 0 p.0) in
-    let (f, one) = sole_list os (eqb-true (length os) 1 p.1) in
-    subst (λ (l : List Fmri). IsMade t l os) (sym none) (subst (λ (l : List Fmri). IsMade t [] l) (sym one) (at f))
-
-made_list : (t : DependencyType) (ps os : List Fmri) → IsMade t [] os → (length ps == 0) ≡ true → IsMade t ps os
-made_list t ps os at e = subst (λ (l : List Fmri). IsMade t l os) (sym (empty_list ps (eqb-true (length ps) 0 e))) at
-
-made_two : (ps os : List Fmri) → ((length ps == 1) && (length os == 1)) ≡ true → IsMade of_type.Conditional ps os
-made_two ps os e =
-    let p = and_parts _ _ e in
-    let (g, before) = sole_list ps (eqb-true (length ps) 1 p.0) in
-    let (f, one) = sole_list os (eqb-true (length os) 1 p.1) in
-    subst (λ (l : List Fmri). IsMade of_type.Conditional l os) (sym before) (subst (λ (l : List Fmri). IsMade of_type.Conditional (g ∷ []) l) (sym one) (refl, refl, refl))
-
-made : (t : DependencyType) (ps os : List Fmri) → takes t (length ps) (length os) ≡ true → IsMade t ps os
-made of_type.Require ps os e = made_one of_type.Require ps os (λ f. (refl, refl, refl)) e
-made of_type.Optional ps os e = made_one of_type.Optional ps os (λ f. (refl, refl, refl)) e
-made of_type.Incorporate ps os e = made_one of_type.Incorporate ps os (λ f. (refl, refl, refl)) e
-made of_type.Exclude ps os e = made_one of_type.Exclude ps os (λ f. (refl, refl, refl)) e
-made of_type.Conditional ps os e = made_two ps os e
-made of_type.RequireAny ps os e = made_list of_type.RequireAny ps os (refl, refl, refl) e
-made of_type.Group ps os e = made_one of_type.Group ps os (λ f. (refl, refl, refl)) e
-made of_type.Parent ps os e = made_list of_type.Parent ps os (refl, refl, refl) e
-
--- a dependency has as many predicates and FMRIs as its type may have
-taken : (d : Dependency) → takes (type_of d) (length (predicates d)) (length (objects d)) ≡ true
-taken (Require f) = refl
-taken (Optional f) = refl
-taken (Incorporate f) = refl
-taken (Exclude f) = refl
-taken (Conditional p f) = refl
-taken (RequireAny fs) = refl
-taken (Group f) = refl
-taken (Parent fs) = refl
+-- the dependency is of this type and has these predicates and FMRIs
+pub record Has (t : DependencyType) (ps os : List Fmri) (d : Dependency) : Type 0 where
+  pub of_type : type_of d ≡ t
+  pub predicates : predicates d ≡ ps
+  pub objects : objects d ≡ os
 
 -- a dependency is made of its own parts
-remade : (d : Dependency) → dependency_of (type_of d) (predicates d ++ objects d) ≡ d
+remade : (d : Dependency) → made_of (type_of d) (predicates d) (objects d) ≡ Some d
 remade (Require f) = refl
 remade (Optional f) = refl
 remade (Incorporate f) = refl
@@ -75,51 +32,85 @@ remade (RequireAny fs) = refl
 remade (Group f) = refl
 remade (Parent fs) = refl
 
--- two dependencies of one type, with the same predicates and FMRIs
-same_parts : (d e : Dependency) → type_of d ≡ type_of e → predicates d ≡ predicates e → objects d ≡ objects e → d ≡ e
-same_parts d e t p o =
-    let all : dependency_of (type_of d) (predicates d ++ objects d) ≡ dependency_of (type_of e) (predicates e ++ objects e) = rw (t, p, o) refl in
-    sym (remade d) ∙ all ∙ remade e
+-- what has these parts is what they make
+made_has : (t : DependencyType) (ps os : List Fmri) (d : Dependency) → Has t ps os d → made_of t ps os ≡ Some d
+made_has t ps os d h =
+    ap (λ (u : DependencyType). made_of u ps os) (sym h.of_type) ∙ ap (λ (l : List Fmri). made_of (type_of d) l os) (sym h.predicates) ∙ ap (λ (l : List Fmri). made_of (type_of d) (predicates d) l) (sym h.objects) ∙ remade d
 
+at_made : {t : DependencyType} {ps os : List Fmri} (e d : Dependency) → (let o : Option Dependency = Some e in o) ≡ Some d → Has t ps os e → Has t ps os d
+at_made {t} {ps} {os} e d s h = subst (Has t ps os) (same_Some e d s) h
+
+one_has : (t : DependencyType) (make : Fmri → Dependency) → ((f : Fmri) → Has t [] (f ∷ []) (make f)) → (os : List Fmri) (d : Dependency) → option_map make (sole_of os) ≡ Some d → Has t [] os d
+one_has t make h [] d e = absurd (none-some d e)
+one_has t make h (f ∷ []) d e = at_made (make f) d e (h f)
+one_has t make h (f ∷ g ∷ os) d e = absurd (none-some d e)
+
+plain_has : (t : DependencyType) (os : List Fmri) (d : Dependency) → plain_made t os ≡ Some d → Has t [] os d
+plain_has of_type.Require os d e = one_has of_type.Require Require (λ f. record { of_type = refl; predicates = refl; objects = refl }) os d e
+plain_has of_type.Optional os d e = one_has of_type.Optional Optional (λ f. record { of_type = refl; predicates = refl; objects = refl }) os d e
+plain_has of_type.Incorporate os d e = one_has of_type.Incorporate Incorporate (λ f. record { of_type = refl; predicates = refl; objects = refl }) os d e
+plain_has of_type.Exclude os d e = one_has of_type.Exclude Exclude (λ f. record { of_type = refl; predicates = refl; objects = refl }) os d e
+plain_has of_type.Conditional os d e = absurd (none-some d e)
+plain_has of_type.RequireAny os d e = at_made (RequireAny os) d e (record { of_type = refl; predicates = refl; objects = refl })
+plain_has of_type.Group os d e = one_has of_type.Group Group (λ f. record { of_type = refl; predicates = refl; objects = refl }) os d e
+plain_has of_type.Parent os d e = at_made (Parent os) d e (record { of_type = refl; predicates = refl; objects = refl })
+
+unpredicated_has : (t : DependencyType) (ps os : List Fmri) (d : Dependency) → unpredicated_made t ps os ≡ Some d → Has t ps os d
+unpredicated_has t [] os d e = plain_has t os d e
+unpredicated_has t (p ∷ ps) os d e = absurd (none-some d e)
+
+conditional_has : (ps os : List Fmri) (d : Dependency) → conditional_made (sole_of ps) (sole_of os) ≡ Some d → Has of_type.Conditional ps os d
+conditional_has [] os d e = absurd (none-some d e)
+conditional_has (p ∷ q ∷ ps) os d e = absurd (none-some d e)
+conditional_has (p ∷ []) [] d e = absurd (none-some d e)
+conditional_has (p ∷ []) (f ∷ g ∷ os) d e = absurd (none-some d e)
+conditional_has (p ∷ []) (f ∷ []) d e = at_made (Conditional p f) d e (record { of_type = refl; predicates = refl; objects = refl })
+
+-- what the parts make has them
+has_made : (t : DependencyType) (ps os : List Fmri) (d : Dependency) → made_of t ps os ≡ Some d → Has t ps os d
+has_made of_type.Require ps os d e = unpredicated_has of_type.Require ps os d e
+has_made of_type.Optional ps os d e = unpredicated_has of_type.Optional ps os d e
+has_made of_type.Incorporate ps os d e = unpredicated_has of_type.Incorporate ps os d e
+has_made of_type.Exclude ps os d e = unpredicated_has of_type.Exclude ps os d e
+has_made of_type.Conditional ps os d e = conditional_has ps os d e
+has_made of_type.RequireAny ps os d e = unpredicated_has of_type.RequireAny ps os d e
+has_made of_type.Group ps os d e = unpredicated_has of_type.Group ps os d e
+has_made of_type.Parent ps os d e = unpredicated_has of_type.Parent ps os d e
+
+-- the attributes ask for one dependency at most
 pub asks_once : (attrs : List Attr) (d e : Dependency) → Asks attrs d → Asks attrs e → d ≡ e
 asks_once attrs d e a b =
-    same_parts d e (one_type _ _ (sym a.of_type ∙ b.of_type)) (written_once _ _ _ a.predicates b.predicates) (written_once _ _ _ a.objects b.objects)
-
--- the dependency of the FMRIs that were read
-pub read_made : (t : DependencyType) (before texts : List (List ℕ)) (old new all : List Fmri) → old ≡ [] → takes t (length before) (length texts) ≡ true → HasRead before old new true → HasRead texts new all true → IsMadeOf t before texts (dependency_of t all)
-read_made t before texts old new all none fits first then =
-    let ps = first.0 in
-    let os = then.0 in
-    let front : new ≡ ps = first.2 ∙ ap (λ (l : List Fmri). l ++ ps) none in
-    let both : all ≡ ps ++ os = then.2 ∙ ap (λ (l : List Fmri). l ++ os) front in
-    let counts : takes t (length ps) (length os) ≡ true = rw (← written_length before ps first.1, ← written_length texts os then.1) fits in
-    let parts = made t ps os counts in
-    subst (λ (l : List Fmri). IsMadeOf t before texts (dependency_of t l)) (sym both) (record {
-      of_type = parts.0;
-      predicates = subst (AreWritten before) (sym parts.1) first.1;
-      objects = subst (AreWritten texts) (sym parts.2) then.1;
-    })
-
--- the predicates can't be read
-pub no_predicate : (t : DependencyType) (before texts : List (List ℕ)) (old new : List Fmri) → HasRead before old new false → IsReadAs t before texts None
-no_predicate t before texts old new h d p o = h (predicates d) p
-
--- the FMRIs can't be read
-pub no_object : (t : DependencyType) (before texts : List (List ℕ)) (old new : List Fmri) → HasRead texts old new false → IsReadAs t before texts None
-no_object t before texts old new h d p o = h (objects d) o
+    let same : Has (type_of e) (predicates e) (objects e) d = record {
+      of_type = one_type _ _ (sym a.of_type ∙ b.of_type);
+      predicates = written_once _ _ _ a.predicates b.predicates;
+      objects = written_once _ _ _ a.objects b.objects;
+    } in
+    same_Some d e (sym (made_has _ _ _ d same) ∙ remade e)
 
 -- the values of the type are no word of one
 pub asked_untyped : (attrs : List Attr) → IsTyped (values_of (codes "type") attrs) None → IsAskedFor attrs None
 asked_untyped attrs h d a = h (type_of d) a.of_type
 
--- a dependency of this type doesn't have so many predicates and FMRIs
-pub asked_unfit : (attrs : List Attr) (t : DependencyType) → IsTyped (values_of (codes "type") attrs) (Some t) → takes t (length (values_of (codes "predicate") attrs)) (length (values_of (codes "fmri") attrs)) ≡ false → IsAskedFor attrs None
-asked_unfit attrs t typed unfit d a =
-    let same : type_of d ≡ t = one_type _ _ (sym a.of_type ∙ typed) in
-    let fits : takes t (length (values_of (codes "predicate") attrs)) (length (values_of (codes "fmri") attrs)) ≡ true = rw (← same, written_length _ _ a.predicates, written_length _ _ a.objects) (taken d) in
-    true≢false (sym fits ∙ unfit)
+-- the values of the predicate aren't FMRIs
+pub asked_unpredicated : (attrs : List Attr) → ((fs : List Fmri) → AreWritten (values_of (codes "predicate") attrs) fs → ⊥) → IsAskedFor attrs None
+asked_unpredicated attrs h d a = h (predicates d) a.predicates
 
--- what was read as this type is what the attributes ask for
-pub asked_read : (attrs : List Attr) (t : DependencyType) (o : Option Dependency) → IsTyped (values_of (codes "type") attrs) (Some t) → IsReadAs t (values_of (codes "predicate") attrs) (values_of (codes "fmri") attrs) o → IsAskedFor attrs o
-asked_read attrs t None typed reads = λ d a. reads d a.predicates a.objects
-asked_read attrs t (Some d) typed reads = record { of_type = typed ∙ ap (λ (u : DependencyType). type_name u ∷ []) (sym reads.of_type); predicates = reads.predicates; objects = reads.objects }
+-- the values of `fmri` aren't FMRIs
+pub asked_unread : (attrs : List Attr) → ((fs : List Fmri) → AreWritten (values_of (codes "fmri") attrs) fs → ⊥) → IsAskedFor attrs None
+asked_unread attrs h d a = h (objects d) a.objects
+
+-- what the type and the FMRIs make is what the attributes ask for
+pub asked_made : (attrs : List Attr) (t : DependencyType) (ps os : List Fmri) (o : Option Dependency) → values_of (codes "type") attrs ≡ type_name t ∷ [] → AreWritten (values_of (codes "predicate") attrs) ps → AreWritten (values_of (codes "fmri") attrs) os → o ≡ made_of t ps os → IsAskedFor attrs o
+asked_made attrs t ps os None typed before about made = λ d a.
+    none-some d (made ∙ made_has t ps os d (record {
+      of_type = one_type _ _ (sym a.of_type ∙ typed);
+      predicates = written_once _ _ _ a.predicates before;
+      objects = written_once _ _ _ a.objects about;
+    }))
+asked_made attrs t ps os (Some d) typed before about made =
+    let h = has_made t ps os d (sym made) in
+    record {
+      of_type = typed ∙ ap (λ (u : DependencyType). type_name u ∷ []) (sym h.of_type);
+      predicates = subst (AreWritten (values_of (codes "predicate") attrs)) (sym h.predicates) before;
+      objects = subst (AreWritten (values_of (codes "fmri") attrs)) (sym h.objects) about;
+    }

@@ -1,16 +1,16 @@
 -- The computed tests on versions are `at least` and `incorporates`.
-use Rattle.std.proofs.Common.{◌≡◌, ℕ, Bool, true, false, eqb, Option, Some, None, refl, sym, ap, ◌∙◌}
+use Rattle.std.proofs.Common.{◌≡◌, ℕ, Bool, true, eqb, Option, Some, None, refl, sym, ap, ◌∙◌}
 use Rattle.std.specs.Prelude.{◌↔◌, Decides}
 use Rattle.std.specs.List.{starts_with}
 use Rattle.std.specs.Option.{option_eq}
 use Rattle.std.specs.declared.cmp.Ordering.{Ordering}
 use Rattle.std.specs.declared.cmp.Ordering.TheVariants.{Less, Equal, Greater}
 use Rattle.std.specs.Ordering.{MatchOrdering, is_ge}
-use Rattle.std.specs.Cmp.Lexicographic.{pointwise, bytes_decides}
+use Rattle.std.specs.Cmp.Lexicographic.{bytes_decides}
 use Rattle.std.proofs.lemmas.Bool.{true≢false, and_parts, and_from}
 use Rattle.std.proofs.lemmas.Bool.Decides.{same_from_decides, Decides-eqb}
 use Rattle.ips_fmri.specs.Version.{Parts}
-use Rattle.ips_fmri.specs.Order.{IsLess, IsAtMost, IsPrefix, IfStamped, Incorporates, version_cmp}
+use Rattle.ips_fmri.specs.Order.{IsAtMost, IfStamped, Incorporates, version_cmp}
 use Rattle.ips_fmri.proofs.Orders.{versions_tell}
 use Rattle.ips_fmri.proofs.Prefixes.{prefix_tells}
 use Rattle.ips_depend.specs.Matching.{is_at_least, is_incorporated, is_stamped_as}
@@ -42,9 +42,9 @@ stamped_tells : (v l : Parts) (o : Option ℕ) → Decides (is_stamped_as v l o)
 stamped_tells v l None = (λ e. tt, λ u. refl)
 stamped_tells v l (Some n) = (
   λ e.
-    let a = and_parts _ _ e in
-    let b = and_parts _ _ a.1 in
-    ((bytes_decides v.release l.release).0 a.0, (bytes_decides v.branch l.branch).0 b.0, (stamps_decide v.stamp l.stamp).0 b.1),
+      let a = and_parts _ _ e in
+      let b = and_parts _ _ a.1 in
+      ((bytes_decides v.release l.release).0 a.0, (bytes_decides v.branch l.branch).0 b.0, (stamps_decide v.stamp l.stamp).0 b.1),
   λ h. and_from _ _ ((bytes_decides v.release l.release).1 h.0) (and_from _ _ ((bytes_decides v.branch l.branch).1 h.1) ((stamps_decide v.stamp l.stamp).1 h.2)),
 )
 
@@ -54,9 +54,9 @@ incorporated_tells v l =
     let b = prefix_tells v.branch l.branch (starts_with eqb v.branch l.branch) refl in
     let s = stamped_tells v l l.stamp in (
       λ e.
-        let p = and_parts _ _ e in
-        let q = and_parts _ _ p.1 in
-        record { release = r.0 p.0; branch = b.0 q.0; stamped = s.0 q.1 },
+          let p = and_parts _ _ e in
+          let q = and_parts _ _ p.1 in
+          record { release = r.0 p.0; branch = b.0 q.0; stamped = s.0 q.1 },
       λ h. and_from _ _ (r.1 h.release) (and_from _ _ (b.1 h.branch) (s.1 h.stamped)),
     )
 

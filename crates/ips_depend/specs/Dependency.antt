@@ -1,5 +1,5 @@
 -- Dependencies: what a package asks of the selection (pkg(7), "Depend Actions").
-use Rattle.std.specs.Prelude.{ℕ, List, [], ◌∷◌, ◌++◌, map, length, Option, Some, None, codes}
+use Rattle.std.specs.Prelude.{ℕ, List, [], ◌∷◌, ◌++◌, map, Option, Some, None, codes}
 use Rattle.ips_fmri.specs.declared.fmri.Fmri.{Fmri}
 use Rattle.ips_depend.specs.declared.dependency_type.DependencyType.{DependencyType}
 use Rattle.ips_depend.specs.declared.dependency_type.DependencyType.TheVariants as of_type

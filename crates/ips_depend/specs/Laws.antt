@@ -13,8 +13,8 @@ IsWanted d stem = Contains (stems (wanted d)) stem
 
 -- Two selections agree at each stem that the dependency mentions, and so do what is spared.
 pub record Agree (d : Dependency) (s t : Selection) (spared saved : Spared) : Type 0 where
-  pub selection : (stem : List ℕ) → IsMentioned d stem → s stem ≡ t stem
-  pub spared : (stem : List ℕ) → IsMentioned d stem → spared stem ≡ saved stem
+  pub selected : (stem : List ℕ) → IsMentioned d stem → s stem ≡ t stem
+  pub sparing : (stem : List ℕ) → IsMentioned d stem → spared stem ≡ saved stem
 
 -- Of the stems that the dependency mentions, only such as it doesn't want are absent in the smaller selection though they aren't in the other; at the rest the two agree.
 abbrev pub DropsUnwanted : Dependency → Selection → Selection → Type 0

@@ -1,5 +1,5 @@
 -- What dependencies are judged against: the selected packages, and the stems that are spared.
-use Rattle.std.specs.Prelude.{◌≡◌, ℕ, Bool, true, false, List, Option, Some, None, is_some, is_none}
+use Rattle.std.specs.Prelude.{ℕ, Bool, false, List, Option, Some, None, is_some, is_none}
 use Rattle.ips_fmri.specs.Version.{Parts}
 use Rattle.ips_fmri.specs.declared.fmri.Fmri.{Fmri}
 use Rattle.ips_depend.specs.Matching.{reaches, admits}

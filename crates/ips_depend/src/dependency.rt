@@ -6,20 +6,34 @@ ghost use Rattle.ips_fmri.specs.declared.fmri.Fmri as declared;
 ghost use Rattle.ips_depend.specs.Dependency as dependency;
 ghost use Rattle.ips_depend.specs.Dependency.{group_of, wanted};
 ghost use Rattle.ips_depend.specs.Holds as judged;
-ghost use Rattle.ips_depend.specs.Kept.{dependency_of, sole_of};
+ghost use Rattle.ips_depend.specs.Kept.{conditional_made, conditional_of, dependency_of, made_of, plain_made, sole_of};
 
 use crate::dependency_type::DependencyType;
 use crate::holding::holds;
 use crate::view::View;
 use ips_fmri::Fmri;
 use std::marker::Model;
+use std::slice;
+
+/// A dependency by its type, with the FMRIs that it names.
+#[derive(Debug, Drop)]
+pub enum Kept {
+    Require(Fmri),
+    Optional(Fmri),
+    Incorporate(Fmri),
+    Exclude(Fmri),
+    /// The predicate first.
+    Conditional([Fmri; 2]),
+    RequireAny(Vec<Fmri>),
+    Group(Fmri),
+    Parent(Vec<Fmri>),
+}
 
 /// A dependency of a package (pkg(7), "Depend Actions"): a test on a selection. Contracts see its type and the FMRIs that it
 /// names. A publisher in them is ignored.
 #[derive(Debug, Drop)]
 pub struct Test {
-    of_type: DependencyType,
-    mentions: Vec<Fmri>,
+    kept: Kept,
 }
 
 impl Model for Test {
@@ -29,15 +43,20 @@ impl Model for Test {
 
     ghost use Rattle.ips_depend.specs.Kept.{dependency_of};
 
-    ghost view = { λ t. dependency_of t.of_type t.mentions.items };
+    ghost view = { λ t. dependency_of t.kept };
 }
 
 impl Test {
-    /// The test of this type that mentions these FMRIs, the predicate first.
-    pub(crate) fn new(of_type: DependencyType, mentions: Vec<Fmri>) -> Test
-        ensures { result ≡ dependency_of of_type mentions.items }
+    /// The test of this type with these predicates that is about these FMRIs; None where the type doesn't take so many of them.
+    pub(crate) fn new(
+        of_type: DependencyType,
+        predicates: Vec<Fmri>,
+        fmris: Vec<Fmri>,
+    ) -> Option<Test>
+        ensures { result ≡ made_of of_type predicates.items fmris.items }
     {
-        Test { of_type, mentions }
+        let kept = keep(of_type, predicates, fmris)?;
+        Some(Test { kept })
     }
 
     /// Whether the test holds: one sentence for each type (pkg(7), "Depend Actions"). Here an FMRI is present where its stem is
@@ -54,14 +73,14 @@ impl Test {
     pub fn holds<V: View>(&self, view: &V) -> bool
         ensures { result ≡ judged.holds (V.selection view.now) (V.spares view.now) self.now }
     {
-        holds(self.of_type, &self.mentions, view)
+        holds(&self.kept, view)
     }
 
     /// The FMRIs that it mentions: its predicate first, where it has one, and then those that it is about.
     pub fn mentions(&self) -> &[Fmri]
         ensures { result.now ≡ dependency.mentions self.now }
     {
-        &self.mentions
+        mentions(&self.kept)
     }
 
     /// How many of the last FMRIs that it mentions it wants: these draw their stems in, so that they are looked for among the
@@ -70,38 +89,109 @@ impl Test {
         ensures count { result ≡ length (wanted self.now) }
         ensures last { (before : List declared.Fmri) × (dependency.mentions self.now ≡ before ++ wanted self.now) }
     {
-        wants(self.of_type, &self.mentions)
+        wants(&self.kept)
     }
 
     /// What it names, where it is of type `group`: a stem that goes to the avoid list where it is absent.
     pub fn group(&self) -> Option<&Fmri>
         ensures { option_map (λ f. f.now) result ≡ group_of self.now }
     {
-        match self.of_type {
-            DependencyType::Group => sole(&self.mentions),
-            _ => None,
-        }
+        group(&self.kept)
     }
 }
 
-// How many FMRIs the dependency of this type that mentions these wants.
-fn wants(of_type: DependencyType, mentions: &[Fmri]) -> usize
-    ensures { result ≡ length (wanted (dependency_of of_type mentions.now)) }
+fn mentions(kept: &Kept) -> &[Fmri]
+    ensures { result.now ≡ dependency.mentions (dependency_of kept.now) }
 {
-    match (of_type, mentions) {
-        (DependencyType::Require | DependencyType::Group, [_]) => 1,
-        (DependencyType::Conditional, [_, _]) => 1,
-        (DependencyType::RequireAny, fmris) => fmris.len(),
-        _ => 0,
+    match kept {
+        Kept::Require(fmri) => slice::from_ref(fmri),
+        Kept::Optional(fmri) => slice::from_ref(fmri),
+        Kept::Incorporate(fmri) => slice::from_ref(fmri),
+        Kept::Exclude(fmri) => slice::from_ref(fmri),
+        Kept::Conditional(both) => both.as_slice(),
+        Kept::RequireAny(fmris) => fmris.as_slice(),
+        Kept::Group(fmri) => slice::from_ref(fmri),
+        Kept::Parent(fmris) => fmris.as_slice(),
+    }
+}
+
+fn wants(kept: &Kept) -> usize
+    ensures { result ≡ length (wanted (dependency_of kept.now)) }
+{
+    match kept {
+        Kept::Require(_) => 1,
+        Kept::Optional(_) => 0,
+        Kept::Incorporate(_) => 0,
+        Kept::Exclude(_) => 0,
+        Kept::Conditional(both) => wants_last(both),
+        Kept::RequireAny(fmris) => fmris.len(),
+        Kept::Group(_) => 1,
+        Kept::Parent(_) => 0,
+    }
+}
+
+// Of the two FMRIs of a conditional dependency the last one is wanted.
+fn wants_last(both: &[Fmri; 2]) -> usize
+    ensures { result ≡ length (wanted (conditional_of both.now)) }
+{
+    both.len() - 1
+}
+
+fn group(kept: &Kept) -> Option<&Fmri>
+    ensures { option_map (λ f. f.now) result ≡ group_of (dependency_of kept.now) }
+{
+    match kept {
+        Kept::Group(fmri) => Some(fmri),
+        _ => None,
+    }
+}
+
+// The dependency of this type with these predicates that is about these FMRIs.
+fn keep(of_type: DependencyType, predicates: Vec<Fmri>, fmris: Vec<Fmri>) -> Option<Kept>
+    ensures { option_map dependency_of result ≡ made_of of_type predicates.items fmris.items }
+{
+    if of_type.is_conditional() {
+        return keep_conditional(predicates, fmris);
+    }
+    if !predicates.is_empty() {
+        return None;
+    }
+    keep_plain(of_type, fmris)
+}
+
+// The conditional dependency of one predicate and one FMRI.
+fn keep_conditional(predicates: Vec<Fmri>, fmris: Vec<Fmri>) -> Option<Kept>
+    ensures { option_map dependency_of result ≡ conditional_made (sole_of predicates.items) (sole_of fmris.items) }
+{
+    let predicate = sole(predicates)?;
+    let fmri = sole(fmris)?;
+    Some(Kept::Conditional([predicate, fmri]))
+}
+
+// The dependency of this type without predicate that is about these FMRIs.
+fn keep_plain(of_type: DependencyType, fmris: Vec<Fmri>) -> Option<Kept>
+    ensures { option_map dependency_of result ≡ plain_made of_type fmris.items }
+{
+    match of_type {
+        DependencyType::Require => Some(Kept::Require(sole(fmris)?)),
+        DependencyType::Optional => Some(Kept::Optional(sole(fmris)?)),
+        DependencyType::Incorporate => Some(Kept::Incorporate(sole(fmris)?)),
+        DependencyType::Exclude => Some(Kept::Exclude(sole(fmris)?)),
+        DependencyType::Conditional => None,
+        DependencyType::RequireAny => Some(Kept::RequireAny(fmris)),
+        DependencyType::Group => Some(Kept::Group(sole(fmris)?)),
+        DependencyType::Parent => Some(Kept::Parent(fmris)),
     }
 }
 
 // The FMRI, where there is just one.
-fn sole(mentions: &[Fmri]) -> Option<&Fmri>
-    ensures { option_map (λ f. f.now) result ≡ sole_of mentions.now }
+fn sole(fmris: Vec<Fmri>) -> Option<Fmri>
+    ensures { result ≡ sole_of fmris.items }
 {
-    match mentions {
-        [fmri] => Some(fmri),
-        _ => None,
+    let mut fmris = fmris;
+    let fmri = fmris.pop()?;
+    if !fmris.is_empty() {
+        return None;
     }
+    Some(fmri)
 }

@@ -3,7 +3,7 @@
 ghost use Rattle.std.specs.Prelude.{◌≡◌, IfNone, IfSome};
 ghost use Rattle.ips_depend.specs.declared.dependency_type.DependencyType as declared;
 ghost use Rattle.ips_depend.specs.Dependency.{type_name};
-ghost use Rattle.ips_depend.specs.Read as read;
+ghost use Rattle.ips_depend.specs.Kept as kept;
 
 /// The type of a dependency (pkg(7), "Depend Actions").
 #[derive(Clone, Copy, Debug, PartialEq, Eq, Drop)]
@@ -45,14 +45,10 @@ impl DependencyType {
         }
     }
 
-    /// Whether a dependency of the type may have so many predicates and be about so many FMRIs.
-    pub fn takes(self, predicates: usize, fmris: usize) -> bool
-        ensures { result ≡ read.takes self predicates fmris }
+    /// Whether a dependency of the type has a predicate.
+    pub fn is_conditional(self) -> bool
+        ensures { result ≡ kept.is_conditional self }
     {
-        match self {
-            DependencyType::Conditional => predicates == 1 && fmris == 1,
-            DependencyType::RequireAny | DependencyType::Parent => predicates == 0,
-            _ => predicates == 0 && fmris == 1,
-        }
+        matches!(self, DependencyType::Conditional)
     }
 }

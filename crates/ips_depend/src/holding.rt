@@ -1,34 +1,45 @@
 //! Whether a dependency holds.
 
-ghost use Rattle.std.specs.Prelude.{◌≡◌};
+ghost use Rattle.std.specs.Prelude.{◌≡◌, ◌||◌};
 ghost use Rattle.std.specs.List.{list_any};
 ghost use Rattle.ips_depend.specs.Holds as judged;
-ghost use Rattle.ips_depend.specs.Kept.{dependency_of};
+ghost use Rattle.ips_depend.specs.Kept.{conditional_of, dependency_of};
 ghost use Rattle.ips_depend.specs.Matching as matching;
 ghost use Rattle.ips_depend.specs.Selection as selection;
 
-use crate::dependency_type::DependencyType;
+use crate::dependency::Kept;
 use crate::view::View;
 use ips_fmri::{Fmri, Version};
 
-/// Whether the dependency of this type that mentions these FMRIs holds.
-pub fn holds<V: View>(of_type: DependencyType, mentions: &[Fmri], view: &V) -> bool
-    ensures { result ≡ judged.holds (V.selection view.now) (V.spares view.now) (dependency_of of_type mentions.now) }
+/// Whether the dependency that is kept holds.
+pub fn holds<V: View>(kept: &Kept, view: &V) -> bool
+    ensures { result ≡ judged.holds (V.selection view.now) (V.spares view.now) (dependency_of kept.now) }
 {
-    match (of_type, mentions) {
-        (DependencyType::Require, [fmri]) => is_present(view, fmri),
-        (DependencyType::Optional, [fmri]) => is_absent(view, fmri) || is_present(view, fmri),
-        (DependencyType::Incorporate, [fmri]) => is_absent(view, fmri) || is_within(view, fmri),
-        (DependencyType::Exclude, [fmri]) => !is_present(view, fmri),
-        (DependencyType::Conditional, [predicate, fmri]) => {
-            !is_present(view, predicate) || is_present(view, fmri)
-        }
-        (DependencyType::RequireAny, fmris) => is_any_present(view, fmris),
-        (DependencyType::Group, [fmri]) => {
-            !is_absent(view, fmri) || view.spared(fmri.stem.as_str())
-        }
-        _ => true,
+    match kept {
+        Kept::Require(fmri) => is_present(view, fmri),
+        Kept::Optional(fmri) => is_absent(view, fmri) || is_present(view, fmri),
+        Kept::Incorporate(fmri) => is_absent(view, fmri) || is_within(view, fmri),
+        Kept::Exclude(fmri) => !is_present(view, fmri),
+        Kept::Conditional(both) => holds_conditionally(view, both),
+        Kept::RequireAny(fmris) => is_any_present(view, fmris.as_slice()),
+        Kept::Group(fmri) => is_selected_or_spared(view, fmri),
+        Kept::Parent(_) => true,
     }
+}
+
+// Whether the first FMRI isn't present, or the second is.
+fn holds_conditionally<V: View>(view: &V, both: &[Fmri; 2]) -> bool
+    ensures { result ≡ judged.holds (V.selection view.now) (V.spares view.now) (conditional_of both.now) }
+{
+    let [predicate, fmri] = both;
+    !is_present(view, predicate) || is_present(view, fmri)
+}
+
+// Whether the FMRI's stem is selected, at any version, or spared.
+fn is_selected_or_spared<V: View>(view: &V, fmri: &Fmri) -> bool
+    ensures { result ≡ (selection.is_selected (V.selection view.now) fmri.now || V.spares view.now fmri.now.stem) }
+{
+    !is_absent(view, fmri) || view.spared(fmri.stem.as_str())
 }
 
 // Whether one of the FMRIs is present.

@@ -1,10 +1,9 @@
 //! The dependencies that a manifest asks for.
 
-ghost use Rattle.std.specs.Prelude.{◌≡◌, ◌↔◌, length, true, IsTrue, IfOk, OnOk};
+ghost use Rattle.std.specs.Prelude.{◌≡◌, ◌↔◌, IsTrue, IfOk, OnOk};
 ghost use Rattle.ips_text.specs.Reading.{IfBad};
 ghost use Rattle.ips_depend.specs.Asking.{LinesAsk, IsJudged, IsBad, IsFirstBad};
-ghost use Rattle.ips_depend.specs.Read as read;
-ghost use Rattle.ips_depend.specs.Read.{HasAdded, HasRead, IsAskedFor, IsReadAs, IsTyped, Reads};
+ghost use Rattle.ips_depend.specs.Read.{AreRead, HasAdded, IsAskedFor, IsTyped, Reads};
 
 use crate::dependency::Test;
 use crate::dependency_type::DependencyType;
@@ -86,13 +85,13 @@ fn test_of(alloc: Global, attrs: &Attrs) -> Result<Option<Test>, AllocError>
     let Some(of_type) = type_of(attrs.values("type")) else {
         return Ok(None);
     };
-    let predicates = attrs.values("predicate");
-    let fmris = attrs.values("fmri");
-    if !of_type.takes(predicates.len(), fmris.len()) {
+    let Some(predicates) = read_fmris(alloc, attrs.values("predicate"))? else {
         return Ok(None);
-    }
-    let test = read_test(alloc, of_type, predicates, fmris)?;
-    Ok(test)
+    };
+    let Some(fmris) = read_fmris(alloc, attrs.values("fmri"))? else {
+        return Ok(None);
+    };
+    Ok(Test::new(of_type, predicates, fmris))
 }
 
 // The type that is the one value; None where there is no such value or type.
@@ -105,37 +104,18 @@ fn type_of(values: &[Text]) -> Option<DependencyType>
     }
 }
 
-// The dependency of this type with these predicates and FMRIs; None where one of the texts is no FMRI.
-fn read_test(
-    alloc: Global,
-    of_type: DependencyType,
-    predicates: &[Text],
-    fmris: &[Text],
-) -> Result<Option<Test>, AllocError>
-    requires { read.takes of_type (length predicates.now) (length fmris.now) ≡ true }
-    ensures { IfOk result (λ test. IsReadAs of_type predicates.now fmris.now test) }
+// The FMRIs that the texts are; None where one of them is none.
+fn read_fmris(alloc: Global, texts: &[Text]) -> Result<Option<Vec<Fmri>>, AllocError>
+    ensures { IfOk result (λ fmris. AreRead texts.now fmris) }
 {
-    let mut mentions = Vec::new(alloc);
-    if !read_fmris(alloc, predicates, &mut mentions)? {
-        return Ok(None);
-    }
-    if !read_fmris(alloc, fmris, &mut mentions)? {
-        return Ok(None);
-    }
-    Ok(Some(Test::new(of_type, mentions)))
-}
-
-// Adds the FMRIs that the texts are; false where one of them is none.
-fn read_fmris(alloc: Global, texts: &[Text], fmris: &mut Vec<Fmri>) -> Result<bool, AllocError>
-    ensures { IfOk result (λ all. HasRead texts.now fmris.old.items fmris.new.items all) }
-{
+    let mut fmris = Vec::with_capacity(alloc, texts.len())?;
     for text in texts {
         let Some(fmri) = read_fmri(alloc, text)? else {
-            return Ok(false);
+            return Ok(None);
         };
         fmris.push(fmri)?;
     }
-    Ok(true)
+    Ok(Some(fmris))
 }
 
 // The FMRI that the text is; None where it is none.

@@ -102,9 +102,27 @@ fn each_type_holds_by_its_sentence(rt: HostRuntime) -> Result<(), Fail> {
         ("type=conditional predicate=b fmri=a", "", "", false, true),
         ("type=conditional predicate=b fmri=a", "", "1", false, false),
         ("type=conditional predicate=b fmri=a", "1", "1", false, true),
-        ("type=conditional predicate=b@2 fmri=a@3", "", "1", false, true),
-        ("type=conditional predicate=b@2 fmri=a@3", "2", "2", false, false),
-        ("type=conditional predicate=b@2 fmri=a@3", "3", "2", false, true),
+        (
+            "type=conditional predicate=b@2 fmri=a@3",
+            "",
+            "1",
+            false,
+            true,
+        ),
+        (
+            "type=conditional predicate=b@2 fmri=a@3",
+            "2",
+            "2",
+            false,
+            false,
+        ),
+        (
+            "type=conditional predicate=b@2 fmri=a@3",
+            "3",
+            "2",
+            false,
+            true,
+        ),
         ("type=require-any fmri=a@2 fmri=b", "1", "", false, false),
         ("type=require-any fmri=a@2 fmri=b", "2", "", false, true),
         ("type=require-any fmri=a@2 fmri=b", "", "1", false, true),
@@ -155,9 +173,15 @@ fn the_first_action_that_is_no_dependency_is_told(rt: HostRuntime) -> Result<(),
         ("depend type=require-any fmri=a fmri=*", 1),
         ("depend type=parent fmri=/a", 1),
         // The first such line, by its first physical line.
-        ("depend type=require fmri=a\n# c\n\ndepend \\\ntype=no fmri=a\ndepend type=no fmri=a\n", 4),
+        (
+            "depend type=require fmri=a\n# c\n\ndepend \\\ntype=no fmri=a\ndepend type=no fmri=a\n",
+            4,
+        ),
         // A line that isn't taken isn't judged.
-        ("depend type=origin fmri=a variant.arch=sparc\ndepend type=no fmri=b variant.arch=i386", 2),
+        (
+            "depend type=origin fmri=a variant.arch=sparc\ndepend type=no fmri=b variant.arch=i386",
+            2,
+        ),
     ] {
         assert!(rt; bad_line(alloc, text)? == Some(line));
     }
@@ -185,7 +209,8 @@ fn told(alloc: Global, test: &Test) -> Result<String, Fail> {
 #[test]
 fn tests_mention_and_want_stems(rt: HostRuntime) -> Result<(), Fail> {
     let alloc = rt.alloc();
-    let text = "depend type=require fmri=a\ndepend type=optional fmri=a\ndepend type=incorporate fmri=a@1\ndepend type=exclude fmri=a\ndepend fmri=a predicate=b type=conditional\ndepend type=require-any fmri=a fmri=c fmri=b\ndepend type=group fmri=g/h\ndepend type=parent fmri=a fmri=b\n";
+    let text =
+        "depend type=require fmri=a\ndepend type=optional fmri=a\ndepend type=incorporate fmri=a@1\ndepend type=exclude fmri=a\ndepend fmri=a predicate=b type=conditional\ndepend type=require-any fmri=a fmri=c fmri=b\ndepend type=group fmri=g/h\ndepend type=parent fmri=a fmri=b\n";
     let tests = read(alloc, text)?;
     let expected = [
         " a 1 -",
