@@ -6,3 +6,5 @@ pub mod Restricting
 pub mod Tests
 pub mod Picking
 pub mod Solving
+pub mod Looking
+pub mod Answering

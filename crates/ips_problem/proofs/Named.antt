@@ -1,7 +1,10 @@
 -- What patterns name, one more at a time.
-use Rattle.std.proofs.Common.{◌≡◌, ℕ, zero, suc, ◌+◌, ◌<◌, List, [], ◌∷◌, ◌++◌, take, drop, get_or, length, Some, refl, sym, ap, subst, ◌∙◌, inl, inr, arith}
+use Rattle.std.proofs.Common.{◌≡◌, ℕ, zero, suc, ◌+◌, ◌<◌, List, [], ◌∷◌, ◌++◌, take, drop, get_or, length, Some, Result, Err, refl, sym, ap, subst, ◌∙◌, inl, inr, arith}
 use Rattle.std.proofs.lemmas.List.{take_more}
 use Rattle.ips_fmri.specs.declared.pattern.Pattern.{Pattern}
+use Rattle.ips_text.specs.Reading.{IfBad}
+use Rattle.ips_text.specs.declared.refusal.Or.{Or}
+use Rattle.ips_text.specs.declared.refusal.Or.TheVariants.{Bad, OutOfMemory}
 use Rattle.ips_problem.specs.declared.fault.ProblemFault.{ProblemFault}
 use Rattle.ips_problem.specs.Named.{AreMatched, AreNamed, IsFirstUnnamed, IsMatch, IsUnnamed, Names}
 
@@ -52,3 +55,8 @@ first_unnamed publisher known (q ∷ ps) named zero p why l at all bad =
     inl (matched, subst (λ r. AreMatched publisher r known matched) at are, subst (λ r. IsUnnamed r matched why) at un)
 first_unnamed publisher known (q ∷ ps) [] (suc i) p why l at all bad = absurd all
 first_unnamed publisher known (q ∷ ps) (n ∷ named) (suc i) p why l at all bad = inr ((n, all.0), first_unnamed publisher known ps named i p why (omega arith) at all.1 bad)
+
+-- a fault that is handed on says what follows from it
+pub bad_handed : (X Y : Type 0) {F : Type 0} (P Q : F → Type 0) (e : Or F) → IfBad {X = X} {E = F} (Err e) P → ((f : F) → P f → Q f) → IfBad {X = Y} {E = F} (Err e) Q
+bad_handed X Y P Q (Bad f) h w = w f h
+bad_handed X Y P Q OutOfMemory h w = tt

@@ -98,7 +98,7 @@ candidate_contained (q ∷ set) i k e = elim (cases_Bool (q.stem == i)) [
 ]
 
 -- no two pairs of the rest are of one stem
-one_rest : (q : Pair) (set : List Pair) → OnePerStem (q ∷ set) → OnePerStem set
+pub one_rest : (q : Pair) (set : List Pair) → OnePerStem (q ∷ set) → OnePerStem set
 one_rest q set one i j d l h e = one (suc i) (suc j) d (omega arith) (omega arith) e
 
 -- of a set with one pair for each stem, what is in it is its candidate

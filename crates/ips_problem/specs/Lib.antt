@@ -9,3 +9,4 @@ pub mod Seen
 pub mod Named
 pub mod Fault
 pub mod Laws
+pub mod Held

@@ -15,12 +15,16 @@ mod kind;
 mod laws;
 mod naming;
 mod picked;
+mod problem;
+mod puzzle;
 mod read;
 mod request;
 mod role;
 mod rows;
+mod versions;
 
 pub use fault::ProblemFault;
 pub use kind::Kind;
 pub use laws::reach_is_enough;
+pub use problem::Problem;
 pub use request::Request;

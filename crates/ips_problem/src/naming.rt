@@ -3,7 +3,7 @@
 ghost use Rattle.std.specs.Prelude.{◌≡◌, ◌++◌, ◌∷◌, [], Some, map, IfOk, IfNone, IfSome, IsTrue, ◌↔◌, List, ℕ};
 ghost use Rattle.ips_text.specs.Reading.{IfBad};
 ghost use Rattle.ips_problem.specs.Named.{AreMatched, AreNamed, IsFirstUnnamed, IsMatch, IsOf, IsUnnamed, Names, named_among};
-ghost use Rattle.ips_problem.specs.Stems as stems;
+ghost use Rattle.ips_problem.specs.Stems as lists;
 
 use crate::fault::ProblemFault;
 use ips_fmri::Pattern;
@@ -23,7 +23,10 @@ pub fn named_by(
 {
     let mut named = Vec::new(alloc);
     for pattern in patterns {
-        let stems = named_one(alloc, publisher, known, pattern)?;
+        let stems = match named_one(alloc, publisher, known, pattern) {
+            Ok(stems) => stems,
+            Err(why) => return Err(why),
+        };
         named.push(stems)?;
     }
     Ok(named)
@@ -108,7 +111,7 @@ fn chosen(alloc: Global, pattern: &Pattern, matched: Vec<Text>) -> Result<Vec<Te
 
 // Whether the stem is one of these.
 fn has(stems: &[Text], stem: &str) -> bool
-    ensures { result ≡ stems.has stem.now stems.now }
+    ensures { result ≡ lists.has stem.now stems.now }
 {
     for other in stems {
         if stem == other.as_str() {

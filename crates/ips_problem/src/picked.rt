@@ -1,10 +1,12 @@
 //! The selection that a set of candidates makes.
 
-ghost use Rattle.std.specs.Prelude.{◌≡◌, ◌∷◌, Some};
-ghost use Rattle.std.specs.Option.{option_map, option_and_then};
+ghost use Rattle.std.specs.Prelude.{◌≡◌, ◌∷◌, Some, position, slice_get};
+ghost use Rattle.std.specs.Option.{option_map};
+ghost use Rattle.std.specs.Str.{bytes_eq};
 ghost use Rattle.ips_refute.specs.Meaning.{OnePerStem};
-ghost use Rattle.ips_problem.specs.Posed.{candidate_of, decides, number_of, picked, spared, version_at};
-ghost use Rattle.ips_problem.specs.Seen.{puzzle_of, seen_row};
+ghost use Rattle.ips_problem.specs.Posed as posed;
+ghost use Rattle.ips_problem.specs.Posed.{candidate_of, decides, picked, spared, tells_spared};
+ghost use Rattle.ips_problem.specs.Seen.{puzzle_of, seen_row, stems_of};
 
 use crate::rows::Row;
 use indexmap::IndexSet;
@@ -13,6 +15,7 @@ use ips_fmri::Version;
 use ips_refute::Pair;
 
 /// The selection that a set of candidates with one more makes, over the stems in reach: what has no candidate in it is absent.
+#[derive(Drop)]
 pub struct Picked<'a> {
     stems: &'a IndexSet<String>,
     rows: &'a [Row],
@@ -30,9 +33,9 @@ impl Picked<'_> {
         more: Pair,
     ) -> Picked<'a>
         requires { OnePerStem (more ∷ set.now) }
-        ensures stems { result.stems ≡ stems }
-        ensures rows { result.rows ≡ rows }
-        ensures set { result.set ≡ set }
+        ensures stems { result.stems ≡ stems.entry }
+        ensures rows { result.rows ≡ rows.entry }
+        ensures set { result.set ≡ set.entry }
         ensures more { result.more ≡ more }
     {
         Picked {
@@ -50,26 +53,59 @@ impl View for Picked<'_> {
     ghost spares = { λ v. spared (puzzle_of v.stems.now.keys v.rows.now) };
 
     fn version(&self, stem: &str) -> Option<&Version> {
-        let number = self.stems.get_index_of(stem)?;
-        let row = self.rows.get(number)?;
-        let candidate = candidate(self.set, self.more, number)?;
-        version_of(row, candidate)
+        let Some(number) = number(self.stems, stem) else {
+            return None;
+        };
+        version_at(self.rows, self.set, self.more, number)
     }
 
     fn spared(&self, stem: &str) -> bool {
-        let Some(number) = self.stems.get_index_of(stem) else {
-            return false;
-        };
-        match self.rows.get(number) {
-            Some(row) => row.spared,
+        match number(self.stems, stem) {
+            Some(number) => spared_at(self.rows, number),
             None => false,
         }
     }
 }
 
+// The number of a stem.
+fn number(stems: &IndexSet<String>, stem: &str) -> Option<usize>
+    ensures { result ≡ position (bytes_eq stem.now) (stems_of stems.now.keys) }
+{
+    stems.get_index_of(stem)
+}
+
+// The version of the candidate that the set, with the pair `more`, has for the stem with this number.
+fn version_at<'a>(
+    rows: &'a [Row],
+    set: &[Pair],
+    more: Pair,
+    number: usize,
+) -> Option<&'a Version>
+    requires { OnePerStem (more ∷ set.now) }
+    ensures { option_map (λ v. v.now) result ≡ posed.version_at (option_map seen_row (slice_get rows.now number)) (candidate_of (more ∷ set.now) number) }
+{
+    let Some(row) = rows.get(number) else {
+        return None;
+    };
+    let Some(candidate) = candidate(set, more, number) else {
+        return None;
+    };
+    version_of(row, candidate)
+}
+
+// Whether the stem with this number is spared.
+fn spared_at(rows: &[Row], number: usize) -> bool
+    ensures { result ≡ tells_spared (option_map seen_row (slice_get rows.now number)) }
+{
+    match rows.get(number) {
+        Some(row) => row.spared,
+        None => false,
+    }
+}
+
 /// The version of the candidate with this number; None where that is absence.
 pub fn version_of(row: &Row, candidate: u32) -> Option<&Version>
-    ensures { option_map (λ v. v.now) result ≡ version_at (Some (seen_row row.now)) (Some candidate) }
+    ensures { option_map (λ v. v.now) result ≡ posed.version_at (Some (seen_row row.now)) (Some candidate) }
 {
     let number = (*row.candidates.get(candidate as usize)?)?;
     let read = row.reads.get(number)?;
