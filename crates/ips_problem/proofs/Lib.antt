@@ -8,3 +8,4 @@ pub mod Picking
 pub mod Solving
 pub mod Looking
 pub mod Answering
+pub mod Numbers

@@ -16,7 +16,7 @@ use Rattle.ips_problem.specs.Laws.{contained_candidate}
 pub at_place : (set : List Pair) (i : ℕ) (d : Pair) (stem : ℕ) → OnePerStem set → i < length set → (get_or set i d).stem ≡ stem → Some (get_or set i d).candidate ≡ candidate_of set stem
 at_place set i d stem one l e =
     sym (subst (λ (s : ℕ). candidate_of set s ≡ Some (get_or set i d).candidate) e
-        (contained_candidate set (get_or set i d).stem (get_or set i d).candidate one (Contains-get_or set i d l)))
+    (contained_candidate set (get_or set i d).stem (get_or set i d).candidate one (Contains-get_or set i d l)))
 
 position_map : {X Y : Type 0} (f : X → Y) (p : Y → Bool) (xs : List X) → position_or_len p (map f xs) ≡ position_or_len (λ x. p (f x)) xs
 position_map f p [] = refl
@@ -37,7 +37,7 @@ pub picked_with : (keys : List (String Global)) (rows : List Row) (set : List Pa
     → o ≡ version_at (option_map seen_row (slice_get rows i)) (candidate_of set i) → o ≡ picked (puzzle_of keys rows) set stem
 picked_with keys rows set stem i o number e =
     e ∙ ap (λ r. version_at r (candidate_of set i)) (sym (slice_get-map seen_row rows i))
-        ∙ ap (option_and_then (λ j. version_at (slice_get (map seen_row rows) j) (candidate_of set j))) number
+    ∙ ap (option_and_then (λ j. version_at (slice_get (map seen_row rows) j) (candidate_of set j))) number
 
 pub spared_without : (keys : List (String Global)) (rows : List Row) (stem : List ℕ) → None ≡ position (bytes_eq stem) (stems_of keys) → false ≡ spared (puzzle_of keys rows) stem
 spared_without keys rows stem e = ap (spared_at (puzzle_of keys rows)) e

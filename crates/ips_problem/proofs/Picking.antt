@@ -23,7 +23,7 @@ chosen_from first (c ∷ choice) (suc i) =
     let apart : first ≡ first + suc i → ⊥ = λ e. omega arith in
     let on : first + suc i ≡ first + 1 + i = omega arith in
     cond-false (first == first + suc i) (Some c) (candidate_of (pairs_from (first + 1) choice) (first + suc i)) (ne_eqb first (first + suc i) apart)
-        ∙ ap (candidate_of (pairs_from (first + 1) choice)) on ∙ chosen_from (first + 1) choice i
+    ∙ ap (candidate_of (pairs_from (first + 1) choice)) on ∙ chosen_from (first + 1) choice i
 
 pub chosen_at : (choice : List ℕ) (i : ℕ) → candidate_of (pairs choice) i ≡ slice_get choice i
 chosen_at choice i = let same : i ≡ 0 + i = omega arith in ap (candidate_of (pairs choice)) same ∙ chosen_from 0 choice i
@@ -48,9 +48,9 @@ pub picked_at : (c : Case) (reach : List (List ℕ)) (choice : List ℕ) (stem :
 picked_at c reach choice stem i k o number at chosen offered =
     let p = posed c reach in
     ap (option_and_then (λ j. version_at (slice_get p.rows j) (candidate_of (pairs choice) j))) number
-        ∙ ap (λ r. version_at r (candidate_of (pairs choice) i)) (row_at c reach i stem at)
-        ∙ ap (version_at (Some (row_of c stem))) (chosen_at choice i ∙ chosen)
-        ∙ version_offered c stem k o offered
+    ∙ ap (λ r. version_at r (candidate_of (pairs choice) i)) (row_at c reach i stem at)
+    ∙ ap (version_at (Some (row_of c stem))) (chosen_at choice i ∙ chosen)
+    ∙ version_offered c stem k o offered
 
 -- a stem out of reach is picked at no version
 pub picked_apart : (c : Case) (reach : List (List ℕ)) (set : List Pair) (stem : List ℕ) → has stem reach ≡ false → picked (posed c reach) set stem ≡ None

@@ -67,10 +67,10 @@ restricted_admissible c reach s r a = record {
     | inl e ↦
         let (k, at) = contained_at (candidates c x) (s x) (a.offered x) in
         let still = λ (d : Dependency) (b : Among d (dependencies_of c x (s x))).
-            still_holds reach s (is_spared c) d (λ y w. wanted_in_reach c reach x y (s x) d r e (among_at (candidates c x) k (s x) at) b w)
-                (all_at_among (λ d. holds s (is_spared c) d ≡ true) d (dependencies_of c x (s x)) (a.holds x) b) in
+        still_holds reach s (is_spared c) d (λ y w. wanted_in_reach c reach x y (s x) d r e (among_at (candidates c x) k (s x) at) b w)
+        (all_at_among (λ d. holds s (is_spared c) d ≡ true) d (dependencies_of c x (s x)) (a.holds x) b) in
         subst (λ o. AllByRecursion (λ d. holds (restricted reach s) (is_spared c) d ≡ true) (dependencies_of c x o)) (sym (left_in reach s x e))
-            (all_from_among (λ d. holds (restricted reach s) (is_spared c) d ≡ true) (dependencies_of c x (s x)) still)
+        (all_from_among (λ d. holds (restricted reach s) (is_spared c) d ≡ true) (dependencies_of c x (s x)) still)
     | inr e ↦ subst (λ o. AllByRecursion (λ d. holds (restricted reach s) (is_spared c) d ≡ true) (dependencies_of c x o)) (sym (left_out reach s x e)) tt
   ];
 }

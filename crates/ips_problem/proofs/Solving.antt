@@ -84,7 +84,7 @@ unbroken c reach s numbers n r a w are among e =
     let holding = all_at_among (λ d. holds s (is_spared c) d ≡ true) n.dependency (dependencies_of c t.stem (s t.stem)) (a.holds t.stem) asked in
     let here = standing_has t.stem reach t.place t.at in
     let saved = λ (y : List ℕ) (h : has y (stems (wanted n.dependency)) ≡ true).
-        spared_in_reach c reach y (wanted_in_reach c reach t.stem y t.candidate n.dependency r here (among_at (candidates c t.stem) n.candidate t.candidate t.offered) t.asked h) in
+    spared_in_reach c reach y (wanted_in_reach c reach t.stem y t.candidate n.dependency r here (among_at (candidates c t.stem) n.candidate t.candidate t.offered) t.asked h) in
     let judged = judged_by_wanted (picked p (pairs numbers)) s (spared p) (is_spared c) n.dependency (picks_it c reach s numbers w are) saved in
     both_ways (not (holds (picked p (pairs numbers)) (spared p) n.dependency)) (ap not (judged ∙ holding)) outer.1
 
@@ -104,19 +104,21 @@ stem_at reach i l = (get_or reach i [], slice_get-get_or reach i [] l)
 pub solving : (c : Case) (reach : List (List ℕ)) (s : Selection) (numbers : List ℕ) → IsReach c reach → IsAdmissible c s → IsWithin reach s → AreNumbers c s reach numbers
     → Solves (meaning_of (posed c reach)) numbers
 solving c reach s numbers r a w are =
-    let long = length_numbers c s reach numbers are in
-    (long, record {
-      fits = omega arith;
-      offered = λ i l.
-          let within : i < length reach = omega arith in
-          let (stem, at) = stem_at reach i within in
-          let (k, own, offered) = number_at c s reach numbers i stem are at in
-          let same : slice_index numbers i ≡ k = get_or_from_slice_get numbers i k 0 own in
-          let below = slice_get_within (candidates c stem) k (s stem) offered in
-          let count = count_of c reach i stem at in
-          omega arith;
-      holds = λ t l. unbroken_at c reach s numbers (slice_get (posed c reach).tests t) r a w are (λ n e. among_at (posed c reach).tests t n e);
-    })
+    let long = length_numbers c s reach numbers are in (
+      long,
+      record {
+        fits = omega arith;
+        offered = λ i l.
+            let within : i < length reach = omega arith in
+            let (stem, at) = stem_at reach i within in
+            let (k, own, offered) = number_at c s reach numbers i stem are at in
+            let same : slice_index numbers i ≡ k = get_or_from_slice_get numbers i k 0 own in
+            let below = slice_get_within (candidates c stem) k (s stem) offered in
+            let count = count_of c reach i stem at in
+            omega arith;
+        holds = λ t l. unbroken_at c reach s numbers (slice_get (posed c reach).tests t) r a w are (λ n e. among_at (posed c reach).tests t n e);
+      },
+    )
 
 -- ---- from a choice to a selection
 
@@ -146,7 +148,7 @@ decided_mentions : (c : Case) (reach : List (List ℕ)) (choice : List ℕ) (fs 
 decided_mentions c reach choice [] long = refl
 decided_mentions c reach choice (f ∷ fs) long =
     decided_cons (pairs choice) (number_of (posed c reach) f.stem) (filter_map (λ (f : Fmri). number_of (posed c reach) f.stem) fs)
-        (λ i e. decided_number reach choice i long (number_within f.stem reach i e)) (decided_mentions c reach choice fs long)
+    (λ i e. decided_number reach choice i long (number_within f.stem reach i e)) (decided_mentions c reach choice fs long)
 
 -- where a test isn't broken though its candidate is chosen and its stems are decided, the dependency holds
 holding : (x y h : Bool) → x ≡ true → y ≡ true → (x && y && not h) ≡ false → h ≡ true
@@ -164,7 +166,7 @@ picked_holds c reach choice stem i k o d r solves at chosen offered asked =
     let unbroken = ap (breaks_at p (pairs choice)) (sym e) ∙ solves.1.holds t (slice_get_within p.tests t (test (0 + i) k d) e) in
     let number : 0 + i ≡ i = omega arith in
     let own : is_number (candidate_of (pairs choice) (0 + i)) k ≡ true =
-        ap (λ j. is_number (candidate_of (pairs choice) j) k) number ∙ ap (λ q. is_number q k) (chosen_at choice i ∙ chosen) ∙ eq-eqb k k refl in
+    ap (λ j. is_number (candidate_of (pairs choice) j) k) number ∙ ap (λ q. is_number q k) (chosen_at choice i ∙ chosen) ∙ eq-eqb k k refl in
     let first : is_some (candidate_of (pairs choice) (0 + i)) ≡ true = ap (λ j. is_some (candidate_of (pairs choice) j)) number ∙ ap is_some (chosen_at choice i ∙ chosen) in
     let decided = and_from (is_some (candidate_of (pairs choice) (0 + i))) (decides (pairs choice) (filter_map (λ (f : Fmri). number_of p f.stem) (mentions d))) first (decided_mentions c reach choice (mentions d) solves.0) in
     let held = holding (is_number (candidate_of (pairs choice) (0 + i)) k) (decides (pairs choice) (stems_of_test p (test (0 + i) k d))) (holds (picked p (pairs choice)) (spared p) d) own decided unbroken in
@@ -189,7 +191,7 @@ picked_admissible c reach choice r solves =
             let (i, number, at) = number_found x reach h in
             let (k, o, chosen, offered) = chosen_of c reach choice i x solves at in
             subst (λ q. AllByRecursion (λ d. holds s (is_spared c) d ≡ true) (dependencies_of c x q)) (sym (picked_at c reach choice x i k o number at chosen offered))
-                (all_from_among (λ d. holds s (is_spared c) d ≡ true) (dependencies_of c x o) (λ d asked. picked_holds c reach choice x i k o d r solves at chosen offered asked))
+            (all_from_among (λ d. holds s (is_spared c) d ≡ true) (dependencies_of c x o) (λ d asked. picked_holds c reach choice x i k o d r solves at chosen offered asked))
         | inr h ↦ subst (λ q. AllByRecursion (λ d. holds s (is_spared c) d ≡ true) (dependencies_of c x q)) (sym (picked_apart c reach (pairs choice) x h)) tt
       ];
     }

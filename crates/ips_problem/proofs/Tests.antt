@@ -101,7 +101,7 @@ candidate_tested c i stem k (p ∷ os) zero o d e h =
 candidate_tested c i stem k (p ∷ os) (suc j) o d e h =
     let rest = candidate_tested c i stem (k + 1) os j o d e h in
     test_candidate i (k + 1 + j) (k + suc j) d (tests_of_candidates c i stem k (p ∷ os)) (omega arith)
-        (among_right (test i (k + 1 + j) d) (numbered i k (dependencies_of c stem p)) (tests_of_candidates c i stem (k + 1) os) rest)
+    (among_right (test i (k + 1 + j) d) (numbered i k (dependencies_of c stem p)) (tests_of_candidates c i stem (k + 1) os) rest)
 
 -- each dependency of a candidate is a test
 pub tested : (c : Case) (i : ℕ) (stems : List (List ℕ)) (j : ℕ) (stem : List ℕ) (k : ℕ) (o : Option Parts) (d : Dependency)
@@ -112,7 +112,7 @@ tested c i (s ∷ stems) zero stem k o d at e h =
     let own = candidate_tested c i s 0 (candidates c s) k o d (ap (λ s. slice_get (candidates c s) k) same ∙ e) (subst (λ s. Among d (dependencies_of c s o)) (sym same) h) in
     let named = test_candidate i (0 + k) k d (tests_of_candidates c i s 0 (candidates c s)) (omega arith) own in
     test_number i (i + 0) k d (tests_from c i (s ∷ stems)) (omega arith)
-        (among_left (test i k d) (tests_of_candidates c i s 0 (candidates c s)) (tests_from c (i + 1) stems) named)
+    (among_left (test i k d) (tests_of_candidates c i s 0 (candidates c s)) (tests_from c (i + 1) stems) named)
 tested c i (s ∷ stems) (suc j) stem k o d at e h =
     test_number (i + 1 + j) (i + suc j) k d (tests_from c i (s ∷ stems)) (omega arith)
-        (among_right (test (i + 1 + j) k d) (tests_of_candidates c i s 0 (candidates c s)) (tests_from c (i + 1) stems) (tested c (i + 1) stems j stem k o d at e h))
+    (among_right (test (i + 1 + j) k d) (tests_of_candidates c i s 0 (candidates c s)) (tests_from c (i + 1) stems) (tested c (i + 1) stems j stem k o d at e h))

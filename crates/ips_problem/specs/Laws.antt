@@ -189,11 +189,11 @@ keeps_breaking p set other n w one e =
     let alike = alike_numbers (greatest_of (stems_of_test p n)) set other (stems_of_test p n) w one (omega arith) inner.1 in
     let own : is_number (candidate_of other n.stem) n.candidate ≡ true = ap (λ o. is_number o n.candidate) (sym alike.0) ∙ inner.0 in
     let mentioned = λ (y : List ℕ) (h : has y (stems (mentions n.dependency)) ≡ true). then_alike p set other (number_of p y)
-        (λ i at. number_among (λ i. candidate_of set i ≡ candidate_of other i) p (mentions n.dependency) y i h at alike.1) in
+    (λ i at. number_among (λ i. candidate_of set i ≡ candidate_of other i) p (mentions n.dependency) y i h at alike.1) in
     let same = judged_alike (picked p set) (picked p other) (spared p) n.dependency mentioned in
     and_from (is_number (candidate_of other n.stem) n.candidate && decides other (stems_of_test p n)) (not (holds (picked p other) (spared p) n.dependency))
-        (and_from (is_number (candidate_of other n.stem) n.candidate) (decides other (stems_of_test p n)) own (decides_too set other (stems_of_test p n) alike inner.1))
-        (ap not (sym same) ∙ outer.1)
+    (and_from (is_number (candidate_of other n.stem) n.candidate) (decides other (stems_of_test p n)) own (decides_too set other (stems_of_test p n) alike inner.1))
+    (ap not (sym same) ∙ outer.1)
 
 -- ---- the law
 

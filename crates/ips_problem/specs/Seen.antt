@@ -6,6 +6,7 @@ use Rattle.std.specs.declared.string.String.{String}
 use Rattle.ips_problem.specs.declared.read.Read.{Read}
 use Rattle.ips_problem.specs.declared.rows.Row as declared
 use Rattle.ips_problem.specs.declared.rows.Numbered as numbered
+use Rattle.ips_problem.specs.declared.rows.Numbers.{Numbers}
 use Rattle.ips_problem.specs.Posed.{Offer, Row, Numbered, Posed}
 
 -- what a version that was read offers
@@ -24,6 +25,10 @@ seen_row r = record { spared = r.spared; candidates = map (seen_candidate r.read
 -- a test
 abbrev pub seen_test : numbered.Numbered → Numbered
 seen_test n = record { stem = n.stem; candidate = n.candidate; dependency = n.test }
+
+-- the stems of a test
+abbrev pub seen_numbers : Numbers → List ℕ
+seen_numbers m = m.stems.items
 
 -- the texts of stems
 abbrev pub stems_of : List (String Global) → List (List ℕ)

@@ -6,18 +6,23 @@
 //! over these alone, and that is enough: it is a law that it has a solution exactly where a selection over all stems is
 //! admissible, and that its first solution is the best selection.
 //!
-//! In reading order: requests (`kind`, `request`, `fault`), and the law (`laws`).
+//! In reading order: requests (`kind`, `request`, `fault`); what patterns name (`naming`); the versions of a stem (`versions`),
+//! what a request has in mind for it (`role`) and its candidates (`arranging`); manifests (`read`, `reading`); the puzzle (`rows`,
+//! `problem`, `numbering`, `answers`, `picked`, `puzzle`); and the law (`laws`).
 #![tactic(auto)]
 
+mod answers;
 mod arranging;
 mod fault;
 mod kind;
 mod laws;
 mod naming;
+mod numbering;
 mod picked;
 mod problem;
 mod puzzle;
 mod read;
+mod reading;
 mod request;
 mod role;
 mod rows;

@@ -82,7 +82,11 @@ fn is_of(publisher: &str, other: &Option<Text>) -> bool
 }
 
 // What the pattern names among the stems that it matches.
-fn chosen(alloc: Global, pattern: &Pattern, matched: Vec<Text>) -> Result<Vec<Text>, Or<ProblemFault>>
+fn chosen(
+    alloc: Global,
+    pattern: &Pattern,
+    matched: Vec<Text>,
+) -> Result<Vec<Text>, Or<ProblemFault>>
     ensures named { IfOk result (λ v. named_among pattern.now matched.items ≡ Some v.items) }
     ensures unnamed { IfBad result (λ why. IsUnnamed pattern.now matched.items why) }
 {

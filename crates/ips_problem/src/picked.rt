@@ -1,6 +1,6 @@
 //! The selection that a set of candidates makes.
 
-ghost use Rattle.std.specs.Prelude.{◌≡◌, ◌∷◌, Some, position, slice_get};
+ghost use Rattle.std.specs.Prelude.{◌≡◌, ◌∷◌, ◌<◌, IfSome, Some, length, position, slice_get};
 ghost use Rattle.std.specs.Option.{option_map};
 ghost use Rattle.std.specs.Str.{bytes_eq};
 ghost use Rattle.ips_refute.specs.Meaning.{OnePerStem};
@@ -67,20 +67,16 @@ impl View for Picked<'_> {
     }
 }
 
-// The number of a stem.
-fn number(stems: &IndexSet<String>, stem: &str) -> Option<usize>
-    ensures { result ≡ position (bytes_eq stem.now) (stems_of stems.now.keys) }
+/// The number of a stem.
+pub fn number(stems: &IndexSet<String>, stem: &str) -> Option<usize>
+    ensures number { result ≡ position (bytes_eq stem.now) (stems_of stems.now.keys) }
+    ensures within { IfSome result (λ i. i < length stems.now.keys) }
 {
     stems.get_index_of(stem)
 }
 
 // The version of the candidate that the set, with the pair `more`, has for the stem with this number.
-fn version_at<'a>(
-    rows: &'a [Row],
-    set: &[Pair],
-    more: Pair,
-    number: usize,
-) -> Option<&'a Version>
+fn version_at<'a>(rows: &'a [Row], set: &[Pair], more: Pair, number: usize) -> Option<&'a Version>
     requires { OnePerStem (more ∷ set.now) }
     ensures { option_map (λ v. v.now) result ≡ posed.version_at (option_map seen_row (slice_get rows.now number)) (candidate_of (more ∷ set.now) number) }
 {

@@ -1,11 +1,12 @@
 //! What a problem answers as a puzzle.
 
-ghost use Rattle.std.specs.Prelude.{◌≡◌, ◌∷◌, ◌<◌, length};
+ghost use Rattle.std.specs.Prelude.{◌≡◌, ◌∷◌, not};
+ghost use Rattle.ips_depend.specs.Holds.{holds};
 ghost use Rattle.ips_refute.specs.Meaning.{OnePerStem};
 ghost use Rattle.ips_problem.specs.Held.{posed_of, problem_lawful};
 ghost use Rattle.ips_problem.specs.Posed as posed;
-ghost use Rattle.ips_problem.specs.Posed.{meaning_of, stems_of_test};
-ghost use Rattle.ips_problem.specs.Seen.{puzzle_of, seen_test};
+ghost use Rattle.ips_problem.specs.Posed.{meaning_of};
+ghost use Rattle.ips_problem.specs.Seen.{puzzle_of};
 
 use crate::picked::{Picked, candidate, decides_all};
 use crate::problem::Problem;
@@ -31,32 +32,32 @@ impl Puzzle for Problem {
     }
 
     fn last(&self, test: u32) -> u32 {
-        self.tests[test as usize].last
+        self.numbers[test as usize].last
     }
 
     fn broken(&self, test: u32, set: &[Pair], more: Pair) -> bool {
-        breaks(&self.stems, &self.rows, &self.tests[test as usize], set, more)
+        let numbered = &self.tests[test as usize];
+        if !is_chosen(set, more, numbered) {
+            return false;
+        }
+        if !decides_all(set, more, &self.numbers[test as usize].stems) {
+            return false;
+        }
+        fails(&self.stems, &self.rows, numbered, set, more)
     }
 }
 
-// Whether the set with the pair `more` breaks the test.
-fn breaks(
+// Whether the dependency of the test fails in the selection that the set makes with the pair `more`.
+fn fails(
     stems: &IndexSet<String>,
     rows: &[Row],
     numbered: &Numbered,
     set: &[Pair],
     more: Pair,
 ) -> bool
-    requires one_per_stem { OnePerStem (more ∷ set.now) }
-    requires numbered { numbered.now.stems.items ≡ stems_of_test (puzzle_of stems.now.keys rows.now) (seen_test numbered.now) }
-    ensures { result ≡ posed.breaks (puzzle_of stems.now.keys rows.now) (more ∷ set.now) (seen_test numbered.now) }
+    requires { OnePerStem (more ∷ set.now) }
+    ensures { result ≡ not (holds (posed.picked (puzzle_of stems.now.keys rows.now) (more ∷ set.now)) (posed.spared (puzzle_of stems.now.keys rows.now)) numbered.now.test) }
 {
-    if !is_chosen(set, more, numbered) {
-        return false;
-    }
-    if !decides_all(set, more, &numbered.stems) {
-        return false;
-    }
     let picked = Picked::new(stems, rows, set, more);
     !numbered.test.holds(&picked)
 }

@@ -23,7 +23,12 @@ pub struct Numbered {
     pub candidate: u32,
     /// The dependency.
     pub test: Test,
-    /// The numbers of the stem, and of those that the dependency mentions, where they are in reach.
+}
+
+/// The stems of a test, by their numbers.
+#[derive(Drop)]
+pub struct Numbers {
+    /// Its own, and those that the dependency mentions, where they are in reach.
     pub stems: Vec<u32>,
     /// The greatest of these.
     pub last: u32,
