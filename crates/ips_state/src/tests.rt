@@ -4,7 +4,15 @@ use ips_fmri::{Fmri, Version};
 use ips_manifest::{Manifest, Package};
 use ips_mediate::SetMediator;
 use ips_text::Text;
+use std::alloc::{AllocError, Global};
 use std::test::Fail;
+
+// A list of one.
+fn one<T: Drop>(alloc: Global, item: T) -> Result<Vec<T>, AllocError> {
+    let mut list = Vec::new(alloc);
+    list.push(item)?;
+    Ok(list)
+}
 
 // A copy has what the state has, in every record.
 #[test]
@@ -24,11 +32,11 @@ fn copies_have_the_same_records(rt: HostRuntime) -> Result<(), Fail> {
         publisher: Text::new(alloc, "test")?,
         actuator: None,
         settings: Settings::new(alloc),
-        installed: vec![in alloc; package]?,
-        avoid: vec![in alloc; Text::new(alloc, "b")?]?,
-        freeze: vec![in alloc; Fmri::parse(alloc, "a@1")?]?,
-        mediators: vec![in alloc; mediator]?,
-        history: vec![in alloc; Text::new(alloc, "20240102T030405Z install a")?]?,
+        installed: one(alloc, package)?,
+        avoid: one(alloc, Text::new(alloc, "b")?)?,
+        freeze: one(alloc, Fmri::parse(alloc, "a@1")?)?,
+        mediators: one(alloc, mediator)?,
+        history: one(alloc, Text::new(alloc, "20240102T030405Z install a")?)?,
     };
     let copy = state.copy(alloc)?;
     assert!(rt; copy.publisher == state.publisher);
