@@ -1,0 +1,4 @@
+pub mod Numerals
+pub mod Offered
+pub mod Compared
+pub mod Ranked

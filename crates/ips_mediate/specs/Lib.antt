@@ -1,0 +1,3 @@
+pub mod Mediation
+pub mod Best
+pub mod Order
