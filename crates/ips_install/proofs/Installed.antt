@@ -7,34 +7,39 @@ use Rattle.ips_outside.specs.Image.{Entry, Dir, Image, IsImage, is_dir, is_file}
 use Rattle.ips_outside.specs.Image as image
 use Rattle.ips_outside.specs.Change.{placed}
 use Rattle.ips_outside.proofs.Placed.{look_placed}
-use Rattle.ips_plain.specs.Line.{Item, Directory, File, item_path, Means}
-use Rattle.ips_install.specs.Package.{Names, AreReady, file_at, payload_path}
-use Rattle.ips_plain.proofs.OneMeaning.{means_one_thing}
-use Rattle.ips_install.proofs.Lines.{below_or_last, names_at, names_wider, names_above, follows_at}
+use Rattle.ips_digest.specs.declared.name.PayloadName.{PayloadName}
+use Rattle.ips_repo.specs.Files.{file_at}
+use Rattle.ips_repo.specs.Places.{payload_place}
+use Rattle.ips_install.specs.Wanted.{Item, Directory, File, Wanted, Nothing, Lays, item_path}
+use Rattle.ips_install.specs.Installed.{Names, AreReady, IsFileOf}
+use Rattle.ips_install.proofs.Places.{below_or_last}
+use Rattle.ips_install.proofs.Lines.{names_at, names_wider, names_above, follows_at}
 
--- so many of the first lines are laid, their files with some bytes
-pub record AreLaid (lines : List (List ℕ)) (count : ℕ) (old new : Image) : Type 0 where
-  pub dirs : (k mode : ℕ) (text path : List ℕ) → k < count → slice_get lines k ≡ Some text → Means text (Some (Directory mode path)) → new.look path ≡ Some (Dir mode false)
-  pub own_nodes : (k mode : ℕ) (text payload path other : List ℕ) → k < count → slice_get lines k ≡ Some text → Means text (Some (File payload mode path)) → new.same path other ≡ same_path path other
+-- so many of the first lines are laid
+pub record AreLaid (lines : List Wanted) (count : ℕ) (old new : Image) : Type 0 where
+  pub dirs : (k mode : ℕ) (path : List ℕ) → k < count → slice_get lines k ≡ Some (Lays (Directory mode path)) → new.look path ≡ Some (Dir mode false)
+  pub files : (k mode : ℕ) (name : PayloadName) (path : List ℕ) → k < count → slice_get lines k ≡ Some (Lays (File name mode path)) → IsFileOf name mode (new.look path)
+  pub own_nodes : (k mode : ℕ) (name : PayloadName) (path other : List ℕ) → k < count → slice_get lines k ≡ Some (Lays (File name mode path)) → new.same path other ≡ same_path path other
   pub other_paths : (path : List ℕ) → (Names (take count lines) path → ⊥) → new.look path ≡ old.look path
   pub other_nodes : (a b : List ℕ) → (Names (take count lines) a → ⊥) → (Names (take count lines) b → ⊥) → new.same a b ≡ old.same a b
 
--- the files have their payloads' bytes
-pub record AreFilled (repository : Image) (lines : List (List ℕ)) (count : ℕ) (new : Image) : Type 0 where
-  pub files : (k mode : ℕ) (text payload path bytes : List ℕ) → k < count → slice_get lines k ≡ Some text → Means text (Some (File payload mode path))
-      → file_at repository (payload_path payload) ≡ Some bytes → new.look path ≡ Some (image.File mode bytes)
+-- their files have the bytes that their payloads have in the repository
+pub record AreFilled (publisher : List ℕ) (repository : Image) (lines : List Wanted) (count : ℕ) (new : Image) : Type 0 where
+  pub files : (k mode : ℕ) (name : PayloadName) (path bytes : List ℕ) → k < count → slice_get lines k ≡ Some (Lays (File name mode path))
+      → file_at repository (payload_place publisher name) ≡ Some bytes → new.look path ≡ Some (image.File mode bytes)
 
 -- no line is laid
-pub none_laid : (lines : List (List ℕ)) (t : Image) → AreLaid lines 0 t t
+pub none_laid : (lines : List Wanted) (t : Image) → AreLaid lines 0 t t
 none_laid lines t = record {
-  dirs = λ k mode text path lt is means. absurd (omega arith);
-  own_nodes = λ k mode text payload path other lt is means. absurd (omega arith);
+  dirs = λ k mode path lt is. absurd (omega arith);
+  files = λ k mode name path lt is. absurd (omega arith);
+  own_nodes = λ k mode name path other lt is. absurd (omega arith);
   other_paths = λ path off. refl;
   other_nodes = λ a b offa offb. refl;
 }
 
-pub none_filled : (repository : Image) (lines : List (List ℕ)) (t : Image) → AreFilled repository lines 0 t
-none_filled repository lines t = record { files = λ k mode text payload path bytes lt is means there. absurd (omega arith) }
+pub none_filled : (publisher : List ℕ) (repository : Image) (lines : List Wanted) (t : Image) → AreFilled publisher repository lines 0 t
+none_filled publisher repository lines t = record { files = λ k mode name path bytes lt is there. absurd (omega arith) }
 
 off_covered : {A : Type 0} (s c : Bool) (e n x : A) → s ≡ false → (c ≡ true → n ≡ x) → cond s e (cond c n x) ≡ x
 off_covered true c e n x s f = cc
@@ -54,16 +59,31 @@ none_below t p q formed absent c s = go (t.look q) (t.look p) absent (formed.bel
 none_shared : (t : Image) (a b : List ℕ) → IsImage t → t.look a ≡ None → t.same a b ≡ false
 none_shared t a b formed absent = false_from_ne_true (t.same a b) (λ same. let file = (formed.files a b same).0 in absurd (let bad : is_file None ≡ true = sym (ap is_file absent) ∙ file in cc))
 
+-- what stands where an item is laid
+abbrev pub Shows : Item → Option Entry → Type 0
+Shows (Directory mode path) e = e ≡ Some (Dir mode false)
+Shows (File name mode path) e = IsFileOf name mode e
+
+-- it has the bytes of the payload in the repository
+abbrev pub ShowsBytes : List ℕ → Image → Item → Option Entry → Type 0
+ShowsBytes publisher repository (Directory mode path) e = Unit {0}
+ShowsBytes publisher repository (File name mode path) e = (bytes : List ℕ) → file_at repository (payload_place publisher name) ≡ Some bytes → e ≡ Some (image.File mode bytes)
+
+-- a file has a node of its own
+abbrev OwnsNode : Image → Item → Type 0
+OwnsNode t (Directory mode path) = Unit {0}
+OwnsNode t (File name mode path) = (other : List ℕ) → t.same path other ≡ same_path path other
+
 -- What one line more lays.
-module _ (lines : List (List ℕ)) (t : Image) (formed : IsImage t) (count : ℕ) (k : ℕ) (text : List ℕ) (item : Item)
-    (ready : AreReady t lines count) (lt : k < count) (stands : slice_get lines k ≡ Some text) (means : Means text (Some item)) where
+module _ (lines : List Wanted) (t : Image) (formed : IsImage t) (count : ℕ) (k : ℕ) (item : Item)
+    (ready : AreReady t lines count) (lt : k < count) (stands : slice_get lines k ≡ Some (Lays item)) where
   -- it is off what the earlier lines name
   earlier_off : (q : List ℕ) → Names (take k lines) q → covers (item_path item) q ≡ false
   earlier_off q named = false_from_ne_true (covers (item_path item) q) (λ c.
-      (follows_at lines t count k text item ready lt stands means).new_path (names_above lines t count ready k (omega arith) q (item_path item) named c))
+      (follows_at lines t count k item ready lt stands).new_path (names_above lines t count ready k (omega arith) q (item_path item) named c))
 
   new_named : Names (take (k + 1) lines) (item_path item)
-  new_named = names_at lines (k + 1) k text item (omega arith) stands means
+  new_named = names_at lines (k + 1) k item (omega arith) stands
 
   unnamed_off : (q : List ℕ) → (Names (take (k + 1) lines) q → ⊥) → same_path (item_path item) q ≡ false
   unnamed_off q off = false_from_ne_true (same_path (item_path item) q) (λ same. off (subst (Names (take (k + 1) lines)) (same_path-true (item_path item) q same) new_named))
@@ -73,17 +93,14 @@ module _ (lines : List (List ℕ)) (t : Image) (formed : IsImage t) (count : ℕ
 
   -- what is below the path was absent
   absent_below : (q : List ℕ) → (Names (take (k + 1) lines) q → ⊥) → covers (item_path item) q ≡ true → t.look q ≡ None
-  absent_below q off c = none_below t (item_path item) q formed (follows_at lines t count k text item ready lt stands means).absent c (unnamed_off q off)
+  absent_below q off c = none_below t (item_path item) q formed (follows_at lines t count k item ready lt stands).absent c (unnamed_off q off)
 
   -- the line at a place is an earlier one, or this one
-  at_place : (j : ℕ) (text' : List ℕ) (item' : Item) → j < k + 1 → slice_get lines j ≡ Some text' → Means text' (Some item') → (P : Item → Type 0) → ((j < k) → P item') → P item → P item'
-  at_place j text' item' below is means' P earlier here = ⊎_elim earlier (λ last.
-      let place : slice_get lines k ≡ Some text' = ap (slice_get lines) (sym last) ∙ is in
-      let one_text : text ≡ text' = cc in
-      let means_here : Means text (Some item') = subst (λ (x : List ℕ). Means x (Some item')) (sym one_text) means' in
-      let one = means_one_thing text (Some item) (Some item') means means_here in
-      let one_item : item ≡ item' = cc in
-      subst P one_item here) (below_or_last j k below)
+  at_place : (j : ℕ) (item' : Item) → j < k + 1 → slice_get lines j ≡ Some (Lays item') → (P : Item → Type 0) → ((j < k) → P item') → P item → P item'
+  at_place j item' below is P earlier here = ⊎_elim earlier (λ last.
+      let place : slice_get lines k ≡ Some (Lays item') = ap (slice_get lines) (sym last) ∙ is in
+      let one : item ≡ item' = cc in
+      subst P one here) (below_or_last j k below)
 
   module _ (u : Image) (laid : AreLaid lines k t u) (e : Entry) where
     -- an earlier path keeps what stands there
@@ -124,72 +141,53 @@ module _ (lines : List (List ℕ)) (t : Image) (formed : IsImage t) (count : ℕ
         go false ca false cb false sf = laid.other_nodes a b (unnamed_before a offa) (unnamed_before b offb)
 
     -- at each place of an item, of which an earlier one's path keeps what stands there
-    look_at : (j : ℕ) (text' : List ℕ) (item' : Item) → j < k + 1 → slice_get lines j ≡ Some text' → Means text' (Some item') → (P : Item → Option Entry → Type 0) → ((j < k) → P item' (u.look (item_path item'))) → P item (Some e)
+    look_at : (j : ℕ) (item' : Item) → j < k + 1 → slice_get lines j ≡ Some (Lays item') → (P : Item → Option Entry → Type 0) → ((j < k) → P item' (u.look (item_path item'))) → P item (Some e)
         → P item' ((placed (item_path item) (Some e) u).look (item_path item'))
-    look_at j text' item' below is means' P earlier here = at_place j text' item' below is means' (λ x. P x ((placed (item_path item) (Some e) u).look (item_path x)))
-        (λ before. subst (P item') (sym (kept_look (item_path item') (names_at lines k j text' item' before is means'))) (earlier before))
+    look_at j item' below is P earlier here = at_place j item' below is (λ x. P x ((placed (item_path item) (Some e) u).look (item_path x)))
+        (λ before. subst (P item') (sym (kept_look (item_path item') (names_at lines k j item' before is))) (earlier before))
         (subst (P item) (sym (look_placed (item_path item) (Some e) u)) here)
 
--- a directory
-abbrev ShowsDir : Item → Option Entry → Type 0
-ShowsDir (Directory mode path) e = e ≡ Some (Dir mode false)
-ShowsDir (File payload mode path) e = Unit {0}
+    own_node : (it : Item) → it ≡ item → Shows it (Some e) → OwnsNode (placed (item_path item) (Some e) u) it
+    own_node (Directory mode path) is shows = tt
+    own_node (File name mode path) is shows = λ other.
+        subst (λ (p : List ℕ). (placed (item_path item) (Some e) u).same p other ≡ same_path p other) (sym (ap item_path is)) (new_same other (ap is_file shows.2))
 
--- a file's own node
-abbrev OwnsNode : Image → Item → Type 0
-OwnsNode t (Directory mode path) = Unit {0}
-OwnsNode t (File payload mode path) = (other : List ℕ) → t.same path other ≡ same_path path other
+    -- one more line that delivers something
+    pub one_laid : Shows item (Some e) → AreLaid lines (k + 1) t (placed (item_path item) (Some e) u)
+    one_laid shows = record {
+      dirs = λ j mode path below is. look_at j (Directory mode path) below is Shows (λ before. laid.dirs j mode path before is) shows;
+      files = λ j mode name path below is. look_at j (File name mode path) below is Shows (λ before. laid.files j mode name path before is) shows;
+      own_nodes = λ j mode name path other below is.
+          at_place j (File name mode path) below is (OwnsNode (placed (item_path item) (Some e) u))
+          (λ before other'. kept_same path other' (names_at lines k j (File name mode path) before is) (laid.own_nodes j mode name path other' before is))
+          (own_node item refl shows) other;
+      other_paths = λ path off. other_look path off;
+      other_nodes = λ a b offa offb. other_same a b offa offb;
+    }
 
--- a file of its payload's bytes
-abbrev ShowsFile : Image → Item → Option Entry → Type 0
-ShowsFile repository (Directory mode path) e = Unit {0}
-ShowsFile repository (File payload mode path) e = (bytes : List ℕ) → file_at repository (payload_path payload) ≡ Some bytes → e ≡ Some (image.File mode bytes)
+    pub one_filled : (publisher : List ℕ) (repository : Image) → ShowsBytes publisher repository item (Some e) → AreFilled publisher repository lines k u → AreFilled publisher repository lines (k + 1) (placed (item_path item) (Some e) u)
+    one_filled publisher repository file filled = record {
+      files = λ j mode name path bytes below is there.
+          look_at j (File name mode path) below is (ShowsBytes publisher repository) (λ before bytes' there'. filled.files j mode name path bytes' before is there') file bytes there;
+    }
 
-abbrev IsFileEntry : Item → Entry → Type 0
-IsFileEntry (Directory mode path) e = Unit {0}
-IsFileEntry (File payload mode path) e = is_file (Some e) ≡ true
-
-module _ (lines : List (List ℕ)) (t : Image) (formed : IsImage t) (count : ℕ) (k : ℕ) (text : List ℕ)
-    (ready : AreReady t lines count) (lt : k < count) (stands : slice_get lines k ≡ Some text) (u : Image) (laid : AreLaid lines k t u) where
-  -- one more line that delivers something
-  pub one_laid : (item : Item) → Means text (Some item) → (e : Entry) → ShowsDir item (Some e) → IsFileEntry item e → AreLaid lines (k + 1) t (placed (item_path item) (Some e) u)
-  one_laid item means e dir file = record {
-    dirs = λ j mode text' path below is means'. look_at lines t formed count k text item ready lt stands means u laid e j text' (Directory mode path) below is means' ShowsDir (λ before. laid.dirs j mode text' path before is means') dir;
-    own_nodes = λ j mode text' payload path other below is means'.
-        at_place lines t formed count k text item ready lt stands means j text' (File payload mode path) below is means' (OwnsNode (placed (item_path item) (Some e) u))
-        (λ before other'. kept_same lines t formed count k text item ready lt stands means u laid e path other' (names_at lines k j text' (File payload mode path) before is means') (laid.own_nodes j mode text' payload path other' before is means'))
-        (own item means file) other;
-    other_paths = λ path off. other_look lines t formed count k text item ready lt stands means u laid e path off;
-    other_nodes = λ a b offa offb. other_same lines t formed count k text item ready lt stands means u laid e a b offa offb;
-  }
-    where
-      own : (item : Item) → Means text (Some item) → IsFileEntry item e → OwnsNode (placed (item_path item) (Some e) u) item
-      own (Directory mode path) means file = tt
-      own (File payload mode path) means file = λ other. new_same lines t formed count k text (File payload mode path) ready lt stands means u laid e other file
-
-  pub one_filled : (repository : Image) (item : Item) → Means text (Some item) → (e : Entry) → ShowsFile repository item (Some e) → AreFilled repository lines k u → AreFilled repository lines (k + 1) (placed (item_path item) (Some e) u)
-  one_filled repository item means e file filled = record {
-    files = λ j mode text' payload path bytes below is means' there.
-        look_at lines t formed count k text item ready lt stands means u laid e j text' (File payload mode path) below is means' (ShowsFile repository) (λ before bytes' there'. filled.files j mode text' payload path bytes' before is means' there') file bytes there;
-  }
-
-  -- a line that delivers nothing
-  none_at : Means text None → (j : ℕ) (text' : List ℕ) (item' : Item) → j < k + 1 → slice_get lines j ≡ Some text' → Means text' (Some item') → j < k
-  none_at means j text' item' below is means' = ⊎_elim (λ before. before) (λ last.
-      let place : slice_get lines k ≡ Some text' = ap (slice_get lines) (sym last) ∙ is in
-      let one_text : text' ≡ text = cc in
-      let one = means_one_thing text (Some item') None (subst (λ (x : List ℕ). Means x (Some item')) one_text means') means in
+-- A line that delivers nothing.
+module _ (lines : List Wanted) (k : ℕ) (stands : slice_get lines k ≡ Some Nothing) (t u : Image) where
+  none_at : (j : ℕ) (item : Item) → j < k + 1 → slice_get lines j ≡ Some (Lays item) → j < k
+  none_at j item below is = ⊎_elim (λ before. before) (λ last.
+      let place : slice_get lines k ≡ Some (Lays item) = ap (slice_get lines) (sym last) ∙ is in
       absurd (cc)) (below_or_last j k below)
 
-  pub nothing_laid : Means text None → AreLaid lines (k + 1) t u
-  nothing_laid means = record {
-    dirs = λ j mode text' path below is means'. laid.dirs j mode text' path (none_at means j text' (Directory mode path) below is means') is means';
-    own_nodes = λ j mode text' payload path other below is means'. laid.own_nodes j mode text' payload path other (none_at means j text' (File payload mode path) below is means') is means';
+  pub nothing_laid : AreLaid lines k t u → AreLaid lines (k + 1) t u
+  nothing_laid laid = record {
+    dirs = λ j mode path below is. laid.dirs j mode path (none_at j (Directory mode path) below is) is;
+    files = λ j mode name path below is. laid.files j mode name path (none_at j (File name mode path) below is) is;
+    own_nodes = λ j mode name path other below is. laid.own_nodes j mode name path other (none_at j (File name mode path) below is) is;
     other_paths = λ path off. laid.other_paths path (λ named. off (names_wider lines k (k + 1) path (omega arith) named));
     other_nodes = λ a b offa offb. laid.other_nodes a b (λ named. offa (names_wider lines k (k + 1) a (omega arith) named)) (λ named. offb (names_wider lines k (k + 1) b (omega arith) named));
   }
 
-  pub nothing_filled : (repository : Image) → Means text None → AreFilled repository lines k u → AreFilled repository lines (k + 1) u
-  nothing_filled repository means filled = record {
-    files = λ j mode text' payload path bytes below is means' there. filled.files j mode text' payload path bytes (none_at means j text' (File payload mode path) below is means') is means' there;
+  pub nothing_filled : (publisher : List ℕ) (repository : Image) → AreFilled publisher repository lines k u → AreFilled publisher repository lines (k + 1) u
+  nothing_filled publisher repository filled = record {
+    files = λ j mode name path bytes below is there. filled.files j mode name path bytes (none_at j (File name mode path) below is) is there;
   }

@@ -1,13 +1,11 @@
-pub mod Calls
-pub mod Parts
 pub mod Laid
 pub mod Keeping
+pub mod Places
 pub mod Lines
 pub mod Installed
 pub mod Stepping
 pub mod KeptPaths
 pub mod KindsKept
 pub mod Planned
-pub mod PayloadPlaces
-pub mod Wanted
+pub mod Checked
 pub mod Outcomes

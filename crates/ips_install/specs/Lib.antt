@@ -1,6 +1,7 @@
-pub mod Package
+pub mod Wanted
+pub mod Installed
 pub mod Fault
-pub mod Laying
 pub mod Delivered
 pub mod Planning
-pub mod Wanting
+pub mod Checking
+pub mod Laying

@@ -1,19 +1,49 @@
 //! Why an installation wasn't done.
 
-use ips_text::Text;
+use ips_digest::PayloadName;
 use std::alloc::{AllocError, AllocFailed};
 
-/// Why a package wasn't installed. Every variant but `Source` and an unfinished `Folder` leaves the image as it was.
+/// What is wrong with a payload.
+#[derive(Clone, Copy, Debug, PartialEq, Eq)]
+pub enum PayloadFault {
+    /// The repository hasn't its file.
+    Missing,
+    /// The file has more bytes than a payload may have.
+    TooLarge {
+        /// How many it has.
+        count: u64,
+    },
+    /// The bytes have another digest, and don't begin as a gzip file does.
+    Damaged {
+        /// The digest that they have.
+        found: PayloadName,
+    },
+    /// The bytes have another digest, and begin as a gzip file does: with `1f 8b`.
+    Compressed {
+        /// The digest that they have.
+        found: PayloadName,
+    },
+}
+
+/// Why nothing, or not all, was installed. Every variant but `Source` and an unfinished `Folder` leaves the image as it was;
+/// so does `Payload`, unless the repository changed while it was read.
 #[derive(Debug, Drop)]
 pub enum InstallFault {
-    /// This line of the manifest, counted from 1, is the first that can't be installed yet.
-    NotYet { line: u64 },
-    /// The first payload that the repository hasn't.
-    PayloadMissing { name: Text },
+    /// The line at this place, counted from 0, is the first that can't be installed yet.
+    NotYet {
+        at: usize,
+    },
+    /// The first payload that isn't intact, and what is wrong with it.
+    Payload {
+        name: PayloadName,
+        fault: PayloadFault,
+    },
     /// A call on the repository failed.
     Source,
     /// A call on the image failed; `unfinished` tells that it may have been changed before.
-    Folder { unfinished: bool },
+    Folder {
+        unfinished: bool,
+    },
     /// Memory was refused, before the first change.
     OutOfMemory,
 }

@@ -1,62 +1,67 @@
 //! Directories and files laid on an image.
 
-ghost use Rattle.std.specs.Prelude.{◌≡◌, ◌<◌, ℕ, Bool, true, false, IsTrue, IsFalse, IsOk, List, Some, Err, IfErr, OnOk, OnErr, length};
-ghost use Rattle.std.specs.List.{All, list_any};
+ghost use Rattle.std.specs.Prelude.{◌≡◌, ◌<◌, ℕ, List, [], Bool, true, false, IsTrue, IsFalse, IsOk, Some, Err, IfErr, OnOk, OnErr, length};
+ghost use Rattle.std.specs.List.{AllByRecursion, list_any};
 ghost use Rattle.ips_text.specs.Ancestry.{covers};
 ghost use Rattle.ips_outside.specs.Image.{Dir};
-ghost use Rattle.ips_outside.specs.Change.{placed};
+ghost use Rattle.ips_outside.specs.Change.{placed, appended};
 ghost use Rattle.ips_outside.specs.State.{IsSettled};
 ghost use Rattle.ips_outside.specs.Outside.{HasCause, Reads};
 ghost use Rattle.ips_folder.specs.Calls.{CanMake, IsSole, Keeps};
-ghost use Rattle.ips_install.specs.Laying.{AreStepsOf, paths_of, step_covers, IsModed, IsSized, CanLay, Copies, LaysFile, Lays, AreLayable, IsLayingFault, IsFaultOfLaying, lays_something};
-ghost use Rattle.ips_install.specs.Package.{AreReady, IsInstalled, covered_by};
+ghost use Rattle.ips_repo.specs.Payload.{IsFrontOf};
+ghost use Rattle.ips_install.specs.Wanted.{HasMode, delivers};
+ghost use Rattle.ips_install.specs.Installed.{AreReady, IsInstalled, HaveBytes, line_covers, covered_by};
+ghost use Rattle.ips_install.specs.Checking.{IsKnown, step_line, IsChecked, IsPrepared, AreChecked, ArePrepared};
+ghost use Rattle.ips_install.specs.Laying.{lines_of, CanLay, LaysFile, LaysStep, IsCopyingFault, IsLayingFault, IsFaultOfLaying};
 ghost use Rattle.ips_install.specs.declared.fault.InstallFault.TheVariants as fault;
 
+use crate::checking::judge;
 use crate::fault::InstallFault;
-use crate::reading::read_part;
-use crate::step::{Payload, Step};
+use crate::step::Step;
 use ips_folder::Folder;
 use ips_outside::Source;
+use ips_repo::Payload;
 use ips_text::RelPath;
 
-/// Puts the payload's bytes at the end of the file, a buffer at a time.
+/// Puts the payload's bytes at the end of the file, a buffer at a time, to the payload's end.
 fn copy_payload<S: Source, F: Folder>(
     repo: &mut S,
-    payload: &Payload,
+    payload: &mut Payload,
     image: &mut F,
     path: &RelPath,
     buffer: &mut [u8],
 ) -> Result<(), InstallFault>
     requires can { IsTrue (F.outside.tells image.old) → IsSole (F.outside.state image.old).held path.now.bytes }
     requires room { 0 < length buffer.old }
-    ensures copied { IsTrue (F.outside.tells image.old) → OnOk result
-        (Copies (S.outside.tells repo.old) (S.outside.state repo.old).held payload.now path.now.bytes (F.outside.state image.old).held (F.outside.state image.new).held) }
+    requires begun { payload.old.bytes ≡ [] }
+    ensures copied { IsTrue (F.outside.tells image.old) → OnOk result ((F.outside.state image.new).held ≡ appended path.now.bytes payload.new.bytes (F.outside.state image.old).held) }
+    ensures ended { OnOk result (IsTrue payload.new.ended) }
+    ensures name { payload.new.name ≡ payload.old.name }
+    ensures place { payload.new.place ≡ payload.old.place }
+    ensures front { IsTrue (S.outside.tells repo.old) → IsFrontOf (S.outside.state repo.old).held payload.old → IsFrontOf (S.outside.state repo.old).held payload.new }
     ensures any_moment { IsTrue (F.outside.tells image.old) → Keeps F.outside (covers path.now.bytes) (covers path.now.bytes) image.old image.new }
     ensures reads { Reads S.outside repo.old repo.new (result ≡ Err fault.Source) }
     ensures cause { HasCause (F.outside.faults image.old) (F.outside.faults image.new) (result ≡ Err (fault.Folder true)) }
     ensures same_kind { F.outside.tells image.new ≡ F.outside.tells image.old }
-    ensures faults { IfErr result IsLayingFault }
+    ensures faults { IfErr result IsCopyingFault }
 {
-    let mut at = 0u64;
-    while at < payload.size {
-        let Ok(count) = read_part(repo, &payload.place, at, payload.size, buffer) else {
+    'pieces: loop {
+        let Ok(count) = payload.next(repo, buffer) else {
             return Err(InstallFault::Source);
         };
         if count == 0 {
-            break;
+            return Ok(());
         }
         let Ok(()) = image.append(path, &buffer[..count]) else {
             return Err(InstallFault::Folder { unfinished: true });
         };
-        at += count as u64;
     }
-    Ok(())
 }
 
-/// Lays a file of a payload's bytes.
+/// Lays a file of the payload's bytes, which are hashed once more.
 fn lay_file<S: Source, F: Folder>(
     repo: &mut S,
-    payload: &Payload,
+    payload: Payload,
     image: &mut F,
     mode: u16,
     path: &RelPath,
@@ -65,18 +70,22 @@ fn lay_file<S: Source, F: Folder>(
     requires can { IsTrue (F.outside.tells image.old) → CanMake (F.outside.state image.old).held path.now.bytes }
     requires mode { mode < 4096 }
     requires room { 0 < length buffer.old }
+    requires begun { payload.bytes ≡ [] }
+    requires known { IsTrue (S.outside.tells repo.old) → IsKnown (S.outside.state repo.old).held payload }
     ensures laid { IsTrue (F.outside.tells image.old) → OnOk result
-        (LaysFile (S.outside.tells repo.old) (S.outside.state repo.old).held payload.now mode path.now.bytes (F.outside.state image.old).held (F.outside.state image.new).held) }
+        (LaysFile (S.outside.tells repo.old) (S.outside.state repo.old).held payload mode path.now.bytes (F.outside.state image.old).held (F.outside.state image.new).held) }
     ensures any_moment { IsTrue (F.outside.tells image.old) → Keeps F.outside (covers path.now.bytes) (covers path.now.bytes) image.old image.new }
     ensures reads { Reads S.outside repo.old repo.new (result ≡ Err fault.Source) }
     ensures cause { HasCause (F.outside.faults image.old) (F.outside.faults image.new) (result ≡ Err (fault.Folder true)) }
     ensures same_kind { F.outside.tells image.new ≡ F.outside.tells image.old }
-    ensures faults { IfErr result IsLayingFault }
+    ensures faults { IfErr result (IsLayingFault (S.outside.tells repo.old)) }
 {
+    let mut payload = payload;
     let Ok(()) = image.make_file(path) else {
         return Err(InstallFault::Folder { unfinished: true });
     };
-    copy_payload(repo, payload, image, path, buffer)?;
+    copy_payload(repo, &mut payload, image, path, buffer)?;
+    judge(payload)?;
     let Ok(()) = image.set_mode(path, mode) else {
         return Err(InstallFault::Folder { unfinished: true });
     };
@@ -103,29 +112,31 @@ fn lay_dir<F: Folder>(image: &mut F, mode: u16, path: &RelPath) -> Result<(), In
 fn lay_step<S: Source, F: Folder>(
     repo: &mut S,
     image: &mut F,
-    step: &Step,
+    step: Step,
     buffer: &mut [u8],
 ) -> Result<(), InstallFault>
-    requires can { IsTrue (F.outside.tells image.old) → CanLay (F.outside.state image.old).held step.now }
-    requires mode { IsModed step.now }
+    requires can { IsTrue (F.outside.tells image.old) → CanLay (F.outside.state image.old).held step }
+    requires mode { HasMode (step_line step) }
     requires room { 0 < length buffer.old }
+    requires begun { (publisher : List ℕ) × IsPrepared publisher step }
+    requires known { IsTrue (S.outside.tells repo.old) → IsChecked (S.outside.state repo.old).held step }
     ensures laid { IsTrue (F.outside.tells image.old) → OnOk result
-        (Lays (S.outside.tells repo.old) (S.outside.state repo.old).held step.now (F.outside.state image.old).held (F.outside.state image.new).held) }
-    ensures any_moment { IsTrue (F.outside.tells image.old) → Keeps F.outside (step_covers step.now) (step_covers step.now) image.old image.new }
+        (LaysStep (S.outside.tells repo.old) (S.outside.state repo.old).held step (F.outside.state image.old).held (F.outside.state image.new).held) }
+    ensures any_moment { IsTrue (F.outside.tells image.old) → Keeps F.outside (line_covers (step_line step)) (line_covers (step_line step)) image.old image.new }
     ensures reads { Reads S.outside repo.old repo.new (result ≡ Err fault.Source) }
     ensures cause { HasCause (F.outside.faults image.old) (F.outside.faults image.new) (result ≡ Err (fault.Folder true)) }
     ensures same_kind { F.outside.tells image.new ≡ F.outside.tells image.old }
-    ensures faults { IfErr result IsLayingFault }
-    ensures idle { IsFalse (lays_something step.now) → IsOk result × (F.outside.state image.new ≡ F.outside.state image.old) }
+    ensures faults { IfErr result (IsLayingFault (S.outside.tells repo.old)) }
+    ensures idle { IsFalse (delivers (step_line step)) → IsOk result × (F.outside.state image.new ≡ F.outside.state image.old) }
 {
     match step {
         Step::Nothing => Ok(()),
-        Step::Directory { mode, path } => lay_dir(image, *mode, path),
+        Step::Directory { mode, path } => lay_dir(image, mode, &path),
         Step::File {
             mode,
             path,
             payload,
-        } => lay_file(repo, payload, image, *mode, path, buffer),
+        } => lay_file(repo, payload, image, mode, &path, buffer),
     }
 }
 
@@ -133,21 +144,23 @@ fn lay_step<S: Source, F: Folder>(
 fn lay_steps<S: Source, F: Folder>(
     repo: &mut S,
     image: &mut F,
-    steps: &[Step],
+    steps: Vec<Step>,
     buffer: &mut [u8],
 ) -> Result<(), InstallFault>
-    requires can { IsTrue (F.outside.tells image.old) → AreLayable (F.outside.state image.old).held steps.now }
-    requires modes { All IsModed steps.now }
+    requires can { IsTrue (F.outside.tells image.old) → AreReady (F.outside.state image.old).held (lines_of steps.items) (length (lines_of steps.items)) }
+    requires modes { AllByRecursion HasMode (lines_of steps.items) }
     requires room { 0 < length buffer.old }
-    ensures installed { IsTrue (S.outside.tells repo.old) → IsTrue (F.outside.tells image.old) → (lines : List (List ℕ))
-        → AreStepsOf lines steps.now → AreReady (F.outside.state image.old).held lines (length lines) → All (IsSized (S.outside.state repo.old).held) steps.now
-        → OnOk result (IsInstalled (S.outside.state repo.old).held lines (F.outside.state image.old).held (F.outside.state image.new).held) }
-    ensures any_moment { IsTrue (F.outside.tells image.old) → Keeps F.outside (covered_by (paths_of steps.now)) (covered_by (paths_of steps.now)) image.old image.new }
+    requires begun { (publisher : List ℕ) × ArePrepared publisher steps.items }
+    requires known { IsTrue (S.outside.tells repo.old) → AreChecked (S.outside.state repo.old).held steps.items }
+    ensures installed { IsTrue (F.outside.tells image.old) → OnOk result (IsInstalled (lines_of steps.items) (F.outside.state image.old).held (F.outside.state image.new).held) }
+    ensures filled { IsTrue (S.outside.tells repo.old) → IsTrue (F.outside.tells image.old) → (publisher : List ℕ) → ArePrepared publisher steps.items
+        → OnOk result (HaveBytes publisher (S.outside.state repo.old).held (lines_of steps.items) (F.outside.state image.new).held) }
+    ensures any_moment { IsTrue (F.outside.tells image.old) → Keeps F.outside (covered_by (lines_of steps.items)) (covered_by (lines_of steps.items)) image.old image.new }
     ensures reads { Reads S.outside repo.old repo.new (result ≡ Err fault.Source) }
     ensures cause { HasCause (F.outside.faults image.old) (F.outside.faults image.new) (result ≡ Err (fault.Folder true)) }
     ensures same_kind { F.outside.tells image.new ≡ F.outside.tells image.old }
-    ensures faults { IfErr result IsLayingFault }
-    ensures idle { IsFalse (list_any lays_something steps.now) → IsOk result × (F.outside.state image.new ≡ F.outside.state image.old) }
+    ensures faults { IfErr result (IsLayingFault (S.outside.tells repo.old)) }
+    ensures idle { IsFalse (list_any delivers (lines_of steps.items)) → IsOk result × (F.outside.state image.new ≡ F.outside.state image.old) }
 {
     for step in steps {
         lay_step(repo, image, step, buffer)?;
@@ -157,7 +170,7 @@ fn lay_steps<S: Source, F: Folder>(
 
 /// Whether one of the steps lays something.
 fn lay_something(steps: &[Step]) -> bool
-    ensures { result ≡ list_any lays_something steps.now }
+    ensures { result ≡ list_any (λ step. delivers (step_line step)) steps.now }
 {
     steps.iter().any(|step| step.lays())
 }
@@ -167,27 +180,31 @@ fn lay_something(steps: &[Step]) -> bool
 pub(crate) fn lay<S: Source, F: Folder>(
     repo: &mut S,
     image: &mut F,
-    steps: &[Step],
+    steps: Vec<Step>,
     buffer: &mut [u8],
 ) -> Result<(), InstallFault>
-    requires can { IsTrue (F.outside.tells image.old) → AreLayable (F.outside.state image.old).held steps.now }
-    requires modes { All IsModed steps.now }
+    requires can { IsTrue (F.outside.tells image.old) → AreReady (F.outside.state image.old).held (lines_of steps.items) (length (lines_of steps.items)) }
+    requires modes { AllByRecursion HasMode (lines_of steps.items) }
     requires room { 0 < length buffer.old }
-    ensures installed { IsTrue (S.outside.tells repo.old) → IsTrue (F.outside.tells image.old) → (lines : List (List ℕ))
-        → AreStepsOf lines steps.now → AreReady (F.outside.state image.old).held lines (length lines) → All (IsSized (S.outside.state repo.old).held) steps.now
-        → OnOk result (IsInstalled (S.outside.state repo.old).held lines (F.outside.state image.old).held (F.outside.state image.new).held) }
+    requires begun { (publisher : List ℕ) × ArePrepared publisher steps.items }
+    requires known { IsTrue (S.outside.tells repo.old) → AreChecked (S.outside.state repo.old).held steps.items }
+    ensures installed { IsTrue (F.outside.tells image.old) → OnOk result (IsInstalled (lines_of steps.items) (F.outside.state image.old).held (F.outside.state image.new).held) }
+    ensures filled { IsTrue (S.outside.tells repo.old) → IsTrue (F.outside.tells image.old) → (publisher : List ℕ) → ArePrepared publisher steps.items
+        → OnOk result (HaveBytes publisher (S.outside.state repo.old).held (lines_of steps.items) (F.outside.state image.new).held) }
     ensures safe { IsTrue (F.outside.tells image.old) → OnOk result (IsSettled (F.outside.state image.new)) }
-    ensures any_moment { IsTrue (F.outside.tells image.old) → Keeps F.outside (covered_by (paths_of steps.now)) (covered_by (paths_of steps.now)) image.old image.new }
+    ensures any_moment { IsTrue (F.outside.tells image.old) → Keeps F.outside (covered_by (lines_of steps.items)) (covered_by (lines_of steps.items)) image.old image.new }
     ensures reads { Reads S.outside repo.old repo.new (result ≡ Err fault.Source) }
     ensures cause { HasCause (F.outside.faults image.old) (F.outside.faults image.new) ((unfinished : Bool) × (result ≡ Err (fault.Folder unfinished))) }
     ensures same_kind { F.outside.tells image.new ≡ F.outside.tells image.old }
-    ensures faults { IfErr result (IsFaultOfLaying (list_any lays_something steps.now)) }
-    ensures idle { IsFalse (list_any lays_something steps.now) → OnErr result (F.outside.state image.new ≡ F.outside.state image.old) }
+    ensures faults { IfErr result (IsFaultOfLaying (S.outside.tells repo.old) (list_any delivers (lines_of steps.items))) }
+    ensures idle { IsFalse (list_any delivers (lines_of steps.items)) → OnErr result (F.outside.state image.new ≡ F.outside.state image.old) }
 {
+    let changes = lay_something(steps.as_slice());
     lay_steps(repo, image, steps, buffer)?;
     let Ok(()) = image.sync() else {
-        let unfinished = lay_something(steps);
-        return Err(InstallFault::Folder { unfinished });
+        return Err(InstallFault::Folder {
+            unfinished: changes,
+        });
     };
     Ok(())
 }

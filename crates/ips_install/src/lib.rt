@@ -1,21 +1,23 @@
-//! Installs one package directly: every line and payload is looked at before the first change, and then laid.
+//! Installs lines of packages directly: every line and every payload is looked at before the first change, and then laid.
 //!
-//! A manifest is planned line by line, its payloads are looked for, and only then are its directories and files laid, in
-//! the order of the lines, and synced. Whatever can be refused is refused before the first change.
+//! The lines are planned one by one; each payload is opened and its digest compared with its name; and only then are
+//! directories and files laid, in the order of the lines, and synced. Each payload is hashed once more as it is laid. Whatever
+//! can be refused is refused before the first change. The crate knows no manifest and no package: what the lines ask for is
+//! handed in, and a refusal names a line by its place.
 #![tactic(auto)]
 
+mod checking;
 mod delivered;
 mod fault;
 mod installing;
 mod laying;
-mod payloads;
 mod planning;
-mod reading;
 mod step;
+mod wanted;
 
-pub use fault::InstallFault;
+pub use fault::{InstallFault, PayloadFault};
 pub use installing::install;
-pub use reading::{ReadFault, read_file};
+pub use wanted::{Item, Wanted};
 
 #[cfg(test)]
 mod tests;

@@ -1,19 +1,14 @@
 //! What is laid, line by line.
 
 ghost use Rattle.std.specs.Prelude.{◌≡◌};
-ghost use Rattle.ips_install.specs.Laying.{lays_something};
+ghost use Rattle.ips_install.specs.Wanted.{delivers};
+ghost use Rattle.ips_install.specs.Checking.{step_line};
 
+use ips_repo::Payload;
 use ips_text::RelPath;
 
-/// A payload of the repository: where it stands, and its length in bytes.
-#[derive(Debug, Drop)]
-pub(crate) struct Payload {
-    pub(crate) place: RelPath,
-    pub(crate) size: u64,
-}
-
 /// What is laid for a line.
-#[derive(Debug, Drop)]
+#[derive(Drop)]
 pub(crate) enum Step {
     /// Nothing, since the line delivers nothing.
     Nothing,
@@ -31,7 +26,7 @@ pub(crate) enum Step {
 impl Step {
     /// Whether it lays something.
     pub(crate) fn lays(&self) -> bool
-        ensures { result ≡ lays_something self.now }
+        ensures { result ≡ delivers (step_line self.now) }
     {
         !matches!(self, Step::Nothing)
     }

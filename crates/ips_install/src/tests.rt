@@ -1,5 +1,11 @@
+ghost use Rattle.std.specs.Prelude.{IfOk, map};
+ghost use Rattle.std.specs.List.{AllByRecursion};
+ghost use Rattle.ips_install.specs.Wanted.{HasMode, seen};
+
+use crate::fault::{InstallFault, PayloadFault};
 use crate::installing::install;
-use crate::reading::{ReadFault, read_file};
+use crate::wanted::{Item, Wanted};
+use ips_digest::PayloadName;
 use ips_folder::MemFolder;
 use ips_outside::{Look, MemSource, Tree};
 use ips_text::RelPath;
@@ -21,189 +27,119 @@ fn add(alloc: Global, tree: &mut Tree, place: &str, bytes: &[u8]) -> Result<(), 
             }
         }
     }
-    tree.file(
-        alloc,
-        &RelPath::parse(alloc, place.as_bytes())?,
-        0o644,
-        bytes,
-    )?;
+    let path = RelPath::parse(alloc, place.as_bytes())?;
+    tree.file(alloc, &path, 0o644, bytes)?;
     Ok(())
 }
 
-// A repository of these two payloads, of which the listed calls fail.
-fn repository(alloc: Global, abc: &[u8], fails: &[u64]) -> Result<MemSource, Fail> {
+// A repository in which the empty payload is intact, and these bytes stand at the name of `abc`.
+fn repository(alloc: Global, abc: &[u8]) -> Result<MemSource, Fail> {
     let mut tree = Tree::new(alloc);
-    let place = format!(in alloc; "publisher/test/file/da/{EMPTY}")?;
-    add(alloc, &mut tree, place.as_str(), b"")?;
-    let place = format!(in alloc; "publisher/test/file/a9/{ABC}")?;
-    add(alloc, &mut tree, place.as_str(), abc)?;
-    Ok(MemSource::new(tree, Vec::from_slice(alloc, fails)?))
+    let place = "publisher/test/file/da/da39a3ee5e6b4b0d3255bfef95601890afd80709";
+    add(alloc, &mut tree, place, b"")?;
+    let place = "publisher/test/file/a9/a9993e364706816aba3e25717850c26c9cd0d89d";
+    add(alloc, &mut tree, place, abc)?;
+    Ok(MemSource::new(tree, Vec::new(alloc)))
 }
 
-// An image with a directory, of which the listed calls fail.
-fn image(alloc: Global, fails: &[u64]) -> Result<MemFolder, Fail> {
-    let mut tree = Tree::new(alloc);
-    tree.dir(alloc, &RelPath::parse(alloc, b"etc")?, 0o755)?;
-    let fails = Vec::from_slice(alloc, fails)?;
-    Ok(MemFolder::new(alloc, tree, fails, None)?)
+fn dir(alloc: Global, path: &str) -> Result<Wanted, Fail>
+    ensures { IfOk result (λ line. HasMode (seen line)) }
+{
+    let path = RelPath::parse(alloc, path.as_bytes())?;
+    Ok(Wanted::Item(Item::Directory { mode: 0o755, path }))
+}
+
+fn file(alloc: Global, digits: &str, path: &str) -> Result<Wanted, Fail>
+    ensures { IfOk result (λ line. HasMode (seen line)) }
+{
+    let payload = PayloadName::parse(digits).ok_or("name")?;
+    let path = RelPath::parse(alloc, path.as_bytes())?;
+    Ok(Wanted::Item(Item::File {
+        payload,
+        mode: 0o644,
+        path,
+    }))
+}
+
+// Four lines: a file of the bytes `abc` at this path, a directory `usr`, nothing, and an empty file in `usr`.
+fn lines(alloc: Global, path: &str) -> Result<Vec<Wanted>, Fail>
+    ensures { IfOk result (λ lines. AllByRecursion HasMode (map seen lines.items)) }
+{
+    let first = file(alloc, ABC, path)?;
+    let second = dir(alloc, "usr")?;
+    let fourth = file(alloc, EMPTY, "usr/empty")?;
+    let mut lines = Vec::new(alloc);
+    lines.push(first)?;
+    lines.push(second)?;
+    lines.push(Wanted::Nothing)?;
+    lines.push(fourth)?;
+    Ok(lines)
+}
+
+// How it ended, in words.
+fn words_of(ended: &Result<(), InstallFault>) -> &str {
+    match ended {
+        Ok(()) => "done",
+        Err(InstallFault::NotYet { at: 0 }) => "not yet 0",
+        Err(InstallFault::NotYet { at: 1 }) => "not yet 1",
+        Err(InstallFault::NotYet { .. }) => "not yet",
+        Err(
+            InstallFault::Payload {
+                fault: PayloadFault::Missing,
+                ..
+            },
+        ) => "missing",
+        Err(
+            InstallFault::Payload {
+                fault: PayloadFault::Damaged { .. },
+                ..
+            },
+        ) => "damaged",
+        Err(
+            InstallFault::Payload {
+                fault: PayloadFault::Compressed { .. },
+                ..
+            },
+        ) => "compressed",
+        Err(InstallFault::Payload { .. }) => "too large",
+        Err(InstallFault::Source) => "source",
+        Err(InstallFault::Folder { .. }) => "folder",
+        Err(InstallFault::OutOfMemory) => "memory",
+    }
 }
 
 #[test]
-fn refusals_come_at_their_line_and_change_nothing(rt: HostRuntime) -> Result<(), Fail> {
+fn lines_are_installed(rt: HostRuntime) -> Result<(), Fail> {
     let alloc = rt.alloc();
-    let usr = "dir group=sys mode=0755 owner=root path=usr\n";
-    let usr_f =
-        "file da39a3ee5e6b4b0d3255bfef95601890afd80709 group=bin mode=0444 owner=root path=usr/f\n";
-    let first =
-        "file 1111111111111111111111111111111111111111 group=bin mode=0444 owner=root path=usr/g\n";
-    let second =
-        "file 2222222222222222222222222222222222222222 group=bin mode=0444 owner=root path=usr/h\n";
-    for (rest, last, want) in [
-        // no known form
+    // where the first line lays its file, the bytes at the name of `abc`, how it ends, and what then stands
+    for (path, abc, want, look) in [
+        // the payload is intact, has another digest, and begins as a gzip file does
         (
-            "set name=pkg.summary value=x\n",
-            "link path=usr/l target=f\n",
-            "Err(NotYet { line: 3 })",
-        ),
-        // the path of an earlier line, and one that stands in the image
-        (
-            "",
-            "dir group=sys mode=0700 owner=root path=usr\n",
-            "Err(NotYet { line: 2 })",
-        ),
-        (
-            "",
-            "dir group=sys mode=0755 owner=root path=etc\n",
-            "Err(NotYet { line: 2 })",
-        ),
-        // a parent that no line delivers, one that only the image has, and one that is delivered as a file
-        (
-            "",
-            "dir group=sys mode=0755 owner=root path=opt/a\n",
-            "Err(NotYet { line: 2 })",
-        ),
-        (
-            "",
-            "dir group=sys mode=0755 owner=root path=etc/a\n",
-            "Err(NotYet { line: 2 })",
-        ),
-        (
-            usr_f,
-            "dir group=sys mode=0755 owner=root path=usr/f/a\n",
-            "Err(NotYet { line: 3 })",
-        ),
-        // of two payloads that aren't there the first is told, and behind a line that can't be installed none
-        (
-            first,
-            second,
-            "Err(PayloadMissing { name: Text { text: \"1111111111111111111111111111111111111111\" } })",
-        ),
-        (
-            first,
-            "link path=usr/l target=f\n",
-            "Err(NotYet { line: 3 })",
-        ),
-    ] {
-        let manifest = format!(in alloc; "{usr}{rest}{last}")?;
-        let mut repo = repository(alloc, b"abc", &[])?;
-        let mut image = image(alloc, &[])?;
-        let result = install(alloc, manifest.as_bytes(), &mut repo, &mut image);
-        let text = format!(in alloc; "{result:?}")?;
-        assert!(rt; text.as_str() == want, "{manifest}: {text}");
-        let place = RelPath::parse(alloc, b"usr")?;
-        assert_eq!(rt; image.tree().look(&place), Look::Absent, "{manifest}");
-    }
-    Ok(())
-}
-
-#[test]
-fn lays_whole_payloads(rt: HostRuntime) -> Result<(), Fail> {
-    let alloc = rt.alloc();
-    let mut long = Vec::new(alloc);
-    for i in 0..65_537u32 {
-        long.push((i % 251) as u8)?;
-    }
-    let manifest = "dir group=sys mode=0750 owner=root path=usr\n\
-                    file a9993e364706816aba3e25717850c26c9cd0d89d group=bin mode=04555 owner=root path=usr/long\n\
-                    file da39a3ee5e6b4b0d3255bfef95601890afd80709 group=bin mode=0444 owner=root path=empty";
-    let mut repo = repository(alloc, &long, &[])?;
-    let mut image = image(alloc, &[])?;
-    install(alloc, manifest.as_bytes(), &mut repo, &mut image).expect(&rt, "installed");
-    let tree = image.tree();
-    for (path, found) in [
-        ("etc", Look::Dir { mode: 0o755 }),
-        ("usr", Look::Dir { mode: 0o750 }),
-        (
-            "usr/long",
+            "f",
+            b"abc".as_slice(),
+            "done",
             Look::File {
-                mode: 0o4555,
-                size: 65_537,
+                mode: 0o644,
+                size: 3,
             },
         ),
-        (
-            "empty",
-            Look::File {
-                mode: 0o444,
-                size: 0,
-            },
-        ),
+        ("f", b"abd", "damaged", Look::Absent),
+        ("f", b"\x1f\x8b\x08", "compressed", Look::Absent),
+        // in no directory that an earlier line delivers, and where something stands
+        ("usr/f", b"abc", "not yet 0", Look::Absent),
+        ("etc", b"abc", "not yet 0", Look::Dir { mode: 0o700 }),
+        // where the second line delivers something
+        ("usr", b"abc", "not yet 1", Look::Absent),
     ] {
-        assert_eq!(rt;
-            tree.look(&RelPath::parse(alloc, path.as_bytes())?),
-            found,
-            "{path}"
-        );
+        let mut repo = repository(alloc, abc)?;
+        let mut tree = Tree::new(alloc);
+        tree.dir(alloc, &RelPath::parse(alloc, b"etc")?, 0o700)?;
+        let mut image = MemFolder::new(alloc, tree, Vec::new(alloc), None)?;
+        let lines = lines(alloc, path)?;
+        let ended = install(alloc, "test", lines, &mut repo, &mut image);
+        assert!(rt; words_of(&ended) == want);
+        let path = RelPath::parse(alloc, path.as_bytes())?;
+        assert!(rt; image.tree().look(&path) == look);
     }
-    assert!(rt; tree.bytes(&RelPath::parse(alloc, b"usr/long")?) == Some(long.as_slice()));
-    Ok(())
-}
-
-#[test]
-fn each_call_that_fails_is_answered(rt: HostRuntime) -> Result<(), Fail> {
-    let alloc = rt.alloc();
-    let manifest = "dir group=sys mode=0755 owner=root path=usr\n\
-                    file a9993e364706816aba3e25717850c26c9cd0d89d group=bin mode=0444 owner=root path=usr/abc\n";
-    for (repo_fails, image_fails, want) in [
-        // the payload looked for, and read
-        (1, 0, "Err(Source)"),
-        (2, 0, "Err(Source)"),
-        // the two paths looked at
-        (0, 1, "Err(Folder { unfinished: false })"),
-        (0, 2, "Err(Folder { unfinished: false })"),
-        // the directory, the file, its bytes and its mode, and the sync
-        (0, 3, "Err(Folder { unfinished: true })"),
-        (0, 4, "Err(Folder { unfinished: true })"),
-        (0, 5, "Err(Folder { unfinished: true })"),
-        (0, 6, "Err(Folder { unfinished: true })"),
-        (0, 7, "Err(Folder { unfinished: true })"),
-        // no further call
-        (3, 8, "Ok(())"),
-    ] {
-        let mut repo = repository(alloc, b"abc", &[repo_fails])?;
-        let mut image = image(alloc, &[image_fails])?;
-        let result = install(alloc, manifest.as_bytes(), &mut repo, &mut image);
-        let text = format!(in alloc; "{result:?}")?;
-        assert!(rt; text.as_str() == want, "{repo_fails} {image_fails}: {text}");
-    }
-    Ok(())
-}
-
-#[test]
-fn reads_whole_files(rt: HostRuntime) -> Result<(), Fail> {
-    let alloc = rt.alloc();
-    let mut long = Vec::new(alloc);
-    for i in 0..65_537u32 {
-        long.push((i % 251) as u8)?;
-    }
-    let dir = RelPath::parse(alloc, b"publisher/test")?;
-    let place = format!(in alloc; "publisher/test/file/a9/{ABC}")?;
-    let file = RelPath::parse(alloc, place.as_bytes())?;
-    let mut repo = repository(alloc, &long, &[5, 8])?;
-    assert!(rt; matches!(read_file(alloc, &mut repo, &dir), Ok(None)));
-    let bytes = read_file(alloc, &mut repo, &file).expect(&rt, "read");
-    assert!(rt; bytes.expect(&rt, "a file").as_slice() == long.as_slice());
-    // a look that fails, and a second read
-    assert!(rt; matches!(read_file(alloc, &mut repo, &file), Err(ReadFault::Failed)));
-    assert!(rt; matches!(read_file(alloc, &mut repo, &file), Err(ReadFault::Failed)));
     Ok(())
 }

@@ -1,6 +1,6 @@
 //! The repository of a publisher.
 
-ghost use Rattle.std.specs.Prelude.{◌≡◌, ℕ, List, IsTrue, Ok, IfOk};
+ghost use Rattle.std.specs.Prelude.{◌≡◌, ◌≤◌, ℕ, List, IsTrue, Ok, IfOk, vec_len};
 ghost use Rattle.ips_text.specs.Reading.{Gives, Sees, IfBad};
 ghost use Rattle.ips_text.specs.declared.refusal.Or.TheVariants.{Bad};
 ghost use Rattle.ips_outside.specs.Outside.{Reads};
@@ -11,7 +11,7 @@ ghost use Rattle.ips_repo.specs.Files.{file_at};
 ghost use Rattle.ips_repo.specs.Places as place;
 ghost use Rattle.ips_repo.specs.Opening as opened;
 ghost use Rattle.ips_repo.specs.Opening.{IsOffered, IsOpeningFault, catalog_in, fault_of_catalog, limited, opening};
-ghost use Rattle.ips_repo.specs.Manifest.{manifest_file, HoldsManifest, IsSizedManifest, IsManifestRefusal, IsManifestFault};
+ghost use Rattle.ips_repo.specs.Manifest.{manifest_file, manifest_in, manifest_limit, HoldsManifest, IsBytesFault, IsSizedManifest, IsManifestRefusal, IsManifestFault};
 ghost use Rattle.ips_manifest.specs.declared.line.Line as declared;
 ghost use Rattle.ips_repo.specs.declared.fault.RepoFault.TheVariants as fault;
 
@@ -72,6 +72,23 @@ impl Repo {
         let catalog = read_catalog(alloc, source, publisher)?;
         let publisher = Text::new(alloc, publisher)?;
         Ok(Repo { publisher, catalog })
+    }
+
+    /// The bytes of the manifest of a version of a stem, whether or not the catalog lists it.
+    pub fn manifest_bytes<S: Source>(
+        &self,
+        alloc: Global,
+        source: &mut S,
+        stem: &str,
+        version: &Version,
+    ) -> Result<Vec<u8>, Or<RepoFault>>
+        ensures meant { IsTrue (S.outside.tells source.old) → Answers (λ bytes. bytes.items) result
+            (manifest_in (manifest_file self.now.publisher stem.now version.now (S.outside.state source.old).held)) }
+        ensures within { IfOk result (λ bytes. vec_len bytes ≤ manifest_limit) }
+        ensures faults { IfBad result IsBytesFault }
+        ensures reads { Reads S.outside source.old source.new (result ≡ Err (Bad fault.SourceFault)) }
+    {
+        manifest_bytes(alloc, source, self.publisher.as_str(), stem, version)
     }
 
     /// The manifest of a version of a stem, whether or not the catalog lists it, and how many bytes it has.

@@ -1,7 +1,6 @@
-pub mod Places
 pub mod SixWords
 pub mod Tellings
-pub mod Reports
-pub mod Moments
+pub mod Blanks
+pub mod Chosen
+pub mod Planned
 pub mod Refusals
-pub mod Asking

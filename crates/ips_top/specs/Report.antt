@@ -1,20 +1,33 @@
 -- The text that tells an outcome, and the number that the program ends with.
-use Rattle.std.specs.Prelude.{ℕ, Bool, true, false, cond, List, [], ◌∷◌, ◌++◌}
+use Rattle.std.specs.Prelude.{ℕ, Bool, true, false, cond, List, [], ◌∷◌, ◌++◌, codes}
+use Rattle.std.specs.List.{flat_map}
 use Rattle.std.specs.Fmt.{decimal}
-use lib.Chars.{codes}
+use Rattle.ips_digest.specs.Name.{spelling}
 use Rattle.ips_top.specs.declared.outcome.Outcome.{Outcome}
-use Rattle.ips_top.specs.declared.outcome.Outcome.TheVariants.{Usage, ManifestMissing, NotYet, PayloadMissing, Done, SourceFault, FolderFault, OutOfMemory}
+use Rattle.ips_top.specs.declared.outcome.Outcome.TheVariants.{Usage, NoRepository, BadCatalog, NoMatch, Ambiguous, ManifestMissing, BadManifest, NotYet, PayloadMissing, PayloadDamaged, Compressed, TooLarge, Done, SourceFault, FolderFault, OutOfMemory}
 
 -- one line
 abbrev pub line : List ℕ → List ℕ
 line text = text ++ 10 ∷ []
 
+-- words, each behind a blank
+abbrev pub behind_blanks : List (List ℕ) → List ℕ
+behind_blanks words = flat_map (λ (word : List ℕ). 32 ∷ word) words
+
 -- The report of an outcome.
 abbrev pub report_text : Outcome → List ℕ
 report_text (Usage place why) = line (codes "usage: word " ++ decimal place ++ codes ": unknown")
+report_text NoRepository = line (codes "no repository")
+report_text (BadCatalog fault) = line (codes "bad catalog")
+report_text (NoMatch pattern) = line (codes "no match " ++ pattern)
+report_text (Ambiguous pattern stems) = line (codes "ambiguous " ++ pattern ++ codes ":" ++ behind_blanks stems.items)
 report_text (ManifestMissing fmri) = line (codes "manifest missing " ++ fmri)
+report_text (BadManifest fmri fault) = line (codes "bad manifest " ++ fmri ++ codes " line " ++ decimal fault.line)
 report_text (NotYet fmri number) = line (codes "not yet " ++ fmri ++ codes " line " ++ decimal number)
-report_text (PayloadMissing name) = line (codes "payload missing " ++ name)
+report_text (PayloadMissing name) = line (codes "payload missing " ++ spelling name)
+report_text (PayloadDamaged name found) = line (codes "payload damaged " ++ spelling name ++ codes " found " ++ spelling found)
+report_text (Compressed name found) = line (codes "compressed " ++ spelling name ++ codes " found " ++ spelling found)
+report_text (TooLarge which count) = line (codes "too large: " ++ decimal count)
 report_text Done = line (codes "done")
 report_text SourceFault = line (codes "source fault")
 report_text (FolderFault true) = line (codes "folder fault: unfinished")
@@ -24,9 +37,17 @@ report_text OutOfMemory = line (codes "out of memory")
 -- The number of an outcome.
 abbrev pub outcome_number : Outcome → ℕ
 outcome_number (Usage place why) = 2
+outcome_number NoRepository = 1
+outcome_number (BadCatalog fault) = 1
+outcome_number (NoMatch pattern) = 1
+outcome_number (Ambiguous pattern stems) = 1
 outcome_number (ManifestMissing fmri) = 1
-outcome_number (NotYet fmri number) = 1
+outcome_number (BadManifest fmri fault) = 1
+outcome_number (NotYet fmri line) = 1
 outcome_number (PayloadMissing name) = 1
+outcome_number (PayloadDamaged name found) = 1
+outcome_number (Compressed name found) = 1
+outcome_number (TooLarge which count) = 1
 outcome_number Done = 0
 outcome_number SourceFault = 1
 outcome_number (FolderFault unfinished) = 1

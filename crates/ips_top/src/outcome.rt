@@ -3,7 +3,11 @@
 ghost use Rattle.std.specs.Prelude.{◌≡◌};
 ghost use Rattle.ips_top.specs.Report.{status_number};
 
-use ips_text::Text;
+use ips_catalog::CatalogFault;
+use ips_digest::PayloadName;
+use ips_manifest::ManifestFault;
+use ips_text::{Text, Which};
+use std::alloc::AllocError;
 
 /// Why a word of the command line was refused.
 #[derive(Clone, Copy, Debug, PartialEq, Eq)]
@@ -13,25 +17,82 @@ pub enum Why {
 }
 
 /// What a run did or why it refused. Every variant but `Done`, `SourceFault` and an unfinished `FolderFault` leaves
-/// the image as it was.
+/// the image as it was, as long as the repository doesn't change while it is read.
 #[derive(Debug, Drop)]
 pub enum Outcome {
     /// The words are no command; the place counts them from 0.
-    Usage { place: u64, why: Why },
+    Usage {
+        place: u64,
+        why: Why,
+    },
+    /// The repository isn't marked as one of format 4.
+    NoRepository,
+    /// The publisher's catalog isn't one.
+    BadCatalog {
+        fault: CatalogFault,
+    },
+    /// The pattern matches no package.
+    NoMatch {
+        pattern: Text,
+    },
+    /// The pattern matches several packages, none of which equals it: their stems, by bytes.
+    Ambiguous {
+        pattern: Text,
+        stems: Vec<Text>,
+    },
     /// The repository has no manifest of the package.
-    ManifestMissing { fmri: Text },
-    /// A line of the manifest can't be installed yet; lines are counted from 1.
-    NotYet { fmri: Text, line: u64 },
+    ManifestMissing {
+        fmri: Text,
+    },
+    /// The package's manifest isn't one.
+    BadManifest {
+        fmri: Text,
+        fault: ManifestFault,
+    },
+    /// A line of the package can't be installed yet, counted from 1; or, at line 0, what the pattern asks for can't.
+    NotYet {
+        fmri: Text,
+        line: u64,
+    },
     /// The repository hasn't the file whose digest is this name.
-    PayloadMissing { name: Text },
+    PayloadMissing {
+        name: PayloadName,
+    },
+    /// The payload's bytes have another digest.
+    PayloadDamaged {
+        name: PayloadName,
+        found: PayloadName,
+    },
+    /// The payload's bytes have another digest, and begin as a gzip file does.
+    Compressed {
+        name: PayloadName,
+        found: PayloadName,
+    },
+    /// A count is greater than its limit.
+    TooLarge {
+        which: Which,
+        count: u64,
+    },
     /// The package is installed.
     Done,
     /// A call on the repository failed.
     SourceFault,
     /// A call on the image failed; `unfinished` tells that it may have been changed before.
-    FolderFault { unfinished: bool },
+    FolderFault {
+        unfinished: bool,
+    },
     /// Memory was refused, before the first change.
     OutOfMemory,
+}
+
+impl From<AllocError> for Outcome {
+    ghost use Rattle.ips_top.specs.declared.outcome.Outcome.TheVariants.{OutOfMemory};
+
+    ghost from_gives = { λ _ o. o ≡ OutOfMemory };
+
+    fn from(_e: AllocError) -> Outcome {
+        Outcome::OutOfMemory
+    }
 }
 
 /// How a run ended.

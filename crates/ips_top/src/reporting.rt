@@ -1,54 +1,102 @@
 //! The report of an outcome.
 
-ghost use Rattle.std.specs.Prelude.{◌≡◌, IsTrue, IfOk, OnErr};
-ghost use Rattle.std.specs.Cow.{cow_str_bytes};
-ghost use Rattle.ips_top.specs.Report.{report_text};
-ghost use Rattle.ips_top.specs.Memory.{takes_memory, IsAnswered};
+ghost use Rattle.std.specs.Prelude.{◌++◌, codes};
+ghost use Rattle.std.specs.Fmt.{decimal};
+ghost use Rattle.ips_digest.specs.Name.{spelling};
+ghost use Rattle.ips_top.specs.Report.{report_text, line, behind_blanks};
+ghost use Rattle.ips_top.specs.Telling.{Tells};
 
 use crate::outcome::Outcome;
-use std::alloc::{AllocError, Global};
-use std::borrow::CowStr;
+use crate::telling::{tell, tell_name, tell_three, tell_two, tell_words};
+use ips_digest::PayloadName;
+use ips_outside::Sink;
+use ips_text::Text;
+use itoa::Buffer;
 
-/// The report of an outcome. Memory is taken only where it names something.
-pub fn report(alloc: Global, outcome: &Outcome) -> Result<CowStr<'static>, AllocError>
-    ensures text { IfOk result (λ text. cow_str_bytes text ≡ report_text outcome.now) }
-    ensures refused { OnErr result (IsTrue (takes_memory outcome.now)) }
+/// Writes the report of the outcome, without memory, and answers whether all of it was written.
+pub fn tell_report<O: Sink>(out: &mut O, outcome: &Outcome) -> bool
+    ensures { Tells O.taking (report_text outcome.now) out.old out.new result }
 {
     match outcome {
-        Outcome::Usage { place, .. } if *place == 0 => {
-            Ok(CowStr::Borrowed("usage: word 0: unknown\n"))
+        Outcome::Usage { place, .. } => tell_number(out, b"usage: word ", *place, b": unknown\n"),
+        Outcome::NoRepository => tell(out, b"no repository\n"),
+        Outcome::BadCatalog { .. } => tell(out, b"bad catalog\n"),
+        Outcome::NoMatch { pattern } => tell_text(out, b"no match ", pattern),
+        Outcome::Ambiguous { pattern, stems } => tell_ambiguous(out, pattern, stems.as_slice()),
+        Outcome::ManifestMissing { fmri } => tell_text(out, b"manifest missing ", fmri),
+        Outcome::BadManifest { fmri, fault } => tell_line(out, b"bad manifest ", fmri, fault.line),
+        Outcome::NotYet { fmri, line } => tell_line(out, b"not yet ", fmri, *line),
+        Outcome::PayloadMissing { name } => tell_missing(out, name),
+        Outcome::PayloadDamaged { name, found } => {
+            tell_found(out, b"payload damaged ", name, found)
         }
-        Outcome::Usage { place, .. } => {
-            Ok(CowStr::Owned(format!(in alloc; "usage: word {place}: unknown\n")?))
-        }
-        Outcome::ManifestMissing { fmri } => {
-            Ok(CowStr::Owned(format!(in alloc; "manifest missing {}\n", fmri.as_str())?))
-        }
-        Outcome::NotYet { fmri, line } => {
-            Ok(CowStr::Owned(format!(in alloc; "not yet {} line {line}\n", fmri.as_str())?))
-        }
-        Outcome::PayloadMissing { name } => {
-            Ok(CowStr::Owned(format!(in alloc; "payload missing {}\n", name.as_str())?))
-        }
-        Outcome::Done => Ok(CowStr::Borrowed("done\n")),
-        Outcome::SourceFault => Ok(CowStr::Borrowed("source fault\n")),
-        Outcome::FolderFault { unfinished: true } => {
-            Ok(CowStr::Borrowed("folder fault: unfinished\n"))
-        }
-        Outcome::FolderFault { unfinished: false } => {
-            Ok(CowStr::Borrowed("folder fault: unchanged\n"))
-        }
-        Outcome::OutOfMemory => Ok(CowStr::Borrowed("out of memory\n")),
+        Outcome::Compressed { name, found } => tell_found(out, b"compressed ", name, found),
+        Outcome::TooLarge { count, .. } => tell_number(out, b"too large: ", *count, b"\n"),
+        Outcome::Done => tell(out, b"done\n"),
+        Outcome::SourceFault => tell(out, b"source fault\n"),
+        Outcome::FolderFault { unfinished: true } => tell(out, b"folder fault: unfinished\n"),
+        Outcome::FolderFault { unfinished: false } => tell(out, b"folder fault: unchanged\n"),
+        Outcome::OutOfMemory => tell(out, b"out of memory\n"),
     }
 }
 
-/// The outcome with its report. Where no memory is left for the report of a refusal, that is the outcome.
-pub fn with_report(alloc: Global, outcome: Outcome) -> (Outcome, CowStr<'static>)
-    ensures text { cow_str_bytes result.1 ≡ report_text result.0 }
-    ensures outcome { IsAnswered outcome result.0 }
+// Writes a number between two texts.
+fn tell_number<O: Sink>(out: &mut O, before: &[u8], number: u64, behind: &[u8]) -> bool
+    ensures { Tells O.taking (before.now ++ decimal number ++ behind.now) out.old out.new result }
 {
-    match report(alloc, &outcome) {
-        Ok(text) => (outcome, text),
-        Err(_) => (Outcome::OutOfMemory, CowStr::Borrowed("out of memory\n")),
+    let mut buffer = Buffer::new();
+    tell_three(out, before, buffer.format(number).as_bytes(), behind)
+}
+
+// Writes a line of two texts.
+fn tell_text<O: Sink>(out: &mut O, before: &[u8], text: &Text) -> bool
+    ensures { Tells O.taking (line (before.now ++ text.now)) out.old out.new result }
+{
+    tell_three(out, before, text.as_str().as_bytes(), b"\n")
+}
+
+// Writes the line of a package and the number of a line of its manifest.
+fn tell_line<O: Sink>(out: &mut O, before: &[u8], fmri: &Text, number: u64) -> bool
+    ensures { Tells O.taking (line (before.now ++ fmri.now ++ codes " line " ++ decimal number)) out.old out.new result }
+{
+    if !tell_two(out, before, fmri.as_str().as_bytes()) {
+        return false;
     }
+    tell_number(out, b" line ", number, b"\n")
+}
+
+// Writes the line of a payload that is missing.
+fn tell_missing<O: Sink>(out: &mut O, name: &PayloadName) -> bool
+    ensures { Tells O.taking (line (codes "payload missing " ++ spelling name.now)) out.old out.new result }
+{
+    if !tell_name(out, b"payload missing ", name) {
+        return false;
+    }
+    tell(out, b"\n")
+}
+
+// Writes the line of a payload's name and of the digest that was found.
+fn tell_found<O: Sink>(out: &mut O, before: &[u8], name: &PayloadName, found: &PayloadName) -> bool
+    ensures { Tells O.taking (line (before.now ++ spelling name.now ++ codes " found " ++ spelling found.now)) out.old out.new result }
+{
+    if !tell_name(out, before, name) {
+        return false;
+    }
+    if !tell_name(out, b" found ", found) {
+        return false;
+    }
+    tell(out, b"\n")
+}
+
+// Writes the line of a pattern and of the stems that it matches.
+fn tell_ambiguous<O: Sink>(out: &mut O, pattern: &Text, stems: &[Text]) -> bool
+    ensures { Tells O.taking (line (codes "ambiguous " ++ pattern.now ++ codes ":" ++ behind_blanks stems.now)) out.old out.new result }
+{
+    if !tell_three(out, b"ambiguous ", pattern.as_str().as_bytes(), b":") {
+        return false;
+    }
+    if !tell_words(out, stems) {
+        return false;
+    }
+    tell(out, b"\n")
 }

@@ -1,22 +1,64 @@
-//! Writes a report.
+//! Writes texts to a sink.
 
-ghost use Rattle.std.specs.Prelude.{◌≡◌, ◌++◌, ℕ, IsTrue, IsFalse, take};
-ghost use Rattle.ips_outside.specs.Outside.{HasCause};
+ghost use Rattle.std.specs.Prelude.{◌++◌};
+ghost use Rattle.ips_digest.specs.Name.{spelling};
+ghost use Rattle.ips_top.specs.Report.{behind_blanks};
+ghost use Rattle.ips_top.specs.Telling.{Tells};
 
+use ips_digest::PayloadName;
 use ips_outside::Sink;
+use ips_text::Text;
 
 /// Writes the whole text, and answers whether that was done. Where it wasn't, a front of the text was written.
 pub fn tell<O: Sink>(out: &mut O, text: &[u8]) -> bool
-    ensures whole { IsTrue (O.taking.tells out.old) → IsTrue result → O.taking.taken out.new ≡ O.taking.taken out.old ++ text.now }
-    ensures front { IsTrue (O.taking.tells out.old) → (count : ℕ) × (O.taking.taken out.new ≡ O.taking.taken out.old ++ take count text.now) }
-    ensures cause { HasCause (O.taking.faults out.old) (O.taking.faults out.new) (IsFalse result) }
-    ensures same_kind { O.taking.tells out.new ≡ O.taking.tells out.old }
+    ensures { Tells O.taking text.now out.old out.new result }
 {
     let mut rest = text;
     while !rest.is_empty() {
         match out.write(rest) {
             Ok(count) => rest = &rest[count..],
             Err(_) => return false,
+        }
+    }
+    true
+}
+
+/// Writes two texts, one behind the other.
+pub fn tell_two<O: Sink>(out: &mut O, first: &[u8], second: &[u8]) -> bool
+    ensures { Tells O.taking (first.now ++ second.now) out.old out.new result }
+{
+    if !tell(out, first) {
+        return false;
+    }
+    tell(out, second)
+}
+
+/// Writes three texts, one behind the other.
+pub fn tell_three<O: Sink>(out: &mut O, first: &[u8], second: &[u8], third: &[u8]) -> bool
+    ensures { Tells O.taking (first.now ++ second.now ++ third.now) out.old out.new result }
+{
+    if !tell_two(out, first, second) {
+        return false;
+    }
+    tell(out, third)
+}
+
+/// Writes the digits of a payload's name behind a text.
+pub fn tell_name<O: Sink>(out: &mut O, text: &[u8], name: &PayloadName) -> bool
+    ensures { Tells O.taking (text.now ++ spelling name.now) out.old out.new result }
+{
+    let mut digits = [0u8; 64];
+    let count = name.print(&mut digits);
+    tell_two(out, text, &digits[..count])
+}
+
+/// Writes the words, each behind a blank.
+pub fn tell_words<O: Sink>(out: &mut O, words: &[Text]) -> bool
+    ensures { Tells O.taking (behind_blanks words.now) out.old out.new result }
+{
+    for word in words {
+        if !tell_two(out, b" ", word.as_str().as_bytes()) {
+            return false;
         }
     }
     true

@@ -1,46 +1,96 @@
-use crate::outcome::{Outcome, Status};
-use crate::top::run;
+use crate::{Outcome, Status, run};
 use ips_folder::MemFolder;
 use ips_outside::{Look, MemSink, MemSource, Tree};
 use ips_text::RelPath;
 use std::alloc::Global;
 use std::test::Fail;
 
-const HELLO: &str = "dir group=bin mode=0755 owner=root path=usr
+const MARK: &str = "[repository]\nversion = 4\n";
+
+const CATALOG: &str = "{\"test\": {\"hello\": [{\"version\": \"1\"}, {\"version\": \"2\"}],
+    \"a/x\": [{\"version\": \"1\"}], \"b/x\": [{\"version\": \"1\"}], \"gone\": [{\"version\": \"1\"}],
+    \"bad\": [{\"version\": \"1\"}], \"escape\": [{\"version\": \"1\"}], \"link\": [{\"version\": \"1\"}],
+    \"large\": [{\"version\": \"1\"}], \"lost\": [{\"version\": \"1\"}], \"damaged\": [{\"version\": \"1\"}], \"gzip\": [{\"version\": \"1\"}]}}";
+
+// A directory and an empty file.
+const HELLO_1: &str = "dir group=bin mode=0755 owner=root path=opt
+file da39a3ee5e6b4b0d3255bfef95601890afd80709 group=bin mode=0444 owner=root path=opt/empty
+";
+
+// The bytes `abc` by their SHA-256 digest, and a file that isn't admitted where nothing is set.
+const HELLO_2: &str = "set name=pkg.summary value=\"A greeting\"
+dir group=bin mode=0755 owner=root path=usr
 dir group=bin mode=0755 owner=root path=usr/share
-file a9993e364706816aba3e25717850c26c9cd0d89d group=bin mode=0644 owner=root path=usr/share/hello
+file ba7816bf8f01cfea414140de5dae2223b00361a396177a9cb410ff61f20015ad group=bin mode=0644 owner=root path=usr/share/hello
+file 1111111111111111111111111111111111111111 group=bin mode=0644 owner=root path=usr/share/sparc variant.arch=sparc
 ";
 
-// Its payload isn't in the repository.
-const LOST: &str = "set name=pkg.summary value=Lost
-file da39a3ee5e6b4b0d3255bfef95601890afd80709 group=bin mode=0644 owner=root path=lost
-";
+// An action that isn't known, on the second line.
+const BAD: &str = "dir group=bin mode=0755 owner=root path=var\nfrob a=b\n";
 
-const INSTALL_HELLO: &str = "-R image -s repo install hello";
+const ESCAPE: &str = "dir group=bin mode=0755 owner=root path=../etc/passwd\n";
 
-fn repository(alloc: Global) -> Result<Tree, Fail> {
-    let mut tree = Tree::new(alloc);
-    for path in [
-        "publisher",
-        "publisher/test",
-        "publisher/test/pkg",
-        "publisher/test/pkg/hello",
-        "publisher/test/pkg/lost",
-        "publisher/test/file",
-        "publisher/test/file/a9",
-    ] {
-        tree.dir(alloc, &RelPath::parse(alloc, path.as_bytes())?, 0o755)?;
+const LINK: &str = "dir group=bin mode=0755 owner=root path=lib\nlink path=lib/a target=b\n";
+
+// A payload that isn't in the repository.
+const LOST: &str =
+    "file 3333333333333333333333333333333333333333 group=bin mode=0644 owner=root path=lost\n";
+
+// `abd` stands at the name of `abc`, and 1f 8b 08 at another.
+const DAMAGED: &str =
+    "file a9993e364706816aba3e25717850c26c9cd0d89d group=bin mode=0644 owner=root path=damaged\n";
+
+const GZIP: &str =
+    "file 2222222222222222222222222222222222222222 group=bin mode=0644 owner=root path=gzip\n";
+
+// Adds a directory for each part but the last, where none stands, and a file.
+fn add(alloc: Global, tree: &mut Tree, place: &str, bytes: &[u8]) -> Result<(), Fail> {
+    for (i, b) in place.as_bytes().iter().enumerate() {
+        if *b == b'/' {
+            let dir = RelPath::parse(alloc, &place.as_bytes()[..i])?;
+            if tree.look(&dir) == Look::Absent {
+                tree.dir(alloc, &dir, 0o755)?;
+            }
+        }
     }
-    for (path, text) in [
-        ("publisher/test/pkg/hello/1", HELLO),
-        ("publisher/test/pkg/lost/1", LOST),
+    let path = RelPath::parse(alloc, place.as_bytes())?;
+    tree.file(alloc, &path, 0o644, bytes)?;
+    Ok(())
+}
+
+// A repository with this mark and this catalog.
+fn repository(alloc: Global, mark: &str, catalog: &str) -> Result<Tree, Fail> {
+    let mut tree = Tree::new(alloc);
+    add(alloc, &mut tree, "pkg5.repository", mark.as_bytes())?;
+    let place = "publisher/test/catalog/catalog.base.C";
+    add(alloc, &mut tree, place, catalog.as_bytes())?;
+    for (place, bytes) in [
+        ("publisher/test/pkg/hello/1", HELLO_1.as_bytes()),
+        ("publisher/test/pkg/hello/2", HELLO_2.as_bytes()),
+        ("publisher/test/pkg/bad/1", BAD.as_bytes()),
+        ("publisher/test/pkg/escape/1", ESCAPE.as_bytes()),
+        ("publisher/test/pkg/link/1", LINK.as_bytes()),
+        ("publisher/test/pkg/lost/1", LOST.as_bytes()),
+        ("publisher/test/pkg/damaged/1", DAMAGED.as_bytes()),
+        ("publisher/test/pkg/gzip/1", GZIP.as_bytes()),
+        (
+            "publisher/test/file/ba/ba7816bf8f01cfea414140de5dae2223b00361a396177a9cb410ff61f20015ad",
+            b"abc",
+        ),
         (
             "publisher/test/file/a9/a9993e364706816aba3e25717850c26c9cd0d89d",
-            "abc",
+            b"abd",
+        ),
+        (
+            "publisher/test/file/22/2222222222222222222222222222222222222222",
+            b"\x1f\x8b\x08",
+        ),
+        (
+            "publisher/test/file/da/da39a3ee5e6b4b0d3255bfef95601890afd80709",
+            b"",
         ),
     ] {
-        let path = RelPath::parse(alloc, path.as_bytes())?;
-        tree.file(alloc, &path, 0o644, text.as_bytes())?;
+        add(alloc, &mut tree, place, bytes)?;
     }
     Ok(tree)
 }
@@ -61,68 +111,79 @@ fn run_line(
     image: &mut MemFolder,
 ) -> Result<(Status, String), Fail> {
     let words = words_of(alloc, line)?;
-    let mut out = MemSink::new(alloc, 80, Vec::new(alloc))?;
+    let mut out = MemSink::new(alloc, 200, Vec::new(alloc))?;
     let status = run(alloc, &words, repo, image, &mut out);
     let taken = String::from_utf8_lossy(alloc, out.taken())?;
     Ok((status, taken))
 }
 
+// An image that holds nothing, of which the listed calls fail.
+fn image(alloc: Global, fails: Vec<u64>) -> Result<MemFolder, Fail> {
+    Ok(MemFolder::new(alloc, Tree::new(alloc), fails, None)?)
+}
+
 #[test]
 fn tells_each_outcome(rt: HostRuntime) -> Result<(), Fail> {
     let alloc = rt.alloc();
-    let mut repo = MemSource::new(repository(alloc)?, Vec::new(alloc));
-    let mut image = MemFolder::new(alloc, Tree::new(alloc), Vec::new(alloc), None)?;
+    let mut repo = MemSource::new(repository(alloc, MARK, CATALOG)?, Vec::new(alloc));
+    let mut image = image(alloc, Vec::new(alloc))?;
     // each on the image that the one before left
     for (line, number, report) in [
-        (INSTALL_HELLO, 0, "done\n"),
-        (INSTALL_HELLO, 1, "not yet hello@1 line 1\n"),
+        // the newest version, and then what stands there is in its way; and an older one
+        ("-R i -s r install hello", 0, "done\n"),
+        ("-R i -s r install hello", 1, "not yet hello@2 line 2\n"),
+        ("-R i -s r install hello@1", 0, "done\n"),
+        // no version is admitted, and a wildcard
+        ("-R i -s r install hello@3", 1, "not yet hello@3 line 0\n"),
+        ("-R i -s r install h*", 1, "not yet h* line 0\n"),
+        ("-R i -s r install nope", 1, "no match nope\n"),
+        ("-R i -s r install z*", 1, "no match z*\n"),
+        ("-R i -s r install x", 1, "ambiguous x: a/x b/x\n"),
+        ("-R i -s r install a/x", 1, "manifest missing a/x@1\n"),
+        ("-R i -s r install bad", 1, "bad manifest bad@1 line 2\n"),
         (
-            "-R image -s repo install nope",
+            "-R i -s r install escape",
             1,
-            "manifest missing nope@1\n",
+            "bad manifest escape@1 line 1\n",
         ),
+        ("-R i -s r install link", 1, "not yet link@1 line 2\n"),
         (
-            "-R image -s repo install lost",
+            "-R i -s r install lost",
             1,
-            "payload missing da39a3ee5e6b4b0d3255bfef95601890afd80709\n",
+            "payload missing 3333333333333333333333333333333333333333\n",
         ),
-        // no word, and a word too few
-        ("", 2, "usage: word 0: unknown\n"),
-        ("-R image -s repo install", 2, "usage: word 0: unknown\n"),
-        // a word too many
         (
-            "-R image -s repo install hello lost",
-            2,
-            "usage: word 0: unknown\n",
+            "-R i -s r install damaged",
+            1,
+            "payload damaged a9993e364706816aba3e25717850c26c9cd0d89d found cb4cc28df0fdbe0ecf9d9662e294b118092a5735\n",
         ),
-        // the options the other way round
         (
-            "-s repo -R image install hello",
-            2,
-            "usage: word 0: unknown\n",
+            "-R i -s r install gzip",
+            1,
+            "compressed 2222222222222222222222222222222222222222 found c1df680e393d04a2a3b050a06db652e9ab37f761\n",
         ),
-        // another command
-        (
-            "-R image -s repo remove hello",
-            2,
-            "usage: word 0: unknown\n",
-        ),
-        // no stems: empty, and with other bytes than letters and digits
-        ("-R image -s repo install ", 2, "usage: word 0: unknown\n"),
-        (
-            "-R image -s repo install he/llo",
-            2,
-            "usage: word 0: unknown\n",
-        ),
+        // a word too few, a word too many, the options the other way round, another command, and no pattern
+        ("-R i -s r install", 2, "usage: word 0: unknown\n"),
+        ("-R i -s r install hello x", 2, "usage: word 0: unknown\n"),
+        ("-s r -R i install hello", 2, "usage: word 0: unknown\n"),
+        ("-R i -s r remove hello", 2, "usage: word 0: unknown\n"),
+        ("-R i -s r install ", 2, "usage: word 0: unknown\n"),
     ] {
         let (status, taken) = run_line(alloc, line, &mut repo, &mut image)?;
-        assert!(rt; status.told, "{line}");
-        assert_eq!(rt; status.number(), number, "{line}");
-        assert_eq!(rt; taken.as_str(), report, "{line}");
+        assert!(rt; status.told);
+        assert_eq!(rt; status.number(), number);
+        assert_eq!(rt; taken.as_str(), report);
     }
     for (path, look) in [
+        ("opt", Look::Dir { mode: 0o755 }),
+        (
+            "opt/empty",
+            Look::File {
+                mode: 0o444,
+                size: 0,
+            },
+        ),
         ("usr", Look::Dir { mode: 0o755 }),
-        ("usr/share", Look::Dir { mode: 0o755 }),
         (
             "usr/share/hello",
             Look::File {
@@ -130,83 +191,112 @@ fn tells_each_outcome(rt: HostRuntime) -> Result<(), Fail> {
                 size: 3,
             },
         ),
+        ("usr/share/sparc", Look::Absent),
+        ("lib", Look::Absent),
         ("lost", Look::Absent),
-        ("publisher", Look::Absent),
+        ("damaged", Look::Absent),
+        ("gzip", Look::Absent),
     ] {
         let path = RelPath::parse(alloc, path.as_bytes())?;
-        assert_eq!(rt; image.tree().look(&path), look, "{path:?}");
+        assert_eq!(rt; image.tree().look(&path), look);
     }
-    let path = RelPath::parse(alloc, b"usr/share/hello")?;
-    assert!(rt; image.tree().bytes(&path) == Some(b"abc".as_slice()));
     Ok(())
 }
 
-// A folder whose listed calls fail: an empty one, or one at which `usr` stands.
-fn image(alloc: Global, has_usr: bool, fails: Vec<u64>) -> Result<MemFolder, Fail> {
-    let mut tree = Tree::new(alloc);
-    if has_usr {
-        tree.dir(alloc, &RelPath::parse(alloc, b"usr")?, 0o755)?;
+#[test]
+fn repositories_are_judged_first(rt: HostRuntime) -> Result<(), Fail> {
+    let alloc = rt.alloc();
+    for (mark, catalog, report) in [
+        (MARK, CATALOG, "done\n"),
+        // another format, and the mark is judged before the catalog
+        ("version = 5\n", CATALOG, "no repository\n"),
+        ("", "", "no repository\n"),
+        // no JSON text, another shape, no version, and two equal ones
+        (MARK, "", "bad catalog\n"),
+        (MARK, "{\"test\": []}", "bad catalog\n"),
+        (
+            MARK,
+            "{\"test\": {\"hello\": [{\"version\": \"x\"}]}}",
+            "bad catalog\n",
+        ),
+        (
+            MARK,
+            "{\"test\": {\"hello\": [{\"version\": \"1\"}, {\"version\": \"1\"}]}}",
+            "bad catalog\n",
+        ),
+        // without the publisher the catalog is empty
+        (MARK, "{\"other\": {\"hello\": []}}", "no match hello\n"),
+    ] {
+        let mut repo = MemSource::new(repository(alloc, mark, catalog)?, Vec::new(alloc));
+        let mut image = image(alloc, Vec::new(alloc))?;
+        let (_, taken) = run_line(alloc, "-R i -s r install hello", &mut repo, &mut image)?;
+        assert_eq!(rt; taken.as_str(), report);
     }
-    Ok(MemFolder::new(alloc, tree, fails, None)?)
+    Ok(())
 }
 
-// The words, whether `usr` stands in the image before, and the calls on the repository and on the image of such a run:
-// each manifest that stands and each payload is looked at and read; each line that delivers something is looked at,
-// two directories are made, the file is made, filled and given its mode, and all is synced.
-const RUNS: [(&str, bool, u64, u64); 4] = [
-    ("-R image -s repo install hello", false, 4, 9),
-    ("-R image -s repo install hello", true, 2, 1),
-    ("-R image -s repo install nope", false, 1, 0),
-    ("-R image -s repo install lost", false, 3, 1),
-];
+#[test]
+fn manifests_have_a_limit(rt: HostRuntime) -> Result<(), Fail> {
+    let alloc = rt.alloc();
+    let mut tree = repository(alloc, MARK, CATALOG)?;
+    let blanks = vec![in alloc; b' '; 16_777_217]?;
+    add(alloc, &mut tree, "publisher/test/pkg/large/1", &blanks)?;
+    let mut repo = MemSource::new(tree, Vec::new(alloc));
+    let mut image = image(alloc, Vec::new(alloc))?;
+    let (status, taken) = run_line(alloc, "-R i -s r install large", &mut repo, &mut image)?;
+    assert_eq!(rt; status.number(), 1);
+    assert_eq!(rt; taken.as_str(), "too large: 16777217\n");
+    Ok(())
+}
 
-// Each call on the repository fails in turn, until a run has no such call.
+// The mark, the catalog, the manifest and the payload are each looked at and read, and the payload is read once more as it is laid.
+const SOURCE_CALLS: u64 = 9;
+
+// Each call on the repository fails in turn.
 #[test]
 fn repository_faults(rt: HostRuntime) -> Result<(), Fail> {
     let alloc = rt.alloc();
-    let share = RelPath::parse(alloc, b"usr/share")?;
-    for (line, has_usr, calls, _) in RUNS {
-        for call in 1..=calls + 1 {
-            let mut repo = MemSource::new(repository(alloc)?, vec![in alloc; call]?);
-            let mut image = image(alloc, has_usr, Vec::new(alloc))?;
-            let (status, taken) = run_line(alloc, line, &mut repo, &mut image)?;
-            let is_fault = matches!(&status.outcome, Outcome::SourceFault);
-            assert_eq!(rt; is_fault, call <= calls, "{line} {call}");
-            if is_fault {
-                assert_eq!(rt; status.number(), 1, "{line} {call}");
-                assert_eq!(rt; taken.as_str(), "source fault\n", "{line} {call}");
-                // only the payload's read, the fourth, comes behind the first change
-                let is_changed = image.tree().look(&share) != Look::Absent;
-                assert_eq!(rt; is_changed, call == 4, "{line} {call}");
-            }
-        }
+    let usr = RelPath::parse(alloc, b"usr")?;
+    for call in 1..=SOURCE_CALLS + 1 {
+        let tree = repository(alloc, MARK, CATALOG)?;
+        let mut repo = MemSource::new(tree, vec![in alloc; call]?);
+        let mut image = image(alloc, Vec::new(alloc))?;
+        let (status, taken) = run_line(alloc, "-R i -s r install hello", &mut repo, &mut image)?;
+        let is_fault = matches!(&status.outcome, Outcome::SourceFault);
+        let report = if call <= SOURCE_CALLS {
+            "source fault\n"
+        } else {
+            "done\n"
+        };
+        assert_eq!(rt; is_fault, call <= SOURCE_CALLS);
+        assert_eq!(rt; taken.as_str(), report);
+        // only that last read comes behind the first change
+        let is_changed = image.tree().look(&usr) != Look::Absent;
+        assert_eq!(rt; is_changed, call >= SOURCE_CALLS);
     }
     Ok(())
 }
 
-// Each call on the image fails in turn, until a run has no such call.
+// Three lines are looked at, two directories are made, the file is made, filled and given its mode, and all is synced.
+const IMAGE_CALLS: u64 = 9;
+
+// Each call on the image fails in turn.
 #[test]
 fn image_faults(rt: HostRuntime) -> Result<(), Fail> {
     let alloc = rt.alloc();
-    let usr = RelPath::parse(alloc, b"usr")?;
-    for (line, has_usr, _, calls) in RUNS {
-        for call in 1..=calls + 1 {
-            let mut repo = MemSource::new(repository(alloc)?, Vec::new(alloc));
-            let mut image = image(alloc, has_usr, vec![in alloc; call]?)?;
-            let (status, taken) = run_line(alloc, line, &mut repo, &mut image)?;
-            let is_fault = matches!(&status.outcome, Outcome::FolderFault { .. });
-            assert_eq!(rt; is_fault, call <= calls, "{line} {call}");
-            if is_fault {
-                let is_changed = !has_usr && image.tree().look(&usr) != Look::Absent;
-                let report = if is_changed {
-                    "folder fault: unfinished\n"
-                } else {
-                    "folder fault: unchanged\n"
-                };
-                assert_eq!(rt; status.number(), 1, "{line} {call}");
-                assert_eq!(rt; taken.as_str(), report, "{line} {call}");
-            }
-        }
+    for call in 1..=IMAGE_CALLS + 1 {
+        let mut repo = MemSource::new(repository(alloc, MARK, CATALOG)?, Vec::new(alloc));
+        let mut image = image(alloc, vec![in alloc; call]?)?;
+        let (status, taken) = run_line(alloc, "-R i -s r install hello", &mut repo, &mut image)?;
+        let report = if call <= 3 {
+            "folder fault: unchanged\n"
+        } else if call <= IMAGE_CALLS {
+            "folder fault: unfinished\n"
+        } else {
+            "done\n"
+        };
+        assert_eq!(rt; taken.as_str(), report);
+        assert_eq!(rt; status.number() == 0, call > IMAGE_CALLS);
     }
     Ok(())
 }
@@ -214,26 +304,23 @@ fn image_faults(rt: HostRuntime) -> Result<(), Fail> {
 #[test]
 fn sink_faults(rt: HostRuntime) -> Result<(), Fail> {
     let alloc = rt.alloc();
-    // whether `usr` stands before, room for so many bytes, the call that fails, and what is then told
-    for (has_usr, room, call, number, report) in [
-        (false, 0, 9, 1, ""),
-        (false, 3, 9, 1, "don"),
-        (false, 80, 1, 1, ""),
-        (false, 80, 2, 0, "done\n"),
-        (true, 80, 1, 1, ""),
-        (true, 5, 9, 1, "not y"),
+    // room for so many bytes, the call that fails, and what is then told
+    for (room, call, number, report) in [
+        (0, 9, 1, ""),
+        (3, 9, 1, "don"),
+        (80, 1, 1, ""),
+        (80, 2, 0, "done\n"),
     ] {
-        let words = words_of(alloc, INSTALL_HELLO)?;
-        let mut repo = MemSource::new(repository(alloc)?, Vec::new(alloc));
-        let mut image = image(alloc, has_usr, Vec::new(alloc))?;
+        let words = words_of(alloc, "-R i -s r install hello")?;
+        let mut repo = MemSource::new(repository(alloc, MARK, CATALOG)?, Vec::new(alloc));
+        let mut image = image(alloc, Vec::new(alloc))?;
         let mut out = MemSink::new(alloc, room, vec![in alloc; call]?)?;
         let status = run(alloc, &words, &mut repo, &mut image, &mut out);
         // what happened stays the outcome
         let is_done = matches!(&status.outcome, Outcome::Done);
-        assert_eq!(rt; is_done, !has_usr, "{room} {call}");
-        assert_eq!(rt; status.told, number == 0, "{room} {call}");
-        assert_eq!(rt; status.number(), number, "{room} {call}");
-        assert!(rt; out.taken() == report.as_bytes(), "{room} {call}");
+        assert!(rt; is_done);
+        assert_eq!(rt; status.number(), number);
+        assert!(rt; out.taken() == report.as_bytes());
     }
     Ok(())
 }

@@ -1,18 +1,18 @@
 //! The top call.
 
-ghost use Rattle.std.specs.Prelude.{◌≡◌, ◌++◌, ℕ, IsTrue, IsFalse, List, map, take, string_bytes};
+ghost use Rattle.std.specs.Prelude.{◌≡◌, ◌⊎◌, ◌++◌, ℕ, IsTrue, IsFalse, map, take, string_bytes};
 ghost use Rattle.ips_outside.specs.State.{IsSettled};
 ghost use Rattle.ips_outside.specs.Outside.{HasCause};
-ghost use Rattle.ips_plain.specs.Line.{lines_of};
-ghost use Rattle.ips_install.specs.Package.{IsInstalled, ChangesOnly};
-ghost use Rattle.ips_top.specs.Answer.{SaysOfWords, SaysOfManifest, HasManifest, SaysOfLines, IsFolderFault, is_refusal};
+ghost use Rattle.ips_install.specs.Installed.{CanInstall, IsInstalled, HaveBytes};
+ghost use Rattle.ips_top.specs.Request.{publisher};
+ghost use Rattle.ips_top.specs.Offer.{Planned, planned_name};
+ghost use Rattle.ips_top.specs.Answer.{SaysOfWords, SaysOfRepository, SaysOfLines, ChangesPlanned, IsFolderFault, is_refusal};
 ghost use Rattle.ips_top.specs.Report.{report_text};
 ghost use Rattle.ips_top.specs.declared.outcome.Outcome.TheVariants.{Done, SourceFault};
 
 use crate::answering::answer;
 use crate::outcome::Status;
-use crate::reporting::with_report;
-use crate::telling::tell;
+use crate::reporting::tell_report;
 use ips_folder::Folder;
 use ips_outside::{Sink, Source};
 use std::alloc::Global;
@@ -28,22 +28,24 @@ pub fn run<S: Source, F: Folder, O: Sink>(
 ) -> Status
     // Each outcome comes exactly under its cause, a fault and want of memory apart.
     ensures words { SaysOfWords (map string_bytes words.now) result.outcome }
-    ensures manifest { IsTrue (S.outside.tells repo.old) → SaysOfManifest (map string_bytes words.now) (S.outside.state repo.old).held result.outcome }
-    ensures lines { IsTrue (S.outside.tells repo.old) → IsTrue (F.outside.tells image.old) → (stem manifest : List ℕ)
-        → HasManifest (map string_bytes words.now) (S.outside.state repo.old).held stem manifest
-        → SaysOfLines (S.outside.state repo.old).held (F.outside.state image.old).held (lines_of manifest) result.outcome }
+    ensures repository { IsTrue (S.outside.tells repo.old) → SaysOfRepository (map string_bytes words.now) (S.outside.state repo.old).held result.outcome }
+    ensures lines { IsTrue (S.outside.tells repo.old) → IsTrue (F.outside.tells image.old) → (p : Planned (map string_bytes words.now) (S.outside.state repo.old).held)
+        → SaysOfLines (S.outside.state repo.old).held (F.outside.state image.old).held (planned_name p) p.manifest p.lines result.outcome }
 
-    // Done: the image is the old one with what the manifest says, safe from a crash.
-    ensures installed { IsTrue (S.outside.tells repo.old) → IsTrue (F.outside.tells image.old) → (stem manifest : List ℕ)
-        → HasManifest (map string_bytes words.now) (S.outside.state repo.old).held stem manifest → result.outcome ≡ Done
-        → IsInstalled (S.outside.state repo.old).held (lines_of manifest) (F.outside.state image.old).held (F.outside.state image.new).held }
+    // Done: the image is the old one with what the package's lines ask for, safe from a crash; the bytes of each file have the
+    // digest that is its payload's name, and are those of the repository.
+    ensures installed { IsTrue (S.outside.tells repo.old) → IsTrue (F.outside.tells image.old) → (p : Planned (map string_bytes words.now) (S.outside.state repo.old).held)
+        → result.outcome ≡ Done → IsInstalled p.lines (F.outside.state image.old).held (F.outside.state image.new).held }
+    ensures filled { IsTrue (S.outside.tells repo.old) → IsTrue (F.outside.tells image.old) → (p : Planned (map string_bytes words.now) (S.outside.state repo.old).held)
+        → result.outcome ≡ Done → HaveBytes publisher (S.outside.state repo.old).held p.lines (F.outside.state image.new).held }
     ensures safe { IsTrue (F.outside.tells image.old) → result.outcome ≡ Done → IsSettled (F.outside.state image.new) }
 
-    // A refusal changes nothing, and nothing but the manifest's paths is changed at any moment.
-    ensures refusals { IsTrue (is_refusal result.outcome) → F.outside.state image.new ≡ F.outside.state image.old }
-    ensures any_moment { IsTrue (S.outside.tells repo.old) → IsTrue (F.outside.tells image.old) → (stem manifest : List ℕ)
-        → HasManifest (map string_bytes words.now) (S.outside.state repo.old).held stem manifest
-        → ChangesOnly F.outside (lines_of manifest) image.old image.new }
+    // A refusal changes nothing. Nothing is changed before every line and every payload was looked at, also where the end is a
+    // fault. At any moment nothing but the paths of the package's lines is changed.
+    ensures refusals { IsTrue (is_refusal (S.outside.tells repo.old) result.outcome) → F.outside.state image.new ≡ F.outside.state image.old }
+    ensures looked { IsTrue (S.outside.tells repo.old) → IsTrue (F.outside.tells image.old) → (p : Planned (map string_bytes words.now) (S.outside.state repo.old).held)
+        → (F.outside.state image.new ≡ F.outside.state image.old) ⊎ CanInstall publisher (S.outside.state repo.old).held (F.outside.state image.old).held p.lines }
+    ensures any_moment { IsTrue (S.outside.tells repo.old) → IsTrue (F.outside.tells image.old) → ChangesPlanned F.outside (map string_bytes words.now) (S.outside.state repo.old).held image.old image.new }
     ensures repository_kept { S.outside.state repo.new ≡ S.outside.state repo.old }
 
     // A fault of the repository, the image or the sink is answered exactly where that object's count rose in this run.
@@ -59,7 +61,7 @@ pub fn run<S: Source, F: Folder, O: Sink>(
     ensures same_folder { F.outside.tells image.new ≡ F.outside.tells image.old }
     ensures same_sink { O.taking.tells out.new ≡ O.taking.tells out.old }
 {
-    let (outcome, text) = with_report(alloc, answer(alloc, words, repo, image));
-    let told = tell(out, text.as_bytes());
+    let outcome = answer(alloc, words, repo, image);
+    let told = tell_report(out, &outcome);
     Status { outcome, told }
 }

@@ -1,19 +1,28 @@
-use Rattle.ips_plain.specs.Line.{lines_of}
-use Rattle.ips_top.proofs.Asking.{its_manifest}
-use Rattle.ips_top.proofs.Moments.{unchanged}
+use Rattle.std.proofs.Common.{inl, refl, map, string_bytes}
 use Rattle.ips_top.proofs.answering.answer.Goals as goal
 
-pub returns-in-Some-clause-lines : goal.returns-in-Some-clause-lines
-returns-in-Some-clause-lines g c = λ told_repo told_image stem manifest has.
-    c.answer_for.ensures.lines told_repo told_image manifest (its_manifest _ (g.S.Source.outside.state c.args.repo.now).held c.in-Some.stem.now stem manifest c.in-Some.ensures.found has)
+pub returns-in-Ok-Some-clause-lines : goal.returns-in-Ok-Some-clause-lines
+returns-in-Ok-Some-clause-lines g c = λ told told_image p.
+    let asks = rw c.in-Ok-Some.field-0-is at c.in-Ok-Some.ensures in
+    c.answer_for.ensures.lines told told_image (map string_bytes c.args.words.now) asks p
 
-pub returns-in-Some-clause-installed : goal.returns-in-Some-clause-installed
-returns-in-Some-clause-installed g c = λ told_repo told_image stem manifest has done.
-    c.answer_for.ensures.installed told_repo told_image manifest (its_manifest _ (g.S.Source.outside.state c.args.repo.now).held c.in-Some.stem.now stem manifest c.in-Some.ensures.found has) done
+pub returns-in-Ok-Some-clause-installed : goal.returns-in-Ok-Some-clause-installed
+returns-in-Ok-Some-clause-installed g c = λ told told_image p done.
+    let asks = rw c.in-Ok-Some.field-0-is at c.in-Ok-Some.ensures in
+    c.answer_for.ensures.installed told told_image (map string_bytes c.args.words.now) asks p done
 
-pub returns-in-Some-clause-any_moment : goal.returns-in-Some-clause-any_moment
-returns-in-Some-clause-any_moment g c = λ told_repo told_image stem manifest has.
-    c.answer_for.ensures.any_moment told_repo told_image manifest (its_manifest _ (g.S.Source.outside.state c.args.repo.now).held c.in-Some.stem.now stem manifest c.in-Some.ensures.found has)
+pub returns-in-Ok-Some-clause-filled : goal.returns-in-Ok-Some-clause-filled
+returns-in-Ok-Some-clause-filled g c = λ told told_image p done.
+    let asks = rw c.in-Ok-Some.field-0-is at c.in-Ok-Some.ensures in
+    c.answer_for.ensures.filled told told_image (map string_bytes c.args.words.now) asks p done
 
-pub returns-in-None-clause-any_moment : goal.returns-in-None-clause-any_moment
-returns-in-None-clause-any_moment g c = λ told_repo told_image stem manifest has. unchanged g.F.Source.outside g.met.F.Source.sane (lines_of manifest) c.args.image.now
+pub returns-in-Ok-Some-clause-looked : goal.returns-in-Ok-Some-clause-looked
+returns-in-Ok-Some-clause-looked g c = λ told told_image p.
+    let asks = rw c.in-Ok-Some.field-0-is at c.in-Ok-Some.ensures in
+    c.answer_for.ensures.looked told told_image (map string_bytes c.args.words.now) asks p
+
+pub returns-in-Ok-None-clause-looked : goal.returns-in-Ok-None-clause-looked
+returns-in-Ok-None-clause-looked g c = λ told told_image p. inl refl
+
+pub returns-in-Err-clause-looked : goal.returns-in-Err-clause-looked
+returns-in-Err-clause-looked g c = λ told told_image p. inl refl

@@ -1,5 +1,5 @@
-use Rattle.std.proofs.Common.{sym, ◌∙◌}
-use Rattle.ips_top.proofs.Tellings.{nothing_told, more_told, less_left, some_left, all_told}
+use Rattle.std.proofs.Common.{refl, sym}
+use Rattle.ips_top.proofs.Tellings.{nothing_told, more_told, less_left, some_left, told_whole, told_front}
 use Rattle.ips_top.proofs.telling.tell.Goals as goal
 
 pub loop-rest-init : goal.loop-rest-init
@@ -15,10 +15,8 @@ loop-rest-preserved g c =
     more_told g.O.Sink.taking c.args.text.now c.loop-rest.rest.now c.args.out.now c.loop-rest.out c.write.new.self c.loop-rest.invariant c.in-Ok.count
     c.in-Ok.ensures.some.within c.in-Ok.ensures.same_kind (c.in-Ok.ensures.cause.steady (λ err. cc)) c.in-Ok.ensures.taken
 
-pub returns-in-Err-clause-front : goal.returns-in-Err-clause-front
-returns-in-Err-clause-front g c = λ tells.
-    let told = c.loop-rest.invariant in
-    (told.count, c.in-Err.ensures.kept (told.same_kind ∙ tells) ∙ told.taken_is tells)
+pub returns-in-Err : goal.returns-in-Err
+returns-in-Err g c = told_front g.O.Sink.taking c.args.text.now c.loop-rest.rest.now c.args.out.now c.loop-rest.out c.write.new.self _ c.loop-rest.invariant (rw c.in-Err.is refl) c.write.ensures.same_kind c.write.ensures.cause c.in-Err.ensures.kept
 
-pub returns-clause-whole : goal.returns-clause-whole
-returns-clause-whole g c = λ tells whole. all_told g.O.Sink.taking c.args.text.now c.loop-rest.rest.now c.args.out.now c.loop-rest.out c.loop-rest.invariant (sym c.loop-rest-test.ensures) tells
+pub returns : goal.returns
+returns g c = told_whole g.O.Sink.taking c.args.text.now c.loop-rest.rest.now c.args.out.now c.loop-rest.out c.loop-rest.invariant (sym c.loop-rest-test.ensures)

@@ -1,4 +1,0 @@
-pub mod Line
-pub mod Word
-pub mod Seen
-pub mod Law

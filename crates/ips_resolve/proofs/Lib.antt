@@ -1,0 +1,4 @@
+pub mod Those
+pub mod Named
+pub mod Asked
+pub mod Placed
