@@ -1,0 +1,13 @@
+pub mod Tabled
+pub mod Decided
+pub mod Places
+pub mod Ordered
+pub mod Kept
+pub mod Marked
+pub mod Indexed
+pub mod Found
+pub mod Likeness
+pub mod Grouped
+pub mod FirstPair
+pub mod OfPaths
+pub mod FirstOver
