@@ -12,7 +12,7 @@ use ips_outside::{Failed, Look, Source};
 use ips_text::RelPath;
 
 /// Puts all bytes of the file `from` at the end of the file at `path`, a buffer at a time.
-pub(crate) fn copy<F: Folder>(
+pub fn copy<F: Folder>(
     folder: &mut F,
     from: &RelPath,
     path: &RelPath,

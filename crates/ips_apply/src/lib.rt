@@ -14,6 +14,7 @@ mod copying;
 mod judging;
 
 pub use applying::apply;
+pub use copying::copy;
 pub use ips_journal::{StepFault, StepReader};
 pub use ips_kinds::{Act, Kind, Step};
 
