@@ -1,0 +1,10 @@
+pub mod Left
+pub mod Given
+pub mod Least
+pub mod Offered
+pub mod Counted
+pub mod Fronts
+pub mod Added
+pub mod Wants
+pub mod Halved
+pub mod Meanings

@@ -1,0 +1,20 @@
+use Rattle.std.proofs.Common.{◌∙◌, ap, [], None}
+use Rattle.std.specs.Str.{bytes_eq}
+use Rattle.std.specs.Option.{option_map_or}
+use Rattle.std.specs.BTreeMap.{get_by_text}
+use Rattle.std.proofs.lemmas.Bool.{cond-false}
+use Rattle.std.proofs.lemmas.Map.Text.{btree_map_updates_text}
+use Rattle.ips_meaning.proofs.mediated.without.Goals as goal
+
+pub returns-in-Some-clause-links : goal.returns-in-Some-clause-links
+returns-in-Some-clause-links c = ap (λ (o : _). option_map_or (λ g. g.items) o []) c.in-Some.ensures.value
+
+pub returns-in-Some-clause-others : goal.returns-in-Some-clause-others
+returns-in-Some-clause-others c = λ q apart.
+    ap (λ (o : _). option_map_or (λ g. g.items) o [])
+    (btree_map_updates_text c.args.name.now c.args.links.now c.remove.new.self None c.remove.ensures.updates q ∙ cond-false (bytes_eq c.args.name.now q) None (get_by_text c.args.links.now q) apart)
+
+pub returns-in-None-clause-others : goal.returns-in-None-clause-others
+returns-in-None-clause-others c = λ q apart.
+    ap (λ (o : _). option_map_or (λ g. g.items) o [])
+    (btree_map_updates_text c.args.name.now c.args.links.now c.remove.new.self None c.remove.ensures.updates q ∙ cond-false (bytes_eq c.args.name.now q) None (get_by_text c.args.links.now q) apart)

@@ -1,0 +1,9 @@
+pub mod Taken
+pub mod Reserved
+pub mod Want
+pub mod View
+pub mod Offers
+pub mod Places
+pub mod Leaving
+pub mod Lesser
+pub mod Faults

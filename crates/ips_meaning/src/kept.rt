@@ -1,0 +1,40 @@
+//! The kept actions.
+
+ghost use Rattle.std.specs.Prelude.{◌≡◌, IfOk};
+ghost use Rattle.ips_meaning.specs.Taken.{Leaves, Stays};
+
+use crate::mediated::{is_of_best, links};
+use ips_conflict::Placed;
+use ips_mediate::SetMediator;
+use std::alloc::{AllocError, Global};
+use std::collections::BTreeMap;
+
+/// The actions that are left of the admitted ones without the links of other mediations than the best.
+pub fn kept(
+    alloc: Global,
+    admitted: &[Placed],
+    mediators: &[SetMediator],
+) -> Result<Vec<Placed>, AllocError>
+    ensures { IfOk result (λ kept. Leaves (Stays mediators.now admitted.now) admitted.now kept.items) }
+{
+    let links = links(alloc, admitted)?;
+    let mut choices = BTreeMap::new(alloc);
+    let mut kept = Vec::new(alloc);
+    for item in admitted {
+        if is_of_best(alloc, &links, mediators, &mut choices, &item.action)? {
+            kept.push(copy(alloc, item)?)?;
+        }
+    }
+    Ok(kept)
+}
+
+// The same action in its place.
+fn copy(alloc: Global, item: &Placed) -> Result<Placed, AllocError>
+    ensures { IfOk result (λ copy. copy ≡ item.now) }
+{
+    Ok(Placed {
+        stem: item.stem.copy(alloc)?,
+        line: item.line,
+        action: item.action.copy(alloc)?,
+    })
+}

@@ -1,0 +1,86 @@
+//! The wanted paths.
+
+ghost use Rattle.std.specs.Prelude.{◌≡◌, ◌↔◌, ◌⊎◌, ◌||◌, List, ℕ, true, IfOk, OnOk};
+ghost use Rattle.ips_text.specs.Path.{IsPath};
+ghost use Rattle.ips_text.specs.Ancestry as ancestry;
+ghost use Rattle.ips_action.specs.Attrs.{is_same};
+ghost use Rattle.ips_conflict.specs.Key as keys;
+ghost use Rattle.ips_conflict.specs.Clash as clashes;
+ghost use Rattle.ips_meaning.specs.Want.{is_needed};
+ghost use Rattle.ips_meaning.specs.Places.{AreWanted, has_path};
+
+use crate::attributes::path_of;
+use ips_action::ActionKind;
+use ips_conflict::Placed;
+use ips_text::parent;
+use std::alloc::{AllocError, Global};
+use std::collections::BTreeSet;
+
+/// The wanted paths: those that actions give, those that the image itself needs, and those above them.
+pub fn paths(alloc: Global, kept: &[Placed]) -> Result<BTreeSet<Vec<u8>>, AllocError>
+    ensures { IfOk result (λ paths. AreWanted kept.now paths) }
+{
+    let mut paths = needed(alloc, kept)?;
+    for item in kept {
+        if let Some(path) = path_of(item) {
+            add(alloc, &mut paths, path.as_bytes())?;
+        }
+    }
+    Ok(paths)
+}
+
+// The paths that the image itself needs, and those above them.
+fn needed(alloc: Global, kept: &[Placed]) -> Result<BTreeSet<Vec<u8>>, AllocError>
+    ensures paths { IfOk result (λ paths. (p : List ℕ) → (has_path paths p ≡ true) ↔ (is_needed kept.now p ≡ true)) }
+    ensures proper { IfOk result (λ paths. (p : List ℕ) → has_path paths p ≡ true → IsPath p) }
+{
+    let mut paths = BTreeSet::new(alloc);
+    add(alloc, &mut paths, b"var/pkg")?;
+    if !has_legacy(kept) {
+        return Ok(paths);
+    }
+    add(alloc, &mut paths, b"var/sadm/pkg")?;
+    Ok(paths)
+}
+
+// Adds a path, and what stands above it.
+fn add(alloc: Global, paths: &mut BTreeSet<Vec<u8>>, path: &[u8]) -> Result<(), AllocError>
+    ensures { OnOk result ((p : List ℕ) → (has_path paths.new p ≡ true) ↔ ((has_path paths.old p ≡ true) ⊎ (ancestry.covers p path.now ≡ true))) }
+{
+    add_one(alloc, paths, path)?;
+    add_above(alloc, paths, path)?;
+    Ok(())
+}
+
+// Adds what stands above a path.
+fn add_above(alloc: Global, paths: &mut BTreeSet<Vec<u8>>, path: &[u8]) -> Result<(), AllocError>
+    ensures { OnOk result ((p : List ℕ) → (has_path paths.new p ≡ true) ↔ ((has_path paths.old p ≡ true) ⊎ (ancestry.is_below p path.now ≡ true))) }
+{
+    let mut at = parent(path);
+    while let Some(dir) = at {
+        add_one(alloc, paths, dir)?;
+        at = parent(dir);
+    }
+    Ok(())
+}
+
+fn add_one(alloc: Global, paths: &mut BTreeSet<Vec<u8>>, path: &[u8]) -> Result<(), AllocError>
+    ensures { OnOk result ((p : List ℕ) → has_path paths.new p ≡ (is_same p path.now || has_path paths.old p)) }
+{
+    let key = Vec::from_slice(alloc, path)?;
+    paths.insert(key)?;
+    Ok(())
+}
+
+// Whether an entry of a legacy package stands among the actions.
+fn has_legacy(kept: &[Placed]) -> bool
+    ensures { result ≡ clashes.has_legacy kept.now }
+{
+    kept.iter().any(|item| is_legacy(item.action.kind))
+}
+
+fn is_legacy(kind: ActionKind) -> bool
+    ensures { result ≡ keys.is_legacy kind }
+{
+    matches!(kind, ActionKind::Legacy)
+}
