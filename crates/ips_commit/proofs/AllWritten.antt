@@ -1,0 +1,159 @@
+-- Contents written one by one into the stage.
+use Rattle.std.proofs.Common.{◌≡◌, ◌⊎◌, inl, inr, ⊎_elim, ℕ, ◌+◌, ◌%◌, ◌<◌, ◌≤◌, ◌^◌, Bool, true, false, ◌==◌, List, [], ◌∷◌, ◌++◌, length, get_or, slice_get, Option, Some, None, Err, append_assoc, refl, sym, ◌∙◌, ap, subst, arith}
+use Rattle.std.specs.Fmt.{decimal}
+use Rattle.std.proofs.lemmas.Bool.{or_parts, ne_eqb, false_from_ne_true, cases_lt}
+use Rattle.std.proofs.lemmas.Fmt.{decimal_by_steps}
+use Rattle.std.proofs.lemmas.Option.{slice_get_read, slice_get_within}
+use Rattle.ips_text.specs.Ancestry.{covers, parent}
+use Rattle.ips_text.specs.Reading.{IfBad}
+use Rattle.ips_text.specs.declared.refusal.Or.{Or}
+use Rattle.ips_text.specs.declared.refusal.Or.TheVariants.{Bad, OutOfMemory}
+use Rattle.ips_text.proofs.Ancestry.{covers_trans, parent_cut, parent_on}
+use Rattle.ips_outside.specs.Image.{Entry, File, Image, Agrees, is_file, is_dir, file_bytes, has_parent, dir_or_none}
+use Rattle.ips_outside.specs.State.{nowhere}
+use Rattle.ips_folder.specs.Calls.{CanMake}
+use Rattle.ips_steps.specs.Steps.{stage_name, stage_path, stage_of}
+use Rattle.ips_steps.specs.Private.{is_private}
+use Rattle.ips_steps.proofs.Lists.{clash}
+use Rattle.ips_steps.proofs.Numbered.{contents_apart}
+use Rattle.ips_digest.specs.declared.name.PayloadName.{PayloadName}
+use Rattle.ips_repo.specs.declared.fault.RepoFault.{RepoFault}
+use Rattle.ips_repo.specs.Files.{file_at}
+use Rattle.ips_repo.specs.Places.{payload_place}
+use Rattle.ips_journal.specs.declared.staged.Staged.{Staged}
+use Rattle.ips_journal.specs.declared.staged.Staged.TheVariants.{Payload, Bytes, Standing}
+use Rattle.ips_commit.specs.Contents.{IsContent, IsStanding, IsApart, IsSeen, IsIntactContent, IsPayloadFault, IsFaultOf, SaysOfContent, SaysOfStage, IsFirstFault}
+use Rattle.ips_commit.specs.declared.fault.StageFault.{StageFault}
+use Rattle.ips_commit.specs.declared.fault.StageFault.TheVariants as stage
+
+-- ---- the places of the contents
+
+stage_covers : (n : ℕ) → covers stage_name (stage_path n) ≡ true
+unfolding stage_name
+stage_covers n = refl
+
+pub stage_apart : (n : ℕ) → covers (stage_path n) stage_name ≡ false
+unfolding stage_name
+stage_apart n = refl
+
+-- what isn't in the stage is not at or below a content's place
+pub content_within : (n : ℕ) (q : List ℕ) → covers stage_name q ≡ false → covers (stage_path n) q ≡ false
+content_within n q off = false_from_ne_true _ (λ c. clash (covers stage_name q) (covers_trans stage_name (stage_path n) q (stage_covers n) c) off)
+
+pub content_in_stage : (n : ℕ) (p : List ℕ) → p ≡ stage_path n → (q : List ℕ) → covers stage_name q ≡ false → covers p q ≡ false
+content_in_stage n p at q off = ap (λ (x : List ℕ). covers x q) at ∙ content_within n q off
+
+-- what was written at a content's place
+pub wrote_at : (n : ℕ) (p : List ℕ) → p ≡ stage_path n → (t u : Image) → Agrees (covers p) nowhere t u → Agrees (covers (stage_path n)) nowhere t u
+wrote_at n p at t u h = subst (λ (x : List ℕ). Agrees (covers x) nowhere t u) at h
+
+content_parent : (n : ℕ) → n < 2 ^ 64 → parent (stage_path n) ≡ Some stage_name
+content_parent = decimal_by_steps (λ n ds. parent (stage_name ++ 47 ∷ ds) ≡ Some stage_name)
+    (λ n small. one_more [] (48 + n) (not_cut n) (parent_cut stage_name))
+    (λ n ds large so_far. one_more ds (48 + n % 10) (not_cut (n % 10)) so_far)
+  where
+    not_cut : (n : ℕ) → (48 + n == 47) ≡ false
+    not_cut n = ne_eqb (48 + n) 47 (λ e. omega (arith, e))
+
+    one_more : (ds : List ℕ) (c : ℕ) → (c == 47) ≡ false → parent (stage_name ++ 47 ∷ ds) ≡ Some stage_name → parent (stage_name ++ 47 ∷ (ds ++ c ∷ [])) ≡ Some stage_name
+    one_more ds c off so_far = ap parent (sym (append_assoc stage_name (47 ∷ ds) (c ∷ []))) ∙ parent_on (stage_name ++ 47 ∷ ds) c off ∙ so_far
+
+pub can_put : (t : Image) (n : ℕ) (p : List ℕ) → p ≡ stage_path n → n < 2 ^ 64 → t.look (stage_path n) ≡ None → is_dir (t.look stage_name) ≡ true → CanMake t p
+can_put t n p at small none dir = record {
+  absent = ap t.look at ∙ none;
+  parent = ap (has_parent t) at ∙ ap (dir_or_none t) (content_parent n small) ∙ dir;
+}
+
+-- ---- what is seen stays while the stage is filled
+
+unstaged : (q : List ℕ) → is_private q ≡ false → covers stage_name q ≡ false
+unstaged q seen = (or_parts (covers stage_name q) _ seen).0
+
+pub standing_kept : (free : List ℕ → Bool) → ((q : List ℕ) → is_private q ≡ false → free q ≡ false) → (t u : Image) → Agrees free nowhere t u → (s : Staged) → IsSeen s → IsStanding t s → IsStanding u s
+standing_kept free off t u h (Payload name) seen there = tt
+standing_kept free off t u h (Bytes given) seen there = tt
+standing_kept free off t u h (Standing from) seen there = ap is_file (h.look from.bytes (off from.bytes seen) refl) ∙ there
+
+pub content_kept : (free : List ℕ → Bool) → ((q : List ℕ) → is_private q ≡ false → free q ≡ false) → (tells : Bool) (repository : Image) (publisher : List ℕ) (t u : Image) → Agrees free nowhere t u
+    → (s : Staged) → IsSeen s → (bytes : List ℕ) → IsContent tells repository publisher u s bytes → IsContent tells repository publisher t s bytes
+content_kept free off tells repository publisher t u h (Payload name) seen bytes is = is
+content_kept free off tells repository publisher t u h (Bytes given) seen bytes is = is
+content_kept free off tells repository publisher t u h (Standing from) seen bytes is = ap file_bytes (sym (h.look from.bytes (off from.bytes seen) refl)) ∙ is
+
+pub standing_in_stage : (t u : Image) → Agrees (covers stage_name) nowhere t u → (s : Staged) → IsSeen s → IsStanding t s → IsStanding u s
+standing_in_stage t u h s seen there = standing_kept (covers stage_name) unstaged t u h s seen there
+
+-- a content of the image as it is now, told by what stood before, and by what the repository held before
+pub content_then : (t u : Image) → Agrees (covers stage_name) nowhere t u → (s : Staged) → IsSeen s → (tells_now tells : Bool) (repository_now repository : Image) (publisher : List ℕ) → tells_now ≡ tells → repository_now ≡ repository
+    → (bytes : List ℕ) → IsContent tells_now repository_now publisher u s bytes → IsContent tells repository publisher t s bytes
+content_then t u h s seen tells_now tells repository_now repository publisher kind same bytes is = content_kept (covers stage_name) unstaged tells repository publisher t u h s seen bytes
+    (subst (λ (b : Bool). IsContent b repository publisher u s bytes) kind (subst (λ (r : Image). IsContent tells_now r publisher u s bytes) same is))
+
+pub content_apart : (n : ℕ) (p : List ℕ) → p ≡ stage_path n → (s : Staged) → IsSeen s → IsApart p s
+content_apart n p at (Payload name) seen = tt
+content_apart n p at (Bytes given) seen = tt
+content_apart n p at (Standing from) seen = ap (λ (x : List ℕ). covers x from.bytes) at ∙ content_within n from.bytes (unstaged from.bytes seen)
+
+-- ---- one content more
+
+-- The content has the bytes of what is to be staged there.
+abbrev pub IsWritten : Bool → Image → List ℕ → Image → Image → ℕ → Staged → Type 0
+IsWritten tells repository publisher t u n s = (bytes : List ℕ) × (stage_of u n ≡ Some bytes) × IsContent tells repository publisher t s bytes
+
+-- What is to be staged there is intact, where it is a payload.
+abbrev pub IsIntactAt : Image → List ℕ → ℕ → Staged → Type 0
+IsIntactAt repository publisher n s = IsIntactContent repository publisher s
+
+module _ (staged : List Staged) (i : ℕ) (s : Staged) (lt : i < length staged) (is : s ≡ get_or staged i s) where
+  pub here : slice_get staged i ≡ Some s
+  here = slice_get_read staged (length staged) i s refl lt is
+
+  -- before the next, or this one
+  up_to : (n : ℕ) → n < i + 1 → (n < i) ⊎ (n ≡ i)
+  up_to n small = elim (cases_lt n i) [ inl less ↦ inl less | inr more ↦ inr (omega arith) ]
+
+  pub each_more : (P : ℕ → Staged → Type 0) → P i s → ((n : ℕ) (x : Staged) → n < i → slice_get staged n ≡ Some x → P n x) → (n : ℕ) (x : Staged) → n < i + 1 → slice_get staged n ≡ Some x → P n x
+  each_more P now before n x small at = ⊎_elim
+      (λ less. before n x less at)
+      (λ same.
+      let both : Some s ≡ Some x = sym here ∙ ap (slice_get staged) (sym same) ∙ at in
+      let this : s ≡ x = cc in
+      subst (λ (k : ℕ). P k x) (sym same) (subst (P i) this now))
+      (up_to n small)
+
+  module _ (tells : Bool) (repository : Image) (publisher : List ℕ) (t u v : Image) (few : i < 2 ^ 64) (wrote : Agrees (covers (stage_path i)) nowhere u v) where
+    pub written_more : (bytes : List ℕ) → v.look (stage_path i) ≡ Some (File 384 bytes) → IsContent tells repository publisher t s bytes
+        → ((n : ℕ) (x : Staged) → n < i → slice_get staged n ≡ Some x → IsWritten tells repository publisher t u n x) → (n : ℕ) (x : Staged) → n < i + 1 → slice_get staged n ≡ Some x → IsWritten tells repository publisher t v n x
+    written_more bytes file content before = each_more (IsWritten tells repository publisher t v) (bytes, ap file_bytes file, content)
+        (λ n x less at. let old = before n x less at in (old.0, ap file_bytes (wrote.look (stage_path n) (contents_apart i n (omega arith) (omega arith) (λ same. omega (arith, same))) refl) ∙ old.1, old.2))
+
+    pub empty_more : ((n : ℕ) → i ≤ n → n < 2 ^ 64 → u.look (stage_path n) ≡ None) → (n : ℕ) → i + 1 ≤ n → n < 2 ^ 64 → v.look (stage_path n) ≡ None
+    empty_more before n le small = wrote.look (stage_path n) (contents_apart i n (omega arith) small (λ same. omega (arith, same))) refl ∙ before n (omega arith) small
+
+-- ---- a fault of one content is one of staging
+
+pub as_bad : (T : Type 0) {E : Type 0} (e : Or E) (P Q : E → Type 0) → ((why : E) → P why → Q why) → IfBad {X = T} (Err e) P → IfBad {X = T} (Err e) Q
+as_bad T (Bad why) P Q change p = change why p
+as_bad T OutOfMemory P Q change p = tt
+
+pub says_of_stage : (tells : Bool) (repository : Image) (publisher : List ℕ) (staged : List Staged) (i : ℕ) (s : Staged) → slice_get staged i ≡ Some s
+    → (tells ≡ true → (n : ℕ) (x : Staged) → n < i → slice_get staged n ≡ Some x → IsIntactContent repository publisher x)
+    → (why : StageFault) → SaysOfContent tells repository publisher s why → SaysOfStage tells repository publisher staged why
+says_of_stage tells repository publisher staged i (Payload name) at before (stage.Payload other why) says =
+    let same = says.0 in (
+      subst (λ (n : PayloadName). IsPayloadFault n why) (sym same) says.1,
+      λ told. record {
+        at = i;
+        stands = at ∙ ap (λ (n : PayloadName). Some (Payload n)) (sym same);
+        before = before told;
+        is = subst (λ (n : PayloadName). IsFaultOf n (file_at repository (payload_place publisher n)) why) (sym same) (says.2 told);
+      },
+    )
+says_of_stage tells repository publisher staged i (Payload name) at before stage.SourceFault says = tt
+says_of_stage tells repository publisher staged i (Payload name) at before stage.FolderFault says = tt
+says_of_stage tells repository publisher staged i (Bytes given) at before (stage.Payload other why) says = cc
+says_of_stage tells repository publisher staged i (Bytes given) at before stage.SourceFault says = tt
+says_of_stage tells repository publisher staged i (Bytes given) at before stage.FolderFault says = tt
+says_of_stage tells repository publisher staged i (Standing from) at before (stage.Payload other why) says = cc
+says_of_stage tells repository publisher staged i (Standing from) at before stage.SourceFault says = tt
+says_of_stage tells repository publisher staged i (Standing from) at before stage.FolderFault says = tt

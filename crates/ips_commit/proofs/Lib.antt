@@ -1,0 +1,14 @@
+pub mod OwnPaths
+pub mod OwnNames
+pub mod Leftovers
+pub mod Swept
+pub mod Written
+pub mod AllWritten
+pub mod GateOpens
+pub mod Lays
+pub mod Owing
+pub mod Committed
+pub mod Staged
+pub mod Places
+pub mod Rolled
+pub mod TwoSteps

@@ -1,0 +1,158 @@
+-- What the folder owes in each phase of a commit.
+use Rattle.std.proofs.Common.{◌≡◌, ◌≢◌, ◌⊎◌, inl, inr, ⊎_elim, ℕ, ◌+◌, ◌*◌, Bool, true, false, ◌||◌, List, [], ◌∷◌, ◌++◌, length, take, drop, Option, Some, None, unwrap_or, refl, sym, ◌∙◌, ap, subst}
+use Rattle.std.specs.List.{list_any}
+use Rattle.std.proofs.lemmas.Bool.{or_parts, or_from}
+use Rattle.ips_text.specs.Ancestry.{covers}
+use Rattle.ips_text.proofs.Ancestry.{covers-self}
+use Rattle.ips_outside.specs.Image.{Entry, Image, IsImage, Agrees, with_mode, file_bytes}
+use Rattle.ips_outside.specs.Change.{placed}
+use Rattle.ips_outside.specs.State.{State, Within, IsSettled, nowhere}
+use Rattle.ips_outside.specs.Outside.{Outside, IsOutside, readable}
+use Rattle.ips_outside.proofs.Images.{HasNodes}
+use Rattle.ips_outside.proofs.Moments.{agrees_less}
+use Rattle.ips_outside.proofs.Placed.{look_placed}
+use Rattle.ips_folder.specs.Calls.{Keeps, Throughout}
+use Rattle.ips_folder.proofs.Runs.{joins, weaker, keeps_wider}
+use Rattle.ips_steps.specs.Steps.{Step, Stage, stage_name, stage_of, after, all_laid, freed, met}
+use Rattle.ips_steps.specs.Private.{gate_name, journal_name, mark_front, begins, is_private, visible}
+use Rattle.ips_steps.specs.Journal.{IsJournal}
+use Rattle.ips_steps.specs.Owed.{AreMarks, steps_left, IsReady, IsOpen, Owes, Old, Open, New, FolderOwes}
+use Rattle.ips_steps.proofs.AtTurn.{front_frees, front_meets}
+use Rattle.ips_steps.proofs.Lists.{clash}
+use Rattle.ips_steps.proofs.Within.{laid_within}
+use Rattle.ips_steps.proofs.PrivateNames.{visible_agrees}
+use Rattle.ips_steps.proofs.Owing.{left_allowed, open_laying, gate_ready, owes_laying, owes_opening, owes_closing, owes_sweeping, closed_seen}
+use Rattle.ips_journal.specs.Text.{journal_text}
+use Rattle.ips_journal.specs.Reading.{journal_of}
+use Rattle.ips_journal.proofs.JournalLaws.{one_text}
+use Rattle.ips_commit.specs.Pending.{IsBare, IsDone, IsSwept, HasNoOtherMark, is_swept}
+use Rattle.ips_commit.specs.Phases.{Opens, AreSafelyLaid, HasBegun}
+use Rattle.ips_commit.proofs.OwnNames.{swept_private, gate_unswept, marks_stay, none_alike}
+use Rattle.ips_commit.proofs.Leftovers.{bare_of}
+use Rattle.ips_commit.proofs.Swept.{removed_gone, removed_none}
+use Rattle.ips_commit.proofs.Lays.{next_of, rest_of}
+
+pub nodes_of : (t : Image) → IsImage t → HasNodes t
+nodes_of t formed = record { self = formed.self }
+
+-- the journal that is ready is the text of its list
+pub ready_text : (steps : List Step) (marks : ℕ) (a t : Image) → IsReady journal_text steps marks a t → journal_of t ≡ journal_text steps
+ready_text steps marks a t r = ap (λ (e : Option (List ℕ)). unwrap_or e []) r.journal
+
+unswept_of : (q : List ℕ) → is_private q ≡ false → (s : Bool) → is_swept q ≡ s → is_swept q ≡ false
+unswept_of q seen true is = clash (is_private q) (swept_private q is) seen
+unswept_of q seen false is = is
+
+pub unswept : (q : List ℕ) → is_private q ≡ false → is_swept q ≡ false
+unswept q seen = unswept_of q seen (is_swept q) refl
+
+-- what is swept isn't seen
+pub swept_seen : (t u : Image) → Agrees is_swept nowhere t u → visible u ≡ visible t
+swept_seen t u h = visible_agrees t u (agrees_less is_swept nowhere is_private nowhere t u (λ q seen. unswept_of q seen (is_swept q) refl) (λ q l. refl) h)
+
+-- what was swept behind the gate that was closed
+pub done_of : (marks : List (List ℕ)) (t u v : Image) → IsImage v → u ≡ placed gate_name None t → HasNoOtherMark t marks → IsSwept marks u v → Agrees is_swept nowhere u v → (visible v ≡ visible t) × IsBare v
+done_of marks t u v formed closed others swept agrees = (
+  swept_seen u v agrees ∙ ap visible closed ∙ closed_seen t,
+  bare_of v formed (swept.nothing_new gate_name (ap (λ (w : Image). w.look gate_name) closed ∙ removed_gone gate_name gate_name t (covers-self gate_name))) gone,
+)
+  where
+    gone : (q : List ℕ) → is_swept q ≡ true → v.look q ≡ None
+    gone q is = at (covers stage_name q) refl (covers journal_name q) refl (list_any (λ m. covers m q) marks) refl is
+      where
+        at : (s : Bool) → covers stage_name q ≡ s → (j : Bool) → covers journal_name q ≡ j → (m : Bool) → list_any (λ m. covers m q) marks ≡ m → (s || (j || begins mark_front q)) ≡ true → v.look q ≡ None
+        at true is_s j is_j m is_m all = swept.stage q is_s
+        at false is_s true is_j m is_m all = swept.journal q is_j
+        at false is_s false is_j true is_m all = swept.marks q is_m
+        at false is_s false is_j false is_m all = swept.nothing_new q (ap (λ (w : Image). w.look q) closed ∙ removed_none gate_name q t (others q all is_m))
+
+-- what was swept is gone
+pub swept_gone : (marks : List (List ℕ)) (t v : Image) → HasNoOtherMark t marks → IsSwept marks t v → (q : List ℕ) → is_swept q ≡ true → v.look q ≡ None
+swept_gone marks t v others swept q is = at (covers stage_name q) refl (covers journal_name q) refl (list_any (λ m. covers m q) marks) refl is
+  where
+    at : (s : Bool) → covers stage_name q ≡ s → (j : Bool) → covers journal_name q ≡ j → (m : Bool) → list_any (λ m. covers m q) marks ≡ m → (s || (j || begins mark_front q)) ≡ true → v.look q ≡ None
+    at true is_s j is_j m is_m all = swept.stage q is_s
+    at false is_s true is_j m is_m all = swept.journal q is_j
+    at false is_s false is_j true is_m all = swept.marks q is_m
+    at false is_s false is_j false is_m all = swept.nothing_new q (others q all is_m)
+
+-- the same behind a gate that was closed already
+pub cleared_of : (marks : List (List ℕ)) (t v : Image) → IsImage v → t.look gate_name ≡ None → HasNoOtherMark t marks → IsSwept marks t v → Agrees is_swept nowhere t v → (visible v ≡ visible t) × IsBare v
+cleared_of marks t v formed shut others swept agrees = (swept_seen t v agrees, bare_of v formed (swept.nothing_new gate_name shut) (swept_gone marks t v others swept))
+
+-- the due image is owed, so it is owed as one that may be
+pub owes_less : (b : Image) (a : Image) (t : Image) → Owes journal_text b (Some a) true t → Owes journal_text b (Some a) false t
+owes_less b a t owes = weaken b (Some a) true t owes a refl
+  where
+    weaken : (b : Image) (x : Option Image) (due : Bool) (t : Image) → Owes journal_text b x due t → (a : Image) → x ≡ Some a → Owes journal_text b (Some a) false t
+    weaken b x due t (Old gone seen) a is = Old gone seen
+    weaken b x due t (Open {a = y} steps marks o) a is = let same : y ≡ a = cc in Open steps marks (subst (λ (z : Image). IsOpen journal_text steps marks z t) same o)
+    weaken b x due t (New {a = y} gone seen) a is = let same : y ≡ a = cc in New gone (seen ∙ same)
+
+module _ {F : Type 0} (o : Outside F) (sane : IsOutside o) where
+  nodes : (f : F) → o.tells f ≡ true → HasNodes (o.state f).held
+  nodes f told = nodes_of (o.state f).held (sane.formed f told)
+
+  -- ---- while the steps are laid
+
+  module _ (steps : List Step) (marks : ℕ) (a : Image) (old new : F) (told : o.tells old ≡ true) (is_open : IsOpen journal_text steps marks a (o.state old).held) where
+    abbrev t : Image
+    t = (o.state old).held
+
+    abbrev left : List Step
+    left = steps_left marks steps
+
+    pub laying_owed : IsSettled (o.state old) → HasBegun o (journal_of t) (take (1000 * marks) steps) old new → (b : Image) (due : Bool) → Throughout o old new (FolderOwes journal_text b (Some a) due)
+    laying_owed clean begun b due =
+        let front = take (1000 * marks) steps in
+        let next : begun.begun ≡ take (length begun.begun) left = next_of steps begun.begun (1000 * marks) (begun.next steps is_open.ready.lists (ready_text steps marks a t is_open.ready)) in
+        let some = take (length begun.begun) left in
+        let laid : Keeps o (freed some) (λ q. freed some q || met (stage_of t) some t q) old new =
+        subst (λ (l : List Step). Keeps o (freed l) (λ q. freed l q || met (stage_of t) l t q) old new) next begun.moments in
+        let wide : Keeps o (freed left) (λ q. freed left q || met (stage_of t) left t q) old new =
+        keeps_wider o (freed some) (λ q. freed some q || met (stage_of t) some t q) (freed left) (λ q. freed left q || met (stage_of t) left t q) old new
+        (front_frees left (length begun.begun))
+        (λ q none. let parts = or_parts (freed left q) (met (stage_of t) left t q) none in or_from (freed some q) (met (stage_of t) some t q) (front_frees left (length begun.begun) q parts.0) (front_meets (stage_of t) left (length begun.begun) t q parts.1))
+        laid in
+        weaker o old new (Within (freed left) (λ q. freed left q || met (stage_of t) left t q) (o.state old)) (FolderOwes journal_text b (Some a) due)
+        (λ s w. owes_laying journal_text steps marks a b due (o.state old) s is_open (nodes old told) clean w) wide.moments
+
+    module _ (laid : List Step) (safely : AreSafelyLaid o (journal_of t) (take (1000 * marks) steps) laid old new) where
+      pub laid_left : laid ≡ left
+      laid_left = rest_of steps laid (1000 * marks) (one_text (take (1000 * marks) steps ++ laid) steps safely.lists is_open.ready.lists (sym safely.text_is ∙ ready_text steps marks a t is_open.ready))
+
+      pub laid_held : (o.state new).held ≡ after left t
+      laid_held = safely.held ∙ ap (λ (l : List Step). after l t) laid_left
+
+      pub laid_means : visible (o.state new).held ≡ a
+      laid_means = ap visible laid_held ∙ is_open.ready.means
+
+      pub laid_ready : IsReady journal_text steps marks a (o.state new).held
+      laid_ready = (open_laying journal_text steps marks a t (o.state new).held is_open (nodes old told)
+          (subst (λ (u : Image). Agrees (freed left) (met (stage_of t) left t) t u) (sym laid_held) (laid_within (stage_of t) left t))).ready
+
+      pub laid_marks : (names : List (List ℕ)) → HasNoOtherMark t names → HasNoOtherMark (o.state new).held names
+      laid_marks names others q b off =
+          let within = subst (λ (u : Image). Agrees (freed left) (met (stage_of t) left t) t u) (sym laid_held) (laid_within (stage_of t) left t) in
+          none_alike ((o.state new).held.look q) (t.look q) (within.but_mode q (marks_stay q b left (left_allowed journal_text steps marks a t is_open.ready))) (others q b off)
+
+  -- ---- while the gate opens and closes
+
+  module _ (steps : List Step) (marks : ℕ) (a : Image) (old new : F) (told : o.tells old ≡ true) (ready : IsReady journal_text steps marks a (o.state old).held) (clean : IsSettled (o.state old)) (run : Keeps o (covers gate_name) nowhere old new) where
+    pub opening_owed : Throughout o old new (FolderOwes journal_text (visible (o.state old).held) (Some a) false)
+    opening_owed = weaker o old new (Within (covers gate_name) nowhere (o.state old)) (FolderOwes journal_text (visible (o.state old).held) (Some a) false)
+        (λ s w. owes_opening journal_text steps marks a (o.state old) s ready (nodes old told) clean w) run.moments
+
+    pub gate_opened : Opens o old new → IsOpen journal_text steps marks a (o.state new).held
+    gate_opened opens = record { gate = opens.is_open.stands; ready = gate_ready journal_text steps marks a (o.state old).held (o.state new).held ready (nodes old told) run.now.agrees }
+
+    pub closing_owed : visible (o.state old).held ≡ a → (b : Image) (due : Bool) → Throughout o old new (FolderOwes journal_text b (Some a) due)
+    closing_owed seen b due = weaker o old new (Within (covers gate_name) nowhere (o.state old)) (FolderOwes journal_text b (Some a) due)
+        (λ s w. owes_closing journal_text steps marks a (o.state old) s ready (nodes old told) clean w b due seen) run.moments
+
+  -- ---- behind the closed gate
+
+  pub sweeping_owed : (b : Image) (a : Option Image) (due : Bool) (old new : F) → Owes journal_text b a due (o.state old).held → (o.state old).held.look gate_name ≡ None → IsSettled (o.state old)
+      → Keeps o is_swept nowhere old new → Throughout o old new (FolderOwes journal_text b a due)
+  sweeping_owed b a due old new owes shut clean run = weaker o old new (Within is_swept nowhere (o.state old)) (FolderOwes journal_text b a due)
+      (λ s w. owes_sweeping journal_text b a due is_swept (o.state old) s owes shut clean swept_private gate_unswept w) run.moments

@@ -1,0 +1,247 @@
+-- A list of steps staged behind a closed gate.
+use Rattle.std.proofs.Common.{◌≡◌, ◌⊎◌, inl, inr, ⊎_elim, ℕ, ◌<◌, Bool, true, false, ◌||◌, List, [], ◌∷◌, length, slice_get, ◌++◌, Option, Some, None, Result, is_some, refl, sym, ◌∙◌, ap, subst, arith}
+use Rattle.std.specs.Fmt.{decimal}
+use Rattle.std.specs.List.{list_any}
+use Rattle.std.proofs.lemmas.Bool.{or_parts, or_right}
+use Rattle.std.proofs.lemmas.Option.{slice_get_cases}
+use Rattle.ips_text.specs.Ancestry.{covers, parent}
+use Rattle.ips_outside.specs.Image.{Image, IsImage, Agrees, Dir, File, is_dir, file_bytes, has_parent, dir_or_none}
+use Rattle.ips_outside.specs.Change.{placed}
+use Rattle.ips_outside.specs.State.{State, Within, IsSettled, nowhere, settled}
+use Rattle.ips_outside.specs.Outside.{Outside, IsOutside, Elapses, Reads}
+use Rattle.ips_outside.proofs.Moments.{agrees_less, within_self, within_then}
+use Rattle.ips_outside.proofs.Placed.{look_placed}
+use Rattle.ips_folder.specs.Calls.{CanMake, Writes, Keeps, Throughout}
+use Rattle.ips_folder.proofs.Runs.{started, goes_on, joins, weaker, keeps_then, keeps_wider}
+use Rattle.ips_steps.specs.Steps.{Step, stage_name, stage_path, stage_of, freed, met, all_laid, possible}
+use Rattle.ips_steps.specs.Private.{records_name, journal_name, gate_name, mark_front, mark_name, begins, is_private, visible}
+use Rattle.ips_steps.specs.Journal.{IsJournal}
+use Rattle.ips_steps.specs.Owed.{Old, FolderOwes}
+use Rattle.ips_steps.proofs.Again.{again_but}
+use Rattle.ips_steps.proofs.PrivateNames.{all_clear, begins_front, visible_agrees}
+use Rattle.ips_steps.proofs.Owing.{owes_sweeping}
+use Rattle.ips_journal.specs.Text.{journal_text}
+use Rattle.ips_journal.specs.declared.staged.Staged.{Staged}
+use Rattle.ips_commit.specs.Pending.{IsBehindGate, HasNoOtherMark, IsSwept, is_swept}
+use Rattle.ips_commit.specs.Contents.{AreContents, AreStanding, AreSeen}
+use Rattle.ips_commit.specs.Staging.{CanStage, HasStaged, IsCleared, IsFilled}
+use Rattle.ips_commit.proofs.OwnNames.{swept_private, gate_unswept, records_unswept, stage_swept, journal_swept, behind_front}
+use Rattle.ips_commit.proofs.Swept.{wrote}
+use Rattle.ips_commit.proofs.Owing.{nodes_of, unswept, swept_seen, swept_gone}
+use Rattle.ips_commit.proofs.AllWritten.{standing_kept, content_kept}
+
+-- ---- what was left is taken away
+
+module _ {F : Type 0} (o : Outside F) (sane : IsOutside o) (old : F) where
+  abbrev Behind : State → Type 0
+  Behind s = IsBehindGate (o.state old) s
+
+  pub unbegun : Throughout o old old Behind
+  unbegun = started o old Behind (sane.only_now old) (inl refl)
+
+  -- a sync that failed
+  pub unsynced : (new : F) → Elapses o old new → o.state new ≡ o.state old → Throughout o old new Behind
+  unsynced new time kept = goes_on o old old new Behind unbegun time (inl kept)
+
+  module _ (mid : F) (time : Elapses o old mid) (safe : o.state mid ≡ settled (o.state old)) where
+    pub synced : Throughout o old mid Behind
+    synced = goes_on o old old mid Behind unbegun time (inr (subst (Within is_swept nowhere (settled (o.state old))) (sym safe) (within_self is_swept nowhere (settled (o.state old)))))
+
+    -- then the folder was only read
+    module _ (read : F) (failure : Type 0) (reads : Reads o mid read failure) where
+      pub same_read : o.state read ≡ settled (o.state old)
+      same_read = reads.kept ∙ safe
+
+      pub synced_read : Throughout o old read Behind
+      synced_read = goes_on o old mid read Behind synced reads.call.time (inr (subst (Within is_swept nowhere (settled (o.state old))) (sym same_read) (within_self is_swept nowhere (settled (o.state old)))))
+
+      -- and swept
+      pub synced_swept : (new : F) → Keeps o is_swept nowhere read new → Throughout o old new Behind
+      synced_swept new run = joins o old read new Behind synced_read (weaker o read new (Within is_swept nowhere (o.state read)) Behind (λ s w. inr (subst (λ (x : State). Within is_swept nowhere x s) same_read w)) run.moments)
+
+      pub swept_now : (new : F) → Keeps o is_swept nowhere read new → Within is_swept nowhere (settled (o.state old)) (o.state new)
+      swept_now new run = subst (λ (x : State). Within is_swept nowhere x (o.state new)) same_read run.now
+
+  -- one more run
+  pub behind_then : (mid new : F) → Throughout o old mid Behind → Within is_swept nowhere (settled (o.state old)) (o.state mid) → Keeps o is_swept nowhere mid new → Throughout o old new Behind
+  behind_then mid new so_far here run = joins o old mid new Behind so_far
+      (weaker o mid new (Within is_swept nowhere (o.state mid)) Behind (λ s w. inr (within_then is_swept nowhere (settled (o.state old)) (o.state mid) s here w)) run.moments)
+
+  -- ---- at every moment what is seen is owed
+
+  module _ (told : o.tells old ≡ true) (new : F) (run : Throughout o old new Behind) where
+    pub staging_seen : visible (o.state new).held ≡ visible (o.state old).held
+    staging_seen = ⊎_elim (λ same. ap (λ (s : State). visible s.held) same) (λ w. swept_seen (o.state old).held (o.state new).held w.agrees) (run.each (o.state new) (sane.counts_now new (o.clock old) run.later))
+
+    pub staging_owed : (o.state old).held.look gate_name ≡ None → IsSettled (o.state old) → (a : Option Image) → Throughout o old new (FolderOwes journal_text (visible (o.state old).held) a false)
+    staging_owed shut clean a = weaker o old new Behind (FolderOwes journal_text (visible (o.state old).held) a false) each run
+      where
+        sweeping : (base s : State) → base.held ≡ (o.state old).held → IsSettled base → Within is_swept nowhere base s → FolderOwes journal_text (visible (o.state old).held) a false s
+        sweeping base s same safe w = owes_sweeping journal_text (visible (o.state old).held) a false is_swept base s (Old (ap (λ (t : Image). t.look gate_name) same ∙ shut) (ap visible same))
+            (ap (λ (t : Image). t.look gate_name) same ∙ shut) safe swept_private gate_unswept w
+
+        each : (s : State) → Behind s → FolderOwes journal_text (visible (o.state old).held) a false s
+        each s behind = ⊎_elim
+            (λ same. sweeping (o.state old) s refl clean (subst (Within is_swept nowhere (o.state old)) (sym same) (within_self is_swept nowhere (o.state old))))
+            (λ w. sweeping (settled (o.state old)) s refl (record { whole = λ q. refl; modes = λ q. refl }) w)
+            behind
+
+-- nothing stands where staging writes
+pub cleared_by : (marks : List (List ℕ)) (t v : Image) → HasNoOtherMark t marks → IsSwept marks t v → IsCleared v
+cleared_by marks t v others swept q is = swept_gone marks t v others swept q is
+
+-- ---- what stays
+
+pub standing_swept : (t u : Image) → Agrees is_swept nowhere t u → (staged : List Staged) → AreSeen staged → AreStanding t staged → AreStanding u staged
+standing_swept t u h staged seen there n s at = standing_kept is_swept unswept t u h s (seen n s at) (there n s at)
+
+pub contents_swept : (tells : Bool) (repository : Image) (publisher : List ℕ) (t u : Image) → Agrees is_swept nowhere t u → (staged : List Staged) → AreSeen staged
+    → (contents : ℕ → Option (List ℕ)) → AreContents tells repository publisher u staged contents → AreContents tells repository publisher t staged contents
+contents_swept tells repository publisher t u h staged seen contents are n s at =
+    let there = are n s at in
+    (there.0, there.1, content_kept is_swept unswept tells repository publisher t u h s (seen n s at) there.0 there.2)
+
+pub records_swept : (t u : Image) → Agrees is_swept nowhere t u → is_dir (t.look records_name) ≡ true → is_dir (u.look records_name) ≡ true
+records_swept t u h dir = ap is_dir (h.look records_name records_unswept refl) ∙ dir
+
+pub filled_swept : (tells : Bool) (repository : Image) (publisher text : List ℕ) (staged : List Staged) (t u : Image) (s : State) → Agrees is_swept nowhere t u → AreSeen staged
+    → IsFilled tells repository publisher text staged u s → IsFilled tells repository publisher text staged t s
+filled_swept tells repository publisher text staged t u s h seen filled = record {
+  safe = filled.safe;
+  journal = filled.journal;
+  contents = contents_swept tells repository publisher t u h staged seen (stage_of s.held) filled.contents;
+  unmarked = filled.unmarked;
+}
+
+-- ---- the stage is made and filled
+
+mark_stage : (d : List ℕ) → covers stage_name (mark_front ++ d) ≡ false
+unfolding stage_name mark_front
+mark_stage d = refl
+
+mark_journal : (d : List ℕ) → covers journal_name (mark_front ++ d) ≡ false
+unfolding journal_name mark_front
+mark_journal d = refl
+
+journal_staged : covers stage_name journal_name ≡ false
+unfolding stage_name journal_name
+journal_staged = refl
+
+records_staged : covers stage_name records_name ≡ false
+unfolding stage_name records_name
+records_staged = refl
+
+content_unlisted : (n : ℕ) → covers journal_name (stage_path n) ≡ false
+unfolding stage_name journal_name
+content_unlisted n = refl
+
+journal_is_swept : is_swept journal_name ≡ true
+unfolding stage_name journal_name
+journal_is_swept = refl
+
+stage_is_swept : is_swept stage_name ≡ true
+unfolding stage_name
+stage_is_swept = refl
+
+stage_parent : parent stage_name ≡ Some records_name
+unfolding stage_name records_name
+stage_parent = refl
+
+journal_parent : parent journal_name ≡ Some records_name
+unfolding journal_name records_name
+journal_parent = refl
+
+mark_is_swept : (q : List ℕ) → begins mark_front q ≡ true → is_swept q ≡ true
+mark_is_swept q is = or_right (covers stage_name q) _ (or_right (covers journal_name q) (begins mark_front q) is)
+
+-- a name in the records' folder, at which nothing stands
+can_make_own : (t : Image) (own p : List ℕ) → p ≡ own → parent own ≡ Some records_name → t.look own ≡ None → is_dir (t.look records_name) ≡ true → CanMake t p
+can_make_own t own p at above none dir = record {
+  absent = ap t.look at ∙ none;
+  parent = ap (has_parent t) at ∙ ap (dir_or_none t) above ∙ dir;
+}
+
+pub can_make_stage : (t : Image) (p : List ℕ) → p ≡ stage_name → IsCleared t → is_dir (t.look records_name) ≡ true → CanMake t p
+can_make_stage t p at cleared dir = can_make_own t stage_name p at stage_parent (cleared stage_name stage_is_swept) dir
+
+pub can_make_journal : (t u : Image) (p : List ℕ) → p ≡ journal_name → Agrees (covers stage_name) nowhere t u → IsCleared t → is_dir (t.look records_name) ≡ true → CanMake u p
+can_make_journal t u p at h cleared dir = can_make_own u journal_name p at journal_parent (h.look journal_name journal_staged refl ∙ cleared journal_name journal_is_swept) (ap is_dir (h.look records_name records_staged refl) ∙ dir)
+
+pub made_dir : (p : List ℕ) (t u : Image) → p ≡ stage_name → u ≡ placed p (Some (Dir 448 false)) t → is_dir (u.look stage_name) ≡ true
+made_dir p t u at made = ap is_dir (ap u.look (sym at) ∙ ap (λ (w : Image). w.look p) made ∙ look_placed p (Some (Dir 448 false)) t)
+
+none_in_stage : (t : Image) (n : ℕ) → (placed stage_name (Some (Dir 448 false)) t).look (stage_path n) ≡ None
+unfolding stage_name
+none_in_stage t n = refl
+
+pub made_empty : (p : List ℕ) (t u : Image) → p ≡ stage_name → u ≡ placed p (Some (Dir 448 false)) t → (n : ℕ) → u.look (stage_path n) ≡ None
+made_empty p t u at made n = ap (λ (w : Image). w.look (stage_path n)) (made ∙ ap (λ (x : List ℕ). placed x (Some (Dir 448 false)) t) at) ∙ none_in_stage t n
+
+in_stage : (t u : Image) → Agrees (covers stage_name) nowhere t u → Agrees is_swept nowhere t u
+in_stage t u h = agrees_less (covers stage_name) nowhere is_swept nowhere t u stage_swept (λ q l. l) h
+
+pub standing_staged : (t u : Image) → Agrees (covers stage_name) nowhere t u → (staged : List Staged) → AreSeen staged → AreStanding t staged → AreStanding u staged
+standing_staged t u h staged seen there = standing_swept t u (in_stage t u h) staged seen there
+
+module _ {F : Type 0} (o : Outside F) (sane : IsOutside o) where
+  pub stage_made : (p : List ℕ) → p ≡ stage_name → (old new : F) (to : State) {T E : Type 0} (result : Result T E) → o.tells old ≡ true → Writes o (covers p) nowhere to old new result → Keeps o (covers stage_name) nowhere old new
+  stage_made p at old new to result told w = wrote o sane (covers stage_name) p (λ q off. ap (λ (x : List ℕ). covers x q) at ∙ off) old new to result told w
+
+  pub stage_kept : (old new : F) → Keeps o (covers stage_name) nowhere old new → Keeps o is_swept nowhere old new
+  stage_kept old new run = keeps_wider o (covers stage_name) nowhere is_swept nowhere old new stage_swept (λ q n. n) run
+
+  pub journal_kept : (p : List ℕ) → p ≡ journal_name → (old mid new : F) → Keeps o (covers stage_name) nowhere old mid → Keeps o (covers p) nowhere mid new → Keeps o is_swept nowhere old new
+  journal_kept p at old mid new first run = keeps_then o is_swept nowhere old mid new (stage_kept old mid first)
+      (keeps_wider o (covers p) nowhere is_swept nowhere mid new (λ q off. ap (λ (x : List ℕ). covers x q) at ∙ journal_swept q off) (λ q n. n) run)
+
+pub all_filled : (tells : Bool) (repository : Image) (publisher text : List ℕ) (staged : List Staged) (p : List ℕ) (t u v : Image) (s : State) → p ≡ journal_name → IsCleared t → AreSeen staged
+    → Agrees (covers stage_name) nowhere t u → Agrees (covers stage_name) nowhere t v → Agrees (covers p) nowhere v s.held → AreContents tells repository publisher u staged (stage_of v)
+    → s.held.look p ≡ Some (File 384 text) → IsSettled s → IsFilled tells repository publisher text staged t s
+all_filled tells repository publisher text staged p t u v s at cleared seen made filled last are file safe = record {
+  safe = safe;
+  journal = ap file_bytes (ap s.held.look (sym at) ∙ file);
+  contents = λ n x there.
+      let old = contents_swept tells repository publisher t u (in_stage t u made) staged seen (stage_of v) are n x there in
+      (old.0, ap file_bytes (last.look (stage_path n) (off (stage_path n) (content_unlisted n)) refl) ∙ old.1, old.2);
+  unmarked = λ q is.
+      let cut = behind_front mark_front q is in
+      last.look q (off q (ap (covers journal_name) cut.1 ∙ mark_journal cut.0)) refl ∙ filled.look q (ap (covers stage_name) cut.1 ∙ mark_stage cut.0) refl ∙ cleared q (mark_is_swept q is);
+}
+  where
+    off : (q : List ℕ) → covers journal_name q ≡ false → covers p q ≡ false
+    off q none = ap (λ (x : List ℕ). covers x q) at ∙ none
+
+-- ---- the list stands ready
+
+some_content : (tells : Bool) (repository : Image) (publisher : List ℕ) (t : Image) (staged : List Staged) (contents : ℕ → Option (List ℕ)) → AreContents tells repository publisher t staged contents
+    → (n : ℕ) → n < length staged → is_some (contents n) ≡ true
+some_content tells repository publisher t staged contents are n lt = elim (slice_get_cases staged n).1 [
+  | inl there ↦ let content = are n there.0 there.2 in ap is_some content.1
+  | inr past ↦ absurd (omega (arith, past.0))
+]
+
+pub has_staged : (tells : Bool) (repository : Image) (publisher text : List ℕ) (steps : List Step) (staged : List Staged) (t : Image) (s : State) → IsImage t → IsJournal steps → CanStage steps staged t
+    → text ≡ journal_text steps → Agrees is_swept nowhere t s.held → IsFilled tells repository publisher text staged t s → HasStaged tells repository publisher steps staged t s
+has_staged tells repository publisher text steps staged t s formed lists can text_is h filled =
+    let contents = stage_of s.held in
+    let po : possible contents steps t ≡ true = can.can contents (some_content tells repository publisher t staged contents filled.contents) in
+    let wide : Agrees (λ q. freed steps q || is_private q) (met contents steps t) t s.held =
+    agrees_less is_swept nowhere (λ q. freed steps q || is_private q) (met contents steps t) t s.held (λ q off. unswept q (or_parts (freed steps q) (is_private q) off).1) (λ q l. refl) h in
+    let both = again_but is_private contents steps t s.held (nodes_of t formed) can.is_sound (all_clear steps lists.names) po wide in
+    record {
+      contents = contents;
+      are = filled.contents;
+      is = record {
+        safe = filled.safe;
+        shut = h.look gate_name gate_unswept refl ∙ can.shut;
+        unmarked = filled.unmarked;
+        ready = record {
+          lists = lists;
+          is_sound = can.is_sound;
+          journal = filled.journal ∙ ap (λ (l : List ℕ). Some l) text_is;
+          marked = record { stand = λ i lt. absurd (omega (arith, lt)); last = filled.unmarked (mark_name 1) (begins_front mark_front (decimal 1)) };
+          can = both.0;
+          means = visible_agrees (all_laid contents steps t) (all_laid contents steps s.held) both.1;
+        };
+      };
+    }

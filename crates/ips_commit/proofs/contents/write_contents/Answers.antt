@@ -1,0 +1,109 @@
+use Rattle.std.proofs.Common.{◌≡◌, ℕ, ◌<◌, ◌^◌, Bool, Err, List, refl, sym, ◌∙◌, ap, subst, arith}
+use Rattle.std.proofs.lemmas.Option.{slice_get_within}
+use Rattle.ips_text.specs.Ancestry.{covers}
+use Rattle.ips_outside.specs.Image.{Image, is_dir}
+use Rattle.ips_outside.specs.State.{State, nowhere}
+use Rattle.ips_folder.proofs.Runs.{begun, keeps_then, keeps_wider}
+use Rattle.ips_steps.specs.Steps.{stage_name, stage_path}
+use Rattle.ips_repo.proofs.Calls.{answered, reads_none, reads_then}
+use Rattle.ips_journal.specs.declared.staged.Staged.{Staged}
+use Rattle.ips_commit.specs.Contents.{IsContent, IsIntactContent, SaysOfContent, SaysOfStage}
+use Rattle.ips_commit.specs.declared.fault.StageFault.{StageFault}
+use Rattle.ips_commit.proofs.AllWritten.{IsIntactAt, can_put, standing_in_stage, content_then, content_apart, content_in_stage, wrote_at, here, stage_apart, written_more, empty_more, each_more, says_of_stage, as_bad}
+use Rattle.ips_commit.proofs.contents.write_contents.Goals as goal
+
+pub loop-number-init : goal.loop-number-init
+loop-number-init g c = record {
+  kind = refl;
+  faults = refl;
+  reads = reads_none g.S.Source.outside c.args.source.now ⊥ (λ f. f);
+  stage = c.requires.stage;
+  empty = λ told n le small. c.requires.empty told n;
+  written = λ told n s lt at. absurd (omega (arith, lt));
+  intact = λ told n s lt at. absurd (omega (arith, lt));
+  moments = λ told. begun g.F.Source.outside (covers stage_name) nowhere c.args.folder.now (g.met.F.Source.sane.only_now c.args.folder.now);
+}
+
+pub write_content-requires-clause-can : goal.write_content-requires-clause-can
+write_content-requires-clause-can g c = λ told_now.
+    let inv = c.loop-number.invariant in
+    let told = sym inv.kind ∙ told_now in
+    can_put (g.F.Source.outside.state c.loop-number.folder).held c.loop-number.number c.in_ok-path.path.bytes c.in_ok-path.ensures (omega arith) (inv.empty told c.loop-number.number (omega arith) (omega arith)) (inv.stage told)
+
+pub write_content-requires-clause-standing : goal.write_content-requires-clause-standing
+write_content-requires-clause-standing g c = λ told_now.
+    let inv = c.loop-number.invariant in
+    let told = sym inv.kind ∙ told_now in
+    let at = here c.args.staged.now c.loop-number.number c.index-staged-number.result c.loop-number-test.true c.index-staged-number.is in
+    standing_in_stage (g.F.Source.outside.state c.args.folder.now).held (g.F.Source.outside.state c.loop-number.folder).held (inv.moments told).now.agrees c.index-staged-number.result
+    (c.requires.seen c.loop-number.number c.index-staged-number.result at) (c.requires.standing told c.loop-number.number c.index-staged-number.result at)
+
+pub write_content-requires-clause-apart : goal.write_content-requires-clause-apart
+write_content-requires-clause-apart g c =
+    content_apart c.loop-number.number c.in_ok-path.path.bytes c.in_ok-path.ensures c.index-staged-number.result
+    (c.requires.seen c.loop-number.number c.index-staged-number.result (here c.args.staged.now c.loop-number.number c.index-staged-number.result c.loop-number-test.true c.index-staged-number.is))
+
+pub returns-in-Err-clause-refused : goal.returns-in-Err-clause-refused
+returns-in-Err-clause-refused g c =
+    let o = g.S.Source.outside in
+    let inv = c.loop-number.invariant in
+    let s = c.index-staged-number.result in
+    let kind : o.tells c.loop-number.source ≡ o.tells c.args.source.now = inv.reads.call.same_kind in
+    let same : (o.state c.loop-number.source).held ≡ (o.state c.args.source.now).held = ap (λ (x : State). x.held) inv.reads.kept in
+    as_bad (Unit {0}) c.in-Err.fault (SaysOfContent (o.tells c.loop-number.source) (o.state c.loop-number.source).held c.args.publisher.now s) (SaysOfStage (o.tells c.args.source.now) (o.state c.args.source.now).held c.args.publisher.now c.args.staged.now)
+    (λ why says. says_of_stage (o.tells c.args.source.now) (o.state c.args.source.now).held c.args.publisher.now c.args.staged.now c.loop-number.number s
+    (here c.args.staged.now c.loop-number.number s c.loop-number-test.true c.index-staged-number.is) inv.intact why
+    (subst (λ (b : Bool). SaysOfContent b (o.state c.args.source.now).held c.args.publisher.now s why) kind (subst (λ (t : Image). SaysOfContent (o.tells c.loop-number.source) t c.args.publisher.now s why) same says)))
+    c.in-Err.ensures.refused
+
+pub returns-in-Err-clause-any_moment : goal.returns-in-Err-clause-any_moment
+returns-in-Err-clause-any_moment g c = λ told.
+    let inv = c.loop-number.invariant in
+    keeps_then g.F.Source.outside (covers stage_name) nowhere c.args.folder.now c.loop-number.folder c.write_content.new.folder (inv.moments told)
+    (keeps_wider g.F.Source.outside (covers c.in_ok-path.path.bytes) nowhere (covers stage_name) nowhere c.loop-number.folder c.write_content.new.folder (content_in_stage c.loop-number.number c.in_ok-path.path.bytes c.in_ok-path.ensures) (λ q n. n)
+    (c.write_content.ensures.any_moment (inv.kind ∙ told)))
+
+pub loop-number-preserved : goal.loop-number-preserved
+loop-number-preserved g c =
+    let o = g.F.Source.outside in
+    let so = g.S.Source.outside in
+    let inv = c.loop-number.invariant in
+    let i = c.loop-number.number in
+    let s = c.index-staged-number.result in
+    let staged = c.args.staged.now in
+    let publisher = c.args.publisher.now in
+    let p = c.in_ok-path.path.bytes in
+    let t0 = (o.state c.args.folder.now).held in
+    let t = (o.state c.loop-number.folder).held in
+    let u = (o.state c.write_content.new.folder).held in
+    let kind : so.tells c.loop-number.source ≡ so.tells c.args.source.now = inv.reads.call.same_kind in
+    let same : (so.state c.loop-number.source).held ≡ (so.state c.args.source.now).held = ap (λ (x : State). x.held) inv.reads.kept in
+    record {
+      kind = c.write_content.ensures.same_kind ∙ inv.kind;
+      faults = c.write_content.ensures.cause.steady (λ failed. let bad = sym c.in-Ok.is ∙ failed in cc) ∙ inv.faults;
+      reads = reads_then so c.args.source.now c.loop-number.source c.write_content.new.source _ ⊥ inv.reads c.write_content.ensures.reads (λ failed. let bad = sym c.in-Ok.is ∙ failed in cc) (λ f. absurd f);
+      stage = λ told. ap is_dir ((c.write_content.ensures.any_moment (inv.kind ∙ told)).now.agrees.look stage_name (ap (λ (x : List ℕ). covers x stage_name) c.in_ok-path.ensures ∙ stage_apart i) refl) ∙ inv.stage told;
+      empty = λ told.
+          let wrote = wrote_at i p c.in_ok-path.ensures t u (c.write_content.ensures.any_moment (inv.kind ∙ told)).now.agrees in
+          empty_more staged i s c.loop-number-test.true c.index-staged-number.is (so.tells c.args.source.now) (so.state c.args.source.now).held publisher t0 t u (omega arith) wrote (inv.empty told);
+      written = λ told.
+          let wrote = wrote_at i p c.in_ok-path.ensures t u (c.write_content.ensures.any_moment (inv.kind ∙ told)).now.agrees in
+          let made = c.in-Ok.ensures.written (inv.kind ∙ told) in
+          let at = here staged i s c.loop-number-test.true c.index-staged-number.is in
+          written_more staged i s c.loop-number-test.true c.index-staged-number.is (so.tells c.args.source.now) (so.state c.args.source.now).held publisher t0 t u (omega arith) wrote made.0
+          (ap u.look (sym c.in_ok-path.ensures) ∙ made.1)
+          (content_then t0 t (inv.moments told).now.agrees s (c.requires.seen i s at) (so.tells c.loop-number.source) (so.tells c.args.source.now) (so.state c.loop-number.source).held (so.state c.args.source.now).held publisher kind same made.0 made.2)
+          (inv.written told);
+      intact = λ told. each_more staged i s c.loop-number-test.true c.index-staged-number.is (IsIntactAt (so.state c.args.source.now).held publisher)
+          (subst (λ (r : Image). IsIntactContent r publisher s) same (c.in-Ok.ensures.intact (kind ∙ told))) (inv.intact told);
+      moments = λ told. keeps_then o (covers stage_name) nowhere c.args.folder.now c.loop-number.folder c.write_content.new.folder (inv.moments told)
+          (keeps_wider o (covers p) nowhere (covers stage_name) nowhere c.loop-number.folder c.write_content.new.folder (content_in_stage i p c.in_ok-path.ensures) (λ q n. n) (c.write_content.ensures.any_moment (inv.kind ∙ told)));
+    }
+
+pub returns-clause-written : goal.returns-clause-written
+returns-clause-written g c = λ told n s at.
+    c.loop-number.invariant.written told n s (omega (arith, slice_get_within c.args.staged.now n s at)) at
+
+pub returns-clause-intact : goal.returns-clause-intact
+returns-clause-intact g c = λ told n s at.
+    c.loop-number.invariant.intact told n s (omega (arith, slice_get_within c.args.staged.now n s at)) at

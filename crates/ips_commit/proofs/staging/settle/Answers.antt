@@ -1,0 +1,33 @@
+use Rattle.std.proofs.Common.{◌≡◌, List, sym, ◌∙◌, ap, subst}
+use Rattle.ips_text.specs.Kept.{Kept}
+use Rattle.ips_outside.specs.Image.{Image}
+use Rattle.ips_outside.specs.State.{State}
+use Rattle.ips_outside.specs.Children.{bytes_of}
+use Rattle.ips_commit.specs.Pending.{HasNoOtherMark, IsSwept}
+use Rattle.ips_commit.proofs.Staged.{synced_swept, swept_now, cleared_by}
+use Rattle.ips_commit.proofs.staging.settle.Goals as goal
+
+pub returns-clause-any_moment : goal.returns-clause-any_moment
+returns-clause-any_moment g c = λ told.
+    let o = g.F.Source.outside in
+    let told_1 = c.sync.ensures.call.same_kind ∙ told in
+    synced_swept o g.met.F.Source.sane c.args.folder.now c.sync.new.self c.sync.ensures.call.time (c.in-Ok.ensures.done told) c.marks.new.folder _ c.marks.ensures.reads c.sweep.new.folder
+    (c.sweep.ensures.any_moment (c.marks.ensures.reads.call.same_kind ∙ told_1))
+
+pub returns-clause-within : goal.returns-clause-within
+returns-clause-within g c = λ told.
+    let o = g.F.Source.outside in
+    let told_1 = c.sync.ensures.call.same_kind ∙ told in
+    swept_now o g.met.F.Source.sane c.args.folder.now c.sync.new.self c.sync.ensures.call.time (c.in-Ok.ensures.done told) c.marks.new.folder _ c.marks.ensures.reads c.sweep.new.folder
+    (c.sweep.ensures.any_moment (c.marks.ensures.reads.call.same_kind ∙ told_1))
+
+pub returns-clause-cleared : goal.returns-clause-cleared
+returns-clause-cleared g c = λ told.
+    let o = g.F.Source.outside in
+    let told_1 = c.sync.ensures.call.same_kind ∙ told in
+    let t = (o.state c.marks.new.folder).held in
+    let same : (o.state c.sync.new.self).held ≡ t = ap (λ (s : State). s.held) (sym c.marks.ensures.reads.kept) in
+    let others : HasNoOtherMark t (bytes_of c.in_ok-marks.marks.items) = subst (λ (u : Image). HasNoOtherMark u (bytes_of c.in_ok-marks.marks.items)) same (c.in_ok-marks.ensures.found told_1).others in
+    let swept : IsSwept (bytes_of c.in_ok-marks.marks.items) t (o.state c.sweep.new.folder).held = subst (λ (l : List Kept). IsSwept (bytes_of l) t (o.state c.sweep.new.folder).held) c.deref.ensures.value
+    (c.in-Ok-sweep.ensures.swept (c.marks.ensures.reads.call.same_kind ∙ told_1)) in
+    cleared_by (bytes_of c.in_ok-marks.marks.items) t (o.state c.sweep.new.folder).held others swept

@@ -1,0 +1,42 @@
+use Rattle.std.proofs.Common.{◌≡◌, ap, ◌∙◌, sym}
+use Rattle.ips_outside.specs.State.{State}
+use Rattle.ips_outside.proofs.Moments.{within_then}
+use Rattle.ips_outside.specs.State.{nowhere, settled}
+use Rattle.ips_commit.specs.Pending.{is_swept}
+use Rattle.ips_commit.proofs.Staged.{standing_swept, records_swept, behind_then, filled_swept}
+use Rattle.ips_commit.proofs.staging.write_stage.Goals as goal
+
+pub fill-requires-clause-records : goal.fill-requires-clause-records
+fill-requires-clause-records g c = λ told_now.
+    let o = g.F.Source.outside in
+    let told = sym c.settle.ensures.same_kind ∙ told_now in
+    records_swept (o.state c.args.folder.now).held (o.state c.settle.new.folder).held (c.in-Ok.ensures.within told).agrees (c.requires.records told)
+
+pub fill-requires-clause-standing : goal.fill-requires-clause-standing
+fill-requires-clause-standing g c = λ told_now.
+    let o = g.F.Source.outside in
+    let told = sym c.settle.ensures.same_kind ∙ told_now in
+    standing_swept (o.state c.args.folder.now).held (o.state c.settle.new.folder).held (c.in-Ok.ensures.within told).agrees c.args.staged.now c.requires.seen (c.requires.standing told)
+
+pub returns-in_err-fill-clause-any_moment : goal.returns-in_err-fill-clause-any_moment
+returns-in_err-fill-clause-any_moment g c = λ told.
+    behind_then g.F.Source.outside g.met.F.Source.sane c.args.folder.now c.settle.new.folder c.fill.new.folder (c.settle.ensures.any_moment told) (c.in-Ok.ensures.within told)
+    (c.fill.ensures.any_moment (c.settle.ensures.same_kind ∙ told))
+
+pub returns-clause-any_moment : goal.returns-clause-any_moment
+returns-clause-any_moment g c = λ told.
+    behind_then g.F.Source.outside g.met.F.Source.sane c.args.folder.now c.settle.new.folder c.fill.new.folder (c.settle.ensures.any_moment told) (c.in-Ok.ensures.within told)
+    (c.fill.ensures.any_moment (c.settle.ensures.same_kind ∙ told))
+
+pub returns-clause-within : goal.returns-clause-within
+returns-clause-within g c = λ told.
+    let o = g.F.Source.outside in
+    within_then is_swept nowhere (settled (o.state c.args.folder.now)) (o.state c.settle.new.folder) (o.state c.fill.new.folder) (c.in-Ok.ensures.within told)
+    (c.fill.ensures.any_moment (c.settle.ensures.same_kind ∙ told)).now
+
+pub returns-clause-filled : goal.returns-clause-filled
+returns-clause-filled g c = λ told.
+    let o = g.F.Source.outside in
+    filled_swept (g.S.Source.outside.tells c.args.source.now) (g.S.Source.outside.state c.args.source.now).held c.args.publisher.now c.args.text.now c.args.staged.now
+    (o.state c.args.folder.now).held (o.state c.settle.new.folder).held (o.state c.fill.new.folder) (c.in-Ok.ensures.within told).agrees c.requires.seen
+    (c.in_ok-fill.ensures.filled (c.settle.ensures.same_kind ∙ told))

@@ -1,0 +1,53 @@
+use Rattle.std.proofs.Common.{◌≡◌, false, Bool, List, ℕ, None, sym, ◌∙◌, ap, subst}
+use Rattle.ips_text.specs.Ancestry.{covers}
+use Rattle.ips_outside.specs.Image.{Image}
+use Rattle.ips_outside.specs.Change.{placed}
+use Rattle.ips_outside.specs.State.{State, nowhere}
+use Rattle.ips_steps.specs.Steps.{stage_name}
+use Rattle.ips_steps.specs.Private.{journal_name, mark_front, begins}
+use Rattle.ips_folder.proofs.Runs.{keeps_then, keeps_wider}
+use Rattle.ips_commit.specs.Pending.{is_swept}
+use Rattle.ips_commit.proofs.OwnNames.{stage_swept, journal_swept, marks_swept}
+use Rattle.ips_commit.proofs.Swept.{wrote, wrote_then, swept_all}
+use Rattle.ips_commit.proofs.sweeping.sweep.Goals as goal
+
+journal_off : (p : List ℕ) → p ≡ journal_name → (q : List ℕ) → is_swept q ≡ false → covers p q ≡ false
+journal_off p is q off = ap (λ (x : List ℕ). covers x q) is ∙ journal_swept q off
+
+stage_off : (p : List ℕ) → p ≡ stage_name → (q : List ℕ) → is_swept q ≡ false → covers p q ≡ false
+stage_off p is q off = ap (λ (x : List ℕ). covers x q) is ∙ stage_swept q off
+
+pub returns-in_err-remove-clause-any_moment : goal.returns-in_err-remove-clause-any_moment
+returns-in_err-remove-clause-any_moment g c = λ told.
+    wrote g.F.Source.outside g.met.F.Source.sane is_swept _ (journal_off _ c.args.names.now.journal_is) c.args.folder.now c.remove.new.self _ c.remove.result told c.remove.ensures
+
+pub returns-in_err-remove-2-clause-any_moment : goal.returns-in_err-remove-2-clause-any_moment
+returns-in_err-remove-2-clause-any_moment g c = λ told.
+    let first = wrote g.F.Source.outside g.met.F.Source.sane is_swept _ (journal_off _ c.args.names.now.journal_is) c.args.folder.now c.remove.new.self _ c.remove.result told c.remove.ensures in
+    wrote_then g.F.Source.outside g.met.F.Source.sane is_swept _ (stage_off _ c.args.names.now.stage_is) c.args.folder.now c.remove.new.self c.remove-2.new.self _ c.remove-2.result first (c.remove.ensures.call.same_kind ∙ told) c.remove-2.ensures
+
+pub returns-in_err-remove_all-clause-any_moment : goal.returns-in_err-remove_all-clause-any_moment
+returns-in_err-remove_all-clause-any_moment g c = λ told.
+    let told_1 = c.remove.ensures.call.same_kind ∙ told in
+    let first = wrote g.F.Source.outside g.met.F.Source.sane is_swept _ (journal_off _ c.args.names.now.journal_is) c.args.folder.now c.remove.new.self _ c.remove.result told c.remove.ensures in
+    let second = wrote_then g.F.Source.outside g.met.F.Source.sane is_swept _ (stage_off _ c.args.names.now.stage_is) c.args.folder.now c.remove.new.self c.remove-2.new.self _ c.remove-2.result first told_1 c.remove-2.ensures in
+    keeps_then g.F.Source.outside is_swept nowhere c.args.folder.now c.remove-2.new.self c.remove_all.new.folder second
+    (keeps_wider g.F.Source.outside (begins mark_front) nowhere is_swept nowhere c.remove-2.new.self c.remove_all.new.folder marks_swept (λ q n. n) (c.remove_all.ensures.any_moment (c.remove-2.ensures.call.same_kind ∙ told_1)))
+
+pub returns-clause-any_moment : goal.returns-clause-any_moment
+returns-clause-any_moment g c = λ told.
+    let told_1 = c.remove.ensures.call.same_kind ∙ told in
+    let first = wrote g.F.Source.outside g.met.F.Source.sane is_swept _ (journal_off _ c.args.names.now.journal_is) c.args.folder.now c.remove.new.self _ c.remove.result told c.remove.ensures in
+    let second = wrote_then g.F.Source.outside g.met.F.Source.sane is_swept _ (stage_off _ c.args.names.now.stage_is) c.args.folder.now c.remove.new.self c.remove-2.new.self _ c.remove-2.result first told_1 c.remove-2.ensures in
+    keeps_then g.F.Source.outside is_swept nowhere c.args.folder.now c.remove-2.new.self c.remove_all.new.folder second
+    (keeps_wider g.F.Source.outside (begins mark_front) nowhere is_swept nowhere c.remove-2.new.self c.remove_all.new.folder marks_swept (λ q n. n) (c.remove_all.ensures.any_moment (c.remove-2.ensures.call.same_kind ∙ told_1)))
+
+pub returns-clause-swept : goal.returns-clause-swept
+returns-clause-swept g c = λ told.
+    let o = g.F.Source.outside in
+    let told_1 = c.remove.ensures.call.same_kind ∙ told in
+    let told_2 = c.remove-2.ensures.call.same_kind ∙ told_1 in
+    swept_all _ (o.state c.args.folder.now).held (o.state c.remove.new.self).held (o.state c.remove-2.new.self).held (o.state c.remove_all.new.folder).held
+    (ap (λ (s : State). s.held) (c.in_ok-remove.ensures.done told) ∙ ap (λ (p : List ℕ). placed p None (o.state c.args.folder.now).held) c.args.names.now.journal_is)
+    (ap (λ (s : State). s.held) (c.in_ok-remove-2.ensures.done told_1) ∙ ap (λ (p : List ℕ). placed p None (o.state c.remove.new.self).held) c.args.names.now.stage_is)
+    (c.in_ok-remove_all.ensures.gone told_2) (c.in_ok-remove_all.ensures.nothing_new told_2)

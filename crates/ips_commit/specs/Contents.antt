@@ -1,0 +1,134 @@
+-- What is to be staged, and why a payload isn't.
+use Rattle.std.specs.Prelude.{◌≡◌, ◌≢◌, ℕ, ◌<◌, ◌≤◌, Bool, IsTrue, IsFalse, List, length, slice_get, Option, Some, None}
+use Rattle.ips_text.specs.Ancestry.{covers}
+use Rattle.ips_text.specs.declared.limits.Which.TheVariants.{PayloadBytes}
+use Rattle.ips_outside.specs.Image.{Image, File, is_file, file_bytes}
+use Rattle.ips_digest.specs.declared.name.PayloadName.{PayloadName}
+use Rattle.ips_repo.specs.Files.{file_at, HasSize}
+use Rattle.ips_repo.specs.Places.{payload_place}
+use Rattle.ips_repo.specs.Payload.{payload_limit, digest_by, IsDamage}
+use Rattle.ips_repo.specs.declared.fault.RepoFault.{RepoFault}
+use Rattle.ips_repo.specs.declared.fault.RepoFault.TheVariants as fault
+use Rattle.ips_steps.specs.Steps.{Stage}
+use Rattle.ips_steps.specs.Private.{is_private}
+use Rattle.ips_journal.specs.declared.staged.Staged.{Staged}
+use Rattle.ips_journal.specs.declared.staged.Staged.TheVariants.{Payload, Bytes, Standing}
+use Rattle.ips_commit.specs.declared.fault.StageFault.{StageFault}
+use Rattle.ips_commit.specs.declared.fault.StageFault.TheVariants as stage
+
+-- These bytes are a payload of the publisher: their digest is its name, and they are the file at its place, where the
+-- repository tells what it holds.
+pub record IsPayload (tells : Bool) (repository : Image) (publisher : List ℕ) (name : PayloadName) (bytes : List ℕ) : Type 0 where
+  pub intact : digest_by name bytes ≡ name
+  pub held : IsTrue tells → file_at repository (payload_place publisher name) ≡ Some bytes
+
+-- what is to be staged is these bytes: those of a payload, those that were handed in, or those of a file of the image
+abbrev pub IsContent : Bool → Image → List ℕ → Image → Staged → List ℕ → Type 0
+IsContent tells repository publisher t (Payload name) bytes = IsPayload tells repository publisher name bytes
+IsContent tells repository publisher t (Bytes given) bytes = bytes ≡ given.items
+IsContent tells repository publisher t (Standing path) bytes = file_bytes (t.look path.bytes) ≡ Some bytes
+
+-- each numbered content has the bytes of what is to be staged at its place
+abbrev pub AreContents : Bool → Image → List ℕ → Image → List Staged → Stage → Type 0
+AreContents tells repository publisher t staged contents = (n : ℕ) (s : Staged) → slice_get staged n ≡ Some s
+    → (bytes : List ℕ) × (contents n ≡ Some bytes) × IsContent tells repository publisher t s bytes
+
+-- the faults that a payload can have, apart from what the repository holds: it is missing, too large, or its bytes have
+-- another digest
+abbrev pub IsPayloadFault : PayloadName → RepoFault → Type 0
+IsPayloadFault name fault.NoRepository = ⊥
+IsPayloadFault name (fault.BadCatalog why) = ⊥
+IsPayloadFault name fault.ManifestMissing = ⊥
+IsPayloadFault name (fault.BadManifest why) = ⊥
+IsPayloadFault name fault.PayloadMissing = Unit {0}
+IsPayloadFault name (fault.PayloadDamaged found) = found ≢ name
+IsPayloadFault name (fault.Compressed found) = found ≢ name
+IsPayloadFault name (fault.TooLarge which count) = (which ≡ PayloadBytes) × (payload_limit < count)
+IsPayloadFault name fault.SourceFault = ⊥
+
+-- the payload's file has this fault: there is none, it has more bytes than a payload may have, or its bytes are damaged
+abbrev pub IsFaultOf : PayloadName → Option (List ℕ) → RepoFault → Type 0
+IsFaultOf name file fault.NoRepository = ⊥
+IsFaultOf name file (fault.BadCatalog why) = ⊥
+IsFaultOf name file fault.ManifestMissing = ⊥
+IsFaultOf name file (fault.BadManifest why) = ⊥
+IsFaultOf name file fault.PayloadMissing = file ≡ None
+IsFaultOf name file (fault.PayloadDamaged found) = (bytes : List ℕ) × (file ≡ Some bytes) × (length bytes ≤ payload_limit) × IsDamage name bytes (fault.PayloadDamaged found)
+IsFaultOf name file (fault.Compressed found) = (bytes : List ℕ) × (file ≡ Some bytes) × (length bytes ≤ payload_limit) × IsDamage name bytes (fault.Compressed found)
+IsFaultOf name file (fault.TooLarge which count) = HasSize file count × (which ≡ PayloadBytes) × (payload_limit < count)
+IsFaultOf name file fault.SourceFault = ⊥
+
+-- The payload's file has no fault.
+pub record IsIntact (name : PayloadName) (file : Option (List ℕ)) : Type 0 where
+  pub bytes : List ℕ
+  pub stands : file ≡ Some bytes
+  pub within : length bytes ≤ payload_limit
+  pub intact : digest_by name bytes ≡ name
+
+-- what is staged, where it is a payload, is one whose file has no fault
+abbrev pub IsIntactContent : Image → List ℕ → Staged → Type 0
+IsIntactContent repository publisher (Payload name) = IsIntact name (file_at repository (payload_place publisher name))
+IsIntactContent repository publisher (Bytes given) = Unit {0}
+IsIntactContent repository publisher (Standing path) = Unit {0}
+
+-- so are all of the list
+abbrev pub AreIntact : Image → List ℕ → List Staged → Type 0
+AreIntact repository publisher staged = (n : ℕ) (s : Staged) → slice_get staged n ≡ Some s → IsIntactContent repository publisher s
+
+-- what a fault of staging says of a payload: it has such a fault, and its file has it, where the repository tells what it holds
+abbrev pub SaysOfPayload : Bool → Image → List ℕ → PayloadName → StageFault → Type 0
+SaysOfPayload tells repository publisher name (stage.Payload other why) =
+    (other ≡ name) × IsPayloadFault name why × (IsTrue tells → IsFaultOf name (file_at repository (payload_place publisher name)) why)
+SaysOfPayload tells repository publisher name stage.SourceFault = Unit {0}
+SaysOfPayload tells repository publisher name stage.FolderFault = Unit {0}
+
+-- a payload's fault is told where a payload is to be staged
+abbrev pub SaysOfContent : Bool → Image → List ℕ → Staged → StageFault → Type 0
+SaysOfContent tells repository publisher (Payload name) why = SaysOfPayload tells repository publisher name why
+SaysOfContent tells repository publisher (Bytes given) why = why ≡ stage.FolderFault
+SaysOfContent tells repository publisher (Standing path) why = why ≡ stage.FolderFault
+
+-- The first payload of the list that has a fault is this one, and this is its fault.
+pub record IsFirstFault (repository : Image) (publisher : List ℕ) (staged : List Staged) (name : PayloadName) (why : RepoFault) : Type 0 where
+  pub at : ℕ
+  pub stands : slice_get staged at ≡ Some (Payload name)
+  pub before : (n : ℕ) (s : Staged) → n < at → slice_get staged n ≡ Some s → IsIntactContent repository publisher s
+  pub is : IsFaultOf name (file_at repository (payload_place publisher name)) why
+
+-- what a fault of staging says: a payload of the list has such a fault, and is the first that has one, where the repository
+-- tells what it holds
+abbrev pub SaysOfStage : Bool → Image → List ℕ → List Staged → StageFault → Type 0
+SaysOfStage tells repository publisher staged (stage.Payload name why) = IsPayloadFault name why × (IsTrue tells → IsFirstFault repository publisher staged name why)
+SaysOfStage tells repository publisher staged stage.SourceFault = Unit {0}
+SaysOfStage tells repository publisher staged stage.FolderFault = Unit {0}
+
+-- what is to be staged from the image is a file that stands there
+abbrev pub IsStanding : Image → Staged → Type 0
+IsStanding t (Payload name) = Unit {0}
+IsStanding t (Bytes given) = Unit {0}
+IsStanding t (Standing from) = IsTrue (is_file (t.look from.bytes))
+
+-- so is each of the list
+abbrev pub AreStanding : Image → List Staged → Type 0
+AreStanding t staged = (n : ℕ) (s : Staged) → slice_get staged n ≡ Some s → IsStanding t s
+
+-- what is to be staged from the image stands neither at nor below the path
+abbrev pub IsApart : List ℕ → Staged → Type 0
+IsApart path (Payload name) = Unit {0}
+IsApart path (Bytes given) = Unit {0}
+IsApart path (Standing from) = IsFalse (covers path from.bytes)
+
+-- what is to be staged from the image stands at none of the updater's own names
+abbrev pub IsSeen : Staged → Type 0
+IsSeen (Payload name) = Unit {0}
+IsSeen (Bytes given) = Unit {0}
+IsSeen (Standing from) = IsFalse (is_private from.bytes)
+
+-- so does each of the list
+abbrev pub AreSeen : List Staged → Type 0
+AreSeen staged = (n : ℕ) (s : Staged) → slice_get staged n ≡ Some s → IsSeen s
+
+-- The file at the path has these bytes and no other name.
+pub record HoldsAlone (path bytes : List ℕ) (t : Image) : Type 0 where
+  pub file : t.look path ≡ Some (File 384 bytes)
+  pub sole : (q : List ℕ) → IsTrue (t.same path q) → q ≡ path

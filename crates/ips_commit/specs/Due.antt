@@ -1,0 +1,28 @@
+-- From when on the new image is due.
+use Rattle.std.specs.Prelude.{◌≢◌, ◌⊎◌, true, IsFalse, Some, None}
+use Rattle.ips_outside.specs.Image.{Image}
+use Rattle.ips_outside.specs.State.{State}
+use Rattle.ips_outside.specs.Outside.{Outside, Elapses}
+use Rattle.ips_folder.specs.Calls.{Throughout}
+use Rattle.ips_steps.specs.Private.{gate_name}
+use Rattle.ips_steps.specs.Owed.{FolderOwes}
+use Rattle.ips_journal.specs.Text.{journal_text}
+
+-- Something stands at the gate, and no crash takes it away.
+pub record IsSafelyOpen (s : State) : Type 0 where
+  pub stands : s.held.look gate_name ≢ None
+  pub safe : IsFalse (s.whole gate_name)
+
+-- The new image is due since a call, the sync of the gate: until then the gate was never safely open, it was right behind
+-- the call, and since then the folder owes the new image at every moment.
+pub record IsDueSince {F : Type 0} (o : Outside F) (b a : Image) (old new : F) : Type 0 where
+  pub before : F
+  pub since : F
+  pub not_yet : Throughout o old before (λ s. IsSafelyOpen s → ⊥)
+  pub call : Elapses o before since
+  pub is_open : IsSafelyOpen (o.state since)
+  pub owed : Throughout o since new (FolderOwes journal_text b (Some a) true)
+
+-- the gate was never safely open; or since it was, the new image is due
+abbrev pub DueOnceOpen : {F : Type 0} → Outside F → Image → Image → F → F → Type 0
+DueOnceOpen o b a old new = Throughout o old new (λ s. IsSafelyOpen s → ⊥) ⊎ IsDueSince o b a old new

@@ -1,0 +1,58 @@
+-- What a run that was stopped may have left at the updater's own names.
+use Rattle.std.specs.Prelude.{◌≡◌, ◌≢◌, ◌⊎◌, ℕ, Bool, ◌||◌, IsTrue, IsFalse, List, None, is_some}
+use Rattle.std.specs.List.{list_all, list_any}
+use Rattle.ips_text.specs.Ancestry.{covers}
+use Rattle.ips_outside.specs.Image.{Image}
+use Rattle.ips_outside.specs.State.{State, Within, IsSettled, nowhere, settled}
+use Rattle.ips_steps.specs.Steps.{stage_name}
+use Rattle.ips_steps.specs.Private.{journal_name, gate_name, mark_front, begins, is_private, visible}
+use Rattle.ips_commit.specs.declared.found.Pending.{Pending}
+use Rattle.ips_commit.specs.declared.found.Pending.TheVariants.{Nothing, Leftover, Open}
+
+-- nothing stands at any of the updater's own names
+abbrev pub IsBare : Image → Type 0
+IsBare t = (q : List ℕ) → IsTrue (is_private q) → t.look q ≡ None
+
+-- Something stands at one of them.
+pub record HasLeftover (t : Image) : Type 0 where
+  pub path : List ℕ
+  pub is_own : IsTrue (is_private path)
+  pub stands : t.look path ≢ None
+
+-- What is pending: nothing stands at the updater's own names; or the gate is closed, and what a staging or a sweeping left
+-- stands behind it; or something stands at the gate, so that the steps are to be laid.
+abbrev pub IsPending : Image → Pending → Type 0
+IsPending t Nothing = IsBare t
+IsPending t Leftover = (t.look gate_name ≡ None) × HasLeftover t
+IsPending t Open = t.look gate_name ≢ None
+
+-- the path is at or below the stage or the journal, or begins as the names of marks do: what is written and swept behind a
+-- closed gate
+abbrev pub is_swept : List ℕ → Bool
+is_swept q = covers stage_name q || (covers journal_name q || begins mark_front q)
+
+-- nothing has happened yet; or since all that was touched was made safe, only what is swept was changed and touched
+abbrev pub IsBehindGate : State → State → Type 0
+IsBehindGate old s = (s ≡ old) ⊎ Within is_swept nowhere (settled old) s
+
+-- no mark stands but these, and nothing below another
+abbrev pub HasNoOtherMark : Image → List (List ℕ) → Type 0
+HasNoOtherMark t marks = (q : List ℕ) → IsTrue (begins mark_front q) → IsFalse (list_any (λ m. covers m q) marks) → t.look q ≡ None
+
+-- These are the marks of an image: each of them stands, and no other.
+pub record AreMarkNames (t : Image) (marks : List (List ℕ)) : Type 0 where
+  pub stand : IsTrue (list_all (λ m. is_some (t.look m)) marks)
+  pub others : HasNoOtherMark t marks
+
+-- The stage, the journal and these marks are taken away, and nothing is made.
+pub record IsSwept (names : List (List ℕ)) (t u : Image) : Type 0 where
+  pub stage : (q : List ℕ) → IsTrue (covers stage_name q) → u.look q ≡ None
+  pub journal : (q : List ℕ) → IsTrue (covers journal_name q) → u.look q ≡ None
+  pub marks : (q : List ℕ) → IsTrue (list_any (λ m. covers m q) names) → u.look q ≡ None
+  pub nothing_new : (q : List ℕ) → t.look q ≡ None → u.look q ≡ None
+
+-- A change is done: this image is seen, nothing is left at the updater's own names, and nothing is touched.
+pub record IsDone (a : Image) (s : State) : Type 0 where
+  pub seen : visible s.held ≡ a
+  pub bare : IsBare s.held
+  pub safe : IsSettled s

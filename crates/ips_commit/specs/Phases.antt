@@ -1,0 +1,58 @@
+-- What the phases of a commit do to a folder.
+use Rattle.std.specs.Prelude.{◌≡◌, ◌⊎◌, ℕ, IsTrue, List, ◌++◌, length, take, Result, Ok, Err}
+use Rattle.ips_outside.specs.State.{IsSettled}
+use Rattle.ips_outside.specs.Outside.{Outside, Elapses}
+use Rattle.ips_folder.specs.Calls.{Throughout}
+use Rattle.ips_steps.specs.Steps.{Step, after, possible, stage_of}
+use Rattle.ips_steps.specs.Journal.{IsJournal}
+use Rattle.ips_kinds.specs.Tallies.{Carrier, all_counted}
+use Rattle.ips_journal.specs.Text.{journal_text}
+use Rattle.ips_journal.specs.Bad.{IsBadLine}
+use Rattle.ips_journal.specs.Reading.{Reading, IsAt, journal_of}
+use Rattle.ips_journal.specs.declared.fault.StepFault.{StepFault}
+use Rattle.ips_journal.specs.declared.fault.StepFault.TheVariants.{BadJournal, FolderFault}
+use Rattle.ips_apply.specs.Applied.{ChangedByAll, IsImpossible}
+use Rattle.ips_commit.specs.Due.{IsSafelyOpen}
+
+-- The gate was not safely open until the last call of a run, and is since.
+pub record Opens {F : Type 0} (o : Outside F) (old new : F) : Type 0 where
+  pub before : F
+  pub not_yet : Throughout o old before (λ s. IsSafelyOpen s → ⊥)
+  pub call : Elapses o before new
+  pub is_open : IsSafelyOpen (o.state new)
+
+-- The steps behind the front are all that the text lists there, they were possible and are laid, and nothing is touched.
+pub record AreSafelyLaid {F : Type 0} (o : Outside F) (text : List ℕ) (front steps : List Step) (old new : F) : Type 0 where
+  pub lists : IsJournal (front ++ steps)
+  pub text_is : text ≡ journal_text (front ++ steps)
+  pub can : IsTrue (possible (stage_of (o.state old).held) steps (o.state old).held)
+  pub held : (o.state new).held ≡ after steps (o.state old).held
+  pub safe : IsSettled (o.state new)
+
+-- Behind the front that line is the first that isn't of the grammar, or the first whose step can't be laid at its turn, behind
+-- these steps.
+pub record StopsAt {F : Type 0} (o : Outside F) (text : List ℕ) (front steps : List Step) (line : ℕ) (old : F) : Type 0 where
+  pub can : IsTrue (possible (stage_of (o.state old).held) steps (o.state old).held)
+  pub why : IsBadLine text line ⊎ IsImpossible text (front ++ steps) (after steps (o.state old).held) line
+
+-- How laying ended where these steps behind the front were finished: all are laid and safe; or a line is bad; or a call on
+-- the folder failed.
+abbrev pub LaysTo : {F : Type 0} → Outside F → List ℕ → List Step → List Step → F → F → Result ℕ StepFault → Type 0
+LaysTo o text front steps old new (Ok count) = AreSafelyLaid o text front steps old new × (count ≡ length steps)
+LaysTo o text front steps old new (Err (BadJournal line)) = StopsAt o text front steps line old
+LaysTo o text front steps old new (Err FolderFault) = Unit {0}
+
+-- The steps behind the front that were finished or begun: they are the next ones of whatever list the text is the journal
+-- of, and all that changed anything.
+pub record HasBegun {F : Type 0} (o : Outside F) (text : List ℕ) (front : List Step) (old new : F) : Type 0 where
+  pub begun : List Step
+  pub next : (all : List Step) → IsJournal all → text ≡ journal_text all → front ++ begun ≡ take (length (front ++ begun)) all
+  pub moments : ChangedByAll o begun old new
+
+-- What laying the steps of the journal from a reader's place on does: some are finished, each counted by the first kind that
+-- takes it; where the folder tells its image they are those of its journal behind the front that the reader has read.
+pub record Lays {F : Type 0} (o : Outside F) (old new : F) (r : Reading) (before now : List Carrier) (result : Result ℕ StepFault) : Type 0 where
+  pub steps : List Step
+  pub tallies : now ≡ all_counted steps before
+  pub ends : IsTrue (o.tells old) → (front : List Step) → IsAt (journal_of (o.state old).held) front r → LaysTo o (journal_of (o.state old).held) front steps old new result
+  pub changes : IsTrue (o.tells old) → (front : List Step) → IsAt (journal_of (o.state old).held) front r → HasBegun o (journal_of (o.state old).held) front old new

@@ -1,0 +1,48 @@
+-- What can be staged, and what then stands ready.
+use Rattle.std.specs.Prelude.{◌≡◌, ℕ, ◌<◌, Bool, IsTrue, List, length, Some, None, is_some}
+use Rattle.ips_outside.specs.Image.{Image, is_dir, file_bytes}
+use Rattle.ips_outside.specs.State.{State, IsSettled}
+use Rattle.ips_steps.specs.Steps.{Step, Stage, stage_of, all_laid, possible, sound}
+use Rattle.ips_steps.specs.Private.{records_name, journal_name, gate_name, mark_front, begins, visible}
+use Rattle.ips_steps.specs.Owed.{IsReady}
+use Rattle.ips_journal.specs.Text.{journal_text}
+use Rattle.ips_journal.specs.Reading.{puts_in}
+use Rattle.ips_journal.specs.declared.staged.Staged.{Staged}
+use Rattle.ips_commit.specs.Pending.{is_swept}
+use Rattle.ips_commit.specs.Contents.{AreContents, AreStanding}
+
+-- A list of steps that can be staged beside what it puts: it is sound; there is one content for each step that puts one;
+-- each that is to be taken from the image is a file there; and whatever bytes the contents have, it is possible. The folder
+-- of the records stands, and the gate is closed.
+pub record CanStage (steps : List Step) (staged : List Staged) (t : Image) : Type 0 where
+  pub is_sound : IsTrue (sound steps)
+  pub counted : puts_in steps ≡ length staged
+  pub standing : AreStanding t staged
+  pub can : (contents : Stage) → ((n : ℕ) → n < length staged → IsTrue (is_some (contents n))) → IsTrue (possible contents steps t)
+  pub records : IsTrue (is_dir (t.look records_name))
+  pub shut : t.look gate_name ≡ None
+
+-- Such a list is staged, and means this image: nothing is touched, the gate is closed, no mark stands, and all is ready.
+pub record IsStaged (steps : List Step) (a : Image) (s : State) : Type 0 where
+  pub safe : IsSettled s
+  pub shut : s.held.look gate_name ≡ None
+  pub unmarked : (q : List ℕ) → IsTrue (begins mark_front q) → s.held.look q ≡ None
+  pub ready : IsReady journal_text steps 0 a s.held
+
+-- The list was staged with the contents that were to be staged. It means what is seen once it is laid with these on the
+-- image that was held before.
+pub record HasStaged (tells : Bool) (repository : Image) (publisher : List ℕ) (steps : List Step) (staged : List Staged) (t : Image) (s : State) : Type 0 where
+  pub contents : Stage
+  pub are : AreContents tells repository publisher t staged contents
+  pub is : IsStaged steps (visible (all_laid contents steps t)) s
+
+-- nothing stands where staging writes
+abbrev pub IsCleared : Image → Type 0
+IsCleared t = (q : List ℕ) → IsTrue (is_swept q) → t.look q ≡ None
+
+-- The contents and this text of a journal are written, and nothing is touched.
+pub record IsFilled (tells : Bool) (repository : Image) (publisher text : List ℕ) (staged : List Staged) (t : Image) (s : State) : Type 0 where
+  pub safe : IsSettled s
+  pub journal : file_bytes (s.held.look journal_name) ≡ Some text
+  pub contents : AreContents tells repository publisher t staged (stage_of s.held)
+  pub unmarked : (q : List ℕ) → IsTrue (begins mark_front q) → s.held.look q ≡ None

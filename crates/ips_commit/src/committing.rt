@@ -1,0 +1,105 @@
+//! A staged change committed.
+
+ghost use Rattle.std.specs.Prelude.{◌≡◌, ◌<◌, ℕ, List, false, Some, Err, IsTrue, IfOk, IfErr, OnOk, length};
+ghost use Rattle.ips_outside.specs.Image.{Image};
+ghost use Rattle.ips_outside.specs.Outside.{HasCause};
+ghost use Rattle.ips_folder.specs.Calls.{CanMake, Throughout};
+ghost use Rattle.ips_steps.specs.Steps.{Step};
+ghost use Rattle.ips_steps.specs.Private.{gate_name, visible};
+ghost use Rattle.ips_steps.specs.Owed.{FolderOwes};
+ghost use Rattle.ips_steps.specs.declared.step.Sort.{Sort};
+ghost use Rattle.ips_kinds.specs.Tallies.{seen_by, taken, all_counted};
+ghost use Rattle.ips_journal.specs.Text.{journal_text};
+ghost use Rattle.ips_commit.specs.Pending.{IsDone};
+ghost use Rattle.ips_commit.specs.Due.{DueOnceOpen};
+ghost use Rattle.ips_commit.specs.Staging.{IsStaged};
+ghost use Rattle.ips_commit.specs.declared.fault.CommitFault.TheVariants as fault;
+
+use crate::fault::CommitFault;
+use crate::gate::{finish, lay, open};
+use crate::names::OwnNames;
+use crate::ready::Ready;
+use ips_folder::Folder;
+use ips_journal::{StepFault, StepReader};
+use ips_kinds::Kind;
+use ips_outside::Source;
+
+/// Commits what `stage` left: opens the gate, lays the steps, closes the gate and sweeps, each made safe before the next. It
+/// answers how many steps were laid, each by the first kind that takes it. Each sort of step has to have a kind that takes it.
+///
+/// Wherever it is stopped, within any call, the folder owes the image that was seen before or the one that is meant; once the
+/// gate is safely open, the latter. No memory is taken.
+pub fn commit<F: Folder>(
+    ready: Ready,
+    folder: &mut F,
+    kinds: &mut Vec<Box<dyn Kind>>,
+) -> Result<u64, CommitFault>
+    requires gate { IsTrue (F.outside.tells folder.old) → CanMake (F.outside.state folder.old).held gate_name }
+    requires takers { (s : Sort) → IsTrue (taken (seen_by sorts finished kinds.old.items) s) }
+
+    // At every moment the image from before is owed, or the one that is meant; and the latter since the gate is safely open.
+    ensures owed { IsTrue (F.outside.tells folder.old) → (steps : List Step) (a : Image) → IsStaged steps a (F.outside.state folder.old)
+        → Throughout F.outside folder.old folder.new (FolderOwes journal_text (visible (F.outside.state folder.old).held) (Some a) false) }
+    ensures due { IsTrue (F.outside.tells folder.old) → (steps : List Step) (a : Image) → IsStaged steps a (F.outside.state folder.old)
+        → DueOnceOpen F.outside (visible (F.outside.state folder.old).held) a folder.old folder.new }
+
+    // Done: the image that is meant is seen, nothing is left, nothing is touched, and each step was counted.
+    ensures done { IsTrue (F.outside.tells folder.old) → (steps : List Step) (a : Image) → IsStaged steps a (F.outside.state folder.old)
+        → IfOk result (λ count. (count ≡ length steps) × IsDone a (F.outside.state folder.new)) }
+    ensures counted { IsTrue (F.outside.tells folder.old) → (steps : List Step) (a : Image) → IsStaged steps a (F.outside.state folder.old)
+        → OnOk result (seen_by sorts finished kinds.new.items ≡ all_counted steps (seen_by sorts finished kinds.old.items)) }
+
+    // Behind `stage` a failed call is the only cause of a fault; the first call is the gate's, so nothing fails before it.
+    ensures faults { IsTrue (F.outside.tells folder.old) → (steps : List Step) (a : Image) → IsStaged steps a (F.outside.state folder.old)
+        → IfErr result (λ why. why ≡ fault.Unfinished) }
+    ensures begun { IfErr result (λ why. why ≡ fault.Unchanged → ⊥) }
+    ensures cause { HasCause (F.outside.faults folder.old) (F.outside.faults folder.new) (result ≡ Err fault.Unfinished) }
+    ensures same_kind { F.outside.tells folder.new ≡ F.outside.tells folder.old }
+{
+    let Ready {
+        names,
+        mut reader,
+        mut buffer,
+    } = ready;
+    run(folder, &names, &mut reader, kinds, &mut buffer)
+}
+
+// The same with the memory that is ready lent.
+fn run<F: Folder>(
+    folder: &mut F,
+    names: &OwnNames,
+    reader: &mut StepReader,
+    kinds: &mut Vec<Box<dyn Kind>>,
+    buffer: &mut [u8],
+) -> Result<u64, CommitFault>
+    requires gate { IsTrue (F.outside.tells folder.old) → CanMake (F.outside.state folder.old).held gate_name }
+    requires takers { (s : Sort) → IsTrue (taken (seen_by sorts finished kinds.old.items) s) }
+    requires room { 0 < length buffer.old }
+    ensures owed { IsTrue (F.outside.tells folder.old) → (steps : List Step) (a : Image) → IsStaged steps a (F.outside.state folder.old)
+        → Throughout F.outside folder.old folder.new (FolderOwes journal_text (visible (F.outside.state folder.old).held) (Some a) false) }
+    ensures due { IsTrue (F.outside.tells folder.old) → (steps : List Step) (a : Image) → IsStaged steps a (F.outside.state folder.old)
+        → DueOnceOpen F.outside (visible (F.outside.state folder.old).held) a folder.old folder.new }
+    ensures done { IsTrue (F.outside.tells folder.old) → (steps : List Step) (a : Image) → IsStaged steps a (F.outside.state folder.old)
+        → IfOk result (λ count. (count ≡ length steps) × IsDone a (F.outside.state folder.new)) }
+    ensures counted { IsTrue (F.outside.tells folder.old) → (steps : List Step) (a : Image) → IsStaged steps a (F.outside.state folder.old)
+        → OnOk result (seen_by sorts finished kinds.new.items ≡ all_counted steps (seen_by sorts finished kinds.old.items)) }
+    ensures faults { IsTrue (F.outside.tells folder.old) → (steps : List Step) (a : Image) → IsStaged steps a (F.outside.state folder.old)
+        → IfErr result (λ why. why ≡ fault.Unfinished) }
+    ensures begun { IfErr result (λ why. why ≡ fault.Unchanged → ⊥) }
+    ensures cause { HasCause (F.outside.faults folder.old) (F.outside.faults folder.new) (result ≡ Err fault.Unfinished) }
+    ensures same_kind { F.outside.tells folder.new ≡ F.outside.tells folder.old }
+{
+    let Ok(()) = open(folder, names) else {
+        return Err(CommitFault::Unfinished);
+    };
+    reader.rewind();
+    let count = match lay(folder, reader, kinds, buffer) {
+        Ok(count) => count,
+        Err(StepFault::FolderFault) => return Err(CommitFault::Unfinished),
+        Err(StepFault::BadJournal { line }) => return Err(CommitFault::BadJournal { line }),
+    };
+    let Ok(()) = finish(folder, names, &[]) else {
+        return Err(CommitFault::Unfinished);
+    };
+    Ok(count)
+}

@@ -1,0 +1,231 @@
+//! Contents, written into the stage one by one.
+
+ghost use Rattle.std.specs.Prelude.{◌≡◌, ◌⊎◌, ◌<◌, ℕ, List, Some, None, Err, IsTrue, IsFalse, IsErr, IfOk, IfErr, OnOk, length};
+ghost use Rattle.ips_text.specs.Ancestry.{covers};
+ghost use Rattle.ips_text.specs.Reading.{IfBad};
+ghost use Rattle.ips_text.specs.declared.refusal.Or.TheVariants.{Bad};
+ghost use Rattle.ips_outside.specs.Image.{File, is_dir, is_file, file_bytes};
+ghost use Rattle.ips_outside.specs.State.{nowhere};
+ghost use Rattle.ips_outside.specs.Outside.{HasCause, Reads};
+ghost use Rattle.ips_folder.specs.Calls.{CanMake, Keeps};
+ghost use Rattle.ips_steps.specs.Steps.{stage_name, stage_path, stage_of};
+ghost use Rattle.ips_repo.specs.Files.{file_at};
+ghost use Rattle.ips_repo.specs.Places.{payload_place};
+ghost use Rattle.ips_repo.specs.Payload.{IsOpened, IsFrontOf};
+ghost use Rattle.ips_commit.specs.Contents.{IsContent, AreContents, IsStanding, AreStanding, IsApart, AreSeen, IsIntact, IsIntactContent, AreIntact, IsPayload, SaysOfPayload, SaysOfContent, SaysOfStage, HoldsAlone};
+ghost use Rattle.ips_commit.specs.declared.fault.StageFault.TheVariants as fault;
+
+use crate::fault::StageFault;
+use crate::names::content_path;
+use ips_apply::copy;
+use ips_digest::PayloadName;
+use ips_folder::Folder;
+use ips_journal::Staged;
+use ips_outside::{Failed, Source};
+use ips_repo::{Payload, RepoFault};
+use ips_text::{Or, RelPath};
+use std::alloc::Global;
+
+/// Writes each content into the stage, a directory with nothing at the contents' places, under its number.
+pub(crate) fn write_contents<S: Source, F: Folder>(
+    alloc: Global,
+    publisher: &str,
+    staged: &[Staged],
+    source: &mut S,
+    folder: &mut F,
+    buffer: &mut [u8],
+) -> Result<(), Or<StageFault>>
+    requires stage { IsTrue (F.outside.tells folder.old) → IsTrue (is_dir ((F.outside.state folder.old).held.look stage_name)) }
+    requires empty { IsTrue (F.outside.tells folder.old) → (n : ℕ) → (F.outside.state folder.old).held.look (stage_path n) ≡ None }
+    requires standing { IsTrue (F.outside.tells folder.old) → AreStanding (F.outside.state folder.old).held staged.now }
+    requires seen { AreSeen staged.now }
+    requires room { 0 < length buffer.old }
+    ensures written { IsTrue (F.outside.tells folder.old) → OnOk result
+        (AreContents (S.outside.tells source.old) (S.outside.state source.old).held publisher.now (F.outside.state folder.old).held staged.now (stage_of (F.outside.state folder.new).held)) }
+    ensures intact { IsTrue (S.outside.tells source.old) → OnOk result (AreIntact (S.outside.state source.old).held publisher.now staged.now) }
+    ensures refused { IfBad result (SaysOfStage (S.outside.tells source.old) (S.outside.state source.old).held publisher.now staged.now) }
+    ensures any_moment { IsTrue (F.outside.tells folder.old) → Keeps F.outside (covers stage_name) nowhere folder.old folder.new }
+    ensures reads { Reads S.outside source.old source.new (result ≡ Err (Bad fault.SourceFault)) }
+    ensures cause { HasCause (F.outside.faults folder.old) (F.outside.faults folder.new) (result ≡ Err (Bad fault.FolderFault)) }
+    ensures same_kind { F.outside.tells folder.new ≡ F.outside.tells folder.old }
+{
+    for (number, content) in staged.iter().enumerate() {
+        let path = content_path(alloc, number as u64)?;
+        match write_content(alloc, publisher, content, source, folder, &path, buffer) {
+            Ok(()) => {}
+            Err(fault) => return Err(fault),
+        }
+    }
+    Ok(())
+}
+
+// Writes one content to the path.
+fn write_content<S: Source, F: Folder>(
+    alloc: Global,
+    publisher: &str,
+    content: &Staged,
+    source: &mut S,
+    folder: &mut F,
+    path: &RelPath,
+    buffer: &mut [u8],
+) -> Result<(), Or<StageFault>>
+    requires can { IsTrue (F.outside.tells folder.old) → CanMake (F.outside.state folder.old).held path.now.bytes }
+    requires standing { IsTrue (F.outside.tells folder.old) → IsStanding (F.outside.state folder.old).held content.now }
+    requires apart { IsApart path.now.bytes content.now }
+    requires room { 0 < length buffer.old }
+    ensures written { IsTrue (F.outside.tells folder.old) → OnOk result ((bytes : List ℕ)
+        × ((F.outside.state folder.new).held.look path.now.bytes ≡ Some (File 384 bytes))
+        × IsContent (S.outside.tells source.old) (S.outside.state source.old).held publisher.now (F.outside.state folder.old).held content.now bytes) }
+    ensures intact { IsTrue (S.outside.tells source.old) → OnOk result (IsIntactContent (S.outside.state source.old).held publisher.now content.now) }
+    ensures refused { IfBad result (SaysOfContent (S.outside.tells source.old) (S.outside.state source.old).held publisher.now content.now) }
+    ensures any_moment { IsTrue (F.outside.tells folder.old) → Keeps F.outside (covers path.now.bytes) nowhere folder.old folder.new }
+    ensures reads { Reads S.outside source.old source.new (result ≡ Err (Bad fault.SourceFault)) }
+    ensures cause { HasCause (F.outside.faults folder.old) (F.outside.faults folder.new) (result ≡ Err (Bad fault.FolderFault)) }
+    ensures same_kind { F.outside.tells folder.new ≡ F.outside.tells folder.old }
+{
+    match content {
+        Staged::Payload(name) => write_payload(
+            alloc, publisher, name, source, folder, path, buffer,
+        ),
+        Staged::Bytes(bytes) => match write_file(folder, path, bytes) {
+            Ok(()) => Ok(()),
+            Err(Failed) => Err(Or::Bad(StageFault::FolderFault)),
+        },
+        Staged::Standing(from) => match write_copy(folder, from, path, buffer) {
+            Ok(()) => Ok(()),
+            Err(Failed) => Err(Or::Bad(StageFault::FolderFault)),
+        },
+    }
+}
+
+/// Makes a file of these bytes.
+pub(crate) fn write_file<F: Folder>(
+    folder: &mut F,
+    path: &RelPath,
+    bytes: &[u8],
+) -> Result<(), Failed>
+    requires { IsTrue (F.outside.tells folder.old) → CanMake (F.outside.state folder.old).held path.now.bytes }
+    ensures written { IsTrue (F.outside.tells folder.old) → OnOk result ((F.outside.state folder.new).held.look path.now.bytes ≡ Some (File 384 bytes.now)) }
+    ensures any_moment { IsTrue (F.outside.tells folder.old) → Keeps F.outside (covers path.now.bytes) nowhere folder.old folder.new }
+    ensures cause { HasCause (F.outside.faults folder.old) (F.outside.faults folder.new) (IsErr result) }
+    ensures same_kind { F.outside.tells folder.new ≡ F.outside.tells folder.old }
+{
+    folder.make_file(path)?;
+    folder.append(path, bytes)?;
+    Ok(())
+}
+
+// Makes a file of the bytes of another, a buffer at a time.
+fn write_copy<F: Folder>(
+    folder: &mut F,
+    from: &RelPath,
+    path: &RelPath,
+    buffer: &mut [u8],
+) -> Result<(), Failed>
+    requires can { IsTrue (F.outside.tells folder.old) → CanMake (F.outside.state folder.old).held path.now.bytes }
+    requires standing { IsTrue (F.outside.tells folder.old) → IsTrue (is_file ((F.outside.state folder.old).held.look from.now.bytes)) }
+    requires apart { IsFalse (covers path.now.bytes from.now.bytes) }
+    requires room { 0 < length buffer.old }
+    ensures written { IsTrue (F.outside.tells folder.old) → OnOk result ((bytes : List ℕ)
+        × ((F.outside.state folder.new).held.look path.now.bytes ≡ Some (File 384 bytes))
+        × (file_bytes ((F.outside.state folder.old).held.look from.now.bytes) ≡ Some bytes)) }
+    ensures any_moment { IsTrue (F.outside.tells folder.old) → Keeps F.outside (covers path.now.bytes) nowhere folder.old folder.new }
+    ensures cause { HasCause (F.outside.faults folder.old) (F.outside.faults folder.new) (IsErr result) }
+    ensures same_kind { F.outside.tells folder.new ≡ F.outside.tells folder.old }
+{
+    folder.make_file(path)?;
+    copy(folder, from, path, buffer)?;
+    Ok(())
+}
+
+// Makes a file of a payload's bytes, and judges them by their digest.
+fn write_payload<S: Source, F: Folder>(
+    alloc: Global,
+    publisher: &str,
+    name: &PayloadName,
+    source: &mut S,
+    folder: &mut F,
+    path: &RelPath,
+    buffer: &mut [u8],
+) -> Result<(), Or<StageFault>>
+    requires can { IsTrue (F.outside.tells folder.old) → CanMake (F.outside.state folder.old).held path.now.bytes }
+    requires room { 0 < length buffer.old }
+    ensures written { IsTrue (F.outside.tells folder.old) → OnOk result ((bytes : List ℕ)
+        × ((F.outside.state folder.new).held.look path.now.bytes ≡ Some (File 384 bytes))
+        × IsPayload (S.outside.tells source.old) (S.outside.state source.old).held publisher.now name.now bytes) }
+    ensures intact { IsTrue (S.outside.tells source.old) → OnOk result (IsIntact name.now (file_at (S.outside.state source.old).held (payload_place publisher.now name.now))) }
+    ensures refused { IfBad result (SaysOfPayload (S.outside.tells source.old) (S.outside.state source.old).held publisher.now name.now) }
+    ensures any_moment { IsTrue (F.outside.tells folder.old) → Keeps F.outside (covers path.now.bytes) nowhere folder.old folder.new }
+    ensures reads { Reads S.outside source.old source.new (result ≡ Err (Bad fault.SourceFault)) }
+    ensures cause { HasCause (F.outside.faults folder.old) (F.outside.faults folder.new) (result ≡ Err (Bad fault.FolderFault)) }
+    ensures same_kind { F.outside.tells folder.new ≡ F.outside.tells folder.old }
+{
+    let mut payload = open_payload(alloc, publisher, name, source)?;
+    let Ok(()) = folder.make_file(path) else {
+        return Err(Or::Bad(StageFault::FolderFault));
+    };
+    match copy_payload(&mut payload, source, folder, path, buffer) {
+        Ok(()) => {}
+        Err(fault) => return Err(Or::Bad(fault)),
+    }
+    match payload.finish() {
+        Ok(()) => Ok(()),
+        Err(fault) => Err(Or::Bad(StageFault::Payload { name: *name, fault })),
+    }
+}
+
+// Looks for the payload.
+fn open_payload<S: Source>(
+    alloc: Global,
+    publisher: &str,
+    name: &PayloadName,
+    source: &mut S,
+) -> Result<Payload, Or<StageFault>>
+    ensures opened { IfOk result (IsOpened (payload_place publisher.now name.now) name.now) }
+    ensures front { IsTrue (S.outside.tells source.old) → IfOk result (IsFrontOf (S.outside.state source.old).held) }
+    ensures refused { IfBad result (SaysOfPayload (S.outside.tells source.old) (S.outside.state source.old).held publisher.now name.now) }
+    ensures folder { IfBad result (λ why. why ≡ fault.FolderFault → ⊥) }
+    ensures reads { Reads S.outside source.old source.new (result ≡ Err (Bad fault.SourceFault)) }
+{
+    match Payload::open(alloc, source, publisher, name) {
+        Ok(payload) => Ok(payload),
+        Err(Or::Bad(RepoFault::SourceFault)) => Err(Or::Bad(StageFault::SourceFault)),
+        Err(Or::Bad(fault)) => Err(Or::Bad(StageFault::Payload { name: *name, fault })),
+        Err(Or::OutOfMemory) => Err(Or::OutOfMemory),
+    }
+}
+
+// Puts all bytes of the payload into the file, a buffer at a time.
+fn copy_payload<S: Source, F: Folder>(
+    payload: &mut Payload,
+    source: &mut S,
+    folder: &mut F,
+    path: &RelPath,
+    buffer: &mut [u8],
+) -> Result<(), StageFault>
+    requires can { IsTrue (F.outside.tells folder.old) → HoldsAlone path.now.bytes payload.old.bytes (F.outside.state folder.old).held }
+    requires room { 0 < length buffer.old }
+    ensures copied { IsTrue (F.outside.tells folder.old) → OnOk result ((F.outside.state folder.new).held.look path.now.bytes ≡ Some (File 384 payload.new.bytes)) }
+    ensures ended { OnOk result (IsTrue payload.new.ended) }
+    ensures named { payload.new.name ≡ payload.old.name }
+    ensures placed { payload.new.place ≡ payload.old.place }
+    ensures sized { payload.new.size ≡ payload.old.size }
+    ensures front { IsTrue (S.outside.tells source.old) → IsFrontOf (S.outside.state source.old).held payload.old → IsFrontOf (S.outside.state source.old).held payload.new }
+    ensures faults { IfErr result (λ why. (why ≡ fault.SourceFault) ⊎ (why ≡ fault.FolderFault)) }
+    ensures any_moment { IsTrue (F.outside.tells folder.old) → Keeps F.outside (covers path.now.bytes) nowhere folder.old folder.new }
+    ensures reads { Reads S.outside source.old source.new (result ≡ Err fault.SourceFault) }
+    ensures cause { HasCause (F.outside.faults folder.old) (F.outside.faults folder.new) (result ≡ Err fault.FolderFault) }
+    ensures same_kind { F.outside.tells folder.new ≡ F.outside.tells folder.old }
+{
+    loop {
+        let Ok(count) = payload.next(source, buffer) else {
+            return Err(StageFault::SourceFault);
+        };
+        if count == 0 {
+            return Ok(());
+        }
+        let Ok(()) = folder.append(path, &buffer[..count]) else {
+            return Err(StageFault::FolderFault);
+        };
+    }
+}

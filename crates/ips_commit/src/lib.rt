@@ -1,0 +1,34 @@
+//! Changes of an image that a stop can't tear: staged beside it, committed through a gate, and recovered after a stop.
+//!
+//! `stage` writes the steps and all that they put at the updater's own names, behind a closed gate. `commit` opens the gate,
+//! lays the steps, closes the gate and sweeps. Wherever a run is stopped, within any call, the image is owed: the one before,
+//! or the one that the steps mean; and from the moment on at which the gate is safely open, the latter. `recover` then brings
+//! it about: it lays the steps again where the gate stands open, and else takes away what was left.
+//!
+//! `specs/Pending` says what a stop may leave, `specs/Staging` what stands ready, `specs/Due` from when on the new image is
+//! due. Read on with `finding`, `staging`, `committing` and `recovering`.
+#![tactic(auto)]
+
+mod committing;
+mod contents;
+mod fault;
+mod finding;
+mod found;
+mod gate;
+mod names;
+mod placing;
+mod ready;
+mod recovering;
+mod staging;
+mod sweeping;
+
+pub use committing::commit;
+pub use fault::{CommitFault, StageFault};
+pub use finding::pending;
+pub use found::Pending;
+pub use ready::Ready;
+pub use recovering::recover;
+pub use staging::stage;
+
+#[cfg(test)]
+mod tests;

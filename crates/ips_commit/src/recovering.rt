@@ -1,0 +1,136 @@
+//! What a run that was stopped left, brought to an end.
+
+ghost use Rattle.std.specs.Prelude.{◌≡◌, ◌≢◌, ◌⊎◌, ◌*◌, ◌<◌, ℕ, List, Option, Bool, Some, None, Err, IsTrue, IfOk, IfErr, OnOk, length, is_some, take};
+ghost use Rattle.std.specs.List.{list_all};
+ghost use Rattle.ips_text.specs.Reading.{IfBad};
+ghost use Rattle.ips_text.specs.declared.refusal.Or.TheVariants.{Bad};
+ghost use Rattle.ips_outside.specs.Image.{Image};
+ghost use Rattle.ips_outside.specs.State.{IsSettled, nowhere};
+ghost use Rattle.ips_outside.specs.Outside.{HasCause};
+ghost use Rattle.ips_outside.specs.Children.{bytes_of};
+ghost use Rattle.ips_folder.specs.Calls.{Keeps, Throughout};
+ghost use Rattle.ips_steps.specs.Steps.{Step, after};
+ghost use Rattle.ips_steps.specs.Private.{gate_name, mark_front, begins, visible};
+ghost use Rattle.ips_steps.specs.Journal.{IsJournal};
+ghost use Rattle.ips_steps.specs.Owed.{steps_left, IsOpen, FolderOwes};
+ghost use Rattle.ips_steps.specs.declared.step.Sort.{Sort};
+ghost use Rattle.ips_kinds.specs.Tallies.{seen_by, taken, all_counted};
+ghost use Rattle.ips_journal.specs.Text.{journal_text};
+ghost use Rattle.ips_journal.specs.Reading.{IsAt, journal_of};
+ghost use Rattle.ips_commit.specs.Answers.{IfStarved};
+ghost use Rattle.ips_commit.specs.Pending.{is_swept, HasNoOtherMark, IsDone};
+ghost use Rattle.ips_commit.specs.Recovering.{CanRollForward, IfBadJournal, IsJournalled, SaysOfLaying, SaysOfRecovery};
+ghost use Rattle.ips_commit.specs.declared.fault.CommitFault.TheVariants as fault;
+
+use crate::fault::CommitFault;
+use crate::gate::{clear, finish, lay};
+use crate::names::OwnNames;
+use crate::placing::{Left, find_left};
+use crate::ready::Ready;
+use ips_folder::Folder;
+use ips_journal::{StepFault, StepReader};
+use ips_kinds::Kind;
+use ips_outside::Source;
+use ips_text::{Or, RelPath};
+use std::alloc::Global;
+
+/// Brings to an end what a run that was stopped left. Where something stands at the gate it lays the steps that the marks
+/// leave, each by the first kind that takes it, closes the gate and sweeps, and answers true; it reads the whole journal
+/// before its first change. Where the gate is closed it only takes away what is left, and answers false. Each sort of step has
+/// to have a kind that takes it, and nothing may be touched, as behind a sync.
+pub fn recover<F: Folder>(
+    alloc: Global,
+    folder: &mut F,
+    kinds: &mut Vec<Box<dyn Kind>>,
+) -> Result<bool, Or<CommitFault>>
+    requires safe { IsTrue (F.outside.tells folder.old) → IsSettled (F.outside.state folder.old) }
+    requires takers { (s : Sort) → IsTrue (taken (seen_by sorts finished kinds.old.items) s) }
+
+    // At every moment the folder owes what it owed; behind a closed gate only what is swept is changed.
+    ensures owed { IsTrue (F.outside.tells folder.old) → (b : Image) (a : Option Image) (due : Bool) → FolderOwes journal_text b a due (F.outside.state folder.old)
+        → Throughout F.outside folder.old folder.new (FolderOwes journal_text b a due) }
+    ensures closed { IsTrue (F.outside.tells folder.old) → (F.outside.state folder.old).held.look gate_name ≡ None → Keeps F.outside is_swept nowhere folder.old folder.new }
+
+    // Done: whether something stood at the gate; then the image that the steps mean is seen, and else the same as before.
+    ensures forward { IsTrue (F.outside.tells folder.old) → IfOk result (λ forward. forward ≡ is_some ((F.outside.state folder.old).held.look gate_name)) }
+    ensures done { IsTrue (F.outside.tells folder.old) → (F.outside.state folder.old).held.look gate_name ≢ None
+        → OnOk result ((steps : List Step) × (count : ℕ) × CanRollForward (F.outside.state folder.old).held steps count
+        × IsDone (visible (after (steps_left count steps) (F.outside.state folder.old).held)) (F.outside.state folder.new)
+        × (seen_by sorts finished kinds.new.items ≡ all_counted (steps_left count steps) (seen_by sorts finished kinds.old.items))) }
+    ensures cleared { IsTrue (F.outside.tells folder.old) → (F.outside.state folder.old).held.look gate_name ≡ None
+        → OnOk result (IsDone (visible (F.outside.state folder.old).held) (F.outside.state folder.new)) }
+
+    // An open gate on which something is owed leads to just that.
+    ensures meant { IsTrue (F.outside.tells folder.old) → (steps : List Step) (count : ℕ) (a : Image) → IsOpen journal_text steps count a (F.outside.state folder.old).held
+        → OnOk result (IsDone a (F.outside.state folder.new)) × IfBadJournal result (λ line. ⊥) }
+
+    // Each refusal has its cause, and before the first change none changes anything.
+    ensures refused { IsTrue (F.outside.tells folder.old) → IfBad result (SaysOfRecovery (F.outside.state folder.old) (F.outside.state folder.new)) }
+    ensures starved { IfStarved result (F.outside.state folder.new ≡ F.outside.state folder.old) }
+    ensures read_first { IsTrue (F.outside.tells folder.old) → ((steps : List Step) → IsJournal steps → journal_of (F.outside.state folder.old).held ≡ journal_text steps → ⊥)
+        → (F.outside.state folder.old).held.look gate_name ≢ None → F.outside.state folder.new ≡ F.outside.state folder.old }
+    ensures cause { HasCause (F.outside.faults folder.old) (F.outside.faults folder.new) ((result ≡ Err (Bad fault.Unchanged)) ⊎ (result ≡ Err (Bad fault.Unfinished))) }
+    ensures same_kind { F.outside.tells folder.new ≡ F.outside.tells folder.old }
+{
+    let Ready {
+        names,
+        mut reader,
+        mut buffer,
+    } = Ready::new(alloc)?;
+    let Left { is_open, marks } = match find_left(alloc, folder, &names, &mut reader) {
+        Ok(left) => left,
+        Err(fault) => return Err(fault),
+    };
+    if is_open {
+        match roll_forward(folder, &names, &mut reader, kinds, &marks, &mut buffer) {
+            Ok(()) => return Ok(true),
+            Err(fault) => return Err(Or::Bad(fault)),
+        }
+    }
+    let Ok(()) = clear(folder, &names, &marks) else {
+        return Err(Or::Bad(CommitFault::Unchanged));
+    };
+    Ok(false)
+}
+
+// Lays the steps from the reader's place on, closes the gate and sweeps.
+fn roll_forward<F: Folder>(
+    folder: &mut F,
+    names: &OwnNames,
+    reader: &mut StepReader,
+    kinds: &mut Vec<Box<dyn Kind>>,
+    marks: &[RelPath],
+    buffer: &mut [u8],
+) -> Result<(), CommitFault>
+    requires open { IsTrue reader.old.is_open }
+    requires takers { (s : Sort) → IsTrue (taken (seen_by sorts finished kinds.old.items) s) }
+    requires own { IsTrue (list_all (begins mark_front) (bytes_of marks.now)) }
+    requires room { 0 < length buffer.old }
+    ensures owed { IsTrue (F.outside.tells folder.old) → IsSettled (F.outside.state folder.old) → (steps : List Step) (count : ℕ) (b a : Image) (due : Bool)
+        → IsOpen journal_text steps count a (F.outside.state folder.old).held → IsAt (journal_of (F.outside.state folder.old).held) (take (1000 * count) steps) reader.old
+        → Throughout F.outside folder.old folder.new (FolderOwes journal_text b (Some a) due) }
+    ensures done { IsTrue (F.outside.tells folder.old) → HasNoOtherMark (F.outside.state folder.old).held (bytes_of marks.now) → (steps : List Step) (count : ℕ)
+        → IsJournalled (F.outside.state folder.old).held steps count → IsAt (journal_of (F.outside.state folder.old).held) (take (1000 * count) steps) reader.old
+        → OnOk result (CanRollForward (F.outside.state folder.old).held steps count
+        × IsDone (visible (after (steps_left count steps) (F.outside.state folder.old).held)) (F.outside.state folder.new)
+        × (seen_by sorts finished kinds.new.items ≡ all_counted (steps_left count steps) (seen_by sorts finished kinds.old.items))) }
+    ensures meant { IsTrue (F.outside.tells folder.old) → (steps : List Step) (count : ℕ) (a : Image)
+        → IsOpen journal_text steps count a (F.outside.state folder.old).held → IsAt (journal_of (F.outside.state folder.old).held) (take (1000 * count) steps) reader.old
+        → IfErr result (λ why. why ≡ fault.Unfinished) }
+    ensures refused { IsTrue (F.outside.tells folder.old) → (steps : List Step) (count : ℕ)
+        → IsJournalled (F.outside.state folder.old).held steps count → IsAt (journal_of (F.outside.state folder.old).held) (take (1000 * count) steps) reader.old
+        → IfErr result (SaysOfLaying (F.outside.state folder.old).held) }
+    ensures begun { IfErr result (λ why. why ≡ fault.Unchanged → ⊥) }
+    ensures cause { HasCause (F.outside.faults folder.old) (F.outside.faults folder.new) (result ≡ Err fault.Unfinished) }
+    ensures same_kind { F.outside.tells folder.new ≡ F.outside.tells folder.old }
+{
+    match lay(folder, reader, kinds, buffer) {
+        Ok(_) => {}
+        Err(StepFault::FolderFault) => return Err(CommitFault::Unfinished),
+        Err(StepFault::BadJournal { line }) => return Err(CommitFault::BadJournal { line }),
+    }
+    let Ok(()) = finish(folder, names, marks) else {
+        return Err(CommitFault::Unfinished);
+    };
+    Ok(())
+}

@@ -1,0 +1,187 @@
+//! A list of steps staged, with all that it puts.
+
+ghost use Rattle.std.specs.Prelude.{◌≡◌, ◌<◌, Option, false, Some, Err, IsTrue, IsErr, OnOk, length, map};
+ghost use Rattle.ips_text.specs.Reading.{IfBad};
+ghost use Rattle.ips_text.specs.declared.refusal.Or.TheVariants.{Bad};
+ghost use Rattle.ips_text.specs.Ancestry.{covers};
+ghost use Rattle.ips_outside.specs.Image.{Image, File, is_dir};
+ghost use Rattle.ips_outside.specs.State.{IsSettled, Within, nowhere, settled};
+ghost use Rattle.ips_outside.specs.Outside.{HasCause, Reads};
+ghost use Rattle.ips_folder.specs.Calls.{CanMake, Keeps, Throughout};
+ghost use Rattle.ips_steps.specs.Private.{records_name, visible};
+ghost use Rattle.ips_steps.specs.Journal.{IsJournal};
+ghost use Rattle.ips_steps.specs.Owed.{FolderOwes};
+ghost use Rattle.ips_steps.specs.View.{step_of};
+ghost use Rattle.ips_journal.specs.Text.{journal_text};
+ghost use Rattle.ips_commit.specs.Answers.{IsBad};
+ghost use Rattle.ips_commit.specs.Pending.{IsBehindGate, is_swept};
+ghost use Rattle.ips_commit.specs.Contents.{AreStanding, AreSeen, SaysOfStage};
+ghost use Rattle.ips_commit.specs.Staging.{CanStage, HasStaged, IsCleared, IsFilled};
+ghost use Rattle.ips_commit.specs.declared.fault.StageFault.TheVariants as fault;
+
+use crate::contents::{write_contents, write_file};
+use crate::fault::StageFault;
+use crate::names::OwnNames;
+use crate::ready::Ready;
+use crate::sweeping::{marks, sweep};
+use ips_folder::Folder;
+use ips_journal::{Staged, write_steps};
+use ips_outside::{Failed, Source};
+use ips_steps::Step;
+use ips_text::{Or, RelPath};
+use std::alloc::Global;
+
+/// Stages the steps of a change with the contents that they put: makes safe what was written before, takes away what a run
+/// that was stopped left, writes each content and then the journal, and makes that safe. What is staged stands at the
+/// updater's own names behind a closed gate, so what is seen stays as it is. A payload is hashed as it is written.
+pub fn stage<S: Source, F: Folder>(
+    alloc: Global,
+    publisher: &str,
+    steps: &[Step],
+    staged: &[Staged],
+    source: &mut S,
+    folder: &mut F,
+) -> Result<Ready, Or<StageFault>>
+    requires lists { IsJournal (map step_of steps.now) }
+    requires seen { AreSeen staged.now }
+    requires can { IsTrue (F.outside.tells folder.old) → CanStage (map step_of steps.now) staged.now (F.outside.state folder.old).held }
+
+    // At every moment the gate is closed, and the image that was seen is owed, whatever other may be meant.
+    ensures any_moment { IsTrue (F.outside.tells folder.old) → Throughout F.outside folder.old folder.new (IsBehindGate (F.outside.state folder.old)) }
+    ensures owed { IsTrue (F.outside.tells folder.old) → IsSettled (F.outside.state folder.old) → (a : Option Image)
+        → Throughout F.outside folder.old folder.new (FolderOwes journal_text (visible (F.outside.state folder.old).held) a false) }
+    ensures seen { IsTrue (F.outside.tells folder.old) → visible (F.outside.state folder.new).held ≡ visible (F.outside.state folder.old).held }
+
+    // Done: the list stands ready with its contents.
+    ensures staged { IsTrue (F.outside.tells folder.old) → OnOk result
+        (HasStaged (S.outside.tells source.old) (S.outside.state source.old).held publisher.now (map step_of steps.now) staged.now (F.outside.state folder.old).held (F.outside.state folder.new)) }
+
+    // Each refusal has its cause.
+    ensures refused { IfBad result (SaysOfStage (S.outside.tells source.old) (S.outside.state source.old).held publisher.now staged.now) }
+    ensures reads { Reads S.outside source.old source.new (result ≡ Err (Bad fault.SourceFault)) }
+    ensures cause { HasCause (F.outside.faults folder.old) (F.outside.faults folder.new) (result ≡ Err (Bad fault.FolderFault)) }
+    ensures same_kind { F.outside.tells folder.new ≡ F.outside.tells folder.old }
+{
+    let Ready {
+        names,
+        reader,
+        mut buffer,
+    } = Ready::new(alloc)?;
+    let text = write_steps(alloc, steps)?;
+    write_stage(
+        alloc,
+        publisher,
+        staged,
+        &text,
+        source,
+        folder,
+        &names,
+        &mut buffer,
+    )?;
+    Ok(Ready {
+        names,
+        reader,
+        buffer,
+    })
+}
+
+// Writes the contents and the text of the journal in the place of what was left, and makes them safe.
+fn write_stage<S: Source, F: Folder>(
+    alloc: Global,
+    publisher: &str,
+    staged: &[Staged],
+    text: &[u8],
+    source: &mut S,
+    folder: &mut F,
+    names: &OwnNames,
+    buffer: &mut [u8],
+) -> Result<(), Or<StageFault>>
+    requires room { 0 < length buffer.old }
+    requires records { IsTrue (F.outside.tells folder.old) → IsTrue (is_dir ((F.outside.state folder.old).held.look records_name)) }
+    requires standing { IsTrue (F.outside.tells folder.old) → AreStanding (F.outside.state folder.old).held staged.now }
+    requires seen { AreSeen staged.now }
+    ensures any_moment { IsTrue (F.outside.tells folder.old) → Throughout F.outside folder.old folder.new (IsBehindGate (F.outside.state folder.old)) }
+    ensures within { IsTrue (F.outside.tells folder.old) → OnOk result (Within is_swept nowhere (settled (F.outside.state folder.old)) (F.outside.state folder.new)) }
+    ensures filled { IsTrue (F.outside.tells folder.old) → OnOk result
+        (IsFilled (S.outside.tells source.old) (S.outside.state source.old).held publisher.now text.now staged.now (F.outside.state folder.old).held (F.outside.state folder.new)) }
+    ensures refused { IfBad result (SaysOfStage (S.outside.tells source.old) (S.outside.state source.old).held publisher.now staged.now) }
+    ensures reads { Reads S.outside source.old source.new (result ≡ Err (Bad fault.SourceFault)) }
+    ensures cause { HasCause (F.outside.faults folder.old) (F.outside.faults folder.new) (result ≡ Err (Bad fault.FolderFault)) }
+    ensures same_kind { F.outside.tells folder.new ≡ F.outside.tells folder.old }
+{
+    match settle(alloc, folder, names) {
+        Ok(()) => {}
+        Err(Or::Bad(Failed)) => return Err(Or::Bad(StageFault::FolderFault)),
+        Err(Or::OutOfMemory) => return Err(Or::OutOfMemory),
+    }
+    fill(
+        alloc, publisher, staged, text, source, folder, names, buffer,
+    )?;
+    Ok(())
+}
+
+// Makes safe what was written before, and takes away what a run that was stopped left.
+fn settle<F: Folder>(alloc: Global, folder: &mut F, names: &OwnNames) -> Result<(), Or<Failed>>
+    ensures any_moment { IsTrue (F.outside.tells folder.old) → Throughout F.outside folder.old folder.new (IsBehindGate (F.outside.state folder.old)) }
+    ensures within { IsTrue (F.outside.tells folder.old) → OnOk result (Within is_swept nowhere (settled (F.outside.state folder.old)) (F.outside.state folder.new)) }
+    ensures cleared { IsTrue (F.outside.tells folder.old) → OnOk result (IsCleared (F.outside.state folder.new).held) }
+    ensures cause { HasCause (F.outside.faults folder.old) (F.outside.faults folder.new) (IsBad result) }
+    ensures same_kind { F.outside.tells folder.new ≡ F.outside.tells folder.old }
+{
+    let Ok(()) = folder.sync() else {
+        return Err(Or::Bad(Failed));
+    };
+    let marks = marks(alloc, folder, names)?;
+    let Ok(()) = sweep(folder, names, &marks) else {
+        return Err(Or::Bad(Failed));
+    };
+    Ok(())
+}
+
+// Writes the contents and the journal where nothing is left, and makes them safe.
+fn fill<S: Source, F: Folder>(
+    alloc: Global,
+    publisher: &str,
+    staged: &[Staged],
+    text: &[u8],
+    source: &mut S,
+    folder: &mut F,
+    names: &OwnNames,
+    buffer: &mut [u8],
+) -> Result<(), Or<StageFault>>
+    requires room { 0 < length buffer.old }
+    requires records { IsTrue (F.outside.tells folder.old) → IsTrue (is_dir ((F.outside.state folder.old).held.look records_name)) }
+    requires cleared { IsTrue (F.outside.tells folder.old) → IsCleared (F.outside.state folder.old).held }
+    requires standing { IsTrue (F.outside.tells folder.old) → AreStanding (F.outside.state folder.old).held staged.now }
+    requires seen { AreSeen staged.now }
+    ensures filled { IsTrue (F.outside.tells folder.old) → OnOk result
+        (IsFilled (S.outside.tells source.old) (S.outside.state source.old).held publisher.now text.now staged.now (F.outside.state folder.old).held (F.outside.state folder.new)) }
+    ensures refused { IfBad result (SaysOfStage (S.outside.tells source.old) (S.outside.state source.old).held publisher.now staged.now) }
+    ensures any_moment { IsTrue (F.outside.tells folder.old) → Keeps F.outside is_swept nowhere folder.old folder.new }
+    ensures reads { Reads S.outside source.old source.new (result ≡ Err (Bad fault.SourceFault)) }
+    ensures cause { HasCause (F.outside.faults folder.old) (F.outside.faults folder.new) (result ≡ Err (Bad fault.FolderFault)) }
+    ensures same_kind { F.outside.tells folder.new ≡ F.outside.tells folder.old }
+{
+    let Ok(()) = folder.make_dir(&names.stage, 0o700) else {
+        return Err(Or::Bad(StageFault::FolderFault));
+    };
+    write_contents(alloc, publisher, staged, source, folder, buffer)?;
+    let Ok(()) = write_safely(folder, &names.journal, text) else {
+        return Err(Or::Bad(StageFault::FolderFault));
+    };
+    Ok(())
+}
+
+// Makes a file of these bytes, and makes all that was written safe.
+fn write_safely<F: Folder>(folder: &mut F, path: &RelPath, bytes: &[u8]) -> Result<(), Failed>
+    requires { IsTrue (F.outside.tells folder.old) → CanMake (F.outside.state folder.old).held path.now.bytes }
+    ensures written { IsTrue (F.outside.tells folder.old) → OnOk result ((F.outside.state folder.new).held.look path.now.bytes ≡ Some (File 384 bytes.now)) }
+    ensures safe { IsTrue (F.outside.tells folder.old) → OnOk result (IsSettled (F.outside.state folder.new)) }
+    ensures any_moment { IsTrue (F.outside.tells folder.old) → Keeps F.outside (covers path.now.bytes) nowhere folder.old folder.new }
+    ensures cause { HasCause (F.outside.faults folder.old) (F.outside.faults folder.new) (IsErr result) }
+    ensures same_kind { F.outside.tells folder.new ≡ F.outside.tells folder.old }
+{
+    write_file(folder, path, bytes)?;
+    folder.sync()?;
+    Ok(())
+}

@@ -1,0 +1,106 @@
+//! What is left behind a closed gate, found and taken away.
+
+ghost use Rattle.std.specs.Prelude.{◌≡◌, ℕ, List, None, IsTrue, IsErr, IfOk, OnOk};
+ghost use Rattle.std.specs.List.{filter, list_all, list_any};
+ghost use Rattle.ips_text.specs.Ancestry.{covers};
+ghost use Rattle.ips_outside.specs.Image.{is_dir};
+ghost use Rattle.ips_outside.specs.State.{nowhere};
+ghost use Rattle.ips_outside.specs.Outside.{HasCause, Reads};
+ghost use Rattle.ips_outside.specs.Children.{bytes_of};
+ghost use Rattle.ips_folder.specs.Calls.{Keeps};
+ghost use Rattle.ips_steps.specs.Private.{mark_front, begins};
+ghost use Rattle.ips_commit.specs.Answers.{IsBad};
+ghost use Rattle.ips_commit.specs.Pending.{is_swept, AreMarkNames, IsSwept};
+
+use crate::names::OwnNames;
+use ips_folder::{Folder, ListFault};
+use ips_outside::{Failed, Look, Source};
+use ips_text::{Or, RelPath};
+use std::alloc::{AllocError, Global};
+
+/// The marks that stand.
+pub(crate) fn marks<F: Folder>(
+    alloc: Global,
+    folder: &mut F,
+    names: &OwnNames,
+) -> Result<Vec<RelPath>, Or<Failed>>
+    ensures found { IsTrue (F.outside.tells folder.old) → IfOk result (λ marks. AreMarkNames (F.outside.state folder.old).held (bytes_of marks.items)) }
+    ensures own { IfOk result (λ marks. IsTrue (list_all (begins mark_front) (bytes_of marks.items))) }
+    ensures reads { Reads F.outside folder.old folder.new (IsBad result) }
+{
+    let Ok(is_there) = has_records(folder, names) else {
+        return Err(Or::Bad(Failed));
+    };
+    if !is_there {
+        return Ok(Vec::new(alloc));
+    }
+    match folder.list(alloc, &names.records) {
+        Ok(listing) => Ok(marks_among(alloc, listing.names.as_slice())?),
+        Err(ListFault::Failed) => Err(Or::Bad(Failed)),
+        Err(ListFault::OutOfMemory) => Err(Or::OutOfMemory),
+    }
+}
+
+/// Whether the folder of the records is a directory.
+pub(crate) fn has_records<F: Folder>(folder: &mut F, names: &OwnNames) -> Result<bool, Failed>
+    ensures found { IsTrue (F.outside.tells folder.old) → IfOk result (λ is_there. is_there ≡ is_dir ((F.outside.state folder.old).held.look names.now.records.bytes)) }
+    ensures reads { Reads F.outside folder.old folder.new (IsErr result) }
+{
+    match folder.look(&names.records)? {
+        Look::Dir { .. } => Ok(true),
+        Look::Absent | Look::File { .. } | Look::Link | Look::Other => Ok(false),
+    }
+}
+
+// Those of the paths that begin as the names of marks do.
+fn marks_among(alloc: Global, paths: &[RelPath]) -> Result<Vec<RelPath>, AllocError>
+    ensures { IfOk result (λ marks. bytes_of marks.items ≡ filter (begins mark_front) (bytes_of paths.now)) }
+{
+    let mut marks = Vec::new(alloc);
+    for path in paths {
+        if is_mark(path) {
+            marks.push(path.copy(alloc)?)?;
+        }
+    }
+    Ok(marks)
+}
+
+// Whether the path begins as the names of marks do.
+fn is_mark(path: &RelPath) -> bool
+    ensures { result ≡ begins mark_front path.now.bytes }
+{
+    path.bytes().starts_with(b"var/pkg/done.")
+}
+
+/// Takes the journal, the stage and these marks away.
+pub(crate) fn sweep<F: Folder>(
+    folder: &mut F,
+    names: &OwnNames,
+    marks: &[RelPath],
+) -> Result<(), Failed>
+    requires own { IsTrue (list_all (begins mark_front) (bytes_of marks.now)) }
+    ensures swept { IsTrue (F.outside.tells folder.old) → OnOk result (IsSwept (bytes_of marks.now) (F.outside.state folder.old).held (F.outside.state folder.new).held) }
+    ensures any_moment { IsTrue (F.outside.tells folder.old) → Keeps F.outside is_swept nowhere folder.old folder.new }
+    ensures cause { HasCause (F.outside.faults folder.old) (F.outside.faults folder.new) (IsErr result) }
+    ensures same_kind { F.outside.tells folder.new ≡ F.outside.tells folder.old }
+{
+    folder.remove(&names.journal)?;
+    folder.remove(&names.stage)?;
+    remove_all(folder, marks)?;
+    Ok(())
+}
+
+// Takes what stands at and below these marks away.
+fn remove_all<F: Folder>(folder: &mut F, marks: &[RelPath]) -> Result<(), Failed>
+    requires own { IsTrue (list_all (begins mark_front) (bytes_of marks.now)) }
+    ensures gone { IsTrue (F.outside.tells folder.old) → OnOk result ((q : List ℕ) → IsTrue (list_any (λ m. covers m q) (bytes_of marks.now)) → (F.outside.state folder.new).held.look q ≡ None) }
+    ensures nothing_new { IsTrue (F.outside.tells folder.old) → OnOk result ((q : List ℕ) → (F.outside.state folder.old).held.look q ≡ None → (F.outside.state folder.new).held.look q ≡ None) }
+    ensures any_moment { IsTrue (F.outside.tells folder.old) → Keeps F.outside (begins mark_front) nowhere folder.old folder.new }
+    ensures cause { HasCause (F.outside.faults folder.old) (F.outside.faults folder.new) (IsErr result) }
+    ensures same_kind { F.outside.tells folder.new ≡ F.outside.tells folder.old }
+{
+    for mark in marks {
+        folder.remove(mark)?;
+    }
+    Ok(())
+}
