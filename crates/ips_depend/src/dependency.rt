@@ -1,6 +1,6 @@
 //! One dependency of a package.
 
-ghost use Rattle.std.specs.Prelude.{◌≡◌, ◌++◌, List, length};
+ghost use Rattle.std.specs.Prelude.{◌≡◌, ◌++◌, IfOk, List, length};
 ghost use Rattle.std.specs.Option.{option_map};
 ghost use Rattle.ips_fmri.specs.declared.fmri.Fmri as declared;
 ghost use Rattle.ips_depend.specs.Dependency as dependency;
@@ -8,10 +8,12 @@ ghost use Rattle.ips_depend.specs.Dependency.{group_of, wanted};
 ghost use Rattle.ips_depend.specs.Holds as judged;
 ghost use Rattle.ips_depend.specs.Kept.{conditional_made, conditional_of, dependency_of, made_of, plain_made, sole_of};
 
+use crate::copying::copy_kept;
 use crate::dependency_type::DependencyType;
 use crate::holding::holds;
 use crate::view::View;
 use ips_fmri::Fmri;
+use std::alloc::{AllocError, Global};
 use std::marker::Model;
 use std::slice;
 
@@ -57,6 +59,15 @@ impl Test {
     {
         let kept = keep(of_type, predicates, fmris)?;
         Some(Test { kept })
+    }
+
+    /// The same test.
+    pub fn copy(&self, alloc: Global) -> Result<Test, AllocError>
+        ensures { IfOk result (λ test. test ≡ self.now) }
+    {
+        Ok(Test {
+            kept: copy_kept(alloc, &self.kept)?,
+        })
     }
 
     /// Whether the test holds: one sentence for each type (pkg(7), "Depend Actions"). Here an FMRI is present where its stem is

@@ -6,6 +6,7 @@
 //! that it wants have to be there: the absence of any other breaks none.
 #![tactic(auto)]
 
+mod copying;
 mod dependency;
 mod dependency_type;
 mod holding;

@@ -1,0 +1,13 @@
+pub mod Members
+pub mod Named
+pub mod StemLists
+pub mod Reached
+pub mod Restricting
+pub mod Tests
+pub mod Picking
+pub mod Solving
+pub mod Looking
+pub mod Answering
+pub mod Numbers
+pub mod Missing
+pub mod Packages

@@ -1,0 +1,47 @@
+-- Looking up stems and candidates by their numbers.
+use Rattle.std.proofs.Common.{◌≡◌, ℕ, ◌+◌, ◌<◌, ltb, Bool, true, false, not, cond, List, [], ◌∷◌, map, length, position, slice_get, get_or, Contains, Option, Some, None, option_map, option_and_then, refl, sym, ap, subst, ◌∙◌, bytes_eq, String, Global, string_bytes}
+use Rattle.std.specs.List.{position_or_len}
+use Rattle.std.proofs.lemmas.List.{length-map}
+use Rattle.std.proofs.lemmas.List.Elements.{Contains-get_or}
+use Rattle.std.proofs.lemmas.Option.{slice_get-map}
+use Rattle.ips_refute.specs.declared.nogoods.Pair.{Pair}
+use Rattle.ips_refute.specs.Meaning.{OnePerStem}
+use Rattle.ips_fmri.specs.Version.{Parts}
+use Rattle.ips_problem.specs.declared.rows.Row.{Row}
+use Rattle.ips_problem.specs.Posed.{Posed, candidate_of, version_at, number_of, picked, tells_spared, spared_at, spared}
+use Rattle.ips_problem.specs.Seen.{seen_row, stems_of, puzzle_of}
+use Rattle.ips_problem.specs.Laws.{contained_candidate}
+
+-- what stands at a place of a set is the candidate of its stem
+pub at_place : (set : List Pair) (i : ℕ) (d : Pair) (stem : ℕ) → OnePerStem set → i < length set → (get_or set i d).stem ≡ stem → Some (get_or set i d).candidate ≡ candidate_of set stem
+at_place set i d stem one l e =
+    sym (subst (λ (s : ℕ). candidate_of set s ≡ Some (get_or set i d).candidate) e
+    (contained_candidate set (get_or set i d).stem (get_or set i d).candidate one (Contains-get_or set i d l)))
+
+position_map : {X Y : Type 0} (f : X → Y) (p : Y → Bool) (xs : List X) → position_or_len p (map f xs) ≡ position_or_len (λ x. p (f x)) xs
+position_map f p [] = refl
+position_map f p (x ∷ xs) = ap (λ (n : ℕ). cond (not (p (f x))) (1 + n) 0) (position_map f p xs)
+
+-- the number of a stem among keys is its number among their texts
+pub number_among_keys : (stem : List ℕ) (keys : List (String Global)) → position (λ k. bytes_eq stem (string_bytes k)) keys ≡ position (bytes_eq stem) (stems_of keys)
+number_among_keys stem keys =
+    let at = sym (position_map (λ (k : String Global). string_bytes k) (bytes_eq stem) keys) in
+    let long = sym (length-map keys (λ (k : String Global). string_bytes k)) in
+    λ i. cond (ltb (at i) (long i)) (Some (at i)) None
+
+-- a stem without a number is picked at no version
+pub picked_without : (keys : List (String Global)) (rows : List Row) (set : List Pair) (stem : List ℕ) → None ≡ position (bytes_eq stem) (stems_of keys) → None ≡ picked (puzzle_of keys rows) set stem
+picked_without keys rows set stem e = ap (option_and_then (λ j. version_at (slice_get (map seen_row rows) j) (candidate_of set j))) e
+
+pub picked_with : (keys : List (String Global)) (rows : List Row) (set : List Pair) (stem : List ℕ) (i : ℕ) (o : Option Parts) → Some i ≡ position (bytes_eq stem) (stems_of keys)
+    → o ≡ version_at (option_map seen_row (slice_get rows i)) (candidate_of set i) → o ≡ picked (puzzle_of keys rows) set stem
+picked_with keys rows set stem i o number e =
+    e ∙ ap (λ r. version_at r (candidate_of set i)) (sym (slice_get-map seen_row rows i))
+    ∙ ap (option_and_then (λ j. version_at (slice_get (map seen_row rows) j) (candidate_of set j))) number
+
+pub spared_without : (keys : List (String Global)) (rows : List Row) (stem : List ℕ) → None ≡ position (bytes_eq stem) (stems_of keys) → false ≡ spared (puzzle_of keys rows) stem
+spared_without keys rows stem e = ap (spared_at (puzzle_of keys rows)) e
+
+pub spared_with : (keys : List (String Global)) (rows : List Row) (stem : List ℕ) (i : ℕ) (b : Bool) → Some i ≡ position (bytes_eq stem) (stems_of keys)
+    → b ≡ tells_spared (option_map seen_row (slice_get rows i)) → b ≡ spared (puzzle_of keys rows) stem
+spared_with keys rows stem i b number e = e ∙ ap tells_spared (sym (slice_get-map seen_row rows i)) ∙ ap (spared_at (puzzle_of keys rows)) number

@@ -1,0 +1,79 @@
+-- A selection with the stems out of reach left out.
+use Rattle.std.proofs.Common.{◌≡◌, ℕ, Bool, true, false, not, cond, ◌||◌, List, [], ◌∷◌, ◌++◌, flat_map, Contains, Option, Some, None, is_some, refl, sym, ap, subst, ◌∙◌, inl, inr, ◌⊎◌, bytes_eq}
+use Rattle.std.specs.List.{list_any, AllByRecursion}
+use Rattle.std.proofs.lemmas.Bool.{both_ways, cases_Bool, or_left, or_right, cond-true, cond-false}
+use Rattle.ips_fmri.specs.declared.fmri.Fmri.{Fmri}
+use Rattle.ips_depend.specs.Selection.{Selection, Spared, is_present, is_selected, is_within, is_some_that}
+use Rattle.ips_depend.specs.Matching.{reaches, admits}
+use Rattle.ips_depend.specs.Dependency.{Dependency, Require, Optional, Incorporate, Exclude, Conditional, RequireAny, Group, Parent, wanted, stems}
+use Rattle.ips_depend.specs.Holds.{holds}
+use Rattle.ips_problem.specs.Stems.{has}
+use Rattle.ips_problem.specs.Case.{Case}
+use Rattle.ips_problem.specs.Candidates.{candidates, is_spared}
+use Rattle.ips_problem.specs.Reach.{dependencies_of, IsReach}
+use Rattle.ips_problem.specs.Selecting.{IsAdmissible, restricted, IsWithin}
+use Rattle.ips_problem.specs.Laws.{has_first, any_alike}
+use Rattle.ips_problem.proofs.Members.{Among, contained_at, among_at, all_from_among, all_at_among}
+use Rattle.ips_problem.proofs.Reached.{absence_offered, wanted_in_reach}
+
+-- a stem that is left in keeps its version
+left_in : (reach : List (List ℕ)) (s : Selection) (x : List ℕ) → has x reach ≡ true → restricted reach s x ≡ s x
+left_in reach s x e = cond-true (has x reach) (s x) None e
+
+left_out : (reach : List (List ℕ)) (s : Selection) (x : List ℕ) → has x reach ≡ false → restricted reach s x ≡ None
+left_out reach s x e = cond-false (has x reach) (s x) None e
+
+-- each stem keeps its version or becomes absent
+left : (reach : List (List ℕ)) (s : Selection) (x : List ℕ) → (restricted reach s x ≡ s x) ⊎ (restricted reach s x ≡ None)
+left reach s x = elim (cases_Bool (has x reach)) [ inl e ↦ inl (left_in reach s x e) | inr e ↦ inr (left_out reach s x e) ]
+
+-- what a dependency wants is left in
+abbrev LeavesWanted : List (List ℕ) → Dependency → Type 0
+LeavesWanted reach d = (y : List ℕ) → has y (stems (wanted d)) ≡ true → has y reach ≡ true
+
+-- a dependency isn't broken where what it wants is left in
+still_holds : (reach : List (List ℕ)) (s : Selection) (sp : Spared) (d : Dependency) → LeavesWanted reach d → holds s sp d ≡ true → holds (restricted reach s) sp d ≡ true
+still_holds reach s sp (Require f) w h = ap (is_some_that (reaches f.version)) (left_in reach s f.stem (w f.stem (has_first f.stem []))) ∙ h
+still_holds reach s sp (Optional f) w h = elim (left reach s f.stem) [
+  | inl e ↦ ap (λ o. not (is_some o) || is_some_that (reaches f.version) o) e ∙ h
+  | inr e ↦ ap (λ o. not (is_some o) || is_some_that (reaches f.version) o) e
+]
+still_holds reach s sp (Incorporate f) w h = elim (left reach s f.stem) [
+  | inl e ↦ ap (λ o. not (is_some o) || is_some_that (admits f.version) o) e ∙ h
+  | inr e ↦ ap (λ o. not (is_some o) || is_some_that (admits f.version) o) e
+]
+still_holds reach s sp (Exclude f) w h = elim (left reach s f.stem) [
+  | inl e ↦ ap (λ o. not (is_some_that (reaches f.version) o)) e ∙ h
+  | inr e ↦ ap (λ o. not (is_some_that (reaches f.version) o)) e
+]
+still_holds reach s sp (Conditional p f) w h =
+    let same = ap (is_some_that (reaches f.version)) (left_in reach s f.stem (w f.stem (has_first f.stem []))) in
+    elim (left reach s p.stem) [
+      | inl e ↦ ap (λ o. not (is_some_that (reaches p.version) o) || is_present (restricted reach s) f) e ∙ ap (λ b. not (is_present s p) || b) same ∙ h
+      | inr e ↦ ap (λ o. not (is_some_that (reaches p.version) o) || is_present (restricted reach s) f) e
+    ]
+still_holds reach s sp (RequireAny fs) w h = any_alike (restricted reach s) s fs (λ y e. left_in reach s y (w y e)) ∙ h
+still_holds reach s sp (Group f) w h = ap (λ o. is_some o || sp f.stem) (left_in reach s f.stem (w f.stem (has_first f.stem []))) ∙ h
+still_holds reach s sp (Parent fs) w h = refl
+
+-- an admissible selection stays admissible without the stems that are out of reach
+pub restricted_admissible : (c : Case) (reach : List (List ℕ)) (s : Selection) → IsReach c reach → IsAdmissible c s → IsAdmissible c (restricted reach s)
+restricted_admissible c reach s r a = record {
+  offered = λ x. elim (cases_Bool (has x reach)) [
+    | inl e ↦ subst (Contains (candidates c x)) (sym (left_in reach s x e)) (a.offered x)
+    | inr e ↦ subst (Contains (candidates c x)) (sym (left_out reach s x e)) (absence_offered c reach x r e)
+  ];
+  holds = λ x. elim (cases_Bool (has x reach)) [
+    | inl e ↦
+        let (k, at) = contained_at (candidates c x) (s x) (a.offered x) in
+        let still = λ (d : Dependency) (b : Among d (dependencies_of c x (s x))).
+        still_holds reach s (is_spared c) d (λ y w. wanted_in_reach c reach x y (s x) d r e (among_at (candidates c x) k (s x) at) b w)
+        (all_at_among (λ d. holds s (is_spared c) d ≡ true) d (dependencies_of c x (s x)) (a.holds x) b) in
+        subst (λ o. AllByRecursion (λ d. holds (restricted reach s) (is_spared c) d ≡ true) (dependencies_of c x o)) (sym (left_in reach s x e))
+        (all_from_among (λ d. holds (restricted reach s) (is_spared c) d ≡ true) (dependencies_of c x (s x)) still)
+    | inr e ↦ subst (λ o. AllByRecursion (λ d. holds (restricted reach s) (is_spared c) d ≡ true) (dependencies_of c x o)) (sym (left_out reach s x e)) tt
+  ];
+}
+
+pub restricted_within : (reach : List (List ℕ)) (s : Selection) → IsWithin reach (restricted reach s)
+restricted_within reach s x e = left_out reach s x e

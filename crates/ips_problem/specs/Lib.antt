@@ -1,0 +1,14 @@
+pub mod Stems
+pub mod Reads
+pub mod Case
+pub mod Candidates
+pub mod Reach
+pub mod Selecting
+pub mod Posed
+pub mod Seen
+pub mod Named
+pub mod Fault
+pub mod Laws
+pub mod Held
+pub mod Taken
+pub mod Avoided

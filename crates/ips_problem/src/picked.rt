@@ -1,0 +1,161 @@
+//! The selection that a set of candidates makes.
+
+ghost use Rattle.std.specs.Prelude.{◌≡◌, ◌∷◌, ◌<◌, IfSome, Some, length, position, slice_get};
+ghost use Rattle.std.specs.Option.{option_map};
+ghost use Rattle.std.specs.Str.{bytes_eq};
+ghost use Rattle.ips_refute.specs.Meaning.{OnePerStem};
+ghost use Rattle.ips_problem.specs.Posed as posed;
+ghost use Rattle.ips_problem.specs.Posed.{candidate_of, decides, picked, spared, tells_spared};
+ghost use Rattle.ips_problem.specs.Seen.{puzzle_of, seen_row, stems_of};
+
+use crate::rows::Row;
+use indexmap::IndexSet;
+use ips_depend::View;
+use ips_fmri::Version;
+use ips_refute::Pair;
+
+/// The selection that a set of candidates with one more makes, over the stems in reach: what has no candidate in it is absent.
+#[derive(Drop)]
+pub struct Picked<'a> {
+    stems: &'a IndexSet<String>,
+    rows: &'a [Row],
+    set: &'a [Pair],
+    more: Pair,
+    ghost one_per_stem: { OnePerStem (more ∷ set.now) },
+}
+
+impl Picked<'_> {
+    /// The selection that the set makes with the pair `more`. No two of the pairs are of one stem.
+    pub fn new<'a>(
+        stems: &'a IndexSet<String>,
+        rows: &'a [Row],
+        set: &'a [Pair],
+        more: Pair,
+    ) -> Picked<'a>
+        requires { OnePerStem (more ∷ set.now) }
+        ensures stems { result.stems ≡ stems.entry }
+        ensures rows { result.rows ≡ rows.entry }
+        ensures set { result.set ≡ set.entry }
+        ensures more { result.more ≡ more }
+    {
+        Picked {
+            stems,
+            rows,
+            set,
+            more,
+        }
+    }
+}
+
+impl View for Picked<'_> {
+    ghost selection = { λ v. picked (puzzle_of v.stems.now.keys v.rows.now) (v.more ∷ v.set.now) };
+
+    ghost spares = { λ v. spared (puzzle_of v.stems.now.keys v.rows.now) };
+
+    fn version(&self, stem: &str) -> Option<&Version> {
+        let Some(number) = number(self.stems, stem) else {
+            return None;
+        };
+        version_at(self.rows, self.set, self.more, number)
+    }
+
+    fn spared(&self, stem: &str) -> bool {
+        match number(self.stems, stem) {
+            Some(number) => spared_at(self.rows, number),
+            None => false,
+        }
+    }
+}
+
+/// The number of a stem.
+pub fn number(stems: &IndexSet<String>, stem: &str) -> Option<usize>
+    ensures number { result ≡ position (bytes_eq stem.now) (stems_of stems.now.keys) }
+    ensures within { IfSome result (λ i. i < length stems.now.keys) }
+{
+    stems.get_index_of(stem)
+}
+
+// The version of the candidate that the set, with the pair `more`, has for the stem with this number.
+fn version_at<'a>(rows: &'a [Row], set: &[Pair], more: Pair, number: usize) -> Option<&'a Version>
+    requires { OnePerStem (more ∷ set.now) }
+    ensures { option_map (λ v. v.now) result ≡ posed.version_at (option_map seen_row (slice_get rows.now number)) (candidate_of (more ∷ set.now) number) }
+{
+    let Some(row) = rows.get(number) else {
+        return None;
+    };
+    let Some(candidate) = candidate(set, more, number) else {
+        return None;
+    };
+    version_of(row, candidate)
+}
+
+// Whether the stem with this number is spared.
+fn spared_at(rows: &[Row], number: usize) -> bool
+    ensures { result ≡ tells_spared (option_map seen_row (slice_get rows.now number)) }
+{
+    match rows.get(number) {
+        Some(row) => row.spared,
+        None => false,
+    }
+}
+
+/// The version of the candidate with this number; None where that is absence.
+pub fn version_of(row: &Row, candidate: u32) -> Option<&Version>
+    ensures { option_map (λ v. v.now) result ≡ posed.version_at (Some (seen_row row.now)) (Some candidate) }
+{
+    let number = (*row.candidates.get(candidate as usize)?)?;
+    let read = row.reads.get(number)?;
+    Some(&read.version)
+}
+
+/// The candidate that the set, with the pair `more`, has for the stem with this number.
+pub fn candidate(set: &[Pair], more: Pair, stem: usize) -> Option<u32>
+    requires { OnePerStem (more ∷ set.now) }
+    ensures { result ≡ candidate_of (more ∷ set.now) stem }
+{
+    if more.stem as usize == stem {
+        return Some(more.candidate);
+    }
+    candidate_in(set, stem)
+}
+
+// The candidate that the set has for the stem with this number. In a choice, or a part of one, the pair of a stem stands at a place
+// that its stem tells.
+fn candidate_in(set: &[Pair], stem: usize) -> Option<u32>
+    requires { OnePerStem set.now }
+    ensures { result ≡ candidate_of set.now stem }
+{
+    let place = place_in_choice(set, stem);
+    if place < set.len() {
+        let pair = set[place];
+        if pair.stem as usize == stem {
+            return Some(pair.candidate);
+        }
+    }
+    for pair in set {
+        if pair.stem as usize == stem {
+            return Some(pair.candidate);
+        }
+    }
+    None
+}
+
+fn place_in_choice(set: &[Pair], stem: usize) -> usize {
+    match set {
+        [first, ..] if first.stem as usize <= stem => stem - first.stem as usize,
+        _ => 0,
+    }
+}
+
+/// Whether the set, with the pair `more`, has a candidate for each of the stems with these numbers.
+pub fn decides_all(set: &[Pair], more: Pair, stems: &[u32]) -> bool
+    requires { OnePerStem (more ∷ set.now) }
+    ensures { result ≡ decides (more ∷ set.now) stems.now }
+{
+    for stem in stems {
+        if candidate(set, more, *stem as usize).is_none() {
+            return false;
+        }
+    }
+    true
+}

@@ -1,0 +1,35 @@
+//! What is known of the stems in reach, and their tests.
+
+use crate::read::Read;
+use ips_depend::Test;
+
+/// What is known of a stem in reach.
+#[derive(Drop)]
+pub struct Row {
+    /// No group dependency asks for it.
+    pub spared: bool,
+    /// The versions whose manifests were read.
+    pub reads: Vec<Read>,
+    /// The candidates in order, by the numbers of the versions; absence is None.
+    pub candidates: Vec<Option<usize>>,
+}
+
+/// A dependency of a candidate, as a test.
+#[derive(Drop)]
+pub struct Numbered {
+    /// The number of the stem.
+    pub stem: u32,
+    /// The number of the candidate.
+    pub candidate: u32,
+    /// The dependency.
+    pub test: Test,
+}
+
+/// The stems of a test, by their numbers.
+#[derive(Drop)]
+pub struct Numbers {
+    /// Its own, and those that the dependency mentions, where they are in reach.
+    pub stems: Vec<u32>,
+    /// The greatest of these.
+    pub last: u32,
+}
