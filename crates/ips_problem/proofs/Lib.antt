@@ -11,3 +11,8 @@ pub mod Answering
 pub mod Numbers
 pub mod Missing
 pub mod Packages
+pub mod Lookups
+pub mod Inserted
+pub mod Judging
+pub mod Offering
+pub mod Growth

@@ -7,7 +7,11 @@ pub mod Selecting
 pub mod Posed
 pub mod Seen
 pub mod Named
+pub mod Listing
+pub mod Subject
 pub mod Fault
+pub mod Gathered
+pub mod Asked
 pub mod Laws
 pub mod Held
 pub mod Taken

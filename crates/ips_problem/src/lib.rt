@@ -14,8 +14,14 @@
 mod answers;
 mod arranging;
 mod avoiding;
+mod asking;
+mod building;
 mod fault;
+mod gathered;
+mod gathering;
+mod growing;
 mod kind;
+mod known;
 mod laws;
 mod naming;
 mod numbering;
@@ -28,6 +34,8 @@ mod request;
 mod role;
 mod rows;
 mod taking;
+mod stems;
+mod subject;
 mod versions;
 
 pub use fault::ProblemFault;

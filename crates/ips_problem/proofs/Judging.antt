@@ -1,0 +1,118 @@
+-- What reading a manifest says of its version.
+use Rattle.std.proofs.Common.{◌≡◌, ℕ, ◌+◌, ◌≤◌, List, length, Option, Some, None, Result, Ok, Err, IfOk, option_map, refl, sym, ap, subst, ◌∙◌, arith}
+use Rattle.std.specs.Option.{MatchOption, option_and_then}
+use Rattle.ips_text.specs.Reading.{IfBad}
+use Rattle.ips_text.specs.declared.refusal.Or.{Or}
+use Rattle.ips_text.specs.declared.refusal.Or.TheVariants.{Bad, OutOfMemory}
+use Rattle.ips_fmri.specs.Version.{Parts}
+use Rattle.ips_filter.specs.Settings.{Set}
+use Rattle.ips_manifest.specs.declared.line.Line.{Line}
+use Rattle.ips_manifest.specs.Manifest.{IsManifestOf}
+use Rattle.ips_depend.specs.Dependency.{Dependency}
+use Rattle.ips_depend.specs.Asking.{LinesAsk, IsFirstBad}
+use Rattle.ips_depend.proofs.Lines.{lines_once}
+use Rattle.ips_state.specs.State.{Installed}
+use Rattle.ips_repo.specs.Manifest.{manifest_limit}
+use Rattle.ips_problem.specs.declared.fault.ProblemFault.{ProblemFault}
+use Rattle.ips_problem.specs.declared.fault.ProblemFault.TheVariants as fault
+use Rattle.ips_problem.specs.declared.read.Read.{Read}
+use Rattle.ips_problem.specs.Case.{Case, Facts, Reading, IsReading, facts_of, facts_in, own, said_of}
+use Rattle.ips_problem.specs.Candidates.{tell_obsolete}
+use Rattle.ips_problem.specs.Fault.{FaultOf, IsFetched, IsFetchFault, IsFileFault, IsManifestFault, IsOwnFault, IsThere, bytes_of, name_of}
+use Rattle.ips_problem.specs.Gathered.{Got, GotFault, IsJudgedRead, IsReadBehind}
+
+-- ---- what answers say
+
+pub ok_also : {X E : Type 0} (r : Result X E) (P Q : X → Type 0) → IfOk r P → ((x : X) → P x → Q x) → IfOk r Q
+ok_also (Ok x) P Q h w = w x h
+ok_also (Err e) P Q h w = tt
+
+pub bad_also : {X F : Type 0} (r : Result X (Or F)) (P Q : F → Type 0) → IfBad r P → ((f : F) → P f → Q f) → IfBad r Q
+bad_also (Ok x) P Q h w = tt
+bad_also (Err (Bad f)) P Q h w = w f h
+bad_also (Err OutOfMemory) P Q h w = tt
+
+-- a fault of which nothing holds doesn't come
+pub bad_not : {X F : Type 0} (r : Result X (Or F)) (P : F → Type 0) (f : F) → IfBad r P → r ≡ Err (Bad f) → P f
+bad_not r P f h e = subst (λ r. IfBad r P) e h
+
+-- ---- what a manifest says
+
+lines_read : (before now : ℕ) (lines : List Line) (bytes : List ℕ) (o : Option (List Line)) → MatchOption o ((lines : List Line) → IsManifestOf bytes lines → ⊥) (IsManifestOf bytes) → IsFetched before now lines bytes → o ≡ Some lines
+lines_read before now lines bytes None m f = absurd (m lines f.manifest)
+lines_read before now lines bytes (Some ls) m f = ap (λ ls. Some ls) (f.only ls m)
+
+asked_read : (settings : Set) (lines : List Line) (ds : List Dependency) (o : Option (List Dependency)) → MatchOption o ((ds : List Dependency) → LinesAsk settings lines ds → ⊥) (LinesAsk settings lines) → LinesAsk settings lines ds → o ≡ Some ds
+asked_read settings lines ds None m a = absurd (m ds a)
+asked_read settings lines ds (Some es) m a = ap (λ es. Some es) (lines_once settings lines es ds m a)
+
+facts_read : (settings : Set) (r : Reading) (lines : List Line) (ds : List Dependency) → IsReading settings r → LinesAsk settings lines ds → facts_of r lines ≡ Some (record { lines = lines; dependencies = ds })
+facts_read settings r lines ds is a = ap (option_map (λ ds. record { lines = lines; dependencies = ds })) (asked_read settings lines ds (r.dependencies lines) (is.dependencies lines) a)
+
+facts_there : (settings : Set) (r : Reading) (before now : ℕ) (lines : List Line) (ds : List Dependency) (file : Option (List ℕ)) → IsReading settings r → IsThere file (IsFetched before now lines) → LinesAsk settings lines ds
+    → facts_in r file ≡ Some (record { lines = lines; dependencies = ds })
+facts_there settings r before now lines ds None is f a = absurd f
+facts_there settings r before now lines ds (Some bytes) is f a =
+    ap (option_and_then (facts_of r)) (lines_read before now lines bytes (r.lines bytes) (is.lines bytes) f) ∙ facts_read settings r lines ds is a
+
+says_of : (settings : Set) (c : Case) (stem : List ℕ) (v : Parts) (o : Option Installed) (before now : ℕ) (lines : List Line) (ds : List Dependency) → IsReading settings c.reading
+    → Got o (c.file stem v) before now lines → LinesAsk settings lines ds → said_of c o stem v ≡ Some (record { lines = lines; dependencies = ds })
+says_of settings c stem v None before now lines ds is g a = facts_there settings c.reading before now lines ds (c.file stem v) is g a
+says_of settings c stem v (Some p) before now lines ds is g a = ap (facts_of c.reading) (sym g.0) ∙ facts_read settings c.reading lines ds is a
+
+few_of : (o : Option Installed) (file : Option (List ℕ)) (before now : ℕ) (lines : List Line) → Got o file before now lines → bytes_of o file ≤ manifest_limit
+few_of None None before now lines g = absurd g
+few_of None (Some bytes) before now lines g = g.fits.alone
+few_of (Some p) file before now lines g = omega arith
+
+counted_of : (o : Option Installed) (file : Option (List ℕ)) (before now : ℕ) (lines : List Line) → Got o file before now lines → now ≡ before + bytes_of o file
+counted_of None None before now lines g = absurd g
+counted_of None (Some bytes) before now lines g = g.counted
+counted_of (Some p) file before now lines g = g.1 ∙ omega arith
+
+-- a manifest that was got and judged was read
+pub read_behind : (settings : Set) (c : Case) (stem : List ℕ) (v : Parts) (before now : ℕ) (lines : List Line) (read : Read) → IsReading settings c.reading → Got (own c stem v) (c.file stem v) before now lines
+    → IsJudgedRead settings c stem v lines read → IsReadBehind c before now stem v read
+read_behind settings c stem v before now lines read is g j = record {
+  is = record {
+    version = j.version;
+    says = says_of settings c stem v (own c stem v) before now lines read.tests.items is g j.asks ∙ ap (λ (ls : List Line). Some (record { lines = ls; dependencies = read.tests.items })) (sym j.manifest);
+    gone = j.gone ∙ ap tell_obsolete (sym j.manifest);
+    comes = j.comes;
+    stands = j.stands;
+    newest = j.newest;
+  };
+  few = few_of (own c stem v) (c.file stem v) before now lines g;
+  counted = counted_of (own c stem v) (c.file stem v) before now lines g;
+}
+
+-- ---- why it wasn't
+
+file_fault : (settings : Set) (total : ℕ) (file : Option (List ℕ)) (name : List ℕ) (why : ProblemFault) → IsFetchFault total file name why → IsFileFault settings total file name why
+file_fault settings total file name (fault.NoMatch pattern) h = absurd h
+file_fault settings total file name (fault.Ambiguous pattern stems) h = absurd h
+file_fault settings total file name (fault.ManifestMissing fmri) h = h
+file_fault settings total file name (fault.BadManifest fmri why) h = h
+file_fault settings total file name (fault.BadDepend fmri line) h = absurd h
+file_fault settings total file name (fault.TooLarge which count) h = h
+file_fault settings total file name fault.SourceFault h = tt
+
+pub got_fault : (settings : Set) (total : ℕ) (o : Option Installed) (file : Option (List ℕ)) (name : List ℕ) (why : ProblemFault) → GotFault o file total name why → FaultOf o settings total file name why
+got_fault settings total None file name why h = file_fault settings total file name why h
+got_fault settings total (Some p) file name why h = absurd h
+
+there_fault : (settings : Set) (before now : ℕ) (lines : List Line) (file : Option (List ℕ)) (name : List ℕ) (why : ProblemFault) → IsThere file (IsFetched before now lines) → IsOwnFault settings lines name why
+    → IsFileFault settings before file name why
+there_fault settings before now lines file name (fault.NoMatch pattern) g h = absurd h
+there_fault settings before now lines file name (fault.Ambiguous pattern stems) g h = absurd h
+there_fault settings before now lines file name (fault.ManifestMissing fmri) g h = absurd h
+there_fault settings before now lines file name (fault.BadManifest fmri why) g h = absurd h
+there_fault settings before now lines None name (fault.BadDepend fmri line) g h = absurd g
+there_fault settings before now lines (Some bytes) name (fault.BadDepend fmri line) g h = ((g.fits, (lines, g.manifest, h.0)), h.1)
+there_fault settings before now lines file name (fault.TooLarge which count) g h = absurd h
+there_fault settings before now lines file name fault.SourceFault g h = absurd h
+
+pub judged_fault : (settings : Set) (before now : ℕ) (lines : List Line) (o : Option Installed) (file : Option (List ℕ)) (name : List ℕ) (why : ProblemFault) → Got o file before now lines → IsOwnFault settings lines name why
+    → FaultOf o settings before file name why
+judged_fault settings before now lines None file name why g h = there_fault settings before now lines file name why g h
+judged_fault settings before now lines (Some p) file name why g h = subst (λ ls. IsOwnFault settings ls name why) g.0 h
