@@ -14,5 +14,6 @@ pub mod Packages
 pub mod Lookups
 pub mod Inserted
 pub mod Judging
+pub mod Fetched
 pub mod Offering
 pub mod Growth
