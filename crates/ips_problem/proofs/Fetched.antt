@@ -2,11 +2,11 @@
 use Rattle.std.proofs.Common.{◌≡◌, ℕ, ◌+◌, ◌≤◌, ◌<◌, List, length, Option, Some, None, Result, Ok, Err, IfOk, refl, sym, ap, subst, ◌∙◌, arith}
 use Rattle.ips_text.specs.Reading.{Gives, IfBad}
 use Rattle.ips_text.specs.declared.limits.Which.{Which}
-use Rattle.ips_text.specs.declared.limits.Which.TheVariants as which
 use Rattle.ips_text.specs.declared.refusal.Or.{Or}
 use Rattle.ips_text.specs.declared.refusal.Or.TheVariants.{Bad, OutOfMemory}
 use Rattle.ips_manifest.specs.declared.line.Line.{Line}
 use Rattle.ips_manifest.specs.declared.manifest.Manifest.{Manifest}
+use Rattle.ips_manifest.specs.declared.fault.ManifestFault.{ManifestFault}
 use Rattle.ips_repo.specs.Files.{HasSize}
 use Rattle.ips_repo.specs.Manifest as held
 use Rattle.ips_repo.specs.Manifest.{IsBytesFault, IsManifestRefusal, manifest_limit}
@@ -21,7 +21,7 @@ pub there : (file : Option (List ℕ)) (bytes : List ℕ) (P : List ℕ → Type
 there file bytes P e h = subst (λ o. IsThere o P) (sym e) h
 
 -- the lines that were read are those that are meant
-pub only_lines : (m : Manifest) (lines : List Line) → Gives {X = Manifest} (λ m. m.lines.items) (Ok m) (Ok lines) → lines ≡ m.lines.items
+pub only_lines : (m : Manifest) (lines : List Line) → Gives {X = Manifest} {E = ManifestFault} (λ m. m.lines.items) (Ok m) (Ok lines) → lines ≡ m.lines.items
 only_lines m lines g = cc
 
 -- ---- why bytes weren't read
@@ -30,28 +30,28 @@ too_large : (total count : ℕ) (which : Which) (file : Option (List ℕ)) → h
 too_large total count which None large size = absurd size
 too_large total count which (Some bytes) large size = subst (λ w. IsTooLarge total bytes w count) (sym large.0) (sym size, large.1)
 
-missed : {X : Type 0} (total : ℕ) (file : Option (List ℕ)) (name : List ℕ) (e : Or ProblemFault) → file ≡ None → IsMissing name e → IfBad {X = X} (Err e) (IsFetchFault total file name)
-missed total file name (Bad (fault.NoMatch pattern)) none h = absurd h
-missed total file name (Bad (fault.Ambiguous pattern stems)) none h = absurd h
-missed total file name (Bad (fault.ManifestMissing fmri)) none h = (none, h)
-missed total file name (Bad (fault.BadManifest fmri why)) none h = absurd h
-missed total file name (Bad (fault.BadDepend fmri line)) none h = absurd h
-missed total file name (Bad (fault.TooLarge which count)) none h = absurd h
-missed total file name (Bad fault.SourceFault) none h = absurd h
-missed total file name OutOfMemory none h = tt
+missed : (X : Type 0) (total : ℕ) (file : Option (List ℕ)) (name : List ℕ) (e : Or ProblemFault) → file ≡ None → IsMissing name e → IfBad {X = X} (Err e) (IsFetchFault total file name)
+missed X total file name (Bad (fault.NoMatch pattern)) none h = absurd h
+missed X total file name (Bad (fault.Ambiguous pattern stems)) none h = absurd h
+missed X total file name (Bad (fault.ManifestMissing fmri)) none h = (none, h)
+missed X total file name (Bad (fault.BadManifest fmri why)) none h = absurd h
+missed X total file name (Bad (fault.BadDepend fmri line)) none h = absurd h
+missed X total file name (Bad (fault.TooLarge which count)) none h = absurd h
+missed X total file name (Bad fault.SourceFault) none h = absurd h
+missed X total file name OutOfMemory none h = tt
 
 -- a fault of reading the bytes, as one of the problem
-pub unread_fault : {X : Type 0} (total : ℕ) (file : Option (List ℕ)) (name : List ℕ) (f : RepoFault) (e : Or ProblemFault) → IsBytesFault f → IsManifestRefusal file f → IsUnread f name e → IfBad {X = X} (Err e) (IsFetchFault total file name)
-unread_fault total file name repo.NoRepository e is why u = absurd is
-unread_fault total file name (repo.BadCatalog c) e is why u = absurd is
-unread_fault total file name repo.ManifestMissing e is why u = missed total file name e why u
-unread_fault total file name (repo.BadManifest m) e is why u = absurd is
-unread_fault total file name repo.PayloadMissing e is why u = absurd is
-unread_fault total file name (repo.PayloadDamaged found) e is why u = absurd is
-unread_fault total file name (repo.Compressed found) e is why u = absurd is
-unread_fault {X = X} total file name (repo.TooLarge which count) e is why u =
+pub unread_fault : (X : Type 0) (total : ℕ) (file : Option (List ℕ)) (name : List ℕ) (f : RepoFault) (e : Or ProblemFault) → IsBytesFault f → IsManifestRefusal file f → IsUnread f name e → IfBad {X = X} (Err e) (IsFetchFault total file name)
+unread_fault X total file name repo.NoRepository e is why u = absurd is
+unread_fault X total file name (repo.BadCatalog c) e is why u = absurd is
+unread_fault X total file name repo.ManifestMissing e is why u = missed X total file name e why u
+unread_fault X total file name (repo.BadManifest m) e is why u = absurd is
+unread_fault X total file name repo.PayloadMissing e is why u = absurd is
+unread_fault X total file name (repo.PayloadDamaged found) e is why u = absurd is
+unread_fault X total file name (repo.Compressed found) e is why u = absurd is
+unread_fault X total file name (repo.TooLarge which count) e is why u =
     subst (λ e. IfBad {X = X} (Err e) (IsFetchFault total file name)) (sym u) (too_large total count which file why.0 why.1)
-unread_fault {X = X} total file name repo.SourceFault e is why u = subst (λ e. IfBad {X = X} (Err e) (IsFetchFault total file name)) (sym u) tt
+unread_fault X total file name repo.SourceFault e is why u = subst (λ e. IfBad {X = X} (Err e) (IsFetchFault total file name)) (sym u) tt
 
 no_missing : (name : List ℕ) (e : Or ProblemFault) → IsMissing name e → e ≡ Bad fault.SourceFault → ⊥
 no_missing name e h is = subst (IsMissing name) is h
