@@ -9,7 +9,9 @@ use Rattle.ips_manifest.specs.declared.manifest.Manifest.{Manifest}
 use Rattle.ips_manifest.specs.declared.fault.ManifestFault.{ManifestFault}
 use Rattle.ips_repo.specs.Files.{HasSize}
 use Rattle.ips_repo.specs.Manifest as held
-use Rattle.ips_repo.specs.Manifest.{IsBytesFault, IsManifestRefusal, manifest_limit}
+use Rattle.ips_repo.specs.Answer.{Answers}
+use Rattle.ips_repo.specs.Manifest.{IsBytesFault, IsManifestRefusal, manifest_in, manifest_limit}
+use Rattle.ips_repo.proofs.Manifests.{refused_bytes}
 use Rattle.ips_repo.specs.declared.fault.RepoFault.{RepoFault}
 use Rattle.ips_repo.specs.declared.fault.RepoFault.TheVariants as repo
 use Rattle.ips_problem.specs.declared.fault.ProblemFault.{ProblemFault}
@@ -82,3 +84,9 @@ unread_missing name (repo.PayloadDamaged found) e large failed h = h
 unread_missing name (repo.Compressed found) e large failed h = h
 unread_missing name (repo.TooLarge which count) e large failed h = absurd (large which count refl)
 unread_missing name repo.SourceFault e large failed h = absurd (failed refl)
+
+-- what a fault of reading the bytes says
+pub refusal_of : (A : Type 0) (view : A → List ℕ) (file : Option (List ℕ)) (e : Or RepoFault) (f : RepoFault) → e ≡ Bad f → IfBad {X = A} (Err e) IsBytesFault → Answers view (Err e) (manifest_in file)
+    → IsBytesFault f × IsManifestRefusal file f
+refusal_of A view file e f is faults meant =
+    (subst (λ e. IfBad {X = A} (Err e) IsBytesFault) is faults, subst (λ e. IfBad {X = A} (Err e) (IsManifestRefusal file)) is (refused_bytes A A view file e faults meant))

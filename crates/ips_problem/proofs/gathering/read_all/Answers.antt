@@ -1,4 +1,4 @@
-use Rattle.std.proofs.Common.{◌≡◌, ◌+◌, ◌∙◌, Err, ap, absurd, refl, subst, sym, take, take_all}
+use Rattle.std.proofs.Common.{◌≡◌, ◌+◌, ◌∙◌, Err, ap, refl, subst, sym, take, take_all}
 use Rattle.ips_text.specs.declared.refusal.Or.TheVariants.{Bad}
 use Rattle.ips_outside.specs.State.{State}
 use Rattle.ips_repo.proofs.Calls.{handed_on, no_fault, reads_as, reads_none, reads_then}

@@ -1,4 +1,4 @@
-use Rattle.std.proofs.Common.{◌≡◌, ◌∙◌, Err, List, absurd, refl, subst, sym}
+use Rattle.std.proofs.Common.{◌≡◌, ◌∙◌, Err, List, refl, subst, sym}
 use Rattle.std.specs.List.{AllZip}
 use Rattle.ips_text.specs.declared.refusal.Or.TheVariants.{Bad}
 use Rattle.ips_fmri.specs.Version.{Parts}
