@@ -1,12 +1,9 @@
 -- What reading a manifest's file gives.
-use Rattle.std.proofs.Common.{◌≡◌, ℕ, ◌+◌, ◌≤◌, ◌<◌, List, length, Option, Some, None, Result, Ok, Err, IfOk, refl, sym, ap, subst, ◌∙◌, arith}
-use Rattle.ips_text.specs.Reading.{Gives, IfBad}
+use Rattle.std.proofs.Common.{◌≡◌, ℕ, List, Option, Some, None, Err, refl, sym, subst}
+use Rattle.ips_text.specs.Reading.{IfBad}
 use Rattle.ips_text.specs.declared.limits.Which.{Which}
 use Rattle.ips_text.specs.declared.refusal.Or.{Or}
 use Rattle.ips_text.specs.declared.refusal.Or.TheVariants.{Bad, OutOfMemory}
-use Rattle.ips_manifest.specs.declared.line.Line.{Line}
-use Rattle.ips_manifest.specs.declared.manifest.Manifest.{Manifest}
-use Rattle.ips_manifest.specs.declared.fault.ManifestFault.{ManifestFault}
 use Rattle.ips_repo.specs.Files.{HasSize}
 use Rattle.ips_repo.specs.Manifest as held
 use Rattle.ips_repo.specs.Answer.{Answers}
@@ -21,10 +18,6 @@ use Rattle.ips_problem.specs.Fault.{IsFetchFault, IsMissing, IsThere, IsTooLarge
 -- what holds of the bytes of a file
 pub there : (file : Option (List ℕ)) (bytes : List ℕ) (P : List ℕ → Type 0) → file ≡ Some bytes → P bytes → IsThere file P
 there file bytes P e h = subst (λ o. IsThere o P) (sym e) h
-
--- the lines that were read are those that are meant
-pub only_lines : (m : Manifest) (lines : List Line) → Gives {X = Manifest} {E = ManifestFault} (λ m. m.lines.items) (Ok m) (Ok lines) → lines ≡ m.lines.items
-only_lines m lines g = cc
 
 -- ---- why bytes weren't read
 
@@ -72,18 +65,6 @@ unread_source name repo.SourceFault e u is = refl
 
 pub source_unread : (name : List ℕ) (f : RepoFault) (e : Or ProblemFault) → IsUnread f name e → f ≡ repo.SourceFault → e ≡ Bad fault.SourceFault
 source_unread name f e u is = let h : IsUnread repo.SourceFault name e = subst (λ f. IsUnread f name e) is u in h
-
--- any other fault of the bytes is a missing manifest
-pub unread_missing : (name : List ℕ) (f : RepoFault) (e : Or ProblemFault) → ((which : Which) (count : ℕ) → f ≡ repo.TooLarge which count → ⊥) → (f ≡ repo.SourceFault → ⊥) → IsMissing name e → IsUnread f name e
-unread_missing name repo.NoRepository e large failed h = h
-unread_missing name (repo.BadCatalog c) e large failed h = h
-unread_missing name repo.ManifestMissing e large failed h = h
-unread_missing name (repo.BadManifest m) e large failed h = h
-unread_missing name repo.PayloadMissing e large failed h = h
-unread_missing name (repo.PayloadDamaged found) e large failed h = h
-unread_missing name (repo.Compressed found) e large failed h = h
-unread_missing name (repo.TooLarge which count) e large failed h = absurd (large which count refl)
-unread_missing name repo.SourceFault e large failed h = absurd (failed refl)
 
 -- what a fault of reading the bytes says
 pub refusal_of : (A : Type 0) (view : A → List ℕ) (file : Option (List ℕ)) (e : Or RepoFault) (f : RepoFault) → e ≡ Bad f → IfBad {X = A} (Err e) IsBytesFault → Answers view (Err e) (manifest_in file)

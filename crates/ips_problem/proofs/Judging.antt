@@ -1,5 +1,5 @@
 -- What reading a manifest says of its version.
-use Rattle.std.proofs.Common.{◌≡◌, ℕ, ◌+◌, ◌≤◌, Bool, true, false, cond, List, length, Option, Some, None, is_some, Result, Ok, Err, IfOk, option_map, refl, sym, ap, subst, ◌∙◌, arith}
+use Rattle.std.proofs.Common.{◌≡◌, ℕ, ◌+◌, ◌≤◌, Bool, true, false, cond, List, Option, Some, None, is_some, Result, Ok, Err, IfOk, option_map, refl, sym, ap, subst, ◌∙◌, arith}
 use Rattle.std.specs.Option.{MatchOption, option_and_then}
 use Rattle.ips_text.specs.Reading.{IfBad}
 use Rattle.ips_text.specs.declared.refusal.Or.{Or}
@@ -9,16 +9,16 @@ use Rattle.ips_filter.specs.Settings.{Set}
 use Rattle.ips_manifest.specs.declared.line.Line.{Line}
 use Rattle.ips_manifest.specs.Manifest.{IsManifestOf}
 use Rattle.ips_depend.specs.Dependency.{Dependency}
-use Rattle.ips_depend.specs.Asking.{LinesAsk, IsFirstBad}
+use Rattle.ips_depend.specs.Asking.{LinesAsk}
 use Rattle.ips_depend.proofs.Lines.{lines_once}
 use Rattle.ips_state.specs.State.{Installed}
 use Rattle.ips_repo.specs.Manifest.{manifest_limit}
 use Rattle.ips_problem.specs.declared.fault.ProblemFault.{ProblemFault}
 use Rattle.ips_problem.specs.declared.fault.ProblemFault.TheVariants as fault
 use Rattle.ips_problem.specs.declared.read.Read.{Read}
-use Rattle.ips_problem.specs.Case.{Case, Facts, Reading, IsReading, at_version, facts_of, facts_in, installed_at, installed_version, is_same_version, own, said_of}
+use Rattle.ips_problem.specs.Case.{Case, Reading, IsReading, at_version, facts_of, facts_in, installed_at, installed_version, is_same_version, own, said_of}
 use Rattle.ips_problem.specs.Candidates.{greatest, is_standing, may_come, tell_obsolete}
-use Rattle.ips_problem.specs.Fault.{FaultOf, IsFetched, IsFetchFault, IsFileFault, IsManifestFault, IsOwnFault, IsThere, bytes_of, name_of}
+use Rattle.ips_problem.specs.Fault.{FaultOf, IsFetched, IsFetchFault, IsFileFault, IsOwnFault, IsThere, bytes_of}
 use Rattle.ips_problem.specs.Gathered.{Got, GotFault, IsJudgedRead, IsReadBehind}
 
 -- ---- what answers say

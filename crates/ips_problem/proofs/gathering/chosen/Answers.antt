@@ -1,4 +1,4 @@
-use Rattle.std.proofs.Common.{◌≡◌, ◌+◌, ◌++◌, ◌∷◌, [], ap, arith, filter, sym, take_all, ◌∙◌}
+use Rattle.std.proofs.Common.{◌++◌, ◌∷◌, [], ap, arith, filter, sym, take_all, ◌∙◌}
 use Rattle.ips_fmri.specs.Version.{Parts}
 use Rattle.ips_problem.specs.Fault.{is_needed}
 use Rattle.ips_problem.specs.Subject.{case_of}

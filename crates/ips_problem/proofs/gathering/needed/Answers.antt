@@ -1,4 +1,4 @@
-use Rattle.std.proofs.Common.{◌≡◌, ◌∙◌, List, ℕ, Option, ap, filter, option_map, refl, reverse, sym}
+use Rattle.std.proofs.Common.{◌≡◌, ◌∙◌, List, ℕ, Option, ap, filter, option_map, reverse, sym}
 use Rattle.ips_fmri.specs.Version.{Parts}
 use Rattle.ips_catalog.specs.Listed.{versions_of}
 use Rattle.ips_state.specs.State.{Installed, installed}

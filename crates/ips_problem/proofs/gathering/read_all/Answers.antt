@@ -1,7 +1,7 @@
-use Rattle.std.proofs.Common.{◌≡◌, ◌+◌, ◌∙◌, [], Err, Global, Vec, ap, refl, subst, sym, take, take_all}
+use Rattle.std.proofs.Common.{◌+◌, ◌∙◌, [], Global, Vec, ap, refl, subst, sym, take}
 use Rattle.ips_text.specs.declared.refusal.Or.TheVariants.{Bad}
 use Rattle.ips_outside.specs.State.{State}
-use Rattle.ips_repo.proofs.Calls.{handed_on, no_fault, reads_as, reads_none, reads_then}
+use Rattle.ips_repo.proofs.Calls.{handed_on, no_fault, reads_none, reads_then}
 use Rattle.ips_problem.specs.declared.fault.ProblemFault.TheVariants as fault
 use Rattle.ips_problem.specs.declared.read.Read.{Read}
 use Rattle.ips_problem.specs.Fault.{IsManifestFault}

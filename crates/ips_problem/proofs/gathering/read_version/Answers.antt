@@ -1,4 +1,4 @@
-use Rattle.std.proofs.Common.{◌≡◌, Err, refl}
+use Rattle.std.proofs.Common.{refl}
 use Rattle.ips_text.specs.declared.refusal.Or.TheVariants.{Bad}
 use Rattle.ips_manifest.specs.declared.manifest.Manifest.{Manifest}
 use Rattle.ips_repo.proofs.Calls.{handed_on, no_fault, reads_as}
