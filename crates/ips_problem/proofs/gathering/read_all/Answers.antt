@@ -1,4 +1,5 @@
 use Rattle.std.proofs.Common.{◌+◌, ◌∙◌, [], Global, Vec, ap, refl, subst, sym, take}
+use Rattle.std.proofs.lemmas.Result.{err_from_is_err_and}
 use Rattle.ips_text.specs.declared.refusal.Or.TheVariants.{Bad}
 use Rattle.ips_outside.specs.State.{State}
 use Rattle.ips_repo.proofs.Calls.{handed_on, no_fault, reads_none, reads_then}
@@ -55,3 +56,10 @@ returns-in-Err-clause-reads g c =
     reads_then g.S.Source.outside c.args.source.now c.loop-version.source c.read_version.new.source _ _ c.loop-version.invariant.calls c.read_version.ensures.reads
     (λ failed. handed_on _ c.read_version.result c.in-Err.why (Bad fault.SourceFault) refl c.in-Err.is failed)
     (λ failed. handed_on c.read_version.result _ c.in-Err.why (Bad fault.SourceFault) c.in-Err.is refl failed)
+
+pub returns-in_err-push-clause-reads : goal.returns-in_err-push-clause-reads
+returns-in_err-push-clause-reads g c =
+    let left = err_from_is_err_and c.from_residual.result c.from_residual.ensures.1 in
+    reads_then g.S.Source.outside c.args.source.now c.loop-version.source c.read_version.new.source _ _ c.loop-version.invariant.calls c.read_version.ensures.reads
+    (λ failed. absurd (no_fault c.read_version.result c.in-Ok.read (Bad fault.SourceFault) c.in-Ok.is failed))
+    (λ failed. absurd (cc (left.1, left.2)))
