@@ -4,8 +4,11 @@ use Rattle.std.specs.List.{AllByRecursion, AllZip, list_any, last_or}
 use Rattle.std.specs.Ordering.{is_lt, is_eq}
 use Rattle.std.specs.declared.cmp.Ordering.{Ordering}
 use Rattle.std.specs.declared.cmp.Ordering.TheVariants.{Less, Equal, Greater}
-use Rattle.std.proofs.lemmas.Bool.{both_ways, cases_Bool, or_cases, or_left, or_right, and_from, cond_both, cond-true, cond-false, false_from_ne_true}
-use Rattle.std.proofs.lemmas.List.{reverse-append}
+use Rattle.std.proofs.lemmas.Bool.{both_ways, cases_Bool, or_left, or_right, and_from, cond-true, cond-false, false_from_ne_true}
+use Rattle.std.specs.Cmp.{Equal-is}
+use Rattle.std.proofs.Math.Bool.{and-true}
+use Rattle.std.proofs.lemmas.List.Sorted.{IsPermutation-reverse, list_any-IsPermutation}
+use Rattle.std.proofs.lemmas.Map.Views.{any-filter_same}
 use Rattle.std.proofs.lemmas.List.Folds.{list_any-append}
 use Rattle.std.proofs.lemmas.Option.{none-some, same_Some}
 use Rattle.ips_fmri.specs.Version.{Parts}
@@ -126,10 +129,6 @@ stands_alike c stem reads i v a = ap stands a.at ∙ a.is.stands
 
 -- ---- which versions are gone through
 
-and_true : (b : Bool) → (b && true) ≡ b
-and_true true = refl
-and_true false = refl
-
 filter_within : (p q r : Parts → Bool) (vs : List Parts) → ((v : Parts) → p v ≡ true → q v ≡ true) → AllByRecursion (λ v. r v ≡ true) (filter q vs) → filter (λ v. p v && r v) vs ≡ filter p (filter q vs)
 filter_within p q r [] w all = refl
 filter_within p q r (v ∷ vs) w all = elim (cases_Bool (q v)) [
@@ -137,7 +136,7 @@ filter_within p q r (v ∷ vs) w all = elim (cases_Bool (q v)) [
       let taken = cond-true (q v) (v ∷ filter q vs) (filter q vs) e in
       let both = subst (AllByRecursion (λ v. r v ≡ true)) taken all in
       let rest = filter_within p q r vs w both.1 in
-      let same = ap (λ b. p v && b) both.0 ∙ and_true (p v) in
+      let same = ap (λ b. p v && b) both.0 ∙ and-true (p v) in
       (λ i. cond (same i) (v ∷ rest i) (rest i)) ∙ sym (ap (filter p) taken)
   | inr e ↦
       let left = cond-false (q v) (v ∷ filter q vs) (filter q vs) e in
@@ -233,38 +232,17 @@ drawn_alike c stem reads (o ∷ os) (p ∷ ps) h = λ j. stems_wanted (h.0 j) ++
 
 -- ---- the greatest version of the catalog
 
-is_equal : (o : Ordering) → is_eq o ≡ true → o ≡ Equal
-is_equal Less e = absurd (both_ways false refl e)
-is_equal Equal e = refl
-is_equal Greater e = absurd (both_ways false refl e)
-
 standing_same : (g v : Parts) → is_standing (Some g) v ≡ true → v ≡ g
-standing_same g v e = (tells_equal (version_cmp v g) (versions_tell v g)).0 (is_equal (version_cmp v g) e)
+standing_same g v e = (tells_equal (version_cmp v g) (versions_tell v g)).0 ((Equal-is (version_cmp v g)).0 e)
 
 standing_itself : (g : Parts) → is_standing (Some g) g ≡ true
 standing_itself g = ap is_eq ((tells_equal (version_cmp g g) (versions_tell g g)).1 refl)
-
-any_filtered : {X : Type 0} (p q : X → Bool) → ((x : X) → p x ≡ true → q x ≡ true) → (xs : List X) → list_any p xs ≡ true → list_any p (filter q xs) ≡ true
-any_filtered p q w [] h = h
-any_filtered p q w (x ∷ xs) h = elim (or_cases (p x) (list_any p xs) h) [
-  | inl e ↦ subst (λ l. list_any p l ≡ true) (sym (cond-true (q x) (x ∷ filter q xs) (filter q xs) (w x e))) (or_left (p x) (list_any p (filter q xs)) e)
-  | inr r ↦
-      let rest = any_filtered p q w xs r in
-      cond_both (q x) (x ∷ filter q xs) (filter q xs) (λ l. list_any p l ≡ true) (λ e. or_right (p x) (list_any p (filter q xs)) rest) (λ e. rest)
-]
 
 any_left : {X : Type 0} (p : X → Bool) (xs ys : List X) → list_any p xs ≡ true → list_any p (xs ++ ys) ≡ true
 any_left p xs ys h = list_any-append p xs ys ∙ or_left (list_any p xs) (list_any p ys) h
 
 any_right : {X : Type 0} (p : X → Bool) (xs ys : List X) → list_any p ys ≡ true → list_any p (xs ++ ys) ≡ true
 any_right p xs ys h = list_any-append p xs ys ∙ or_right (list_any p xs) (list_any p ys) h
-
-any_reverse : {X : Type 0} (p : X → Bool) (xs : List X) → list_any p xs ≡ true → list_any p (reverse xs) ≡ true
-any_reverse p [] h = absurd (both_ways false refl h)
-any_reverse p (x ∷ xs) h = ap (list_any p) (reverse-append (x ∷ []) xs) ∙ elim (or_cases (p x) (list_any p xs) h) [
-  | inl e ↦ any_right p (reverse xs) (x ∷ []) (or_left (p x) false e)
-  | inr r ↦ any_left p (reverse xs) (x ∷ []) (any_reverse p xs r)
-]
 
 last_any : (p : Parts → Bool) (o : Option Parts) (xs : List Parts) (g : Parts) → last_or o xs ≡ Some g → p g ≡ true → (o ≡ Some g) ⊎ (list_any p xs ≡ true)
 last_any p o [] g e h = inl e
@@ -287,13 +265,13 @@ any_installed g listed (Some w) h =
     let above = filter (λ v. is_lt (version_cmp w v)) listed in
     elim (by_order (version_cmp g w)) [
       | inl less ↦
-          any_left p below (w ∷ above) (any_filtered p (λ v. is_lt (version_cmp v w)) (λ v e. ap (λ v. is_lt (version_cmp v w)) (standing_same g v e) ∙ ap is_lt less) listed h)
+          any_left p below (w ∷ above) (any-filter_same p (λ v. is_lt (version_cmp v w)) true (λ v e. ap (λ v. is_lt (version_cmp v w)) (standing_same g v e) ∙ ap is_lt less) listed ∙ h)
       | inr (inl equal) ↦
           let same = (tells_equal (version_cmp g w) (versions_tell g w)).0 equal in
           any_right p below (w ∷ above) (or_left (p w) (list_any p above) (ap p (sym same) ∙ standing_itself g))
       | inr (inr greater) ↦
           let less = (versions_tell w g).less ((tells_greater (version_cmp g w) (versions_tell g w)).0 greater) in
-          let rest = any_filtered p (λ v. is_lt (version_cmp w v)) (λ v e. ap (λ v. is_lt (version_cmp w v)) (standing_same g v e) ∙ ap is_lt less) listed h in
+          let rest = any-filter_same p (λ v. is_lt (version_cmp w v)) true (λ v e. ap (λ v. is_lt (version_cmp w v)) (standing_same g v e) ∙ ap is_lt less) listed ∙ h in
           any_right p below (w ∷ above) (or_right (p w) (list_any p above) rest)
     ]
 
@@ -307,8 +285,9 @@ greatest_read : (c : Case) (stem : List ℕ) (g : Parts) → greatest c stem ≡
 greatest_read c stem g e = elim (last_any (is_standing (Some g)) None (versions_of c.catalog stem) g e (standing_itself g)) [
   | inl none ↦ absurd (none-some g none)
   | inr there ↦
-      any_filtered (is_standing (Some g)) (is_needed c.kind c stem) (λ v h. greatest_needed c.kind c stem v (ap (λ o. is_standing o v) e ∙ h)) (newest c stem)
-      (any_reverse (is_standing (Some g)) (with_installed (versions_of c.catalog stem) (installed_version c stem)) (any_installed g (versions_of c.catalog stem) (installed_version c stem) there))
+      let all = with_installed (versions_of c.catalog stem) (installed_version c stem) in
+      any-filter_same (is_standing (Some g)) (is_needed c.kind c stem) true (λ v h. greatest_needed c.kind c stem v (ap (λ o. is_standing o v) e ∙ h)) (newest c stem)
+      ∙ sym (list_any-IsPermutation (is_standing (Some g)) all (reverse all) (IsPermutation-reverse all)) ∙ any_installed g (versions_of c.catalog stem) (installed_version c stem) there
 ]
 
 and_alike : (m s x b : Bool) → m ≡ s → (s ≡ true → x ≡ b) → (m && x) ≡ (s && b)
