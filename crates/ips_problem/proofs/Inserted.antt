@@ -1,11 +1,13 @@
 -- Stems that are put in by their bytes.
-use Rattle.std.proofs.Common.{◌≡◌, ℕ, ◌+◌, ◌<◌, Bool, true, false, ◌||◌, List, [], ◌∷◌, ◌++◌, map, take, length, get_or, slice_get, Option, Some, None, option_map, refl, sym, ap, subst, ◌∙◌, arith, bytes_eq}
+use Rattle.std.proofs.Common.{◌≡◌, ℕ, zero, suc, ◌+◌, ◌<◌, Bool, true, false, ◌||◌, List, [], ◌∷◌, ◌++◌, map, take, length, get_or, slice_get, Option, Some, None, option_map, refl, sym, ap, subst, ◌∙◌, arith, bytes_eq}
 use Rattle.std.specs.BTreeSet.{insert_key}
 use Rattle.std.specs.Ordering.{match_ordering, nat_cmp}
 use Rattle.std.specs.Cmp.Lexicographic.{slice_cmp}
 use Rattle.std.specs.declared.cmp.Ordering.{Ordering}
 use Rattle.std.specs.declared.cmp.Ordering.TheVariants.{Less, Equal, Greater}
+use Rattle.std.proofs.lemmas.List.{take_more, take-map}
 use Rattle.std.proofs.lemmas.List.Folds.{list_any-append}
+use Rattle.std.proofs.lemmas.Option.{none-some, slice_get-map, slice_get_within, get_or_from_slice_get}
 use Rattle.ips_action.proofs.KeyOrder.{equal_is}
 use Rattle.ips_problem.specs.Stems.{has}
 use Rattle.ips_problem.proofs.Lookups.{or_false}
@@ -40,3 +42,16 @@ pub has_next : (x s : List ℕ) (before after init old new : List (List ℕ)) �
 has_next x s before after init old new split done now =
     now ∙ ap (λ b. bytes_eq x s || b) done ∙ or_moved (bytes_eq x s) (has x before) (has x init)
     ∙ ap (λ b. b || has x init) (ap (λ b. has x before || b) (or_false (bytes_eq x s)) ∙ sym (list_any-append (bytes_eq x) before (s ∷ [])) ∙ sym (ap (has x) split))
+
+-- one element more, which is looked up by its number
+pub number_next : {X : Type 0} (f : X → List ℕ) (xs : List X) (i : ℕ) (s : List ℕ) → Some s ≡ option_map f (slice_get xs i) → map f (take (i + 1) xs) ≡ map f (take i xs) ++ s ∷ []
+number_next f xs i s e =
+    let there : slice_get (map f xs) i ≡ Some s = slice_get-map f xs i ∙ sym e in
+    sym (take-map f (i + 1) xs) ∙ take_more (map f xs) i s (slice_get_within (map f xs) i s there)
+    ∙ ap (λ l. l ++ get_or (map f xs) i s ∷ []) (take-map f i xs) ∙ ap (λ z. map f (take i xs) ++ z ∷ []) (get_or_from_slice_get (map f xs) i s s there)
+
+-- a number of the list has an element
+pub number_there : {X : Type 0} (f : X → List ℕ) (xs : List X) (i : ℕ) → i < length xs → None ≡ option_map f (slice_get xs i) → ⊥
+number_there f [] i l e = absurd (omega arith)
+number_there f (x ∷ xs) zero l e = none-some (f x) e
+number_there f (x ∷ xs) (suc i) l e = number_there f xs i (omega arith) e
