@@ -31,6 +31,12 @@ has_inserted x s (k ∷ ks) = step (slice_cmp nat_cmp s k) refl
     step Equal e = or_twice (bytes_eq x k) (has x ks) ∙ ap (λ t. bytes_eq x t || (bytes_eq x k || has x ks)) (sym (equal_is s k e))
     step Greater e = ap (λ b. bytes_eq x k || b) (has_inserted x s ks) ∙ or_swapped (bytes_eq x k) (bytes_eq x s) (has x ks)
 
+pub or_ends : (a b : Bool) → (a || (b || false)) ≡ (b || a)
+or_ends true true = refl
+or_ends true false = refl
+or_ends false true = refl
+or_ends false false = refl
+
 or_moved : (a b r : Bool) → (a || (b || r)) ≡ ((b || a) || r)
 or_moved true true r = refl
 or_moved true false r = refl

@@ -150,6 +150,10 @@ pub ok_then : {X E : Type 0} (P Q : X → Type 0) (r : Result X E) → IfOk r P 
 ok_then P Q (Ok x) h w = w x h
 ok_then P Q (Err e) h w = tt
 
+pub ok_both : {X E : Type 0} (P Q R : X → Type 0) (r : Result X E) → IfOk r P → IfOk r Q → ((x : X) → P x → Q x → R x) → IfOk r R
+ok_both P Q R (Ok x) h k w = w x h k
+ok_both P Q R (Err e) h k w = tt
+
 pub bad_then : {X F : Type 0} (P Q : F → Type 0) (r : Result X (Or F)) → IfBad r P → ((f : F) → P f → Q f) → IfBad r Q
 bad_then P Q (Ok x) h w = tt
 bad_then P Q (Err (Bad f)) h w = w f h
