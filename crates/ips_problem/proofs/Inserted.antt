@@ -24,12 +24,13 @@ or_swapped false b r = refl
 -- a stem that was put in by its bytes is there, and so are the others
 pub has_inserted : (x s : List ℕ) (ks : List (List ℕ)) → has x (insert_key (slice_cmp nat_cmp) ks s) ≡ (bytes_eq x s || has x ks)
 has_inserted x s [] = refl
-has_inserted x s (k ∷ ks) = step (slice_cmp nat_cmp s k) refl
+has_inserted x s (k ∷ ks) = step (slice_cmp nat_cmp s k) refl (has_inserted x s ks)
   where
-    step : (o : Ordering) → slice_cmp nat_cmp s k ≡ o → has x (match_ordering o (s ∷ k ∷ ks) (k ∷ ks) (k ∷ insert_key (slice_cmp nat_cmp) ks s)) ≡ (bytes_eq x s || (bytes_eq x k || has x ks))
-    step Less e = refl
-    step Equal e = or_twice (bytes_eq x k) (has x ks) ∙ ap (λ t. bytes_eq x t || (bytes_eq x k || has x ks)) (sym (equal_is s k e))
-    step Greater e = ap (λ b. bytes_eq x k || b) (has_inserted x s ks) ∙ or_swapped (bytes_eq x k) (bytes_eq x s) (has x ks)
+    step : (o : Ordering) → slice_cmp nat_cmp s k ≡ o → has x (insert_key (slice_cmp nat_cmp) ks s) ≡ (bytes_eq x s || has x ks)
+        → has x (match_ordering o (s ∷ k ∷ ks) (k ∷ ks) (k ∷ insert_key (slice_cmp nat_cmp) ks s)) ≡ (bytes_eq x s || (bytes_eq x k || has x ks))
+    step Less e rest = refl
+    step Equal e rest = or_twice (bytes_eq x k) (has x ks) ∙ ap (λ t. bytes_eq x t || (bytes_eq x k || has x ks)) (sym (equal_is s k e))
+    step Greater e rest = ap (λ b. bytes_eq x k || b) rest ∙ or_swapped (bytes_eq x k) (bytes_eq x s) (has x ks)
 
 pub or_ends : (a b : Bool) → (a || (b || false)) ≡ (b || a)
 or_ends true true = refl

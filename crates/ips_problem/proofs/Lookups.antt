@@ -214,9 +214,8 @@ apart x (y ∷ ys) h =
     (λ i. other i || apart x ys h.1 i)
 
 -- stems that ascend, put in behind others that they are apart from, stand as they are
-unfolding IsStrictlySortedBy
-
 put_as_they_are : (xs acc : List (List ℕ)) → IsStrictlySortedBy (slice_cmp nat_cmp) xs → AllByRecursion (λ x. has x acc ≡ false) xs → put_all acc xs ≡ acc ++ xs
+unfolding IsStrictlySortedBy
 put_as_they_are [] acc s a = sym (append-nil acc)
 put_as_they_are (x ∷ xs) acc s a =
     let one = cond-false (has x acc) acc (acc ++ x ∷ []) a.0 in

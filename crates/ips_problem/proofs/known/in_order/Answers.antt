@@ -7,4 +7,4 @@ use Rattle.ips_problem.proofs.known.in_order.Goals as goal
 pub returns-clause-order : goal.returns-clause-order
 returns-clause-order c =
     let stems : IfOk c.collect.result (λ v. v.items ≡ c.args.known.keys) = search rules in
-    ok_then _ _ c.collect.result stems (λ v is. subst Ascend (sym is) c.into_iter.ensures.4)
+    ok_then _ _ c.collect.result stems (λ v is. subst Ascend (sym is) c.into_iter.ensures.into_iter_gives.4)
