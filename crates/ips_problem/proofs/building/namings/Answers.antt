@@ -9,7 +9,7 @@ use Rattle.ips_problem.proofs.building.namings.Goals as goal
 
 pub loop-pattern-preserved : goal.loop-pattern-preserved
 loop-pattern-preserved c =
-    namings_more c.args.publisher.now c.args.known.now c.args.patterns.now c.loop-pattern.namings.items c.in_ok-push.new.namings.items c.loop-pattern.pattern-index c.pattern-item.result c.in_ok-naming.naming c.in-Ok.stems
+    namings_more c.args.publisher.now c.args.known.now c.args.patterns.now c.loop-pattern.namings.items _ c.loop-pattern.pattern-index c.pattern-item.result c.in_ok-naming.naming c.in-Ok.stems
     c.loop-pattern-test.true c.pattern-item.is c.loop-pattern.invariant c.in-Ok.ensures.named c.in_ok-naming.ensures.stems c.in_ok-naming.ensures.limit c.in_ok-push.ensures.items
 
 pub returns-in-Err-clause-unnamed : goal.returns-in-Err-clause-unnamed

@@ -1,4 +1,4 @@
-use Rattle.std.proofs.Common.{◌∙◌, ap, map, subst, sym}
+use Rattle.std.proofs.Common.{◌∙◌, [], ap, map}
 use Rattle.ips_manifest.specs.declared.package.Package.{Package}
 use Rattle.ips_state.specs.State.{Installed, installed}
 use Rattle.ips_problem.specs.Seen.{stems_of}
