@@ -200,11 +200,11 @@ impl Subject<'_> {
 }
 
 // The package, where it is at this version.
-fn at_version<'a>(package: &'a Package, version: &Version) -> Option<&'a Package>
-    ensures { option_map (λ p. installed p.now) result ≡ case.at_version (Some (installed package.now)) version.now }
+fn at_version<'a>(found: &'a Package, version: &Version) -> Option<&'a Package>
+    ensures { option_map (λ p. installed p.now) result ≡ case.at_version (Some (installed found.now)) version.now }
 {
-    if version.cmp(&package.version).is_eq() {
-        Some(package)
+    if version.cmp(&found.version).is_eq() {
+        Some(found)
     } else {
         None
     }
