@@ -127,12 +127,16 @@ impl Subject<'_> {
         ensures { (file : List ℕ → Parts → Option (List ℕ)) (r : Reading) → result ≡ fault.is_needed self.now.kind (case_of self.now file r) stem.now version.now }
     {
         match self.kind {
-            Kind::Install | Kind::Update => {
-                self.is_greatest(stem, version)
-                    || (!self.rejects(stem) && self.may_come(stem, version))
-            }
+            Kind::Install | Kind::Update => self.looks_at(stem, version),
             Kind::Uninstall | Kind::Keep => true,
         }
+    }
+
+    // Whether the version is the greatest of the catalog, or one that the stem may come to, where it isn't rejected.
+    fn looks_at(&self, stem: &str, version: &Version) -> bool
+        ensures { (file : List ℕ → Parts → Option (List ℕ)) (r : Reading) → result ≡ (candidate.is_standing (candidate.greatest (case_of self.now file r) stem.now) version.now || (not (has stem.now (stems_of self.now.rejected.keys)) && candidate.may_come (case_of self.now file r) stem.now version.now)) }
+    {
+        self.is_greatest(stem, version) || (!self.rejects(stem) && self.may_come(stem, version))
     }
 
     /// Whether the stem is spared, where it is told whether its greatest version is obsolete.
