@@ -8,6 +8,7 @@ use Rattle.ips_text.specs.declared.refusal.Or.TheVariants.{Bad, OutOfMemory}
 use Rattle.ips_fmri.specs.Version.{Parts}
 use Rattle.ips_fmri.specs.declared.pattern.Pattern.{Pattern}
 use Rattle.ips_outside.specs.Image.{Image}
+use Rattle.ips_catalog.specs.Listed.{Listed}
 use Rattle.ips_manifest.specs.declared.package.Package.{Package}
 use Rattle.ips_repo.specs.Opening.{Opened}
 use Rattle.ips_state.specs.State.{Ascend, Installed, Recorded, installed, recorded}
@@ -73,6 +74,19 @@ pub unnamed_other : (publisher : List ℕ) (known : List (List ℕ)) (ps : List 
 unnamed_other publisher known [] why h e = h
 unnamed_other publisher known (p ∷ ps) why (inl (matched, are, un)) e = subst (IsUnnamed p matched) e un
 unnamed_other publisher known (p ∷ ps) why (inr (names, rest)) e = unnamed_other publisher known ps why rest e
+
+-- ---- the same of what is the same
+
+pub known_as : (catalog others : List Listed) (packages ps : List Installed) (known : List (List ℕ)) → catalog ≡ others → packages ≡ ps → AreKnown catalog packages known → AreKnown others ps known
+known_as catalog others packages ps known e f h = subst (λ c. AreKnown c ps known) e (subst (λ q. AreKnown catalog q known) f h)
+
+pub named_as : (publisher other : List ℕ) (known ks : List (List ℕ)) (patterns ps : List Pattern) (named : List (List (List ℕ))) → publisher ≡ other → known ≡ ks → patterns ≡ ps
+    → AreNamed publisher known patterns named → AreNamed other ks ps named
+named_as publisher other known ks patterns ps named e f g h = subst (λ o. AreNamed o ks ps named) e (subst (λ k. AreNamed publisher k ps named) f (subst (λ q. AreNamed publisher known q named) g h))
+
+pub unnamed_as : (publisher other : List ℕ) (known ks : List (List ℕ)) (patterns ps : List Pattern) (why : ProblemFault) → publisher ≡ other → known ≡ ks → patterns ≡ ps
+    → IsFirstUnnamed publisher known patterns why → IsFirstUnnamed other ks ps why
+unnamed_as publisher other known ks patterns ps why e f g h = subst (λ o. IsFirstUnnamed o ks ps why) e (subst (λ k. IsFirstUnnamed publisher k ps why) f (subst (λ q. IsFirstUnnamed publisher known q why) g h))
 
 -- ---- of which stems an update is
 
