@@ -8,6 +8,7 @@ use Rattle.ips_problem.specs.Named.{limited}
 use Rattle.ips_problem.specs.Seen.{stems_of}
 use Rattle.ips_problem.specs.Stems.{firsts}
 use Rattle.ips_problem.specs.declared.asking.Naming as declared
+use Rattle.ips_problem.specs.declared.asking.Subject.{Subject}
 use Rattle.ips_problem.proofs.Named.{bad_handed}
 use Rattle.ips_problem.proofs.Subjects.{known_as, named_as, subject_made, unnamed_as, unnamed_other}
 use Rattle.ips_problem.proofs.building.subject_of.Goals as goal
@@ -16,7 +17,7 @@ pub returns-in-Err-clause-bad : goal.returns-in-Err-clause-bad
 returns-in-Err-clause-bad c =
     let of_all = known_as _ _ _ _ _ c.catalog.ensures (ap (map installed) c.deref.ensures.value) c.in_ok-all.ensures in
     let of_known = known_as _ _ _ _ _ (c.matched.ensures ∙ ap (matched_against (kind_of c.args.request.now)) c.catalog-2.ensures) (ap (map installed) c.deref-2.ensures.value) c.in_ok-known.ensures in
-    bad_handed _ _ _ _ c.in-Err.why c.in-Err.ensures.unnamed
+    bad_handed (Vec declared.Naming Global) Subject _ _ c.in-Err.why c.in-Err.ensures.unnamed
     (λ why h. (
       record {
         known = c.in_ok-known.known.items;
@@ -34,7 +35,7 @@ returns-in-Err-named_by-clause-bad c =
     let of_known = known_as _ _ _ _ _ (c.matched.ensures ∙ ap (matched_against (kind_of c.args.request.now)) c.catalog-2.ensures) (ap (map installed) c.deref-2.ensures.value) c.in_ok-known.ensures in
     let named = map (λ (n : declared.Naming). n.stems.items) c.in-Ok.named.items in
     let is_named = named_as _ _ _ _ _ _ named c.as_str-publisher.ensures c.as_slice.ensures.value c.patterns.ensures c.in-Ok.ensures.named in
-    bad_handed _ _ _ _ c.in-Err-named_by.why c.in-Err-named_by.ensures.unnamed
+    bad_handed (Vec (Vec (List ℕ) Global) Global) Subject _ _ c.in-Err-named_by.why c.in-Err-named_by.ensures.unnamed
     (λ why h. (
       record {
         known = c.in_ok-known.known.items;
