@@ -1,5 +1,5 @@
 -- What a request asks, as it is put together in memory.
-use Rattle.std.proofs.Common.{◌≡◌, ℕ, ◌+◌, ◌<◌, List, [], ◌∷◌, ◌++◌, map, flat_map, take, length, get_or, Vec, Global, Option, Some, None, Result, Ok, Err, refl, sym, ap, subst, ◌∙◌, inl, inr, ◌⊎◌, arith}
+use Rattle.std.proofs.Common.{◌≡◌, ℕ, ◌+◌, ◌<◌, List, [], ◌∷◌, ◌++◌, map, flat_map, take, length, get_or, Vec, Global, Option, Result, Ok, Err, refl, sym, ap, subst, ◌∙◌, inl, inr, arith}
 use Rattle.std.specs.Result.{IfOk}
 use Rattle.std.proofs.lemmas.List.{map_push}
 use Rattle.ips_text.specs.Reading.{IfBad}
@@ -18,12 +18,12 @@ use Rattle.ips_problem.specs.declared.asking.Subject.{Subject}
 use Rattle.ips_problem.specs.declared.fault.ProblemFault.{ProblemFault}
 use Rattle.ips_problem.specs.declared.fault.ProblemFault.TheVariants as fault
 use Rattle.ips_problem.specs.declared.request.Request.{Request}
-use Rattle.ips_problem.specs.Asked.{AreNames, IsAsked, IsNeededFault, IsSubjectOf, asked_case, kind_of, matched_against, patterns_of, rejects_of}
+use Rattle.ips_problem.specs.Asked.{IsAsked, IsNeededFault, IsSubjectOf, asked_case, kind_of, matched_against, patterns_of, rejects_of}
 use Rattle.ips_problem.specs.Candidates.{is_target_of}
 use Rattle.ips_problem.specs.Case.{Case, IsReading, Naming, Reading, is_installed, is_named}
 use Rattle.ips_problem.specs.Fault.{IsFirstFault}
 use Rattle.ips_problem.specs.Gathered.{IsPosedBy}
-use Rattle.ips_problem.specs.Named.{AreKnown, AreMatched, AreNamed, IsFirstUnnamed, IsUnnamed, Names, limited}
+use Rattle.ips_problem.specs.Named.{AreKnown, AreNamed, IsFirstUnnamed, IsUnnamed, Names, limited}
 use Rattle.ips_problem.specs.Posed.{Posed}
 use Rattle.ips_problem.specs.Seen.{stems_of}
 use Rattle.ips_problem.specs.Stems.{firsts}

@@ -1,9 +1,7 @@
-use Rattle.std.proofs.Common.{◌≡◌, ◌+◌, ◌++◌, ◌∷◌, [], ◌∙◌, List, ℕ, Vec, Global, ap, map, subst, sym, take}
-use Rattle.ips_problem.specs.Named.{AreMatched, AreNamed, IsUnnamed, IsFirstUnnamed, limited}
-use Rattle.ips_problem.specs.Case.{Naming}
-use Rattle.ips_problem.specs.Subject.{seen_naming}
+use Rattle.std.proofs.Common.{List, ℕ, Vec, Global, map}
+use Rattle.ips_problem.specs.Named.{AreMatched, IsUnnamed, IsFirstUnnamed}
 use Rattle.ips_problem.specs.declared.asking.Naming as declared
-use Rattle.ips_problem.proofs.Named.{named_more, first_unnamed, bad_handed}
+use Rattle.ips_problem.proofs.Named.{first_unnamed, bad_handed}
 use Rattle.ips_problem.proofs.Subjects.{namings_more}
 use Rattle.ips_problem.proofs.building.namings.Goals as goal
 

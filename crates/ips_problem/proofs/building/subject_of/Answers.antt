@@ -1,9 +1,8 @@
-use Rattle.std.proofs.Common.{◌≡◌, ◌∙◌, Global, List, Option, Vec, ap, inl, inr, map, option_map, ℕ}
+use Rattle.std.proofs.Common.{◌∙◌, Global, List, Vec, ap, inl, inr, map, ℕ}
 use Rattle.std.specs.List.{flat_map}
 use Rattle.ips_fmri.specs.declared.pattern.Pattern.{Pattern}
-use Rattle.ips_repo.specs.Opening.{Opened}
 use Rattle.ips_state.specs.State.{installed}
-use Rattle.ips_problem.specs.Asked.{kind_of, matched_against, patterns_of, rejects_of}
+use Rattle.ips_problem.specs.Asked.{kind_of, matched_against}
 use Rattle.ips_problem.specs.Named.{limited}
 use Rattle.ips_problem.specs.Seen.{stems_of}
 use Rattle.ips_problem.specs.Stems.{firsts}

@@ -1,4 +1,4 @@
-use Rattle.std.proofs.Common.{◌+◌, ◌∷◌, [], ◌∙◌, ◌||◌, List, ℕ, ap, map, take, bytes_eq}
+use Rattle.std.proofs.Common.{◌+◌, ◌∙◌, ◌||◌, List, ℕ, ap, map, take, bytes_eq}
 use Rattle.std.proofs.lemmas.List.{map_push}
 use Rattle.ips_manifest.specs.declared.package.Package.{Package}
 use Rattle.ips_state.specs.State.{Installed, installed}

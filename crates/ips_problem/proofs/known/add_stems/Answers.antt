@@ -1,4 +1,4 @@
-use Rattle.std.proofs.Common.{◌≡◌, ◌+◌, ◌∷◌, [], ◌∙◌, ◌||◌, List, ℕ, Some, ap, arith, map, option_map, slice_get, sym, take, bytes_eq}
+use Rattle.std.proofs.Common.{◌≡◌, ◌+◌, ◌∙◌, ◌||◌, List, ℕ, Some, ap, arith, option_map, slice_get, sym, take, bytes_eq}
 use Rattle.ips_catalog.specs.Listed.{Listed}
 use Rattle.ips_problem.specs.Named.{listed_stems}
 use Rattle.ips_problem.specs.Stems.{has}

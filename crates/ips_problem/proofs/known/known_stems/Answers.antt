@@ -1,4 +1,4 @@
-use Rattle.std.proofs.Common.{◌≡◌, ◌||◌, ◌∙◌, List, ℕ, ap, map, option_map}
+use Rattle.std.proofs.Common.{◌||◌, ◌∙◌, List, ℕ, ap, map, option_map}
 use Rattle.ips_state.specs.State.{installed}
 use Rattle.ips_problem.specs.Named.{installed_stems, listed_stems}
 use Rattle.ips_problem.specs.Listing.{listing_of}

@@ -1,4 +1,4 @@
-use Rattle.std.proofs.Common.{◌≡◌, ◌∙◌, ap, sym, inl, inr}
+use Rattle.std.proofs.Common.{◌∙◌, ap, sym, inl, inr}
 use Rattle.ips_problem.specs.Fault.{is_needed}
 use Rattle.ips_problem.specs.Subject.{case_of}
 use Rattle.ips_problem.proofs.asking.Subject.needs.Goals as goal
