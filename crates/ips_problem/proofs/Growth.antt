@@ -1,16 +1,19 @@
 -- The list of stems in reach is gone through stem by stem.
-use Rattle.std.proofs.Common.{◌≡◌, ℕ, zero, suc, ◌+◌, ◌<◌, ◌≤◌, Bool, true, false, not, cond, List, [], ◌∷◌, ◌++◌, map, flat_map, fold, take, drop, length, sum_by, slice_get, get_or, Option, Some, None, is_some, refl, sym, ap, subst, ◌∙◌, inl, inr, ◌⊎◌, arith, append_assoc, append-nil}
+use Rattle.std.proofs.Common.{◌≡◌, ℕ, zero, suc, ◌+◌, ◌<◌, ◌≤◌, Bool, true, false, not, cond, List, [], ◌∷◌, ◌++◌, map, flat_map, fold, take, drop, length, sum_by, slice_get, get_or, Option, Some, None, is_some, refl, sym, ap, subst, ◌∙◌, inl, inr, ◌⊎◌, arith, append_assoc, append-nil, All, String, Global, string_bytes}
 use Rattle.std.specs.List.{AllByRecursion, AllZip}
-use Rattle.std.proofs.lemmas.List.{length_push, length-take-le, drop_more, take_all, take-append-drop, take-append-le, map_push, take_more}
+use Rattle.std.proofs.lemmas.List.{length_push, length-take-le, drop_more, length-map, take_all, take-append-drop, take-append-le, map_push, take_more}
 use Rattle.std.proofs.lemmas.Bool.{cond_both, cases_lt}
+use Rattle.std.proofs.lemmas.List.Elements.{All-append, All-from_recursion, All-map, All-nil, All-same, All-weaker, recursion_from_All}
 use Rattle.std.proofs.lemmas.List.Concat.{flat_map-append}
 use Rattle.std.proofs.lemmas.List.Sums.{sum_by-append, sum_by_push}
 use Rattle.std.proofs.lemmas.Option.{slice_get_within, get_or_from_slice_get}
 use Rattle.ips_fmri.specs.Version.{Parts}
 use Rattle.ips_filter.specs.Settings.{Set}
+use Rattle.ips_depend.specs.Dependency.{Dependency}
 use Rattle.ips_repo.specs.Manifest.{manifest_limit}
 use Rattle.ips_problem.specs.declared.fault.ProblemFault.{ProblemFault}
 use Rattle.ips_problem.specs.declared.read.Read.{Read}
+use Rattle.ips_problem.specs.declared.rows.Numbered as numbers
 use Rattle.ips_problem.specs.declared.rows.Row as declared
 use Rattle.ips_problem.specs.Stems.{has, put, put_all, firsts}
 use Rattle.ips_problem.specs.Case.{Case, said}
@@ -257,6 +260,39 @@ tests_asked_more i k reads (p ∷ os) o =
     let place : k + 1 + length os ≡ k + suc (length os) = omega arith in
     ap (λ ts. own ++ ts) (tests_asked_more i (k + 1) reads os o ∙ ap (λ (n : ℕ). tests_asked i (k + 1) reads os ++ numbered i n (asked_at reads o)) place)
     ∙ sym (append_assoc own (tests_asked i (k + 1) reads os) (numbered i (k + suc (length os)) (asked_at reads o)))
+
+-- the tests of the candidates of a stem are of its number
+of_stem : (i k : ℕ) (reads : List Read) (os : List (Option ℕ)) → All (λ (n : Numbered). n.stem ≡ i) (tests_asked i k reads os)
+of_stem i k reads [] = All-nil (λ (n : Numbered). n.stem ≡ i)
+of_stem i k reads (o ∷ os) =
+    let test : Dependency → Numbered = λ d. record { stem = i; candidate = k; dependency = d } in
+    All-append (λ (n : Numbered). n.stem ≡ i) (numbered i k (asked_at reads o)) (tests_asked i (k + 1) reads os)
+    (All-map (λ (n : Numbered). n.stem ≡ i) test (asked_at reads o) (λ j d l. refl)) (of_stem i (k + 1) reads os)
+
+seen_all : (P : Numbered → Type 0) (ns : List numbers.Numbered) → AllByRecursion P (map seen_test ns) → AllByRecursion (λ (n : numbers.Numbered). P (seen_test n)) ns
+seen_all P [] h = tt
+seen_all P (n ∷ ns) h = (h.0, seen_all P ns h.1)
+
+-- with those of one stem more, the tests are of the stems that were gone through
+pub known_more : (k n : ℕ) (reads : List Read) (os : List (Option ℕ)) (old new : List numbers.Numbered) → n ≡ k + 1 → All (λ (t : numbers.Numbered). t.stem < k) old
+    → map seen_test new ≡ map seen_test old ++ tests_asked k 0 reads os → All (λ (t : numbers.Numbered). t.stem < n) new
+known_more k n reads os old new one known e =
+    let P = λ (t : Numbered). t.stem < n in
+    let Q = λ (t : numbers.Numbered). t.stem < n in
+    let asked = tests_asked k 0 reads os in
+    let before = All-map P seen_test old (All-weaker (λ (t : numbers.Numbered). t.stem < k) Q (λ t l. omega arith) old known) in
+    let own = All-weaker (λ (t : Numbered). t.stem ≡ k) P (λ t same. omega arith) asked (of_stem k 0 reads os) in
+    let all = All-same P (map seen_test new) (map seen_test old ++ asked) e (All-append P (map seen_test old) asked before own) in
+    All-from_recursion Q new (seen_all P new (recursion_from_All P (map seen_test new) all))
+
+-- the list of stems doesn't become shorter
+pub within_more : (keys new : List (String Global)) (more : List (List ℕ)) (k : ℕ) → stems_of new ≡ put_all (stems_of keys) more → k ≤ length keys → k ≤ length new
+within_more keys new more k e l =
+    let old = length-map keys (λ (s : String Global). string_bytes s) in
+    let now = length-map new (λ (s : String Global). string_bytes s) in
+    let same = ap (λ (ss : List (List ℕ)). length ss) e in
+    let long = put_longer k (stems_of keys) more (omega arith) in
+    omega arith
 
 -- with the next stem
 pub gathered_next : (c : Case) (cur : List (List ℕ)) (k : ℕ) (stem : List ℕ) (rows : List Row) (tests : List Numbered) (total now : ℕ) (row : declared.Row) → slice_get cur k ≡ Some stem
