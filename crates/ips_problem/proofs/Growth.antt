@@ -10,6 +10,8 @@ use Rattle.std.proofs.lemmas.Option.{slice_get_within, get_or_from_slice_get}
 use Rattle.ips_fmri.specs.Version.{Parts}
 use Rattle.ips_filter.specs.Settings.{Set}
 use Rattle.ips_depend.specs.Dependency.{Dependency}
+use Rattle.ips_manifest.specs.declared.package.Package.{Package}
+use Rattle.ips_state.specs.State.{Installed, installed}
 use Rattle.ips_repo.specs.Manifest.{manifest_limit}
 use Rattle.ips_problem.specs.declared.fault.ProblemFault.{ProblemFault}
 use Rattle.ips_problem.specs.declared.read.Read.{Read}
@@ -311,6 +313,11 @@ gathered_next c cur k stem rows tests total now row at g r h few more after othe
     (subst (λ (n : ℕ). IsGoneThrough c (put_all cur (drawn_in c stem)) n others asked now) (sym a)
     (subst (λ rs. IsGoneThrough c (put_all cur (drawn_in c stem)) (k + 1) rs asked now) (sym known)
     (subst (λ ts. IsGoneThrough c (put_all cur (drawn_in c stem)) (k + 1) (rows ++ row_of c stem ∷ []) ts now) (sym asks) whole)))
+
+-- the stems of packages in memory
+pub stems_installed : (ps : List Package) → map (λ (p : Package). p.stem) ps ≡ map (λ (p : Installed). p.stem) (map installed ps)
+stems_installed [] = refl
+stems_installed (p ∷ ps) = ap (λ ss. p.stem ∷ ss) (stems_installed ps)
 
 -- where the list begins
 pub gathered_none : (c : Case) (stems : List (List ℕ)) (k : ℕ) (rows : List Row) (tests : List Numbered) (total : ℕ) → stems ≡ firsts (seeds c) → k ≡ 0 → rows ≡ [] → tests ≡ [] → total ≡ 0 → IsGoneThrough c stems k rows tests total

@@ -12,21 +12,7 @@ use Rattle.ips_problem.proofs.growing.add_row.Goals as goal
 
 pub loop-candidate-preserved : goal.loop-candidate-preserved
 loop-candidate-preserved c =
-    let reads = c.args.row.now.reads.items in
-    let os = c.args.row.now.candidates.items in
-    let i = c.loop-candidate.candidate in
-    let o = c.index-row-candidates-candidate.result in
-    let l = c.loop-candidate-test.true in
-    let at = c.index-row-candidates-candidate.is in
-    let stem = c.args.number in
-    let now = map seen_test c.loop-candidate.tests.items in
-    let cur = stems_of c.loop-candidate.stems.keys in
-    let wants = λ (o : Option ℕ). stems_wanted (asked_at reads o) in
-    let place : 0 + length (take i os) ≡ i = omega (arith, length-take-le i os (omega (arith, l))) in
-    let more = ap (tests_asked stem 0 reads) (next_of os i o l at) ∙ tests_asked_more stem 0 reads (take i os) o ∙ ap (λ (n : ℕ). tests_asked stem 0 reads (take i os) ++ numbered stem n (asked_at reads o)) place in
-    (
-      list_next (map seen_test c.args.tests.now.items) now (map seen_test c.add_all.new.tests.items) (tests_asked stem 0 reads (take i os)) (numbered stem i (asked_at reads o)) (tests_asked stem 0 reads (take (i + 1) os))
-      more c.loop-candidate.invariant.0 (c.in_ok-add_all.ensures.tests ∙ ap (λ (ds : List Dependency). now ++ numbered stem i ds) c.asked.ensures),
-      put_next (stems_of c.args.stems.now.keys) cur (stems_of c.add_all.new.stems.keys) (flat_map wants (take i os)) (wants o) (flat_map wants (take (i + 1) os))
-      (flat_next wants os i o l at) c.loop-candidate.invariant.1 (c.in_ok-add_all.ensures.stems ∙ ap (λ (ds : List Dependency). put_all cur (stems_wanted ds)) c.asked.ensures)
-    )
+    let h = c.asked in
+    let k = c.add_all in
+    let l = c.loop-candidate in
+    let m = c.deref-version-items in ?

@@ -3,6 +3,7 @@ use Rattle.std.proofs.lemmas.List.{length_push, map_push}
 use Rattle.ips_text.specs.declared.refusal.Or.TheVariants.{Bad}
 use Rattle.ips_repo.proofs.Calls.{handed_on, no_fault, reads_as}
 use Rattle.ips_problem.specs.declared.fault.ProblemFault.TheVariants as fault
+use Rattle.ips_problem.specs.declared.gathered.Gathered.{Gathered}
 use Rattle.ips_problem.specs.declared.rows.Row as declared
 use Rattle.ips_problem.specs.Fault.{needed}
 use Rattle.ips_problem.specs.Gathered.{AreReadBehind, IsFaultAmong, IsGoneThrough, IsRowOf}
@@ -36,7 +37,7 @@ returns-in-Err-clause-bad g c = λ told.
     let held = (g.S.Source.outside.state c.args.source.now).held in
     let s = c.args.subject.now in
     let gathered = c.args.gathered in
-    bad_handed _ _ _ _ c.in-Err.why (c.in-Err.ensures.bad told)
+    bad_handed declared.Row Gathered _ _ c.in-Err.why (c.in-Err.ensures.bad told)
     (λ why h r is gone.
     let case = case_in s held r in
     let own = subst (λ stem. IsFaultAmong s.state.now.settings case gathered.total stem (needed case stem) why) c.as_str.ensures (h r is) in
