@@ -12,7 +12,6 @@ use Rattle.ips_problem.proofs.growing.add_row.Goals as goal
 
 pub loop-candidate-preserved : goal.loop-candidate-preserved
 loop-candidate-preserved c =
-    let h = c.asked in
-    let k = c.add_all in
-    let l = c.loop-candidate in
-    let m = c.deref-version-items in ?
+    let h = c.asked.ensures in
+    let m = c.deref-version-items.ensures.value in
+    let t = c.loop-candidate-test.true in ?

@@ -1,4 +1,5 @@
 use Rattle.std.proofs.Common.{◌≡◌, ◌∙◌, Err, ap, refl, subst, sym}
+use Rattle.std.proofs.lemmas.Result.{err_from_is_err_and}
 use Rattle.ips_text.specs.declared.refusal.Or.TheVariants.{Bad}
 use Rattle.ips_outside.specs.State.{State}
 use Rattle.ips_repo.proofs.Calls.{handed_on, no_fault, reads_as, reads_none, reads_then}
@@ -38,7 +39,11 @@ returns-then-is_whole-clause-reads g c =
     reads_as g.S.Source.outside c.args.source.now c.loop-turn.source ⊥ _ c.loop-turn.invariant.calls (λ f. absurd f) (λ failed. cc)
 
 pub returns-in_err-whole-clause-reads : goal.returns-in_err-whole-clause-reads
-returns-in_err-whole-clause-reads g c = ?
+returns-in_err-whole-clause-reads g c =
+    let left = err_from_is_err_and c.from_residual-in_err-whole.result c.from_residual-in_err-whole.ensures.1 in
+    let is = left.1 in
+    let memory = left.2 in
+    reads_as g.S.Source.outside c.args.source.now c.loop-turn.source ⊥ _ c.loop-turn.invariant.calls (λ f. absurd f) (λ failed. cc)
 
 pub returns-in-Err-clause-bad : goal.returns-in-Err-clause-bad
 returns-in-Err-clause-bad g c = λ told.

@@ -1,5 +1,6 @@
-use Rattle.std.proofs.Common.{◌≡◌, ℕ, ◌+◌, ◌++◌, ◌≤◌, ◌∙◌, List, ap, arith, flat_map, length, map}
+use Rattle.std.proofs.Common.{◌≡◌, ℕ, ◌+◌, ◌++◌, ◌∷◌, [], ◌<◌, ◌≤◌, ◌^◌, ◌∙◌, List, ap, arith, flat_map, length, map, vec_len}
 use Rattle.std.proofs.lemmas.List.{length_push}
+use Rattle.std.proofs.lemmas.List.Elements.{All-push, All-same}
 use Rattle.ips_problem.specs.declared.rows.Row as declared
 use Rattle.ips_problem.specs.Gathered.{asked_at, tests_asked}
 use Rattle.ips_problem.specs.Reach.{stems_wanted}
@@ -13,8 +14,15 @@ invariant_of-result-clause-tests_known c =
     let reads = c.args.row.reads.items in
     let os = c.args.row.candidates.items in
     let one = ap (λ (rs : List declared.Row). length rs) c.in_ok-push.ensures.items ∙ length_push gathered.rows.items c.args.row in
-    let asked = c.in_ok-add_row.ensures.tests ∙ ap (λ (n : ℕ). map seen_test gathered.tests.items ++ tests_asked n 0 reads os) c.len-turn.ensures in
+    let turn : c.len-turn.result ≡ length gathered.rows.items = omega (arith, c.len-turn.ensures, gathered.rows.ok.0) in
+    let asked = c.in_ok-add_row.ensures.tests ∙ ap (λ (n : ℕ). map seen_test gathered.tests.items ++ tests_asked n 0 reads os) turn in
     known_more (length gathered.rows.items) (length c.push.new.self.items) reads os gathered.tests.items c.add_row.new.tests.items one gathered.tests_known asked
+
+pub invariant_of-result-clause-few_candidates : goal.invariant_of-result-clause-few_candidates
+invariant_of-result-clause-few_candidates c =
+    let gathered = c.args.gathered in
+    let few = λ (r : declared.Row). vec_len r.candidates < 2 ^ 32 in
+    All-same few c.push.new.self.items (gathered.rows.items ++ c.args.row ∷ []) c.in_ok-push.ensures.items (All-push few gathered.rows.items c.args.row gathered.few_candidates c.requires.few_candidates)
 
 pub invariant_of-result-clause-within : goal.invariant_of-result-clause-within
 invariant_of-result-clause-within c =
