@@ -13,6 +13,7 @@ pub mod Missing
 pub mod Packages
 pub mod Lookups
 pub mod Inserted
+pub mod Subjects
 pub mod Judging
 pub mod Offering
 pub mod Growth

@@ -1,11 +1,11 @@
 -- What is looked up by stems.
-use Rattle.std.proofs.Common.{◌≡◌, ◌≢◌, ℕ, zero, suc, ◌+◌, ◌-◌, ◌<◌, ◌≤◌, ltb, Bool, true, false, not, cond, ◌&&◌, ◌||◌, List, [], ◌∷◌, ◌++◌, map, find, filter, fold, flat_map, take, position, length, slice_get, get_or, AllPairs, Option, Some, None, option_map, refl, sym, ap, subst, ◌∙◌, inl, inr, ◌⊎◌, arith, bytes_eq, String, Global, string_bytes, append-nil, append_assoc}
+use Rattle.std.proofs.Common.{◌≡◌, ℕ, suc, ◌+◌, ◌-◌, ◌<◌, ◌≤◌, ltb, Bool, true, false, not, cond, ◌&&◌, ◌||◌, List, [], ◌∷◌, ◌++◌, map, find, filter, flat_map, take, position, length, slice_get, get_or, Option, Some, None, is_some, option_map, refl, sym, ap, subst, ◌∙◌, inl, inr, arith, bytes_eq, String, Global, string_bytes, append-nil, append_assoc}
 use Rattle.std.specs.List.Sorted.{IsStrictlySortedBy}
 use Rattle.std.specs.Ordering.{nat_cmp}
 use Rattle.std.specs.Cmp.Lexicographic.{slice_cmp}
-use Rattle.std.specs.declared.cmp.Ordering.TheVariants.{Less, Equal}
+use Rattle.std.specs.declared.cmp.Ordering.TheVariants.{Less}
 use Rattle.std.specs.List.{AllByRecursion, last_or, list_any, list_all, position_or_len}
-use Rattle.std.proofs.lemmas.Bool.{both_ways, cases_Bool, or_left, or_right, cond_both, cond-true, cond-false, false_from_ne_true, cases_lt}
+use Rattle.std.proofs.lemmas.Bool.{both_ways, cases_Bool, or_left, or_right, cond_both, cond-true, cond-false, false_from_ne_true}
 use Rattle.std.proofs.lemmas.List.{map_push, take_more, length-map}
 use Rattle.std.proofs.lemmas.List.Folds.{find_at, list_all-map, list_all_at, list_any_at, list_any-append}
 use Rattle.std.proofs.lemmas.List.Concat.{flat_map-append}
@@ -185,6 +185,10 @@ pub mapped_twice : {A B C : Type 0} (f : A → B) (g : B → C) (o : Option A) �
 mapped_twice f g None = refl
 mapped_twice f g (Some x) = refl
 
+pub there_mapped : {A B : Type 0} (f : A → B) (o : Option A) → is_some o ≡ is_some (option_map f o)
+there_mapped f None = refl
+there_mapped f (Some x) = refl
+
 -- ---- lists of lists
 
 pub flat_next : {X A : Type 0} (f : X → List A) (xs : List X) (i : ℕ) (x : X) → i < length xs → x ≡ get_or xs i x → flat_map f (take (i + 1) xs) ≡ flat_map f (take i xs) ++ f x
@@ -210,9 +214,8 @@ apart x (y ∷ ys) h =
     (λ i. other i || apart x ys h.1 i)
 
 -- stems that ascend, put in behind others that they are apart from, stand as they are
-unfolding IsStrictlySortedBy
-
 put_as_they_are : (xs acc : List (List ℕ)) → IsStrictlySortedBy (slice_cmp nat_cmp) xs → AllByRecursion (λ x. has x acc ≡ false) xs → put_all acc xs ≡ acc ++ xs
+unfolding IsStrictlySortedBy
 put_as_they_are [] acc s a = sym (append-nil acc)
 put_as_they_are (x ∷ xs) acc s a =
     let one = cond-false (has x acc) acc (acc ++ x ∷ []) a.0 in

@@ -29,7 +29,7 @@ use crate::request::Request;
 use crate::stems::{add_fmris, add_packages, add_texts};
 use indexmap::IndexSet;
 use ips_catalog::Catalog;
-use ips_fmri::{Fmri, Pattern};
+use ips_fmri::{Fmri, Pattern, Version};
 use ips_manifest::Package;
 use ips_outside::Source;
 use ips_repo::Repo;
@@ -192,15 +192,22 @@ fn with_index(alloc: Global, stems: Vec<Text>, pattern: &Pattern) -> Result<Nami
 {
     let mut index = IndexSet::new(alloc);
     add_texts(alloc, &mut index, &stems)?;
-    let limit = match &pattern.version {
-        Some(version) => Some(version.copy(alloc)?),
-        None => None,
-    };
+    let limit = copy_of(alloc, &pattern.version)?;
     Ok(Naming {
         stems,
         index,
         limit,
     })
+}
+
+// The same version, where there is one.
+fn copy_of(alloc: Global, version: &Option<Version>) -> Result<Option<Version>, AllocError>
+    ensures { IfOk result (λ copy. copy ≡ version.now) }
+{
+    match version {
+        Some(version) => Ok(Some(version.copy(alloc)?)),
+        None => Ok(None),
+    }
 }
 
 // The repository's catalog.

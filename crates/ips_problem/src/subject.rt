@@ -1,6 +1,6 @@
 //! What a request asks of an image.
 
-ghost use Rattle.std.specs.Prelude.{◌≡◌, ◌&&◌, ◌||◌, ℕ, List, None, Option, not, map, find, slice_get};
+ghost use Rattle.std.specs.Prelude.{◌≡◌, ◌&&◌, ◌||◌, ℕ, List, None, Option, Some, not, map, find, slice_get};
 ghost use Rattle.std.specs.List.{last_or, list_all, list_any};
 ghost use Rattle.std.specs.Option.{option_map};
 ghost use Rattle.std.specs.Str.{bytes_eq};
@@ -41,8 +41,8 @@ impl Subject<'_> {
         ensures { (file : List ℕ → Parts → Option (List ℕ)) (r : Reading) → option_map (λ p. installed p.now) result ≡ case.own (case_of self.now file r) stem.now version.now }
     {
         match self.installed(stem) {
-            Some(package) if version.cmp(&package.version).is_eq() => Some(package),
-            _ => None,
+            Some(package) => at_version(package, version),
+            None => None,
         }
     }
 
@@ -74,22 +74,33 @@ impl Subject<'_> {
     pub fn role(&self, stem: &str) -> Role
         ensures { (file : List ℕ → Parts → Option (List ℕ)) (r : Reading) → result ≡ candidate.role (case_of self.now file r) stem.now }
     {
-        let named = self.names(stem);
-        let installed = self.installed(stem).is_some();
-        let target = if self.named.is_empty() {
-            installed
-        } else {
-            named
-        };
         role_of(
             self.kind,
             Mention {
-                named,
+                named: self.names(stem),
                 rejected: self.rejects(stem),
-                target,
-                installed,
+                target: self.is_target(stem),
+                installed: self.is_installed(stem),
             },
         )
+    }
+
+    // Whether an update is of the stem: where it names nothing, it is of each that is installed.
+    fn is_target(&self, stem: &str) -> bool
+        ensures { (file : List ℕ → Parts → Option (List ℕ)) (r : Reading) → result ≡ candidate.is_target_of (map seen_naming self.now.named.items) (case_of self.now file r) stem.now }
+    {
+        if self.named.is_empty() {
+            self.is_installed(stem)
+        } else {
+            self.names(stem)
+        }
+    }
+
+    // Whether the stem is installed.
+    fn is_installed(&self, stem: &str) -> bool
+        ensures { (file : List ℕ → Parts → Option (List ℕ)) (r : Reading) → result ≡ case.is_installed (case_of self.now file r) stem.now }
+    {
+        self.installed(stem).is_some()
     }
 
     /// Whether the stem may come to the version.
@@ -116,12 +127,16 @@ impl Subject<'_> {
         ensures { (file : List ℕ → Parts → Option (List ℕ)) (r : Reading) → result ≡ fault.is_needed self.now.kind (case_of self.now file r) stem.now version.now }
     {
         match self.kind {
-            Kind::Install | Kind::Update => {
-                self.is_greatest(stem, version)
-                    || (!self.rejects(stem) && self.may_come(stem, version))
-            }
+            Kind::Install | Kind::Update => self.looks_at(stem, version),
             Kind::Uninstall | Kind::Keep => true,
         }
+    }
+
+    // Whether the version is the greatest of the catalog, or one that the stem may come to, where it isn't rejected.
+    fn looks_at(&self, stem: &str, version: &Version) -> bool
+        ensures { (file : List ℕ → Parts → Option (List ℕ)) (r : Reading) → result ≡ (candidate.is_standing (candidate.greatest (case_of self.now file r) stem.now) version.now || (not (has stem.now (stems_of self.now.rejected.keys)) && candidate.may_come (case_of self.now file r) stem.now version.now)) }
+    {
+        self.is_greatest(stem, version) || (!self.rejects(stem) && self.may_come(stem, version))
     }
 
     /// Whether the stem is spared, where it is told whether its greatest version is obsolete.
@@ -185,6 +200,17 @@ impl Subject<'_> {
             Some(number) => freeze_at(&self.state.freeze, number),
             None => None,
         }
+    }
+}
+
+// The package, where it is at this version.
+fn at_version<'a>(found: &'a Package, version: &Version) -> Option<&'a Package>
+    ensures { option_map (λ p. installed p.now) result ≡ case.at_version (Some (installed found.now)) version.now }
+{
+    if version.cmp(&found.version).is_eq() {
+        Some(found)
+    } else {
+        None
     }
 }
 
