@@ -1,5 +1,5 @@
 -- What reading a manifest says of its version.
-use Rattle.std.proofs.Common.{◌≡◌, ℕ, ◌+◌, ◌≤◌, List, length, Option, Some, None, Result, Ok, Err, IfOk, option_map, refl, sym, ap, subst, ◌∙◌, arith}
+use Rattle.std.proofs.Common.{◌≡◌, ℕ, ◌+◌, ◌≤◌, Bool, true, false, cond, List, Option, Some, None, is_some, Result, Ok, Err, IfOk, option_map, refl, sym, ap, subst, ◌∙◌, arith}
 use Rattle.std.specs.Option.{MatchOption, option_and_then}
 use Rattle.ips_text.specs.Reading.{IfBad}
 use Rattle.ips_text.specs.declared.refusal.Or.{Or}
@@ -9,16 +9,16 @@ use Rattle.ips_filter.specs.Settings.{Set}
 use Rattle.ips_manifest.specs.declared.line.Line.{Line}
 use Rattle.ips_manifest.specs.Manifest.{IsManifestOf}
 use Rattle.ips_depend.specs.Dependency.{Dependency}
-use Rattle.ips_depend.specs.Asking.{LinesAsk, IsFirstBad}
+use Rattle.ips_depend.specs.Asking.{LinesAsk}
 use Rattle.ips_depend.proofs.Lines.{lines_once}
 use Rattle.ips_state.specs.State.{Installed}
 use Rattle.ips_repo.specs.Manifest.{manifest_limit}
 use Rattle.ips_problem.specs.declared.fault.ProblemFault.{ProblemFault}
 use Rattle.ips_problem.specs.declared.fault.ProblemFault.TheVariants as fault
 use Rattle.ips_problem.specs.declared.read.Read.{Read}
-use Rattle.ips_problem.specs.Case.{Case, Facts, Reading, IsReading, facts_of, facts_in, own, said_of}
-use Rattle.ips_problem.specs.Candidates.{tell_obsolete}
-use Rattle.ips_problem.specs.Fault.{FaultOf, IsFetched, IsFetchFault, IsFileFault, IsManifestFault, IsOwnFault, IsThere, bytes_of, name_of}
+use Rattle.ips_problem.specs.Case.{Case, Reading, IsReading, at_version, facts_of, facts_in, installed_at, installed_version, is_same_version, own, said_of}
+use Rattle.ips_problem.specs.Candidates.{greatest, is_standing, may_come, tell_obsolete}
+use Rattle.ips_problem.specs.Fault.{FaultOf, IsFetched, IsFetchFault, IsFileFault, IsOwnFault, IsThere, bytes_of}
 use Rattle.ips_problem.specs.Gathered.{Got, GotFault, IsJudgedRead, IsReadBehind}
 
 -- ---- what answers say
@@ -69,6 +69,33 @@ counted_of : (o : Option Installed) (file : Option (List ℕ)) (before now : ℕ
 counted_of None None before now lines g = absurd g
 counted_of None (Some bytes) before now lines g = g.counted
 counted_of (Some p) file before now lines g = g.1 ∙ omega arith
+
+some_where : {X : Type 0} (b : Bool) (x : X) → is_some (cond b (Some x) None) ≡ b
+some_where true x = refl
+some_where false x = refl
+
+-- a version stands where the image has its manifest
+stands_at_own : (o : Option Installed) (v : Parts) → is_some (at_version o v) ≡ is_standing (option_map (λ (p : Installed). p.version) o) v
+stands_at_own None v = refl
+stands_at_own (Some p) v = some_where (is_same_version v p.version) p
+
+still_some : {A B : Type 0} (f : A → B) (o : Option A) → is_some o ≡ is_some (option_map f o)
+still_some f None = refl
+still_some f (Some x) = refl
+
+-- a manifest that was judged, by what is told of its version
+pub judged_so : {A : Type 0} (settings : Set) (c : Case) (stem : List ℕ) (v w : Parts) (lines : List Line) (read : Read) (see : A → Installed) (mine : Option A) → w ≡ v → read.version ≡ w → read.manifest.lines.items ≡ lines
+    → LinesAsk settings lines read.tests.items → read.gone ≡ tell_obsolete lines → read.comes ≡ may_come c stem w → read.stands ≡ is_some mine → option_map see mine ≡ own c stem w
+    → read.newest ≡ is_standing (greatest c stem) w → IsJudgedRead settings c stem v lines read
+judged_so settings c stem v w lines read see mine same version manifest asks gone comes stands found newest = record {
+  version = version ∙ same;
+  manifest = manifest;
+  asks = asks;
+  gone = gone;
+  comes = comes ∙ ap (may_come c stem) same;
+  stands = stands ∙ still_some see mine ∙ ap is_some found ∙ stands_at_own (installed_at c stem) w ∙ ap (is_standing (installed_version c stem)) same;
+  newest = newest ∙ ap (is_standing (greatest c stem)) same;
+}
 
 -- a manifest that was got and judged was read
 pub read_behind : (settings : Set) (c : Case) (stem : List ℕ) (v : Parts) (before now : ℕ) (lines : List Line) (read : Read) → IsReading settings c.reading → Got (own c stem v) (c.file stem v) before now lines

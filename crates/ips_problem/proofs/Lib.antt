@@ -15,5 +15,6 @@ pub mod Lookups
 pub mod Inserted
 pub mod Subjects
 pub mod Judging
+pub mod Fetched
 pub mod Offering
 pub mod Growth

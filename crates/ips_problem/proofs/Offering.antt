@@ -1,5 +1,5 @@
 -- The manifests that were read of a stem give its candidates and what they ask for.
-use Rattle.std.proofs.Common.{◌≡◌, ℕ, zero, suc, ◌+◌, ◌<◌, Bool, true, false, not, cond, ◌&&◌, ◌||◌, List, [], ◌∷◌, ◌++◌, map, filter, flat_map, reverse, length, slice_get, Option, Some, None, is_some, option_map, refl, sym, ap, subst, ◌∙◌, inl, inr, ◌⊎◌, arith}
+use Rattle.std.proofs.Common.{◌≡◌, ℕ, suc, ◌+◌, Bool, true, false, not, cond, ◌&&◌, ◌||◌, List, [], ◌∷◌, ◌++◌, map, filter, flat_map, reverse, slice_get, Option, Some, None, is_some, option_map, refl, sym, ap, subst, ◌∙◌, inl, inr, ◌⊎◌, arith}
 use Rattle.std.specs.List.{AllByRecursion, AllZip, list_any, last_or}
 use Rattle.std.specs.Ordering.{is_lt, is_eq}
 use Rattle.std.specs.declared.cmp.Ordering.{Ordering}
@@ -12,7 +12,6 @@ use Rattle.ips_fmri.specs.Version.{Parts}
 use Rattle.ips_fmri.specs.Order.{version_cmp}
 use Rattle.ips_fmri.proofs.Orders.{tells_equal, tells_greater, versions_tell}
 use Rattle.ips_catalog.specs.Listed.{versions_of}
-use Rattle.ips_depend.specs.Dependency.{Dependency}
 use Rattle.ips_problem.specs.declared.kind.Kind.{Kind}
 use Rattle.ips_problem.specs.declared.kind.Kind.TheVariants.{Install, Update, Uninstall, Keep}
 use Rattle.ips_problem.specs.declared.role.Role.{Role}
@@ -20,11 +19,11 @@ use Rattle.ips_problem.specs.declared.role.Role.TheVariants.{Refused, Gone, Aske
 use Rattle.ips_problem.specs.declared.read.Read.{Read}
 use Rattle.ips_problem.specs.declared.rows.Row as declared
 use Rattle.ips_problem.specs.Stems.{has}
-use Rattle.ips_problem.specs.Case.{Case, Facts, is_named, is_installed, installed_version, said}
-use Rattle.ips_problem.specs.Candidates.{with_installed, newest, may_come, coming, greatest, is_standing, is_obsolete, is_obsolete_at, says_obsolete, tell_obsolete, present, present_or_gone, beyond, candidates_in, candidates, role, role_by, is_target_of, is_spared}
+use Rattle.ips_problem.specs.Case.{Case, is_named, is_installed, installed_version, said}
+use Rattle.ips_problem.specs.Candidates.{with_installed, newest, may_come, coming, greatest, is_standing, is_obsolete, is_obsolete_at, says_obsolete, present, present_or_gone, beyond, candidates_in, candidates, role, role_by, is_target_of, is_spared}
 use Rattle.ips_problem.specs.Fault.{is_needed, needed}
 use Rattle.ips_problem.specs.Reach.{dependencies_of, dependencies_said, stems_wanted}
-use Rattle.ips_problem.specs.Posed.{Offer, Numbered, numbered, lines_said, offer_of, tests_of_candidates}
+use Rattle.ips_problem.specs.Posed.{numbered, lines_said, offer_of, tests_of_candidates}
 use Rattle.ips_problem.specs.Reads.{is_gone, is_gone_at, stands, stands_at}
 use Rattle.ips_problem.specs.Seen.{seen_read, seen_candidate}
 use Rattle.ips_problem.specs.Gathered.{IsReadOf, IsRowOf, is_newest_gone, coming_from, asked, asked_at, tests_asked}

@@ -1,4 +1,4 @@
-use Rattle.std.proofs.Common.{◌≡◌, ◌+◌, ◌++◌, ◌∷◌, [], ap, sym, ◌∙◌}
+use Rattle.std.proofs.Common.{◌++◌, ◌∷◌, [], ap, arith, filter, sym, take_all, ◌∙◌}
 use Rattle.ips_fmri.specs.Version.{Parts}
 use Rattle.ips_problem.specs.Fault.{is_needed}
 use Rattle.ips_problem.specs.Subject.{case_of}
@@ -20,3 +20,8 @@ loop-version-preserved c = λ file r.
       | else-needs w ↦
           ap (λ v. v.items) w.needed-is ∙ filter_left p xs old i x c.loop-version-test.true c.version-item.is (c.loop-version.invariant file r) (sym (c.needs.ensures file r) ∙ w.if-needs.false)
     ]
+
+pub returns : goal.returns
+returns c = λ file r.
+    c.loop-version.invariant file r
+    ∙ ap (filter (is_needed c.args.subject.now.kind (case_of c.args.subject.now file r) c.args.stem.now)) (take_all c.loop-version.version-index c.args.versions.now (omega (arith, c.loop-version-test.false)))

@@ -1,6 +1,5 @@
-use Rattle.std.proofs.Common.{◌∙◌, List, ℕ, ap, option_map, refl, subst, sym}
+use Rattle.std.proofs.Common.{◌∙◌, ap, option_map, refl, subst, sym}
 use Rattle.ips_state.specs.State.{installed}
-use Rattle.ips_fmri.specs.Version.{Parts}
 use Rattle.ips_problem.specs.Fault.{name_of}
 use Rattle.ips_problem.specs.Gathered.{Got, GotFault}
 use Rattle.ips_problem.specs.Subject.{files_of, repo_of}

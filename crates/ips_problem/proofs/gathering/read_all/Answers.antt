@@ -1,8 +1,9 @@
-use Rattle.std.proofs.Common.{◌≡◌, ◌+◌, ◌∙◌, Err, ap, absurd, refl, subst, sym, take, take_all}
+use Rattle.std.proofs.Common.{◌+◌, ◌∙◌, [], Global, Vec, ap, refl, subst, sym, take}
 use Rattle.ips_text.specs.declared.refusal.Or.TheVariants.{Bad}
 use Rattle.ips_outside.specs.State.{State}
-use Rattle.ips_repo.proofs.Calls.{handed_on, no_fault, reads_as, reads_none, reads_then}
+use Rattle.ips_repo.proofs.Calls.{handed_on, no_fault, reads_none, reads_then}
 use Rattle.ips_problem.specs.declared.fault.ProblemFault.TheVariants as fault
+use Rattle.ips_problem.specs.declared.read.Read.{Read}
 use Rattle.ips_problem.specs.Fault.{IsManifestFault}
 use Rattle.ips_problem.specs.Gathered.{AreReadBehind, IsReadBehind}
 use Rattle.ips_problem.specs.Subject.{case_in}
@@ -42,7 +43,7 @@ returns-in-Err-clause-bad g c = λ told.
     let stem = c.args.stem.now in
     let v = c.version-item.result in
     let inv = c.loop-version.invariant in
-    bad_handed _ _ _ _ c.in-Err.why (c.in-Err.ensures.bad (inv.calls.call.same_kind ∙ told))
+    bad_handed Read (Vec Read Global) _ _ c.in-Err.why (c.in-Err.ensures.bad (inv.calls.call.same_kind ∙ told))
     (λ why h r is.
     let kept = ap (λ (t : State). case_in s t.held r) inv.calls.kept in
     fault_next s.state.now.settings (case_in s (g.S.Source.outside.state c.args.source.now).held r) c.args.total.now c.loop-version.total stem c.args.versions.now c.loop-version.version-index v c.loop-version.reads.items why

@@ -1,7 +1,9 @@
-use Rattle.std.proofs.Common.{◌≡◌, Err, refl}
+use Rattle.std.proofs.Common.{refl}
 use Rattle.ips_text.specs.declared.refusal.Or.TheVariants.{Bad}
+use Rattle.ips_manifest.specs.declared.manifest.Manifest.{Manifest}
 use Rattle.ips_repo.proofs.Calls.{handed_on, no_fault, reads_as}
 use Rattle.ips_problem.specs.declared.fault.ProblemFault.TheVariants as fault
+use Rattle.ips_problem.specs.declared.read.Read.{Read}
 use Rattle.ips_problem.specs.Case.{own}
 use Rattle.ips_problem.specs.Fault.{name_of}
 use Rattle.ips_problem.specs.Subject.{case_in, files_of, repo_of}
@@ -39,7 +41,7 @@ returns-in-Err-clause-bad g c = λ told.
     let s = c.args.subject.now in
     let stem = c.args.stem.now in
     let v = c.args.version.now in
-    bad_handed _ _ _ _ c.in-Err.why (c.in-Err.ensures.bad told)
+    bad_handed Manifest Read _ _ c.in-Err.why (c.in-Err.ensures.bad told)
     (λ why h r is. got_fault s.state.now.settings c.args.total.now (own (case_in s held r) stem v) (files_of (repo_of s) held stem v) (name_of (record { stem = stem; version = v })) why (h r))
 
 pub returns-in-Err-clause-reads : goal.returns-in-Err-clause-reads
