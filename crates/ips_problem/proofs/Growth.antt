@@ -1,15 +1,21 @@
 -- The list of stems in reach is gone through stem by stem.
-use Rattle.std.proofs.Common.{◌≡◌, ℕ, zero, suc, ◌+◌, ◌<◌, ◌≤◌, Bool, true, false, not, cond, List, [], ◌∷◌, ◌++◌, map, flat_map, fold, take, drop, length, sum_by, slice_get, get_or, Option, Some, None, is_some, refl, sym, ap, subst, ◌∙◌, inl, inr, ◌⊎◌, arith, append_assoc, append-nil}
+use Rattle.std.proofs.Common.{◌≡◌, ℕ, zero, suc, ◌+◌, ◌<◌, ◌≤◌, Bool, true, false, not, cond, List, [], ◌∷◌, ◌++◌, map, flat_map, fold, take, drop, length, sum_by, slice_get, get_or, Option, Some, None, is_some, refl, sym, ap, subst, ◌∙◌, inl, inr, ◌⊎◌, arith, append_assoc, append-nil, All, String, Global, string_bytes}
 use Rattle.std.specs.List.{AllByRecursion, AllZip}
-use Rattle.std.proofs.lemmas.List.{length_push, length-take-le, drop_more, take_all, take-append-drop, take-append-le, map_push, take_more}
+use Rattle.std.proofs.lemmas.List.{length_push, length-take-le, drop_more, length-map, take_all, take-append-drop, take-append-le, map_push, take_more}
 use Rattle.std.proofs.lemmas.Bool.{cond_both, cases_lt}
+use Rattle.std.proofs.lemmas.List.Elements.{All-append, All-from_recursion, All-map, All-nil, All-same, All-weaker, recursion_from_All}
 use Rattle.std.proofs.lemmas.List.Concat.{flat_map-append}
+use Rattle.std.proofs.lemmas.List.Sums.{sum_by-append, sum_by_push}
 use Rattle.std.proofs.lemmas.Option.{slice_get_within, get_or_from_slice_get}
 use Rattle.ips_fmri.specs.Version.{Parts}
 use Rattle.ips_filter.specs.Settings.{Set}
+use Rattle.ips_depend.specs.Dependency.{Dependency}
+use Rattle.ips_manifest.specs.declared.package.Package.{Package}
+use Rattle.ips_state.specs.State.{Installed, installed}
 use Rattle.ips_repo.specs.Manifest.{manifest_limit}
 use Rattle.ips_problem.specs.declared.fault.ProblemFault.{ProblemFault}
 use Rattle.ips_problem.specs.declared.read.Read.{Read}
+use Rattle.ips_problem.specs.declared.rows.Numbered as numbers
 use Rattle.ips_problem.specs.declared.rows.Row as declared
 use Rattle.ips_problem.specs.Stems.{has, put, put_all, firsts}
 use Rattle.ips_problem.specs.Case.{Case, said}
@@ -18,27 +24,19 @@ use Rattle.ips_problem.specs.Fault.{Needed, AreRead, IsFirstFault, IsManifestFau
 use Rattle.ips_problem.specs.Reach.{drawn_in, dependencies_of, grown, seeds, stems_wanted, IsReach}
 use Rattle.ips_problem.specs.Posed.{Numbered, Posed, Row, numbered, posed, row_of, still_avoided, tests_from, tests_of_candidates}
 use Rattle.ips_problem.specs.Seen.{seen_row, seen_test, stems_of}
-use Rattle.ips_problem.proofs.Lookups.{put_all_append}
+use Rattle.ips_problem.proofs.Lookups.{next_of, put_all_append}
 use Rattle.ips_problem.proofs.Offering.{drawn_alike, tests_alike}
 use Rattle.ips_problem.specs.Gathered.{AreReadBehind, IsFaultAmong, IsGoneThrough, IsPosedBy, IsReadBehind, IsReadOf, IsRowOf, asked_at, tests_asked}
 
--- ---- sums and lists
-
-sum_from : {X : Type 0} (f : X → ℕ) (n : ℕ) (xs : List X) → fold (λ (a : ℕ) x. a + f x) n xs ≡ n + sum_by f xs
-sum_from f n [] = omega arith
-sum_from f n (x ∷ xs) = let one = sum_from f (n + f x) xs in let two = sum_from f (0 + f x) xs in omega arith
-
-pub sum_append : {X : Type 0} (f : X → ℕ) (xs ys : List X) → sum_by f (xs ++ ys) ≡ sum_by f xs + sum_by f ys
-sum_append f [] ys = refl
-sum_append f (x ∷ xs) ys =
-    let whole = sum_from f (0 + f x) (xs ++ ys) in
-    let rest = sum_append f xs ys in
-    let first = sum_from f (0 + f x) xs in
-    omega arith
+-- ---- lists
 
 pub all_append : {X : Type 0} (P : X → Type 0) (xs ys : List X) → AllByRecursion P xs → AllByRecursion P ys → AllByRecursion P (xs ++ ys)
 all_append P [] ys h t = t
 all_append P (x ∷ xs) ys h t = (h.0, all_append P xs ys h.1 t)
+
+-- more stands behind what stood there
+pub list_next : {X : Type 0} (init now new before more after : List X) → after ≡ before ++ more → now ≡ init ++ before → new ≡ now ++ more → new ≡ init ++ after
+list_next init now new before more after split done next = next ∙ ap (λ l. l ++ more) done ∙ append_assoc init before more ∙ ap (λ l. init ++ l) (sym split)
 
 -- a prefix of the list with more put last is that of the list
 put_once : (k : ℕ) (xs : List (List ℕ)) (y : List ℕ) → k ≤ length xs → take k (put xs y) ≡ take k xs
@@ -69,7 +67,7 @@ zip_more c stem (w ∷ vs) [] v x h r = absurd h
 zip_more c stem (w ∷ vs) (y ∷ reads) v x h r = (h.0, zip_more c stem vs reads v x h.1 r)
 
 manifests_more : (stem : List ℕ) (vs : List Parts) (v : Parts) → manifests_at stem (vs ++ v ∷ []) ≡ manifests_at stem vs ++ record { stem = stem; version = v } ∷ []
-manifests_more stem vs v = map_push (λ (v : Parts). record { stem = stem; version = v }) vs v
+manifests_more stem vs v = let needed_at : Parts → Needed = λ v. record { stem = stem; version = v } in map_push needed_at vs v
 
 -- nothing was read of no versions
 pub none_read : (c : Case) (total : ℕ) (stem : List ℕ) → AreReadBehind c total total stem [] []
@@ -81,10 +79,9 @@ read_more c before mid now stem vs reads v x h r =
     let n : Needed = record { stem = stem; version = v } in
     let more = manifests_more stem vs v in
     let few = all_append (λ (n : Needed). bytes_read c n ≤ manifest_limit) (manifests_at stem vs) (n ∷ []) h.few (r.few, tt) in
-    let sum = ap (sum_by (bytes_read c)) more ∙ sum_append (bytes_read c) (manifests_at stem vs) (n ∷ []) in
-    let one : sum_by (bytes_read c) (n ∷ []) ≡ bytes_read c n = omega arith in
+    let sum = ap (sum_by (bytes_read c)) more ∙ sum_by_push (bytes_read c) (manifests_at stem vs) n in
     let first = h.counted in
-    let then = r.counted in
+    let last = r.counted in
     record {
       each = zip_more c stem vs reads v x h.each r.is;
       few = subst (AllByRecursion (λ (n : Needed). bytes_read c n ≤ manifest_limit)) (sym more) few;
@@ -95,7 +92,7 @@ read_more c before mid now stem vs reads v x h r =
 pub read_next : (c : Case) (before mid now : ℕ) (stem : List ℕ) (vs : List Parts) (i : ℕ) (v : Parts) (reads : List Read) (x : Read) → i < length vs → v ≡ get_or vs i v
     → AreReadBehind c before mid stem (take i vs) reads → IsReadBehind c mid now stem v x → AreReadBehind c before now stem (take (i + 1) vs) (reads ++ x ∷ [])
 read_next c before mid now stem vs i v reads x l at h r =
-    subst (λ ws. AreReadBehind c before now stem ws (reads ++ x ∷ [])) (sym (take_more vs i v l ∙ ap (λ w. take i vs ++ w ∷ []) (sym at))) (read_more c before mid now stem (take i vs) reads v x h r)
+    subst (λ ws. AreReadBehind c before now stem ws (reads ++ x ∷ [])) (sym (next_of vs i v l at)) (read_more c before mid now stem (take i vs) reads v x h r)
 
 -- the first that has a fault
 pub fault_next : (settings : Set) (c : Case) (before mid : ℕ) (stem : List ℕ) (vs : List Parts) (i : ℕ) (v : Parts) (reads : List Read) (why : ProblemFault) → i < length vs → v ≡ get_or vs i v
@@ -116,7 +113,9 @@ fault_next settings c before mid stem vs i v reads why l at few h f =
 -- ---- one stem more
 
 tests_more : (c : Case) (i : ℕ) (xs : List (List ℕ)) (x : List ℕ) → tests_from c i (xs ++ x ∷ []) ≡ tests_from c i xs ++ tests_of_candidates c (i + length xs) x 0 (candidates c x)
-tests_more c i [] x = append-nil (tests_of_candidates c i x 0 (candidates c x)) ∙ ap (λ (n : ℕ). tests_of_candidates c n x 0 (candidates c x)) (omega arith)
+tests_more c i [] x =
+    let place : i ≡ i + 0 = omega arith in
+    append-nil (tests_of_candidates c i x 0 (candidates c x)) ∙ ap (λ (n : ℕ). tests_of_candidates c n x 0 (candidates c x)) place
 tests_more c i (y ∷ ys) x =
     let own = tests_of_candidates c i y 0 (candidates c y) in
     let place : i + 1 + length ys ≡ i + suc (length ys) = omega arith in
@@ -169,11 +168,11 @@ module _ (c : Case) (cur : List (List ℕ)) (k : ℕ) (stem : List ℕ) (at : sl
       let before = manifests_of c (take k cur) in
       let own = manifests_at stem (needed c stem) in
       let all = ap (manifests_of c) taken ∙ needs_more c (take k cur) stem in
-      let sum = ap (sum_by (bytes_read c)) all ∙ sum_append (bytes_read c) before own in
+      let sum = ap (sum_by (bytes_read c)) all ∙ sum_by-append (bytes_read c) before own in
       let l = slice_get_within cur k stem at in
       let place : 0 + length (take k cur) ≡ k = omega (arith, length-take-le k cur (omega arith)) in
       let first = g.counted in
-      let then = r.counted in
+      let last = r.counted in
       record {
         grows = grows_more g.grows;
         on_list = long_before g.grows g.on_list;
@@ -196,9 +195,10 @@ module _ (c : Case) (cur : List (List ℕ)) (k : ℕ) (stem : List ℕ) (at : sl
   first_fault settings rows tests total why g f =
       let earlier = manifests_of c (take k cur) in
       let own = manifests_at stem f.before in
-      let sum = sum_append (bytes_read c) earlier own in
+      let sum = sum_by-append (bytes_read c) earlier own in
       let first = g.counted in
       let few = f.all in
+      let place : total + all_bytes c own ≡ all_bytes c (earlier ++ own) = omega arith in
       let l = slice_get_within cur k stem at in
       record {
         reach = cur;
@@ -222,7 +222,7 @@ module _ (c : Case) (cur : List (List ℕ)) (k : ℕ) (stem : List ℕ) (at : sl
           each = all_append (λ (n : Needed). bytes_read c n ≤ manifest_limit) earlier own g.read.each f.few;
           all = omega arith;
         };
-        fault = subst (λ (n : ℕ). IsManifestFault settings c n (record { stem = stem; version = f.version }) why) (omega arith) f.fault;
+        fault = subst (λ (n : ℕ). IsManifestFault settings c n (record { stem = stem; version = f.version }) why) place f.fault;
       }
 
 -- before any stem was gone through
@@ -252,6 +252,50 @@ gone_all c cur k rows tests total avoid e a g =
 
 -- ---- what was gathered
 
+-- the tests of one candidate more
+pub tests_asked_more : (i k : ℕ) (reads : List Read) (os : List (Option ℕ)) (o : Option ℕ) → tests_asked i k reads (os ++ o ∷ []) ≡ tests_asked i k reads os ++ numbered i (k + length os) (asked_at reads o)
+tests_asked_more i k reads [] o =
+    let place : k ≡ k + 0 = omega arith in
+    append-nil (numbered i k (asked_at reads o)) ∙ ap (λ (n : ℕ). numbered i n (asked_at reads o)) place
+tests_asked_more i k reads (p ∷ os) o =
+    let own = numbered i k (asked_at reads p) in
+    let place : k + 1 + length os ≡ k + suc (length os) = omega arith in
+    ap (λ ts. own ++ ts) (tests_asked_more i (k + 1) reads os o ∙ ap (λ (n : ℕ). tests_asked i (k + 1) reads os ++ numbered i n (asked_at reads o)) place)
+    ∙ sym (append_assoc own (tests_asked i (k + 1) reads os) (numbered i (k + suc (length os)) (asked_at reads o)))
+
+-- the tests of the candidates of a stem are of its number
+of_stem : (i k : ℕ) (reads : List Read) (os : List (Option ℕ)) → All (λ (n : Numbered). n.stem ≡ i) (tests_asked i k reads os)
+of_stem i k reads [] = All-nil (λ (n : Numbered). n.stem ≡ i)
+of_stem i k reads (o ∷ os) =
+    let test : Dependency → Numbered = λ d. record { stem = i; candidate = k; dependency = d } in
+    All-append (λ (n : Numbered). n.stem ≡ i) (numbered i k (asked_at reads o)) (tests_asked i (k + 1) reads os)
+    (All-map (λ (n : Numbered). n.stem ≡ i) test (asked_at reads o) (λ j d l. refl)) (of_stem i (k + 1) reads os)
+
+seen_all : (P : Numbered → Type 0) (ns : List numbers.Numbered) → AllByRecursion P (map seen_test ns) → AllByRecursion (λ (n : numbers.Numbered). P (seen_test n)) ns
+seen_all P [] h = tt
+seen_all P (n ∷ ns) h = (h.0, seen_all P ns h.1)
+
+-- with those of one stem more, the tests are of the stems that were gone through
+pub known_more : (k n : ℕ) (reads : List Read) (os : List (Option ℕ)) (old new : List numbers.Numbered) → n ≡ k + 1 → All (λ (t : numbers.Numbered). t.stem < k) old
+    → map seen_test new ≡ map seen_test old ++ tests_asked k 0 reads os → All (λ (t : numbers.Numbered). t.stem < n) new
+known_more k n reads os old new one known e =
+    let P = λ (t : Numbered). t.stem < n in
+    let Q = λ (t : numbers.Numbered). t.stem < n in
+    let asked = tests_asked k 0 reads os in
+    let before = All-map P seen_test old (All-weaker (λ (t : numbers.Numbered). t.stem < k) Q (λ t l. omega arith) old known) in
+    let own = All-weaker (λ (t : Numbered). t.stem ≡ k) P (λ t same. omega arith) asked (of_stem k 0 reads os) in
+    let all = All-same P (map seen_test new) (map seen_test old ++ asked) e (All-append P (map seen_test old) asked before own) in
+    All-from_recursion Q new (seen_all P new (recursion_from_All P (map seen_test new) all))
+
+-- the list of stems doesn't become shorter
+pub within_more : (keys new : List (String Global)) (more : List (List ℕ)) (k : ℕ) → stems_of new ≡ put_all (stems_of keys) more → k ≤ length keys → k ≤ length new
+within_more keys new more k e l =
+    let old = length-map keys (λ (s : String Global). string_bytes s) in
+    let now = length-map new (λ (s : String Global). string_bytes s) in
+    let same = ap (λ (ss : List (List ℕ)). length ss) e in
+    let long = put_longer k (stems_of keys) more (omega arith) in
+    omega arith
+
 -- with the next stem
 pub gathered_next : (c : Case) (cur : List (List ℕ)) (k : ℕ) (stem : List ℕ) (rows : List Row) (tests : List Numbered) (total now : ℕ) (row : declared.Row) → slice_get cur k ≡ Some stem
     → IsGoneThrough c cur k rows tests total → IsRowOf c stem row → AreReadBehind c total now stem (needed c stem) row.reads.items → now ≤ all_manifests_limit
@@ -269,6 +313,11 @@ gathered_next c cur k stem rows tests total now row at g r h few more after othe
     (subst (λ (n : ℕ). IsGoneThrough c (put_all cur (drawn_in c stem)) n others asked now) (sym a)
     (subst (λ rs. IsGoneThrough c (put_all cur (drawn_in c stem)) (k + 1) rs asked now) (sym known)
     (subst (λ ts. IsGoneThrough c (put_all cur (drawn_in c stem)) (k + 1) (rows ++ row_of c stem ∷ []) ts now) (sym asks) whole)))
+
+-- the stems of packages in memory
+pub stems_installed : (ps : List Package) → map (λ (p : Package). p.stem) ps ≡ map (λ (p : Installed). p.stem) (map installed ps)
+stems_installed [] = refl
+stems_installed (p ∷ ps) = ap (λ ss. p.stem ∷ ss) (stems_installed ps)
 
 -- where the list begins
 pub gathered_none : (c : Case) (stems : List (List ℕ)) (k : ℕ) (rows : List Row) (tests : List Numbered) (total : ℕ) → stems ≡ firsts (seeds c) → k ≡ 0 → rows ≡ [] → tests ≡ [] → total ≡ 0 → IsGoneThrough c stems k rows tests total

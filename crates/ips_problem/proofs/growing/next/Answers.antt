@@ -1,21 +1,43 @@
-use Rattle.std.proofs.Common.{◌≡◌, ℕ, Err, ap, map, refl, subst, sym}
+use Rattle.std.proofs.Common.{◌≡◌, ℕ, ◌∙◌, Err, List, Some, ap, length, map, refl, slice_get, subst, sym}
+use Rattle.std.proofs.lemmas.List.{length_push, map_push}
 use Rattle.ips_text.specs.declared.refusal.Or.TheVariants.{Bad}
 use Rattle.ips_repo.proofs.Calls.{handed_on, no_fault, reads_as}
 use Rattle.ips_problem.specs.declared.fault.ProblemFault.TheVariants as fault
+use Rattle.ips_problem.specs.declared.gathered.Gathered.{Gathered}
+use Rattle.ips_problem.specs.declared.rows.Row as declared
 use Rattle.ips_problem.specs.Fault.{needed}
-use Rattle.ips_problem.specs.Gathered.{IsFaultAmong, IsGoneThrough}
+use Rattle.ips_problem.specs.Gathered.{AreReadBehind, IsFaultAmong, IsGoneThrough, IsRowOf}
 use Rattle.ips_problem.specs.Seen.{seen_row, seen_test, stems_of}
 use Rattle.ips_problem.specs.Subject.{case_in}
-use Rattle.ips_problem.proofs.Growth.{first_fault}
+use Rattle.ips_problem.proofs.Growth.{first_fault, gathered_next}
 use Rattle.ips_problem.proofs.Named.{bad_handed}
 use Rattle.ips_problem.proofs.growing.next.Goals as goal
+
+pub returns-clause-gathered : goal.returns-clause-gathered
+returns-clause-gathered g c = λ told r is gone.
+    let held = (g.S.Source.outside.state c.args.source.now).held in
+    let gathered = c.args.gathered in
+    let case = case_in c.args.subject.now held r in
+    let stem = c.in_ok-stem.stem in
+    let row = c.in-Ok.row in
+    let total = c.row_of.new.total in
+    let keys = stems_of gathered.stems.keys in
+    let new = c.in_ok-with_row.field-0 in
+    let more = c.in_ok-with_row.ensures in
+    let at = subst (λ (k : ℕ). slice_get keys k ≡ Some stem) c.turn_of-turn.ensures c.in_ok-stem.ensures in
+    let is_row = subst (λ s. IsRowOf case s row) c.as_str.ensures (c.in-Ok.ensures.row told r is) in
+    let read = subst (λ s. AreReadBehind case gathered.total total s (needed case s) row.reads.items) c.as_str.ensures (c.in-Ok.ensures.read told r is) in
+    subst (λ (n : ℕ). IsGoneThrough case (stems_of new.stems.keys) (length new.rows.items) (map seen_row new.rows.items) (map seen_test new.tests.items) n) (sym more.total)
+    (gathered_next case keys (length gathered.rows.items) stem (map seen_row gathered.rows.items) (map seen_test gathered.tests.items) gathered.total total row at gone is_row read c.row_of.ensures.few
+    (stems_of new.stems.keys) (length new.rows.items) (map seen_row new.rows.items) (map seen_test new.tests.items)
+    more.stems (ap (λ (rs : List declared.Row). length rs) more.rows ∙ length_push gathered.rows.items row) (ap (map seen_row) more.rows ∙ map_push seen_row gathered.rows.items row) more.tests)
 
 pub returns-in-Err-clause-bad : goal.returns-in-Err-clause-bad
 returns-in-Err-clause-bad g c = λ told.
     let held = (g.S.Source.outside.state c.args.source.now).held in
     let s = c.args.subject.now in
     let gathered = c.args.gathered in
-    bad_handed _ _ _ _ c.in-Err.why (c.in-Err.ensures.bad told)
+    bad_handed declared.Row Gathered _ _ c.in-Err.why (c.in-Err.ensures.bad told)
     (λ why h r is gone.
     let case = case_in s held r in
     let own = subst (λ stem. IsFaultAmong s.state.now.settings case gathered.total stem (needed case stem) why) c.as_str.ensures (h r is) in

@@ -5,8 +5,8 @@ use Rattle.ips_problem.specs.Gathered.{IsGathered}
 use Rattle.ips_problem.specs.Subject.{case_in}
 use Rattle.ips_problem.proofs.growing.posed_by.Given as goal
 
-abbrev pub invariant-loop-_turn : goal.invariant-loop-_turn
-invariant-loop-_turn g l = record {
+abbrev pub invariant-loop-turn : goal.invariant-loop-turn
+invariant-loop-turn g l = record {
   calls : Reads g.S.Source.outside l.fn.source l.source ⊥;
   gone : IsTrue (g.S.Source.outside.tells l.fn.source) → (r : Reading) → IsReading l.subject.state.now.settings r → IsGathered (case_in l.subject (g.S.Source.outside.state l.fn.source).held r) l.gathered;
 }
