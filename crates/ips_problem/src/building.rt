@@ -41,9 +41,9 @@ impl Problem {
     /// The problem of a request on an image of this state. A repository is given exactly for an install and an update. To keep
     /// the selection under other settings, freezes or mediators, the state is the one with these.
     ///
-    /// NoMatch and Ambiguous come of the first pattern that names nothing, or one of several. ManifestMissing, BadManifest,
-    /// BadDepend and TooLarge come where the first needed manifest in the order of reach is so, and SourceFault only where a call
-    /// on the source failed.
+    /// NoMatch and Ambiguous come of the first pattern that names nothing, or one of several; what the request rejects comes
+    /// behind its other patterns. ManifestMissing, BadManifest, BadDepend and TooLarge come where the first needed manifest in the
+    /// order of reach is so, and SourceFault only where a call on the source failed.
     pub fn build<S: Source>(
         alloc: Global,
         state: &State,

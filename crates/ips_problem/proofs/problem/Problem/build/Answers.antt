@@ -1,5 +1,4 @@
-use Rattle.std.proofs.Common.{◌≡◌, inl, inr}
-use Rattle.ips_outside.specs.Outside.{Reads}
+use Rattle.std.proofs.Common.{inl, inr}
 use Rattle.ips_repo.proofs.Calls.{reads_none}
 use Rattle.ips_state.specs.State.{recorded}
 use Rattle.ips_problem.specs.Held.{posed_of}
