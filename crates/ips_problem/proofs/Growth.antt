@@ -1,5 +1,5 @@
 -- The list of stems in reach is gone through stem by stem.
-use Rattle.std.proofs.Common.{◌≡◌, ℕ, zero, suc, ◌+◌, ◌<◌, ◌≤◌, Bool, true, false, not, cond, List, [], ◌∷◌, ◌++◌, map, flat_map, fold, take, drop, length, sum_by, slice_get, get_or, Option, Some, None, is_some, refl, sym, ap, subst, ◌∙◌, inl, inr, ◌⊎◌, arith, append_assoc, append-nil, All, String, Global, string_bytes}
+use Rattle.std.proofs.Common.{◌≡◌, ℕ, suc, ◌+◌, ◌<◌, ◌≤◌, true, List, [], ◌∷◌, ◌++◌, map, flat_map, take, drop, length, sum_by, slice_get, get_or, Option, Some, is_some, refl, sym, ap, subst, ◌∙◌, inl, inr, arith, append_assoc, append-nil, All, String, Global, string_bytes}
 use Rattle.std.specs.List.{AllByRecursion, AllZip}
 use Rattle.std.proofs.lemmas.List.{length_push, length-take-le, drop_more, length-map, take_all, take-append-drop, take-append-le, map_push, take_more}
 use Rattle.std.proofs.lemmas.Bool.{cond_both, cases_lt}
@@ -21,8 +21,8 @@ use Rattle.ips_problem.specs.Stems.{has, put, put_all, firsts}
 use Rattle.ips_problem.specs.Case.{Case, said}
 use Rattle.ips_problem.specs.Candidates.{candidates}
 use Rattle.ips_problem.specs.Fault.{Needed, AreRead, IsFirstFault, IsManifestFault, all_bytes, all_manifests_limit, bytes_read, manifests_at, manifests_of, needed}
-use Rattle.ips_problem.specs.Reach.{drawn_in, dependencies_of, grown, seeds, stems_wanted, IsReach}
-use Rattle.ips_problem.specs.Posed.{Numbered, Posed, Row, numbered, posed, row_of, still_avoided, tests_from, tests_of_candidates}
+use Rattle.ips_problem.specs.Reach.{drawn_in, grown, seeds, stems_wanted}
+use Rattle.ips_problem.specs.Posed.{Numbered, Row, numbered, row_of, still_avoided, tests_from, tests_of_candidates}
 use Rattle.ips_problem.specs.Seen.{seen_row, seen_test, stems_of}
 use Rattle.ips_problem.proofs.Lookups.{next_of, put_all_append}
 use Rattle.ips_problem.proofs.Offering.{drawn_alike, tests_alike}

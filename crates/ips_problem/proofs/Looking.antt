@@ -1,5 +1,5 @@
 -- Looking up stems and candidates by their numbers.
-use Rattle.std.proofs.Common.{◌≡◌, ℕ, ◌+◌, ◌<◌, ltb, Bool, true, false, not, cond, List, [], ◌∷◌, map, length, position, slice_get, get_or, Contains, Option, Some, None, option_map, option_and_then, refl, sym, ap, subst, ◌∙◌, bytes_eq, String, Global, string_bytes}
+use Rattle.std.proofs.Common.{◌≡◌, ℕ, ◌+◌, ◌<◌, ltb, Bool, false, not, cond, List, [], ◌∷◌, map, length, position, slice_get, get_or, Option, Some, None, option_map, option_and_then, refl, sym, ap, subst, ◌∙◌, bytes_eq, String, Global, string_bytes}
 use Rattle.std.specs.List.{position_or_len}
 use Rattle.std.proofs.lemmas.List.{length-map}
 use Rattle.std.proofs.lemmas.List.Elements.{Contains-get_or}
@@ -8,7 +8,7 @@ use Rattle.ips_refute.specs.declared.nogoods.Pair.{Pair}
 use Rattle.ips_refute.specs.Meaning.{OnePerStem}
 use Rattle.ips_fmri.specs.Version.{Parts}
 use Rattle.ips_problem.specs.declared.rows.Row.{Row}
-use Rattle.ips_problem.specs.Posed.{Posed, candidate_of, version_at, number_of, picked, tells_spared, spared_at, spared}
+use Rattle.ips_problem.specs.Posed.{candidate_of, version_at, picked, tells_spared, spared_at, spared}
 use Rattle.ips_problem.specs.Seen.{seen_row, stems_of, puzzle_of}
 use Rattle.ips_problem.specs.Laws.{contained_candidate}
 

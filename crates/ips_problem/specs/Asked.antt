@@ -1,5 +1,5 @@
 -- What a request asks of an image.
-use Rattle.std.specs.Prelude.{◌≡◌, ℕ, ◌⊎◌, Bool, true, false, List, [], flat_map, Option, Some, None}
+use Rattle.std.specs.Prelude.{◌≡◌, ℕ, ◌⊎◌, Bool, true, false, List, [], flat_map, Option}
 use Rattle.ips_fmri.specs.Version.{Parts}
 use Rattle.ips_fmri.specs.declared.pattern.Pattern.{Pattern}
 use Rattle.ips_outside.specs.Image.{Image}

@@ -1,5 +1,5 @@
 -- What a request is decided over: what it names and rejects, what the catalog lists and the image has, and what manifests say.
-use Rattle.std.specs.Prelude.{◌≡◌, ℕ, Bool, if◌then◌else◌, List, [], map, find, Option, Some, None, MatchOption}
+use Rattle.std.specs.Prelude.{ℕ, Bool, if◌then◌else◌, List, find, Option, Some, None, MatchOption}
 use Rattle.std.specs.List.{list_any}
 use Rattle.std.specs.Option.{option_map, option_and_then, is_some}
 use Rattle.std.specs.Ordering.{is_eq}

@@ -1,5 +1,5 @@
 -- Which manifests a request needs, in which order, and the first that says nothing.
-use Rattle.std.specs.Prelude.{◌≡◌, ℕ, ◌+◌, ◌<◌, ◌≤◌, ◌⊎◌, Bool, true, false, not, ◌&&◌, ◌||◌, if◌then◌else◌, List, [], ◌∷◌, ◌++◌, map, filter, length, take, slice_get, sum_by, Option, Some, None, is_some}
+use Rattle.std.specs.Prelude.{◌≡◌, ℕ, ◌+◌, ◌<◌, ◌≤◌, Bool, true, not, ◌&&◌, ◌||◌, List, ◌∷◌, ◌++◌, map, filter, length, take, slice_get, sum_by, Option, Some, None, is_some}
 use Rattle.std.specs.List.{flat_map, AllByRecursion}
 use Rattle.ips_text.specs.declared.limits.Which.{Which}
 use Rattle.ips_text.specs.declared.limits.Which.TheVariants as which

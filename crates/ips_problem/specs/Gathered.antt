@@ -1,5 +1,5 @@
 -- What was read of the manifests that are needed, and what a puzzle is put together from.
-use Rattle.std.specs.Prelude.{◌≡◌, ℕ, ◌+◌, ◌<◌, ◌≤◌, Bool, true, false, ◌&&◌, if◌then◌else◌, List, [], ◌∷◌, ◌++◌, map, length, take, slice_get, Option, Some, None, is_some}
+use Rattle.std.specs.Prelude.{◌≡◌, ℕ, ◌+◌, ◌<◌, ◌≤◌, Bool, true, ◌&&◌, if◌then◌else◌, List, [], ◌∷◌, ◌++◌, map, length, take, slice_get, Option, Some, None, is_some}
 use Rattle.std.specs.List.{AllByRecursion, AllZip, list_any}
 use Rattle.ips_fmri.specs.Version.{Parts}
 use Rattle.ips_filter.specs.Settings.{Set}

@@ -1,11 +1,9 @@
 -- What a problem in memory poses.
-use Rattle.std.proofs.Common.{◌≡◌, ℕ, ◌<◌, List, map, length, vec_len, string_bytes, All, sym, ap, ◌∙◌, arith}
-use Rattle.std.specs.List.{AllByRecursion}
+use Rattle.std.proofs.Common.{◌<◌, map, length, string_bytes, sym, ◌∙◌, arith}
 use Rattle.std.proofs.lemmas.List.{length-map}
 use Rattle.std.proofs.lemmas.List.Elements.{recursion_from_All, All-map}
 use Rattle.ips_refute.specs.Meaning.{Lawful}
 use Rattle.ips_problem.specs.declared.problem.Problem.{Problem}
-use Rattle.ips_problem.specs.declared.rows.Numbered as declared
 use Rattle.ips_problem.specs.Posed.{Numbered, Posed, IsFormed, meaning_of}
 use Rattle.ips_problem.specs.Seen.{seen_row, seen_test, stems_of}
 use Rattle.ips_problem.specs.Laws.{posed_lawful}

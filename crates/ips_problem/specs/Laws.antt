@@ -1,8 +1,8 @@
 -- A puzzle's tests are facts about the pairs of their stems.
-use Rattle.std.proofs.Common.{◌≡◌, ℕ, zero, suc, ◌+◌, ◌<◌, ◌≤◌, max, Bool, true, false, not, cond, ◌==◌, ◌&&◌, ◌||◌, List, [], ◌∷◌, ◌++◌, map, filter_map, position, All, Contains, length, slice_get, get_or, Option, Some, None, is_some, option_map, option_and_then, refl, sym, ap, subst, ◌∙◌, inl, inr, arith, eqb-true, eq-eqb, ne_eqb, bytes_eq}
+use Rattle.std.proofs.Common.{◌≡◌, ℕ, zero, suc, ◌<◌, ◌≤◌, Bool, true, false, not, ◌==◌, ◌&&◌, ◌||◌, List, [], ◌∷◌, filter_map, All, Contains, length, slice_get, Option, Some, None, is_some, option_and_then, refl, sym, ap, subst, ◌∙◌, inl, inr, arith, eqb-true, eq-eqb, ne_eqb, bytes_eq}
 use Rattle.std.specs.List.{list_any, list_all, cons_option, AllByRecursion}
 use Rattle.std.proofs.lemmas.Bool.{both_ways, cases_Bool, or_cases, or_left, or_right, and_parts, and_from, cond-true, cond-false, cases_lt}
-use Rattle.std.proofs.lemmas.Option.{none-some, same_Some, slice_get_cases}
+use Rattle.std.proofs.lemmas.Option.{none-some, same_Some}
 use Rattle.std.proofs.lemmas.List.Elements.{All-contains}
 use Rattle.std.proofs.lemmas.List.Quantifiers.{position-Some}
 use Rattle.std.proofs.lemmas.Slice.Eq.{bytes_eq-Decides}
@@ -14,7 +14,7 @@ use Rattle.ips_depend.specs.Matching.{reaches, admits}
 use Rattle.ips_depend.specs.Dependency.{Dependency, Require, Optional, Incorporate, Exclude, Conditional, RequireAny, Group, Parent, mentions, stems}
 use Rattle.ips_depend.specs.Holds.{holds}
 use Rattle.ips_problem.specs.Stems.{has}
-use Rattle.ips_problem.specs.Posed.{Numbered, Row, Posed, IsFormed, candidate_of, version_at, number_of, picked, spared, stems_of_test, greatest_of, is_number, decides, breaks, breaks_at, last_at, meaning_of}
+use Rattle.ips_problem.specs.Posed.{Numbered, Posed, IsFormed, candidate_of, version_at, number_of, picked, spared, stems_of_test, greatest_of, is_number, decides, breaks, breaks_at, last_at, meaning_of}
 
 -- ---- stems
 

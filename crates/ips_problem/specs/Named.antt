@@ -1,9 +1,7 @@
 -- What the patterns of a request name, and the first that names nothing, or one of several.
-use Rattle.std.specs.Prelude.{◌≡◌, ℕ, ◌<◌, ◌⊎◌, Bool, true, false, ◌||◌, if◌then◌else◌, List, [], ◌∷◌, map, length, Option, Some, None}
+use Rattle.std.specs.Prelude.{◌≡◌, ℕ, ◌<◌, ◌⊎◌, Bool, ◌||◌, if◌then◌else◌, List, [], ◌∷◌, map, length, Option, Some, None}
 use Rattle.std.specs.List.{list_any}
 use Rattle.std.specs.Str.{chars}
-use Rattle.ips_text.specs.declared.limits.Which.{Which}
-use Rattle.ips_fmri.specs.Version.{Parts}
 use Rattle.ips_fmri.specs.Name.{is_wildcard}
 use Rattle.ips_fmri.specs.Pattern.{MatchesStem, pattern_text}
 use Rattle.ips_fmri.specs.declared.pattern.Pattern.{Pattern}

@@ -1,6 +1,6 @@
 -- What rows and tests in memory show.
 use Rattle.std.specs.Prelude.{ℕ, List, [], map, slice_get, string_bytes, Option, Some, None}
-use Rattle.std.specs.Option.{option_map, option_and_then}
+use Rattle.std.specs.Option.{option_map}
 use Rattle.std.specs.declared.alloc.Global.{Global}
 use Rattle.std.specs.declared.string.String.{String}
 use Rattle.ips_problem.specs.declared.read.Read.{Read}

@@ -1,7 +1,7 @@
-use Rattle.std.proofs.Common.{◌≡◌, ℕ, ◌∙◌, Err, List, Some, ap, length, map, refl, slice_get, subst, sym}
+use Rattle.std.proofs.Common.{◌≡◌, ℕ, ◌∙◌, List, Some, ap, length, map, refl, slice_get, subst, sym}
 use Rattle.std.proofs.lemmas.List.{length_push, map_push}
 use Rattle.ips_text.specs.declared.refusal.Or.TheVariants.{Bad}
-use Rattle.ips_repo.proofs.Calls.{handed_on, no_fault, reads_as}
+use Rattle.ips_repo.proofs.Calls.{handed_on, reads_as}
 use Rattle.ips_problem.specs.declared.fault.ProblemFault.TheVariants as fault
 use Rattle.ips_problem.specs.declared.gathered.Gathered.{Gathered}
 use Rattle.ips_problem.specs.declared.rows.Row as declared

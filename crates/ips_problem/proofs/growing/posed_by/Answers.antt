@@ -1,4 +1,4 @@
-use Rattle.std.proofs.Common.{◌≡◌, ◌∙◌, Err, ap, refl, subst, sym}
+use Rattle.std.proofs.Common.{◌∙◌, ap, refl, subst}
 use Rattle.std.proofs.lemmas.Result.{err_from_is_err_and}
 use Rattle.ips_text.specs.declared.refusal.Or.TheVariants.{Bad}
 use Rattle.ips_outside.specs.State.{State}

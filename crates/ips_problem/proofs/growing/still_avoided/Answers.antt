@@ -1,4 +1,4 @@
-use Rattle.std.proofs.Common.{◌≡◌, ℕ, ◌+◌, ◌&&◌, ◌++◌, ◌∷◌, [], ◌∙◌, ◌<◌, List, map, not, ap, get_or, length, subst, sym}
+use Rattle.std.proofs.Common.{◌≡◌, ℕ, ◌&&◌, ◌++◌, ◌∷◌, [], ◌∙◌, ◌<◌, List, map, not, ap, get_or, length, subst, sym}
 use Rattle.std.specs.List.{list_any}
 use Rattle.ips_problem.specs.Stems.{has}
 use Rattle.ips_problem.specs.Case.{Naming}

@@ -1,4 +1,4 @@
-use Rattle.std.proofs.Common.{◌≡◌, ℕ, ◌&&◌, not, List, Option, filter, map, take}
+use Rattle.std.proofs.Common.{◌≡◌, ℕ, ◌&&◌, not, List, filter, map, take}
 use Rattle.std.specs.List.{list_any}
 use Rattle.ips_problem.specs.Stems.{has}
 use Rattle.ips_problem.specs.Case.{Naming}

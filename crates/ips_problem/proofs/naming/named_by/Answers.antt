@@ -1,6 +1,5 @@
-use Rattle.std.proofs.Common.{◌≡◌, ◌+◌, ◌++◌, ◌∷◌, [], List, ℕ, Vec, Global, map, take, sym, ap, subst, ◌∙◌}
+use Rattle.std.proofs.Common.{◌+◌, List, ℕ, Vec, Global, map, take, sym, ap, subst, ◌∙◌}
 use Rattle.std.proofs.lemmas.List.{map_push}
-use Rattle.ips_problem.specs.declared.fault.ProblemFault.{ProblemFault}
 use Rattle.ips_problem.specs.Named.{AreMatched, AreNamed, IsUnnamed, IsFirstUnnamed}
 use Rattle.ips_problem.proofs.Named.{named_more, first_unnamed, bad_handed}
 use Rattle.ips_problem.proofs.naming.named_by.Goals as goal
