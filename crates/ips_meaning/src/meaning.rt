@@ -4,6 +4,7 @@ ghost use Rattle.std.specs.Prelude.{◌≡◌, IfOk, MatchOption};
 ghost use Rattle.ips_text.specs.Reading.{IfBad};
 ghost use Rattle.ips_conflict.specs.Clash.{Conflict, IsConflict, IsFirst, told};
 ghost use Rattle.ips_meaning.specs.Want.{PackagesMean, PackagesFail};
+ghost use Rattle.ips_meaning.specs.Together.{AreProper, HangTogether};
 ghost use Rattle.ips_meaning.specs.Faults.{fault_told};
 
 use crate::admitted::admitted;
@@ -29,6 +30,8 @@ pub fn want(
     mediators: &[SetMediator],
 ) -> Result<Want, Or<WantFault>>
     ensures want { IfOk result (λ want. PackagesMean settings.now mediators.now packages.now want) }
+    ensures proper { IfOk result (λ want. AreProper want) }
+    ensures together { IfOk result (λ want. HangTogether want) }
     ensures fault { IfBad result (λ fault. PackagesFail settings.now mediators.now packages.now fault) }
 {
     let admitted = admitted(alloc, packages, settings)?;
