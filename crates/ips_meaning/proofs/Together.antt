@@ -1,5 +1,5 @@
 -- What is wanted hangs together where nothing clashes.
-use Rattle.std.proofs.Common.{◌≡◌, ◌==◌, ℕ, ◌<◌, Bool, true, false, cond, not, ◌&&◌, ◌||◌, List, [], ◌∷◌, map, length, get_or, Option, Some, None, refl, sym, ap, subst, ◌∙◌, ◌⊎◌, inl, inr, arith}
+use Rattle.std.proofs.Common.{◌≡◌, ◌==◌, ℕ, zero, suc, ◌<◌, Bool, true, false, cond, not, ◌&&◌, ◌||◌, List, [], ◌∷◌, map, length, get_or, Option, Some, None, refl, sym, ap, subst, ◌∙◌, ◌⊎◌, inl, inr, arith}
 use Rattle.std.specs.Prelude.{codes, slice_get}
 use Rattle.std.specs.List.{All, Contains, list_any}
 use Rattle.std.specs.Option.{option_eq}
@@ -15,7 +15,6 @@ use Rattle.ips_text.specs.Ancestry.{covers, is_below, same_path, parent}
 use Rattle.ips_text.proofs.Ancestry.{same_path-true, covers-self, covers_trans, above}
 use Rattle.ips_action.specs.Attrs.{is_same, values_of}
 use Rattle.ips_action.specs.Action.{Fields, preserve_values}
-use Rattle.ips_action.specs.declared.kind.ActionKind.TheVariants as kind
 use Rattle.ips_action.specs.declared.action.Preserve.{Preserve}
 use Rattle.ips_action.specs.declared.action.Preserve.TheVariants as preserve
 use Rattle.ips_conflict.specs.declared.placed.Placed.{Placed}
@@ -93,7 +92,7 @@ entry_there entries path there = go entries there.0 there.1 there.2
   where
     go : (es : List (List ℕ × Entry)) (k : ℕ) → k < length (map (λ (e : List ℕ × Entry). e.0) es) → get_or (map (λ (e : List ℕ × Entry). e.0) es) k path ≡ path → (entry : Entry) × Contains es (path, entry)
     go [] k lt is = absurd (omega arith)
-    go (e ∷ es) zero lt is = (e.1, (0, omega arith, ap (λ (p : List ℕ). (p, e.1)) is))
+    go (e ∷ es) zero lt is = let pair : List ℕ → List ℕ × Entry = λ p. (p, e.1) in (e.1, (0, omega arith, ap pair is))
     go (e ∷ es) (suc k) lt is = let rest = go es k (omega arith) is in (rest.0, Contains-append_right (e ∷ []) es (path, rest.0) rest.1)
 
 -- ---- two actions at one path
@@ -188,7 +187,7 @@ module _ (kept : List Placed) (free : IsFreeOfClashes kept) where
 
   module _ (entries : List (List ℕ × Entry)) (want : IsWantOf kept entries) (whole : (path : List ℕ) → IsWantedPath kept path → Contains (map (λ e. e.0) entries) path) where
     wanted_there : (path : List ℕ) (entry : Entry) → Contains entries (path, entry) → IsWanted kept path entry
-    wanted_there path entry there = All-contains (λ e. IsWanted kept e.0 e.1) entries (path, entry) want.each there
+    wanted_there path entry there = All-contains (λ (e : List ℕ × Entry). IsWanted kept e.0 e.1) entries (path, entry) want.each there
 
     held : (path : List ℕ) (entry : Entry) → Contains entries (path, entry) → IsDirWanted entries (parent path)
     held path entry there = go (parent path) refl
@@ -204,9 +203,9 @@ module _ (kept : List Placed) (free : IsFreeOfClashes kept) where
 
     module _ (end : List ℕ) (sure : (HasSureFile kept end → ⊥) → ⊥) where
       file_at : (entry : Entry) → Contains entries (end, entry) → IsWanted kept end entry → IsFileWanted entries end
-      file_at (Dir mode) there w = absurd (sure (λ s. let g = given_there end (Dir mode) s w in file_alone end s g.i g.p g.at (λ one. let k = ap kind_place g.means.0 in omega (arith, k, one))))
-      file_at (Link target) there w = absurd (sure (λ s. let g = given_there end (Link target) s w in file_alone end s g.i g.p g.at (λ one. let k = ap kind_place g.means.0 in omega (arith, k, one))))
-      file_at (Hard to) there w = absurd (sure (λ s. let g = given_there end (Hard to) s w in file_alone end s g.i g.p g.at (λ one. let k = ap kind_place g.means.0 in omega (arith, k, one))))
+      file_at (Dir mode) there w = absurd (sure (λ s. let g = given_there end (Dir mode) s w in file_alone end s g.i g.p g.at (λ one. let k : kind_place g.p.action.kind ≡ 0 = ap kind_place g.means.0 in omega (arith, k, one))))
+      file_at (Link target) there w = absurd (sure (λ s. let g = given_there end (Link target) s w in file_alone end s g.i g.p g.at (λ one. let k : kind_place g.p.action.kind ≡ 2 = ap kind_place g.means.0 in omega (arith, k, one))))
+      file_at (Hard to) there w = absurd (sure (λ s. let g = given_there end (Hard to) s w in file_alone end s g.i g.p g.at (λ one. let k : kind_place g.p.action.kind ≡ 3 = ap kind_place g.means.0 in omega (arith, k, one))))
       file_at (File payload mode preserve) there w = (payload, mode, preserve, there, elim (cases_Bool (is_sure preserve)) [
         | inl is ↦ is
         | inr other ↦ absurd (sure (λ s. let g = given_there end (File payload mode preserve) s w in file_sure end g.p g.i preserve s (g.counts g.means.0) g.means.3 other))
@@ -240,4 +239,4 @@ module _ (kept : List Placed) (free : IsFreeOfClashes kept) where
 
     -- what is wanted hangs together
     pub together : HangTogether entries
-    together = record { held = held; led = All-weaker (λ e. IsWanted kept e.0 e.1) (λ e. LeadsToWanted entries e.1) (λ e w. leads e.0 e.1 w) entries want.each }
+    together = record { held = held; led = All-weaker (λ (e : List ℕ × Entry). IsWanted kept e.0 e.1) (λ (e : List ℕ × Entry). LeadsToWanted entries e.1) (λ e w. leads e.0 e.1 w) entries want.each }
