@@ -1,12 +1,12 @@
 -- What is wanted hangs together where nothing clashes.
 use Rattle.std.proofs.Common.{◌≡◌, ◌==◌, ℕ, zero, suc, ◌<◌, Bool, true, false, cond, not, ◌&&◌, ◌||◌, List, [], ◌∷◌, map, length, get_or, Option, Some, None, refl, sym, ap, subst, ◌∙◌, ◌⊎◌, inl, inr, arith}
 use Rattle.std.specs.Prelude.{codes, slice_get}
-use Rattle.std.specs.List.{All, Contains, list_any}
+use Rattle.std.specs.List.{Contains, list_any}
 use Rattle.std.specs.Option.{option_eq}
 use Rattle.std.specs.Ordering.{nat_cmp, ordering_reverse}
 use Rattle.std.specs.declared.cmp.Ordering.{Ordering}
 use Rattle.std.specs.declared.cmp.Ordering.TheVariants.{Less, Equal, Greater}
-use Rattle.std.proofs.lemmas.Bool.{and_parts, and_from, or_cases, or_left, or_right, cases_Bool, true≢false, false_from_ne_true, not-true, not_from_false, eqb-true, eq-eqb}
+use Rattle.std.proofs.lemmas.Bool.{and_parts, and_from, or_cases, or_left, or_right, cases_Bool, true≢false, false_from_ne_true, not-true, not_from_false, eqb-true}
 use Rattle.std.proofs.lemmas.Cmp.{nat_list_eq_equiv}
 use Rattle.std.proofs.lemmas.Option.{same_Some}
 use Rattle.std.proofs.lemmas.List.Elements.{All-contains, All-weaker, Contains-append_right}
@@ -23,7 +23,7 @@ use Rattle.ips_conflict.specs.Key.{Key, is_dir}
 use Rattle.ips_conflict.specs.Order.{place_cmp}
 use Rattle.ips_conflict.specs.Alike.{kind_place, alike, overlaid}
 use Rattle.ips_conflict.specs.Verdict.{breaks, decision}
-use Rattle.ips_conflict.specs.Clash.{HasKey, Counts, HasSureFile, LeadsToFile, path_key, has_legacy, is_held, is_held_by, file_rank, file_cmp, may_be_missing}
+use Rattle.ips_conflict.specs.Clash.{HasKey, Counts, HasSureFile, path_key, has_legacy, is_held, is_held_by, file_rank, file_cmp, may_be_missing}
 use Rattle.ips_conflict.proofs.Places.{one_there}
 use Rattle.ips_conflict.proofs.Ordered.{place_total, file_total, le_cases, less_le}
 use Rattle.ips_conflict.proofs.FirstPair.{last_tie, place_tie}
@@ -31,7 +31,7 @@ use Rattle.ips_conflict.proofs.Marked.{up_one, down_one, no_parent}
 use Rattle.ips_conflict.proofs.Kept.{same_is}
 use Rattle.ips_meaning.specs.declared.entry.Entry.{Entry}
 use Rattle.ips_meaning.specs.declared.entry.Entry.TheVariants.{Dir, File, Link, Hard}
-use Rattle.ips_meaning.specs.Want.{Means, Gives, IsGiven, IsWanted, IsWantOf, IsFreeOfClashes, is_needed}
+use Rattle.ips_meaning.specs.Want.{Means, Gives, IsWanted, IsWantOf, IsFreeOfClashes, is_needed}
 use Rattle.ips_meaning.specs.Places.{IsWantedPath}
 use Rattle.ips_meaning.specs.Together.{IsDirWanted, IsFileWanted, LeadsToWanted, HangTogether, is_sure}
 use Rattle.ips_meaning.proofs.Wants.{wanted_path}
@@ -155,11 +155,11 @@ module _ (kept : List Placed) (free : IsFreeOfClashes kept) where
         | inl held ↦
             free (record { key = path_key d; rule = rule.Below; first = i; second = None })
             (record { path = d; a = a; of_path = refl; a_key = at; other = other; above = held })
-        | inr open ↦ elim w [
-          | inl need ↦ true≢false (sym (needed_held kept d p below need) ∙ open)
+        | inr bare ↦ elim w [
+          | inl need ↦ true≢false (sym (needed_held kept d p below need) ∙ bare)
           | inr lower ↦
               free (record { key = path_key d; rule = rule.Below; first = i; second = Some lower.1.0 })
-              (record { path = d; a = a; of_path = refl; a_key = at; other = other; above = (open, lower.0, lower.1.1, lower.1.2, below_covers d p lower.0 below lower.2) })
+              (record { path = d; a = a; of_path = refl; a_key = at; other = other; above = (bare, lower.0, lower.1.1, lower.1.2, below_covers d p lower.0 below lower.2) })
         ]
       ]
 
