@@ -43,8 +43,8 @@ below_covers : (d p q : List ℕ) → is_below d p ≡ true → covers p q ≡ t
 below_covers d p q below c =
     let w = and_parts (covers d p) (not (same_path d p)) below in
     let apart : same_path d q ≡ false = false_from_ne_true (same_path d q) (λ same.
-        let back : covers p d ≡ true = subst (λ (x : List ℕ). covers p x ≡ true) (sym (same_path-true d q same)) c in
-        true≢false (sym back ∙ above d p w.0 (not-true (same_path d p) w.1))) in
+    let back : covers p d ≡ true = subst (λ (x : List ℕ). covers p x ≡ true) (sym (same_path-true d q same)) c in
+    true≢false (sym back ∙ above d p w.0 (not-true (same_path d p) w.1))) in
     and_from (covers d q) (not (same_path d q)) (covers_trans d p q w.0 c) (not_from_false (same_path d q) apart)
 
 over_records : (d : List ℕ) → is_below d (codes "var/pkg") ≡ true → d ≡ codes "var"
@@ -206,10 +206,16 @@ module _ (kept : List Placed) (free : IsFreeOfClashes kept) where
       file_at (Dir mode) there w = absurd (sure (λ s. let g = given_there end (Dir mode) s w in file_alone end s g.i g.p g.at (λ one. let k : kind_place g.p.action.kind ≡ 0 = ap kind_place g.means.0 in omega (arith, k, one))))
       file_at (Link target) there w = absurd (sure (λ s. let g = given_there end (Link target) s w in file_alone end s g.i g.p g.at (λ one. let k : kind_place g.p.action.kind ≡ 2 = ap kind_place g.means.0 in omega (arith, k, one))))
       file_at (Hard to) there w = absurd (sure (λ s. let g = given_there end (Hard to) s w in file_alone end s g.i g.p g.at (λ one. let k : kind_place g.p.action.kind ≡ 3 = ap kind_place g.means.0 in omega (arith, k, one))))
-      file_at (File payload mode preserve) there w = (payload, mode, preserve, there, elim (cases_Bool (is_sure preserve)) [
-        | inl is ↦ is
-        | inr other ↦ absurd (sure (λ s. let g = given_there end (File payload mode preserve) s w in file_sure end g.p g.i preserve s (g.counts g.means.0) g.means.3 other))
-      ])
+      file_at (File payload mode preserve) there w = (
+        payload,
+        mode,
+        preserve,
+        there,
+        elim (cases_Bool (is_sure preserve)) [
+          | inl is ↦ is
+          | inr other ↦ absurd (sure (λ s. let g = given_there end (File payload mode preserve) s w in file_sure end g.p g.i preserve s (g.counts g.means.0) g.means.3 other))
+        ],
+      )
 
       file_there : IsFileWanted entries end
       file_there = elim (cases_Bool (list_any (is_same end) (map (λ (e : List ℕ × Entry). e.0) entries))) [

@@ -19,7 +19,8 @@ use ips_mediate::SetMediator;
 use ips_text::{Or, RelPath};
 use std::alloc::{AllocError, Global};
 
-/// What an image with these settings and mediators should hold where these packages are installed.
+/// What an image with these settings and mediators should hold where these packages are installed. What holds a wanted path is
+/// wanted as a directory, and a hard link leads to a wanted file that is never missing.
 ///
 /// Reserved names the least path that an admitted action gives at or below `var/pkg`, or below `var/sadm/pkg`. Only where there
 /// is none is a clash told: the first among the actions that are kept.
