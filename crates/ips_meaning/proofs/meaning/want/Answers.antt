@@ -1,5 +1,4 @@
-use Rattle.std.proofs.Common.{◌≡◌, ◌∙◌, List, sym, subst}
-use Rattle.ips_conflict.specs.declared.placed.Placed.{Placed}
+use Rattle.std.proofs.Common.{◌≡◌, ◌∙◌, sym, subst}
 use Rattle.ips_meaning.specs.Want.{IsFreeOfClashes}
 use Rattle.ips_meaning.proofs.Meanings.{fails, meant, no_clash}
 use Rattle.ips_meaning.proofs.Together.{together}
