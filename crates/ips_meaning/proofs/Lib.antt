@@ -9,3 +9,4 @@ pub mod Wants
 pub mod Halved
 pub mod Meanings
 pub mod Together
+pub mod SetPlaces
