@@ -1,5 +1,5 @@
--- Why an installation wasn't done, and what each reason says.
-use Rattle.std.specs.Prelude.{◌≡◌, ◌<◌, ℕ, Bool, true, false, not, List, Some}
+-- Why steps weren't laid, and what each reason says.
+use Rattle.std.specs.Prelude.{◌≡◌, ◌<◌, ℕ, Bool, true, false, not, List, slice_get, Option, Some, None}
 use Rattle.ips_outside.specs.Image.{Image}
 use Rattle.ips_digest.specs.declared.name.PayloadName.{PayloadName}
 use Rattle.ips_repo.specs.Files.{file_at, HasSize}
@@ -8,10 +8,8 @@ use Rattle.ips_repo.specs.Payload.{payload_limit, digest_by, is_gzip}
 use Rattle.ips_install.specs.declared.fault.PayloadFault.{PayloadFault}
 use Rattle.ips_install.specs.declared.fault.PayloadFault.TheVariants.{Missing, TooLarge, Damaged, Compressed}
 use Rattle.ips_install.specs.declared.fault.InstallFault.{InstallFault}
-use Rattle.ips_install.specs.declared.fault.InstallFault.TheVariants.{NotYet, Payload, Source, Folder, OutOfMemory}
-use Rattle.ips_install.specs.Wanted.{Wanted, Lays, File}
-use Rattle.ips_install.specs.Installed.{AreReady, IsFirstUnready, AreIntact, CanInstall}
-use Rattle.std.specs.Prelude.{slice_get, length, None, Option}
+use Rattle.ips_install.specs.declared.fault.InstallFault.TheVariants.{Payload, Source, Folder, OutOfMemory}
+use Rattle.ips_install.specs.Laid.{HasIntact, AreIntact}
 
 -- The digest of the bytes is this other one, and they begin as a gzip file does, or they don't.
 pub record HaveDigest (name : PayloadName) (bytes : List ℕ) (found : PayloadName) (gzip : Bool) : Type 0 where
@@ -41,29 +39,20 @@ IsWrongIn file name (Compressed found) = HoldsDamage file name (Compressed found
 abbrev pub IsWrong : List ℕ → Image → PayloadName → PayloadFault → Type 0
 IsWrong publisher repository name why = IsWrongIn (file_at repository (payload_place publisher name)) name why
 
--- The payload of this name is the first, in the order of the lines, that isn't intact in the repository, and this is why.
-pub record IsFirstWrong (publisher : List ℕ) (repository : Image) (lines : List Wanted) (name : PayloadName) (why : PayloadFault) : Type 0 where
-  pub before : ℕ
-  pub intact : AreIntact publisher repository lines before
-  pub mode : ℕ
-  pub path : List ℕ
-  pub stands : slice_get lines before ≡ Some (Lays (File name mode path))
+-- The payload of this name is the first of these that isn't intact in the repository, and this is why.
+pub record IsFirstWrong (publisher : List ℕ) (repository : Image) (names : List PayloadName) (name : PayloadName) (why : PayloadFault) : Type 0 where
+  pub at : ℕ
+  pub stands : slice_get names at ≡ Some name
+  pub intact : (n : ℕ) (other : PayloadName) → n < at → slice_get names n ≡ Some other → HasIntact publisher repository other
   pub wrong : IsWrong publisher repository name why
 
--- Every line can be installed, and this payload is the first that isn't intact.
-pub record LacksPayload (publisher : List ℕ) (repository t : Image) (lines : List Wanted) (name : PayloadName) (why : PayloadFault) : Type 0 where
-  pub ready : AreReady t lines (length lines)
-  pub first : IsFirstWrong publisher repository lines name why
-
--- NotYet comes exactly at the first line that can't be installed, then a payload's fault exactly at the first payload
--- that isn't intact, and an unfinished fault of the image only behind both.
-abbrev pub SaysOfLines : List ℕ → Image → Image → List Wanted → InstallFault → Type 0
-SaysOfLines publisher repository t lines (NotYet at) = IsFirstUnready t lines at
-SaysOfLines publisher repository t lines (Payload name why) = LacksPayload publisher repository t lines name why
-SaysOfLines publisher repository t lines Source = Unit {0}
-SaysOfLines publisher repository t lines (Folder true) = CanInstall publisher repository t lines
-SaysOfLines publisher repository t lines (Folder false) = Unit {0}
-SaysOfLines publisher repository t lines OutOfMemory = Unit {0}
+-- A payload's fault comes exactly at the first payload that isn't intact, and an unfinished fault of the image only behind all.
+abbrev pub SaysOfPayloads : List ℕ → Image → List PayloadName → InstallFault → Type 0
+SaysOfPayloads publisher repository names (Payload name why) = IsFirstWrong publisher repository names name why
+SaysOfPayloads publisher repository names Source = Unit {0}
+SaysOfPayloads publisher repository names (Folder true) = AreIntact publisher repository names
+SaysOfPayloads publisher repository names (Folder false) = Unit {0}
+SaysOfPayloads publisher repository names OutOfMemory = Unit {0}
 
 -- some bytes have this other digest, by the hash function of the name
 abbrev pub IsOtherDigest : PayloadName → PayloadName → Type 0
@@ -78,7 +67,6 @@ IsPayloadFault name (Compressed found) = IsOtherDigest name found
 
 -- what is told of a payload is a fault of one
 abbrev pub IsInstallFault : InstallFault → Type 0
-IsInstallFault (NotYet at) = Unit {0}
 IsInstallFault (Payload name why) = IsPayloadFault name why
 IsInstallFault Source = Unit {0}
 IsInstallFault (Folder unfinished) = Unit {0}
@@ -87,7 +75,6 @@ IsInstallFault OutOfMemory = Unit {0}
 -- This fault comes only before the first change; a payload's does where the repository tells what it holds, since only
 -- where it doesn't can a payload turn out another when it is read again.
 abbrev pub is_refusal : Bool → InstallFault → Bool
-is_refusal tells (NotYet at) = true
 is_refusal tells (Payload name why) = tells
 is_refusal tells Source = false
 is_refusal tells (Folder unfinished) = not unfinished

@@ -1,7 +1,3 @@
-pub mod Wanted
-pub mod Installed
+pub mod Layable
+pub mod Laid
 pub mod Fault
-pub mod Delivered
-pub mod Planning
-pub mod Checking
-pub mod Laying

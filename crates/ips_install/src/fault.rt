@@ -1,4 +1,4 @@
-//! Why an installation wasn't done.
+//! Why steps weren't laid.
 
 use ips_digest::PayloadName;
 use std::alloc::{AllocError, AllocFailed};
@@ -25,14 +25,10 @@ pub enum PayloadFault {
     },
 }
 
-/// Why nothing, or not all, was installed. Every variant but `Source` and an unfinished `Folder` leaves the image as it was;
+/// Why nothing, or not all, was laid. Every variant but `Source` and an unfinished `Folder` leaves the image as it was;
 /// so does `Payload`, unless the repository changed while it was read.
 #[derive(Debug, Drop)]
 pub enum InstallFault {
-    /// The line at this place, counted from 0, is the first that can't be installed yet.
-    NotYet {
-        at: usize,
-    },
     /// The first payload that isn't intact, and what is wrong with it.
     Payload {
         name: PayloadName,

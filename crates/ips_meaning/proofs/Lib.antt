@@ -8,3 +8,5 @@ pub mod Added
 pub mod Wants
 pub mod Halved
 pub mod Meanings
+pub mod Together
+pub mod SetPlaces

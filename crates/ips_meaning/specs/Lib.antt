@@ -7,3 +7,4 @@ pub mod Places
 pub mod Leaving
 pub mod Lesser
 pub mod Faults
+pub mod Together

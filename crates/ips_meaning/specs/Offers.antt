@@ -1,5 +1,5 @@
 -- What is looked up of mediated links. Only the search for the kept actions uses it.
-use Rattle.std.specs.Prelude.{◌≡◌, ℕ, Bool, List, [], Option, Some, None, IfSome, codes}
+use Rattle.std.specs.Prelude.{◌≡◌, ℕ, Bool, List, [], Option, Some, None, IfSome, slice_get, if◌then◌else◌, codes}
 use Rattle.std.specs.List.{All, Contains}
 use Rattle.std.specs.Option.{option_eq, option_map_or}
 use Rattle.std.specs.declared.vec.Vec.{Vec}
@@ -55,3 +55,21 @@ IsOfBest mediators links a = (name : List ℕ) → link_value (codes "mediator")
 -- A mediated link stands among the links of its mediator.
 abbrev pub IsThere : Links → Fields → Type 0
 IsThere links a = (name : List ℕ) → link_value (codes "mediator") a ≡ Some name → Contains (links_at links name) a
+
+-- Places of what is set, by the names of mediators.
+abbrev pub SetPlaces : Type 0
+SetPlaces = BTreeMap (String Global) ℕ
+
+-- The place is that at which the mediator is set; there is none where it isn't. What is set is looked for among those in front.
+abbrev pub IsSetAt : List SetMediator → List SetMediator → List ℕ → Option ℕ → Type 0
+IsSetAt mediators front name None = set_for front name ≡ None
+IsSetAt mediators front name (Some i) = (set : SetMediator) × (slice_get mediators i ≡ Some set) × (set_for front name ≡ Some set)
+
+-- At each name is the place at which that mediator is set.
+abbrev pub AreSetPlaces : List SetMediator → List SetMediator → SetPlaces → Type 0
+AreSetPlaces mediators front places = (name : List ℕ) → IsSetAt mediators front name (get_by_text places name)
+
+-- The place at a name once one more is put there: the first stays.
+abbrev pub first_place : Option ℕ → Bool → ℕ → Option ℕ
+first_place (Some j) here i = Some j
+first_place None here i = if here then Some i else None

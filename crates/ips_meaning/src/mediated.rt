@@ -1,10 +1,11 @@
 //! The best links of mediators.
 
 ghost use Rattle.std.specs.Prelude.{◌≡◌, ◌++◌, ◌∷◌, ◌↔◌, [], List, ℕ, Option, true, false, IfOk, OnOk, IsTrue, option_map, if◌then◌else◌};
+ghost use Rattle.std.specs.BTreeMap.{get_by_text};
 ghost use Rattle.ips_action.specs.Attrs.{is_same};
 ghost use Rattle.ips_action.specs.Action.{Fields};
 ghost use Rattle.ips_meaning.specs.Taken as taken;
-ghost use Rattle.ips_meaning.specs.Offers.{AreChoices, AreLinks, GoesWith, IsChoice, IsOfBest, IsThere, links_at, offers};
+ghost use Rattle.ips_meaning.specs.Offers.{AreChoices, AreLinks, AreSetPlaces, GoesWith, IsChoice, IsOfBest, IsThere, first_place, links_at, offers};
 
 use crate::attributes::mediator;
 use ips_action::Action;
@@ -69,15 +70,48 @@ fn without(alloc: Global, links: &mut BTreeMap<String, Vec<Action>>, name: &str)
     }
 }
 
+/// The places of what is set, by the names of mediators.
+pub fn set_places(
+    alloc: Global,
+    mediators: &[SetMediator],
+) -> Result<BTreeMap<String, usize>, AllocError>
+    ensures { IfOk result (λ places. AreSetPlaces mediators.now mediators.now places) }
+{
+    let mut places = BTreeMap::new(alloc);
+    for (i, set) in mediators.iter().enumerate() {
+        put_first(alloc, &mut places, set.name.as_str(), i)?;
+    }
+    Ok(places)
+}
+
+// Puts a place at a name that has none.
+fn put_first(
+    alloc: Global,
+    places: &mut BTreeMap<String, usize>,
+    name: &str,
+    i: usize,
+) -> Result<(), AllocError>
+    ensures { OnOk result ((q : List ℕ) → get_by_text places.new q ≡ first_place (get_by_text places.old q) (is_same name.now q) i) }
+{
+    if places.contains_key(name) {
+        return Ok(());
+    }
+    let key = String::from_str(alloc, name)?;
+    places.insert(key, i)?;
+    Ok(())
+}
+
 /// Whether an action is no mediated link, or of the best mediation of its mediator. What is chosen of a mediator is kept, so
 /// that each is looked at once.
 pub fn is_of_best(
     alloc: Global,
     links: &BTreeMap<String, Vec<Action>>,
     mediators: &[SetMediator],
+    places: &BTreeMap<String, usize>,
     choices: &mut BTreeMap<String, Option<Action>>,
     action: &Action,
 ) -> Result<bool, AllocError>
+    requires places { AreSetPlaces mediators.now mediators.now places.now }
     requires choices { AreChoices mediators.now links.now choices.old }
     requires there { IsThere links.now action.now }
     ensures answer { IfOk result (λ answer. IsTrue answer ↔ IsOfBest mediators.now links.now action.now) }
@@ -89,7 +123,7 @@ pub fn is_of_best(
     if let Some(choice) = choices.get(name) {
         return Ok(goes_with(choice, action));
     }
-    let choice = choice(alloc, links, mediators, name)?;
+    let choice = choice(alloc, links, mediators, places, name)?;
     let answer = goes_with(&choice, action);
     let key = String::from_str(alloc, name)?;
     choices.insert(key, choice)?;
@@ -101,29 +135,34 @@ fn choice(
     alloc: Global,
     links: &BTreeMap<String, Vec<Action>>,
     mediators: &[SetMediator],
+    places: &BTreeMap<String, usize>,
     name: &str,
 ) -> Result<Option<Action>, AllocError>
+    requires { AreSetPlaces mediators.now mediators.now places.now }
     ensures { IfOk result (λ choice. IsChoice (links_at links.now name.now) (taken.set_for mediators.now name.now) choice) }
 {
     let Some(group) = links.get(name) else {
         return Ok(None);
     };
-    match choose(group, set_for(mediators, name)) {
+    match choose(group, set_for(mediators, places, name)) {
         Some(i) => Ok(Some(group[i].copy(alloc)?)),
         None => Ok(None),
     }
 }
 
 // What is set of a mediator, where something is.
-fn set_for<'a>(mediators: &'a [SetMediator], name: &str) -> Option<&'a SetMediator>
+fn set_for<'a>(
+    mediators: &'a [SetMediator],
+    places: &BTreeMap<String, usize>,
+    name: &str,
+) -> Option<&'a SetMediator>
+    requires { AreSetPlaces mediators.now mediators.now places.now }
     ensures { option_map (λ set. set.now) result ≡ taken.set_for mediators.now name.now }
 {
-    for set in mediators {
-        if set.name.as_str() == name {
-            return Some(set);
-        }
+    match places.get(name) {
+        Some(i) => mediators.get(*i),
+        None => None,
     }
-    None
 }
 
 // Whether a link is of the mediation of the chosen one.

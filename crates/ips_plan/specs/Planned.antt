@@ -1,0 +1,57 @@
+-- The steps of a plan, and what stands in the way of one.
+use Rattle.std.specs.Prelude.{◌≡◌, ℕ, ◌<◌, Bool, true, false, IsTrue, IsFalse, List, length, map, slice_get, Option, Some, None}
+use Rattle.std.specs.List.{list_any}
+use Rattle.ips_text.specs.Ancestry.{covers, same_path}
+use Rattle.ips_outside.specs.Image.{Image}
+use Rattle.ips_outside.specs.Image as image
+use Rattle.ips_digest.specs.declared.name.PayloadName.{PayloadName}
+use Rattle.ips_steps.specs.Steps.{Step, Stage, all_laid, freed, named}
+use Rattle.ips_install.specs.Layable.{AreLayable}
+use Rattle.ips_install.specs.Laid.{AreContents}
+use Rattle.ips_meaning.specs.declared.entry.Entry.{Entry}
+use Rattle.ips_meaning.specs.declared.entry.Entry.TheVariants.{Dir, File, Link, Hard}
+use Rattle.ips_plan.specs.declared.fault.PlanFault.{PlanFault}
+use Rattle.ips_plan.specs.declared.fault.PlanFault.TheVariants.{InTheWay, FolderFault}
+use Rattle.ips_plan.specs.Meant.{IsMeant}
+
+-- the entry can come to what stands there: nothing, or for a directory one
+abbrev pub Fits : Option image.Entry → Entry → Type 0
+Fits None entry = Unit {0}
+Fits (Some (image.Dir was foreign)) (Dir mode) = Unit {0}
+Fits (Some (image.Dir was foreign)) (File payload mode preserve) = ⊥
+Fits (Some (image.Dir was foreign)) (Link target) = ⊥
+Fits (Some (image.Dir was foreign)) (Hard to) = ⊥
+Fits (Some (image.File was bytes)) entry = ⊥
+Fits (Some (image.Link says)) entry = ⊥
+Fits (Some image.Other) entry = ⊥
+
+-- each wanted entry can come to what stands at its path
+abbrev pub AllFit : Image → List (List ℕ × Entry) → Type 0
+AllFit t entries = (k : ℕ) (path : List ℕ) (entry : Entry) → slice_get entries k ≡ Some (path, entry) → Fits (t.look path) entry
+
+-- The path is the first, by its bytes, at which something stands to which the wanted entry can't come.
+pub record IsInTheWay (t : Image) (entries : List (List ℕ × Entry)) (path : List ℕ) : Type 0 where
+  pub at : ℕ
+  pub entry : Entry
+  pub stands : slice_get entries at ≡ Some (path, entry)
+  pub unfit : Fits (t.look path) entry → ⊥
+  pub before : (k : ℕ) (other : List ℕ) (wanted : Entry) → k < at → slice_get entries k ≡ Some (other, wanted) → Fits (t.look other) wanted
+
+-- why there is no plan
+abbrev pub IsRefused : List (List ℕ × Entry) → Image → PlanFault → Type 0
+IsRefused entries t (InTheWay path) = IsInTheWay t entries path.bytes
+IsRefused entries t FolderFault = Unit {0}
+
+-- at or below a wanted path
+abbrev pub is_covered : List (List ℕ × Entry) → List ℕ → Bool
+is_covered entries q = list_any (λ e. covers e.0 q) entries
+
+-- The steps can be laid straight on the image, and make it what the entries mean, whatever the bytes of the payloads are. They
+-- change nothing but wanted paths, and of what stands no more than the modes of directories.
+pub record IsPlanOf (entries : List (List ℕ × Entry)) (t : Image) (steps : List Step) (contents : List PayloadName) : Type 0 where
+  pub fit : AllFit t entries
+  pub layable : AreLayable (length contents) t steps
+  pub means : (P : PayloadName → List ℕ → Type 0) (stage : Stage) → AreContents P contents stage → IsMeant P entries t (all_laid stage steps t)
+  pub within : (q : List ℕ) → IsTrue (freed steps q) → IsTrue (is_covered entries q)
+  pub modes : (q : List ℕ) → IsTrue (named steps q) → IsTrue (is_covered entries q)
+  pub new : (q : List ℕ) → IsTrue (freed steps q) → t.look q ≡ None
