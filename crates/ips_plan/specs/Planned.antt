@@ -1,6 +1,6 @@
 -- The steps of a plan, and what stands in the way of one.
-use Rattle.std.specs.Prelude.{◌≡◌, ℕ, ◌<◌, Bool, true, false, IsTrue, IsFalse, List, length, map, slice_get, Option, Some, None}
-use Rattle.std.specs.List.{list_any}
+use Rattle.std.specs.Prelude.{◌≡◌, ℕ, ◌<◌, Bool, true, false, IsTrue, IsFalse, List, [], ◌∷◌, length, map, slice_get, Option, Some, None}
+use Rattle.std.specs.List.{list_any, flat_map}
 use Rattle.ips_text.specs.Ancestry.{covers, same_path}
 use Rattle.ips_outside.specs.Image.{Image}
 use Rattle.ips_outside.specs.Image as image
@@ -46,10 +46,22 @@ IsRefused entries t FolderFault = Unit {0}
 abbrev pub is_covered : List (List ℕ × Entry) → List ℕ → Bool
 is_covered entries q = list_any (λ e. covers e.0 q) entries
 
+-- the payload of a wanted file
+abbrev pub payload_of : Entry → List PayloadName
+payload_of (Dir mode) = []
+payload_of (File payload mode preserve) = payload ∷ []
+payload_of (Link target) = []
+payload_of (Hard to) = []
+
+-- the payloads of the wanted files, by the bytes of the files' paths
+abbrev pub payloads_of : List (List ℕ × Entry) → List PayloadName
+payloads_of entries = flat_map (λ e. payload_of e.1) entries
+
 -- The steps can be laid straight on the image, and make it what the entries mean, whatever the bytes of the payloads are. They
 -- change nothing but wanted paths, and of what stands no more than the modes of directories.
 pub record IsPlanOf (entries : List (List ℕ × Entry)) (t : Image) (steps : List Step) (contents : List PayloadName) : Type 0 where
   pub fit : AllFit t entries
+  pub contents_are : contents ≡ payloads_of entries
   pub layable : AreLayable (length contents) t steps
   pub means : (P : PayloadName → List ℕ → Type 0) (stage : Stage) → AreContents P contents stage → IsMeant P entries t (all_laid stage steps t)
   pub within : (q : List ℕ) → IsTrue (freed steps q) → IsTrue (is_covered entries q)
