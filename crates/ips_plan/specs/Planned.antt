@@ -37,6 +37,22 @@ pub record IsInTheWay (t : Image) (entries : List (List ℕ × Entry)) (path : L
   pub unfit : Fits (t.look path) entry → ⊥
   pub before : (k : ℕ) (other : List ℕ) (wanted : Entry) → k < at → slice_get entries k ≡ Some (other, wanted) → Fits (t.look other) wanted
 
+-- the entry stands already: a directory, of the mode that is stated
+abbrev pub Stands : Option image.Entry → Entry → Type 0
+Stands None entry = ⊥
+Stands (Some (image.Dir was foreign)) (Dir None) = Unit {0}
+Stands (Some (image.Dir was foreign)) (Dir (Some mode)) = was ≡ mode
+Stands (Some (image.Dir was foreign)) (File payload mode preserve) = ⊥
+Stands (Some (image.Dir was foreign)) (Link target) = ⊥
+Stands (Some (image.Dir was foreign)) (Hard to) = ⊥
+Stands (Some (image.File was bytes)) entry = ⊥
+Stands (Some (image.Link says)) entry = ⊥
+Stands (Some image.Other) entry = ⊥
+
+-- each wanted entry stands already
+abbrev pub AllStand : Image → List (List ℕ × Entry) → Type 0
+AllStand t entries = (k : ℕ) (path : List ℕ) (entry : Entry) → slice_get entries k ≡ Some (path, entry) → Stands (t.look path) entry
+
 -- why there is no plan
 abbrev pub IsRefused : List (List ℕ × Entry) → Image → PlanFault → Type 0
 IsRefused entries t (InTheWay path) = IsInTheWay t entries path.bytes
@@ -58,7 +74,7 @@ abbrev pub payloads_of : List (List ℕ × Entry) → List PayloadName
 payloads_of entries = flat_map (λ e. payload_of e.1) entries
 
 -- The steps can be laid straight on the image, and make it what the entries mean, whatever the bytes of the payloads are. They
--- change nothing but wanted paths, and of what stands no more than the modes of directories.
+-- change nothing but wanted paths, and of what stands no more than the modes of directories; where all stands already there are none.
 pub record IsPlanOf (entries : List (List ℕ × Entry)) (t : Image) (steps : List Step) (contents : List PayloadName) : Type 0 where
   pub fit : AllFit t entries
   pub contents_are : contents ≡ payloads_of entries
@@ -66,4 +82,5 @@ pub record IsPlanOf (entries : List (List ℕ × Entry)) (t : Image) (steps : Li
   pub means : (P : PayloadName → List ℕ → Type 0) (stage : Stage) → AreContents P contents stage → IsMeant P entries t (all_laid stage steps t)
   pub within : (q : List ℕ) → IsTrue (freed steps q) → IsTrue (is_covered entries q)
   pub modes : (q : List ℕ) → IsTrue (named steps q) → IsTrue (is_covered entries q)
+  pub idle : AllStand t entries → steps ≡ []
   pub new : (q : List ℕ) → IsTrue (freed steps q) → t.look q ≡ None
