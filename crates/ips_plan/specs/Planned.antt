@@ -1,13 +1,12 @@
 -- The steps of a plan, and what stands in the way of one.
-use Rattle.std.specs.Prelude.{◌≡◌, ℕ, ◌<◌, Bool, true, false, IsTrue, IsFalse, List, [], ◌∷◌, length, map, slice_get, Option, Some, None}
+use Rattle.std.specs.Prelude.{◌≡◌, ℕ, ◌<◌, Bool, IsTrue, List, [], ◌∷◌, length, slice_get, Option, Some, None}
 use Rattle.std.specs.List.{list_any, flat_map}
-use Rattle.ips_text.specs.Ancestry.{covers, same_path}
+use Rattle.ips_text.specs.Ancestry.{covers}
 use Rattle.ips_outside.specs.Image.{Image}
 use Rattle.ips_outside.specs.Image as image
 use Rattle.ips_digest.specs.declared.name.PayloadName.{PayloadName}
 use Rattle.ips_steps.specs.Steps.{Step, Stage, all_laid, freed, named}
-use Rattle.ips_install.specs.Layable.{AreLayable}
-use Rattle.ips_install.specs.Laid.{AreContents}
+use Rattle.ips_install.specs.Layable.{AreLayable, HasEach}
 use Rattle.ips_meaning.specs.declared.entry.Entry.{Entry}
 use Rattle.ips_meaning.specs.declared.entry.Entry.TheVariants.{Dir, File, Link, Hard}
 use Rattle.ips_plan.specs.declared.fault.PlanFault.{PlanFault}
@@ -73,13 +72,19 @@ payload_of (Hard to) = []
 abbrev pub payloads_of : List (List ℕ × Entry) → List PayloadName
 payloads_of entries = flat_map (λ e. payload_of e.1) entries
 
+-- The bytes are those that the stage has of a content, which is the payload of this name.
+pub record AreStaged (contents : List PayloadName) (stage : Stage) (name : PayloadName) (bytes : List ℕ) : Type 0 where
+  pub at : ℕ
+  pub stands : slice_get contents at ≡ Some name
+  pub holds : stage at ≡ Some bytes
+
 -- The steps can be laid straight on the image, and make it what the entries mean, whatever the bytes of the payloads are. They
 -- change nothing but wanted paths, and of what stands no more than the modes of directories; where all stands already there are none.
 pub record IsPlanOf (entries : List (List ℕ × Entry)) (t : Image) (steps : List Step) (contents : List PayloadName) : Type 0 where
   pub fit : AllFit t entries
   pub contents_are : contents ≡ payloads_of entries
   pub layable : AreLayable (length contents) t steps
-  pub means : (P : PayloadName → List ℕ → Type 0) (stage : Stage) → AreContents P contents stage → IsMeant P entries t (all_laid stage steps t)
+  pub means : (stage : Stage) → HasEach (length contents) stage → IsMeant (AreStaged contents stage) entries t (all_laid stage steps t)
   pub within : (q : List ℕ) → IsTrue (freed steps q) → IsTrue (is_covered entries q)
   pub modes : (q : List ℕ) → IsTrue (named steps q) → IsTrue (is_covered entries q)
   pub idle : AllStand t entries → steps ≡ []

@@ -1,0 +1,5 @@
+pub mod Elements
+pub mod Wanted
+pub mod Following
+pub mod Makers
+pub mod Layable
