@@ -1,5 +1,6 @@
 -- Steps that may follow one another.
 use Rattle.std.proofs.Common.{◌≡◌, ◌⊎◌, inl, inr, ℕ, Bool, true, false, not, ◌&&◌, ◌||◌, List, [], ◌∷◌, ◌++◌, Option, Some, None, refl, sym, ◌∙◌, ap, subst, arith, Contains}
+use Rattle.std.specs.List.{cons_option}
 use Rattle.std.proofs.lemmas.Bool.{and_from, or_from, or_cases}
 use Rattle.std.proofs.lemmas.List.Elements.{Contains-append_cases}
 use Rattle.ips_text.specs.Ancestry.{same_path, covers, parent}
@@ -19,6 +20,10 @@ pub record Follows (s x : Step) : Type 0 where
 abbrev pub AllFollow : List Step → Type 0
 AllFollow [] = Unit {0}
 AllFollow (s ∷ rest) = ((x : Step) → Contains rest x → Follows s x) × AllFollow rest
+
+pub follow_one : (o : Option Step) (rest : List Step) → ((s : Step) → o ≡ Some s → (x : Step) → Contains rest x → Follows s x) → AllFollow rest → AllFollow (cons_option o rest)
+follow_one None rest f more = more
+follow_one (Some s) rest f more = (f s refl, more)
 
 pub follow_both : (xs ys : List Step) → AllFollow xs → AllFollow ys → ((x y : Step) → Contains xs x → Contains ys y → Follows x y) → AllFollow (xs ++ ys)
 follow_both [] ys fx fy both = fy

@@ -147,7 +147,7 @@ module _ (found : List ℕ → Look) where
 abbrev step_of_link : List ℕ × Entry → Option Step
 step_of_link e = link_step e.0 e.1
 
-link_is : (p : List ℕ) (entry : Entry) (s : Step) → link_step p entry ≡ Some s → (to : Kept) × (entry ≡ Hard to) × (s ≡ step.Hard p to.bytes)
+pub link_is : (p : List ℕ) (entry : Entry) (s : Step) → link_step p entry ≡ Some s → (to : Kept) × (entry ≡ Hard to) × (s ≡ step.Hard p to.bytes)
 link_is p (Dir mode) s is = cc
 link_is p (File payload mode preserve) s is = cc
 link_is p (Link target) s is = cc
