@@ -146,7 +146,7 @@ fits_dir (Some image.Other) mode fit = absurd fit
 
 -- ---- where a path's file comes from, and what is made at it
 
-source_own : (steps : List Step) (q : List ℕ) → ((p to : List ℕ) → Contains steps (step.Hard p to) → same_path p q ≡ false) → source steps q ≡ q
+pub source_own : (steps : List Step) (q : List ℕ) → ((p to : List ℕ) → Contains steps (step.Hard p to) → same_path p q ≡ false) → source steps q ≡ q
 source_own [] q off = refl
 source_own (step.Hard p to ∷ rest) q off =
     ap (back (step.Hard p to)) (source_own rest q (λ r s one. off r s (later_of (step.Hard p to) rest (step.Hard r s) one)))
@@ -177,18 +177,22 @@ made_by stage (x ∷ rest) s e f one own = elim (here_or_later x rest s one) [
 
 -- ---- the steps on an image that the entries can come to
 
-module _ (entries : Entries) (order : AreInOrder entries) (together : HangTogether entries) (t : Image) (formed : IsImage t) (fit : AllFit t entries) where
-  abbrev steps : List Step
-  steps = steps_for t entries
+-- The entries are in order, hang together, and can come to what stands on the image, which is well formed.
+pub record AreReady (entries : Entries) (t : Image) : Type 0 where
+  pub order : AreInOrder entries
+  pub together : HangTogether entries
+  pub formed : IsImage t
+  pub fit : AllFit t entries
 
-  nodes : HasNodes t
-  nodes = record { self = formed.self }
+module _ (entries : Entries) (t : Image) (ready : AreReady entries t) where
+  pub nodes : HasNodes t
+  nodes = record { self = ready.formed.self }
 
   pub followed : AllFollow (steps_for t entries)
-  followed = all_follow entries order together t
+  followed = all_follow entries ready.order ready.together t
 
   pub fits_at : (p : List ℕ) (e : Entry) → Contains entries (p, e) → Fits (t.look p) e
-  fits_at p e one = let at = place_of entries (p, e) one in fit at.0 p e at.1
+  fits_at p e one = let at = place_of entries (p, e) one in ready.fit at.0 p e at.1
 
   -- a step is a maker of an entry, or the hard link that one wants
   pub kind_of : (s : Step) → Contains (steps_for t entries) s → Made (looks t) 0 entries s ⊎ ((p : List ℕ) × (to : Kept) × Contains entries (p, Hard to) × (s ≡ step.Hard p to.bytes))
@@ -221,10 +225,10 @@ module _ (entries : Entries) (order : AreInOrder entries) (together : HangTogeth
   frees_new s q one f = elim (kind_of s one) [
     | inl from ↦
         let new = (maker_of s from).new q f in
-        nothing_below t from.path formed (absent_is (t.look from.path) new.0) q new.1
+        nothing_below t from.path ready.formed (absent_is (t.look from.path) new.0) q new.1
     | inr link ↦
         let none = fits_none (t.look link.0) (Hard link.1) (fits_at link.0 (Hard link.1) link.2) (λ mode e. cc) in
-        nothing_below t link.0 formed none q (ap (λ (y : Step). frees y q) (sym link.3) ∙ f)
+        nothing_below t link.0 ready.formed none q (ap (λ (y : Step). frees y q) (sym link.3) ∙ f)
   ]
 
   pub freed_new : (q : List ℕ) → freed (steps_for t entries) q ≡ true → t.look q ≡ None
@@ -246,16 +250,13 @@ module _ (entries : Entries) (order : AreInOrder entries) (together : HangTogeth
   -- ---- each step can be laid
 
   module _ (stage : Stage) where
-    abbrev left : Image
-    left = outcome stage (steps_for t entries) t
-
     -- what is made at a wanted path that is no hard link's
     made_there : (s : Step) (e : Entry) (x : Option image.Entry) → Contains (steps_for t entries) s → Contains entries (path_of s, e) → ((to : Kept) → e ≡ Hard to → ⊥) → frees s (path_of s) ≡ true → ((rest : List Step) → made stage (s ∷ rest) (path_of s) ≡ x) → (outcome stage (steps_for t entries) t).look (path_of s) ≡ x
     made_there s e x one wanted other own is =
         ap (bare stage (steps_for t entries) t) (source_own (steps_for t entries) (path_of s) (λ p to hard. false_from_ne_true _ (λ same.
             let link = hard_wanted p to hard in
             let at : p ≡ path_of s = same_path-true p (path_of s) same in
-            other link.0 (one_wanted entries order (path_of s) e (Hard link.0) wanted (subst (λ (x : List ℕ). Contains entries (x, Hard link.0)) at link.2)))))
+            other link.0 (one_wanted entries ready.order (path_of s) e (Hard link.0) wanted (subst (λ (x : List ℕ). Contains entries (x, Hard link.0)) at link.2)))))
         ∙ ap (λ (b : Bool). cond b (made stage (steps_for t entries) (path_of s)) (with_modes (freed (steps_for t entries)) (steps_for t entries) t (path_of s) (t.look (path_of s)))) (freed_by (steps_for t entries) s (path_of s) one own)
         ∙ made_by stage (steps_for t entries) s x followed one is
 
@@ -280,7 +281,7 @@ module _ (entries : Entries) (order : AreInOrder entries) (together : HangTogeth
       where
         go : (o : Option (List ℕ)) → parent p ≡ o → dir_or_none (outcome stage (steps_for t entries) t) o ≡ true
         go None is = refl
-        go (Some d) is = let dir = held_by entries order together p e d one is in dir_stands d dir.0 dir.1
+        go (Some d) is = let dir = held_by entries ready.order ready.together p e d one is in dir_stands d dir.0 dir.1
 
     module _ (each : HasEach (length (payloads_of entries)) stage) where
       content_stands : (n m : ℕ) (p : List ℕ) → Contains (steps_for t entries) (step.Put n m p) → is_some (stage n) ≡ true
@@ -301,8 +302,8 @@ module _ (entries : Entries) (order : AreInOrder entries) (together : HangTogeth
       can_of (step.Symlink p target) one = let wanted = path_wanted (step.Symlink p target) one in parent_stands p wanted.0 wanted.1
       can_of (step.Hard p to) one =
           let link = hard_wanted p to one in
-          let file = leads_to entries order together p link.0 link.2 in
-          let off : covers p to ≡ false = ap (covers p) link.1 ∙ hard_covers entries order together p link.0 link.0.bytes (File file.0 file.1 file.2) link.2 file.3 (λ e. cc) in
+          let file = leads_to entries ready.order ready.together p link.0 link.2 in
+          let off : covers p to ≡ false = ap (covers p) link.1 ∙ hard_covers entries ready.order ready.together p link.0 link.0.bytes (File file.0 file.1 file.2) link.2 file.3 (λ e. cc) in
           let stands : is_file ((outcome stage (steps_for t entries) t).look to) ≡ true = ap (λ (x : List ℕ). is_file ((outcome stage (steps_for t entries) t).look x)) link.1 ∙ file_stands link.0.bytes file.0 file.1 file.2 file.3 in
           and_from _ _ (parent_stands p (Hard link.0) link.2) (and_from _ _ (ap not off) stands)
 

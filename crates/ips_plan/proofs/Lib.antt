@@ -3,3 +3,5 @@ pub mod Wanted
 pub mod Following
 pub mod Makers
 pub mod Layable
+pub mod Meaning
+pub mod Plans
