@@ -34,7 +34,7 @@ use Rattle.ips_plan.specs.Meant.{implicit_mode}
 use Rattle.ips_plan.specs.Planned.{Fits, AllFit, payload_of, payloads_of}
 use Rattle.ips_plan.specs.StepsFor.{can_come, new_step, step_at, makers, link_step, links, looks, steps_for}
 use Rattle.ips_plan.proofs.Elements.{here_or_later, first_of, later_of, place_of, recursion_from}
-use Rattle.ips_plan.proofs.Wanted.{Entries, AreInOrder, less_apart-back, later_covers, later_parent, later_less, rest_order, one_wanted, held_by, leads_to, hard_covers}
+use Rattle.ips_plan.proofs.InOrder.{Entries, AreInOrder, less_apart-back, later_covers, later_parent, later_less, rest_order, one_wanted, held_by, leads_to, hard_covers}
 use Rattle.ips_plan.proofs.Following.{Follows, AllFollow, follow_one, follow_both, freed_from, follow_distinct, follow_sound, fit_from}
 use Rattle.ips_plan.proofs.Makers.{IsMaker, maker_is, Made, made_from, Has, has_step, link_is, link_from, has_link}
 

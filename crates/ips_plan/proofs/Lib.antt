@@ -1,7 +1,10 @@
+pub mod Begun
 pub mod Elements
-pub mod Wanted
 pub mod Following
-pub mod Makers
+pub mod InOrder
+pub mod Laws
 pub mod Layable
+pub mod Makers
 pub mod Meaning
+pub mod Numbers
 pub mod Plans

@@ -17,7 +17,7 @@ use Rattle.ips_plan.specs.Meant.{implicit_mode}
 use Rattle.ips_plan.specs.Planned.{payload_of, payloads_of}
 use Rattle.ips_plan.specs.StepsFor.{can_come, new_step, mode_step, over_step, step_at, makers, link_step, links}
 use Rattle.ips_plan.proofs.Elements.{here_or_later, first_of, later_of, with_one, with_more, one_or_more, map_has, map_from}
-use Rattle.ips_plan.proofs.Wanted.{Entries}
+use Rattle.ips_plan.proofs.InOrder.{Entries}
 
 -- ---- one step
 

@@ -31,7 +31,7 @@ use Rattle.ips_plan.specs.Meant.{implicit_mode, directory_over, Shows, wanted_at
 use Rattle.ips_plan.specs.Planned.{Fits, AllFit, payloads_of, AreStaged}
 use Rattle.ips_plan.specs.StepsFor.{step_at, mode_step, makers, links, looks, steps_for}
 use Rattle.ips_plan.proofs.Elements.{here_or_later, first_of, later_of, all_from}
-use Rattle.ips_plan.proofs.Wanted.{Entries, AreInOrder, wanted_there, wanted_from, one_wanted, leads_to}
+use Rattle.ips_plan.proofs.InOrder.{Entries, AreInOrder, wanted_there, wanted_from, one_wanted, leads_to}
 use Rattle.ips_plan.proofs.Following.{Follows, AllFollow, unnamed, unmade, follow_distinct, follow_sound}
 use Rattle.ips_plan.proofs.Makers.{IsMaker, has_link}
 use Rattle.ips_plan.proofs.Layable.{AreReady, source_own, nodes, followed, dir_is, fits_none, fits_dir, fits_at, kind_of, maker_of, path_wanted, hard_wanted, freed_new, stands_unfreed, has_maker, maker_in, new_in, all_possible}

@@ -19,7 +19,7 @@ use Rattle.ips_meaning.specs.declared.entry.Entry.TheVariants.{Dir, File, Link, 
 use Rattle.ips_plan.specs.Planned.{Stands, AllStand, is_covered, payload_of, payloads_of, IsPlanOf}
 use Rattle.ips_plan.specs.StepsFor.{step_at, makers, link_step, links, looks, steps_for}
 use Rattle.ips_plan.proofs.Elements.{first_of, later_of, place_of, any_from}
-use Rattle.ips_plan.proofs.Wanted.{Entries}
+use Rattle.ips_plan.proofs.InOrder.{Entries}
 use Rattle.ips_plan.proofs.Following.{freed_from, named_from}
 use Rattle.ips_plan.proofs.Layable.{AreReady, path_wanted, freed_new, are_layable}
 use Rattle.ips_plan.proofs.Meaning.{is_meant}

@@ -1,16 +1,21 @@
 -- The steps for what is wanted, by what a look finds at each path.
-use Rattle.std.specs.Prelude.{ℕ, ◌+◌, Bool, true, false, cond, ◌==◌, List, [], ◌∷◌, ◌++◌, length, Option, Some, None, unwrap_or}
+use Rattle.std.specs.Prelude.{◌≡◌, ℕ, ◌+◌, Bool, true, false, cond, ◌==◌, IsTrue, List, [], ◌∷◌, ◌++◌, length, map, Option, Some, None, unwrap_or}
 use Rattle.std.specs.List.{cons_option, filter_map}
+use Rattle.std.specs.List.Sorted.{IsStrictlySortedBy}
+use Rattle.std.specs.Ordering.{nat_cmp}
+use Rattle.std.specs.Cmp.Lexicographic.{slice_cmp}
+use Rattle.ips_digest.specs.declared.name.PayloadName.{PayloadName}
 use Rattle.ips_outside.specs.declared.outside.Look.{Look}
 use Rattle.ips_outside.specs.declared.outside.Look.TheVariants as look
 use Rattle.ips_outside.specs.Image.{Image}
 use Rattle.ips_outside.specs.Outside.{look_of}
 use Rattle.ips_steps.specs.Steps as step
 use Rattle.ips_steps.specs.Steps.{Step}
+use Rattle.ips_steps.specs.Journal.{AllProper, numbered}
 use Rattle.ips_meaning.specs.declared.entry.Entry.{Entry}
 use Rattle.ips_meaning.specs.declared.entry.Entry.TheVariants.{Dir, File, Link, Hard}
 use Rattle.ips_plan.specs.Meant.{implicit_mode}
-use Rattle.ips_plan.specs.Planned.{payload_of}
+use Rattle.ips_plan.specs.Planned.{AllFit, payload_of, payloads_of}
 
 -- the entry can come to what was found: nothing, or for a directory one
 abbrev pub can_come : Look → Entry → Bool
@@ -73,3 +78,27 @@ looks t path = look_of (t.look path)
 -- The steps for what is wanted on an image: directories, files and symbolic links in order, then hard links.
 abbrev pub steps_for : Image → List (List ℕ × Entry) → List Step
 steps_for t entries = makers (looks t) 0 entries ++ links entries
+
+-- how many contents are put
+abbrev pub puts : List Step → ℕ
+puts [] = 0
+puts (step.Gone p ∷ rest) = puts rest
+puts (step.Fresh m p ∷ rest) = puts rest
+puts (step.Mode m p ∷ rest) = puts rest
+puts (step.Put n m p ∷ rest) = puts rest + 1
+puts (step.Symlink p target ∷ rest) = puts rest
+puts (step.Hard p to ∷ rest) = puts rest
+
+-- The steps have proper parts and put so many contents, numbered from 0 on.
+pub record AreNumbered (count : ℕ) (steps : List Step) : Type 0 where
+  pub proper : AllProper steps
+  pub numbers : IsTrue (numbered 0 steps)
+  pub puts_are : puts steps ≡ count
+
+-- Each entry can come to what stands, and these are the steps of those that are no hard links, with their contents. The entries
+-- are in the order of their paths' bytes.
+pub record AreMade (t : Image) (entries : List (List ℕ × Entry)) (steps : List Step) (contents : List PayloadName) : Type 0 where
+  pub in_order : IsStrictlySortedBy (slice_cmp nat_cmp) (map (λ e. e.0) entries)
+  pub fit : AllFit t entries
+  pub steps_are : steps ≡ makers (looks t) 0 entries
+  pub contents_are : contents ≡ payloads_of entries

@@ -3,6 +3,7 @@
 
 mod fault;
 mod planning;
+mod step;
 
 pub use fault::PlanFault;
-pub use planning::{Plan, plan};
+pub use planning::{Planned, plan};
