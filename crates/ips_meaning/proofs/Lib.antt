@@ -8,3 +8,4 @@ pub mod Added
 pub mod Wants
 pub mod Halved
 pub mod Meanings
+pub mod Together

@@ -25,6 +25,12 @@ ReservedIn admitted found = MatchOption found (IsFreeOfReserved admitted) (λ pa
 abbrev pub ClashIn : List Placed → Option Clash → Type 0
 ClashIn kept found = MatchOption found ((c : Conflict) → IsConflict kept c → ⊥) (λ clash. (c : Conflict) × IsFirst kept c × (clash ≡ told kept c))
 
+-- where no fault is told, nothing clashes
+pub no_clash : (kept : List Placed) (found : Option RelPath) (clash : Option Clash) → fault_told found clash ≡ None → ClashIn kept clash → IsFreeOfClashes kept
+no_clash kept (Some path) clash e k = absurd (none-some (fault.Reserved path) (sym e))
+no_clash kept None (Some clash) e k = absurd (none-some (fault.Clash clash) (sym e))
+no_clash kept None None e k = k
+
 module _ (settings : Set) (mediators : List SetMediator) (packages : List Package) (admitted kept : List Placed) (are : AreAdmitted settings packages admitted) (seen : List Placed) (same : seen ≡ admitted) (left : Leaves (Stays mediators seen) seen kept) where
   abbrev taken : Taken settings mediators packages
   taken = record { admitted = admitted; kept = kept; are_admitted = are; are_kept = subst (λ (l : List Placed). Leaves (Stays mediators l) l kept) same left }

@@ -28,6 +28,7 @@ use Rattle.ips_meaning.specs.declared.entry.Entry.{Entry}
 use Rattle.ips_meaning.specs.declared.wanted.Wanted.{Wanted}
 use Rattle.ips_meaning.specs.Want.{Means, Gives, IsGiven, IsImplicit, IsWanted, IsWantOf}
 use Rattle.ips_meaning.specs.View.{paths_of, entries_of, AreByPath}
+use Rattle.ips_meaning.specs.Together.{HasProperParts, AreProper}
 use Rattle.ips_meaning.specs.Places.{PlaceMap, place_of, rank_of, rank_at, count_cmp, Leads, AreLeading, IsWantedPath, PathSet, AreWanted}
 use Rattle.ips_meaning.proofs.Given.{sort_is}
 use Rattle.ips_meaning.proofs.Fronts.{covered}
@@ -93,7 +94,7 @@ implied kept path none w = record {
 }
 
 -- each path at which an entry is wanted is a wanted one
-wanted_path : (kept : List Placed) (path : List ℕ) (entry : Entry) → IsWanted kept path entry → IsWantedPath kept path
+pub wanted_path : (kept : List Placed) (path : List ℕ) (entry : Entry) → IsWanted kept path entry → IsWantedPath kept path
 wanted_path kept path entry w = elim w [
   | inl gives ↦ inr (path, (gives.i, gives.p, gives.at), covers-self path)
   | inr implicit ↦ elim implicit.0.needed [ inl need ↦ inl need | inr below ↦ inr (below.0, below.1, (below_parts path below.0 below.2)) ]
@@ -111,13 +112,18 @@ bytes_of keys = map (λ k. k.items) keys
 abbrev pub seen_paths : List (Bor (Vec ℕ Global)) → List (List ℕ)
 seen_paths seen = map (λ b. b.now.items) seen
 
+-- the path is one, and the entry has proper parts
+abbrev pub HasProper : Wanted → Type 0
+HasProper w = IsPath w.path.bytes × HasProperParts w.entry
+
 -- the entries that were made so far, for these paths
 pub record Made (kept : List Placed) (paths : List (List ℕ)) (entries : List Wanted) : Type 0 where
   pub paths_are : paths_of entries ≡ paths
   pub each : All (λ w. IsWanted kept w.path.bytes w.entry) entries
+  pub proper : All HasProper entries
 
 pub made_none : (kept : List Placed) (entries : List Wanted) → entries ≡ [] → Made kept [] entries
-made_none kept entries e = subst (Made kept []) (sym e) (record { paths_are = refl; each = All-nil (λ w. IsWanted kept w.path.bytes w.entry) })
+made_none kept entries e = subst (Made kept []) (sym e) (record { paths_are = refl; each = All-nil (λ w. IsWanted kept w.path.bytes w.entry); proper = All-nil HasProper })
 
 seen_more : (seen : List (Bor (Vec ℕ Global))) (b : Bor (Vec ℕ Global)) → seen_paths (seen ++ b ∷ []) ≡ seen_paths seen ++ b.now.items ∷ []
 seen_more [] b = refl
@@ -127,8 +133,8 @@ paths_more : (entries : List Wanted) (w : Wanted) → paths_of (entries ++ w ∷
 paths_more [] w = refl
 paths_more (e ∷ entries) w = ap (λ (l : List (List ℕ)). e.path.bytes ∷ l) (paths_more entries w)
 
-pub made_more : (kept : List Placed) (seen : List (Bor (Vec ℕ Global))) (entries next : List Wanted) (b : Bor (Vec ℕ Global)) (w : Wanted) → Made kept (seen_paths seen) entries → next ≡ entries ++ w ∷ [] → w.path.bytes ≡ b.now.items → IsWanted kept b.now.items w.entry → Made kept (seen_paths (seen ++ b ∷ [])) next
-made_more kept seen entries next b w so_far pushed at wanted = record {
+pub made_more : (kept : List Placed) (seen : List (Bor (Vec ℕ Global))) (entries next : List Wanted) (b : Bor (Vec ℕ Global)) (w : Wanted) → Made kept (seen_paths seen) entries → next ≡ entries ++ w ∷ [] → w.path.bytes ≡ b.now.items → IsWanted kept b.now.items w.entry → HasProper w → Made kept (seen_paths (seen ++ b ∷ [])) next
+made_more kept seen entries next b w so_far pushed at wanted proper = record {
   paths_are =
       ap paths_of pushed
       ∙ paths_more entries w
@@ -136,6 +142,7 @@ made_more kept seen entries next b w so_far pushed at wanted = record {
       ∙ ap (λ (l : List (List ℕ)). l ++ b.now.items ∷ []) so_far.paths_are
       ∙ sym (seen_more seen b);
   each = subst (All (λ v. IsWanted kept v.path.bytes v.entry)) (sym pushed) (All-push (λ v. IsWanted kept v.path.bytes v.entry) entries w so_far.each (subst (λ (p : List ℕ). IsWanted kept p w.entry) (sym at) wanted));
+  proper = subst (All HasProper) (sym pushed) (All-push HasProper entries w so_far.proper proper);
 }
 
 all_seen : (seen : List (Bor (Vec ℕ Global))) → seen_paths seen ≡ bytes_of (map (λ (b : Bor (Vec ℕ Global)). b.now) seen)
@@ -166,16 +173,21 @@ pub made_sorted : (kept : List Placed) (keys : List (Vec ℕ Global)) (seen : Li
     → IsStrictlySortedBy (λ a b. slice_cmp nat_cmp a.items b.items) keys → AreByPath entries
 made_sorted kept keys seen entries e made sorted = subst (IsStrictlySortedBy (slice_cmp nat_cmp)) (sym (made.paths_are ∙ all_seen seen ∙ ap bytes_of e)) (sorted_bytes keys sorted)
 
+-- each wanted path has its entry
+pub made_whole : (kept : List Placed) (set : PathSet) (seen : List (Bor (Vec ℕ Global))) (entries : List Wanted) → map (λ (b : Bor (Vec ℕ Global)). b.now) seen ≡ set.keys → Made kept (seen_paths seen) entries → AreWanted kept set
+    → (path : List ℕ) → IsWantedPath kept path → Contains (map (λ (e : List ℕ × Entry). e.0) (entries_of entries)) path
+made_whole kept set seen entries e made are path w = subst (λ (l : List (List ℕ)). Contains l path) (sym (first_paths entries ∙ made.paths_are ∙ all_seen seen ∙ ap bytes_of e)) (has_contains path set.keys ((are.paths path).1 w))
+
+pub made_proper : (kept : List Placed) (paths : List (List ℕ)) (entries : List Wanted) → Made kept paths entries → AreProper (entries_of entries)
+made_proper kept paths entries made = All-map (λ (x : List ℕ × Entry). IsPath x.0 × HasProperParts x.1) (λ (w : Wanted). (w.path.bytes, w.entry)) entries made.proper
+
 pub made_all : (kept : List Placed) (set : PathSet) (seen : List (Bor (Vec ℕ Global))) (entries : List Wanted) → map (λ (b : Bor (Vec ℕ Global)). b.now) seen ≡ set.keys → Made kept (seen_paths seen) entries
     → IsStrictlySortedBy (λ a b. slice_cmp nat_cmp a.items b.items) set.keys → AreWanted kept set → IsWantOf kept (entries_of entries)
-made_all kept set seen entries e made sorted are =
-    let same : map (λ (x : List ℕ × Entry). x.0) (entries_of entries) ≡ paths_of entries = first_paths entries in
-    let all : paths_of entries ≡ bytes_of set.keys = made.paths_are ∙ all_seen seen ∙ ap bytes_of e in
-    record {
-      in_order = subst (IsStrictlySortedBy (slice_cmp nat_cmp)) (sym same) (made_sorted kept set.keys seen entries e made sorted);
-      each = All-map (λ (x : List ℕ × Entry). IsWanted kept x.0 x.1) (λ (w : Wanted). (w.path.bytes, w.entry)) entries made.each;
-      whole = λ path entry w. subst (λ (l : List (List ℕ)). Contains l path) (sym (same ∙ all)) (has_contains path set.keys ((are.paths path).1 (wanted_path kept path entry w)));
-    }
+made_all kept set seen entries e made sorted are = record {
+  in_order = subst (IsStrictlySortedBy (slice_cmp nat_cmp)) (sym (first_paths entries)) (made_sorted kept set.keys seen entries e made sorted);
+  each = All-map (λ (x : List ℕ × Entry). IsWanted kept x.0 x.1) (λ (w : Wanted). (w.path.bytes, w.entry)) entries made.each;
+  whole = λ path entry w. made_whole kept set seen entries e made are path (wanted_path kept path entry w);
+}
 
 -- a path of the set is a wanted one
 pub key_wanted : (kept : List Placed) (set : PathSet) (key : Vec ℕ Global) (path : List ℕ) → AreWanted kept set → list_any (λ k. is_eq (slice_cmp nat_cmp key.items k.items)) set.keys ≡ true → path ≡ key.items → IsWantedPath kept path

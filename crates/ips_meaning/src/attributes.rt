@@ -1,8 +1,9 @@
 //! What an action says.
 
-ghost use Rattle.std.specs.Prelude.{◌≡◌, IfOk, IfSome, Some, option_map, true, codes};
+ghost use Rattle.std.specs.Prelude.{◌≡◌, ◌<◌, IfOk, IfSome, Some, option_map, true, codes};
 ghost use Rattle.ips_text.specs.Path.{IsPath};
 ghost use Rattle.ips_action.specs.Action.{IsAction};
+ghost use Rattle.ips_action.specs.Check.{IsLinkTarget};
 ghost use Rattle.ips_mediate.specs.Mediation.{link_value};
 ghost use Rattle.ips_conflict.specs.Key.{value_of, sort_of};
 ghost use Rattle.ips_conflict.specs.Alike.{has_mode, led_to, mode_of};
@@ -10,6 +11,7 @@ ghost use Rattle.ips_conflict.specs.Alike as alike;
 ghost use Rattle.ips_conflict.specs.declared.placed.Sort as sorts;
 ghost use Rattle.ips_meaning.specs.Places.{given_path};
 ghost use Rattle.ips_meaning.specs.Want.{Means};
+ghost use Rattle.ips_meaning.specs.Together.{HasProperParts};
 
 use crate::entry::Entry;
 use ips_action::{Action, ActionKind, leads_to};
@@ -76,7 +78,8 @@ pub fn takes_place(file: &Action) -> bool
 /// What an action that gives a path wants there.
 pub fn entry_of(alloc: Global, action: &Action) -> Result<Entry, AllocError>
     requires { sort_of action.now.kind ≡ Some Sort.Path }
-    ensures { IfOk result (λ entry. Means action.now entry) }
+    ensures means { IfOk result (λ entry. Means action.now entry) }
+    ensures proper { IfOk result (λ entry. HasProperParts entry) }
 {
     match action.kind {
         ActionKind::Dir => Ok(Entry::Dir {
@@ -84,7 +87,7 @@ pub fn entry_of(alloc: Global, action: &Action) -> Result<Entry, AllocError>
         }),
         ActionKind::File => Ok(file_of(action)),
         ActionKind::Link => Ok(Entry::Link {
-            target: Text::new(alloc, value(action, "target"))?,
+            target: target(alloc, action)?,
         }),
         ActionKind::Hardlink => Ok(Entry::Hard {
             to: end_of(alloc, action)?,
@@ -93,9 +96,19 @@ pub fn entry_of(alloc: Global, action: &Action) -> Result<Entry, AllocError>
     }
 }
 
+// What a symbolic link says.
+fn target(alloc: Global, action: &Action) -> Result<Text, AllocError>
+    requires { action.now.kind ≡ ActionKind.Link }
+    ensures value { IfOk result (λ text. text ≡ value_of (codes "target") action.now) }
+    ensures proper { IfOk result (λ text. IsLinkTarget text) }
+{
+    Text::new(alloc, value(action, "target"))
+}
+
 fn file_of(action: &Action) -> Entry
     requires { action.now.kind ≡ ActionKind.File }
-    ensures { Means action.now result }
+    ensures means { Means action.now result }
+    ensures proper { HasProperParts result }
 {
     let mode = mode(action);
     match action.payload {
@@ -112,6 +125,7 @@ fn file_of(action: &Action) -> Entry
 fn mode(action: &Action) -> u16
     requires { has_mode action.now ≡ true }
     ensures mode { result ≡ mode_of action.now }
+    ensures small { result < 4096 }
     ensures action { IsAction action.now }
 {
     match octal(value(action, "mode").as_bytes()) {
@@ -123,7 +137,8 @@ fn mode(action: &Action) -> u16
 // Where a hardlink leads.
 fn end_of(alloc: Global, action: &Action) -> Result<RelPath, AllocError>
     requires { action.now.kind ≡ ActionKind.Hardlink }
-    ensures { IfOk result (λ path. led_to action.now ≡ Some path.bytes) }
+    ensures led { IfOk result (λ path. led_to action.now ≡ Some path.bytes) }
+    ensures proper { IfOk result (λ path. IsPath path.bytes) }
 {
     let path = value(action, "path").as_bytes();
     let target = value(action, "target").as_bytes();

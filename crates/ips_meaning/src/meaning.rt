@@ -4,6 +4,7 @@ ghost use Rattle.std.specs.Prelude.{◌≡◌, IfOk, MatchOption};
 ghost use Rattle.ips_text.specs.Reading.{IfBad};
 ghost use Rattle.ips_conflict.specs.Clash.{Conflict, IsConflict, IsFirst, told};
 ghost use Rattle.ips_meaning.specs.Want.{PackagesMean, PackagesFail};
+ghost use Rattle.ips_meaning.specs.Together.{AreProper, HangTogether};
 ghost use Rattle.ips_meaning.specs.Faults.{fault_told};
 
 use crate::admitted::admitted;
@@ -18,7 +19,8 @@ use ips_mediate::SetMediator;
 use ips_text::{Or, RelPath};
 use std::alloc::{AllocError, Global};
 
-/// What an image with these settings and mediators should hold where these packages are installed.
+/// What an image with these settings and mediators should hold where these packages are installed. What holds a wanted path is
+/// wanted as a directory, and a hard link leads to a wanted file that is never missing.
 ///
 /// Reserved names the least path that an admitted action gives at or below `var/pkg`, or below `var/sadm/pkg`. Only where there
 /// is none is a clash told: the first among the actions that are kept.
@@ -29,6 +31,8 @@ pub fn want(
     mediators: &[SetMediator],
 ) -> Result<Want, Or<WantFault>>
     ensures want { IfOk result (λ want. PackagesMean settings.now mediators.now packages.now want) }
+    ensures proper { IfOk result (λ want. AreProper want) }
+    ensures together { IfOk result (λ want. HangTogether want) }
     ensures fault { IfBad result (λ fault. PackagesFail settings.now mediators.now packages.now fault) }
 {
     let admitted = admitted(alloc, packages, settings)?;

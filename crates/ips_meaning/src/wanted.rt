@@ -1,6 +1,6 @@
 //! What is wanted.
 
-ghost use Rattle.std.specs.Prelude.{◌≡◌, ◌≤◌, ◌<◌, Some, map, length, slice_get, IfOk, IfSome, IfNone};
+ghost use Rattle.std.specs.Prelude.{◌≡◌, ◌≤◌, ◌<◌, ℕ, List, Some, map, length, slice_get, IfOk, IfSome, IfNone};
 ghost use Rattle.std.specs.List.{Contains};
 ghost use Rattle.std.specs.List.Sorted.{IsStrictlySortedBy};
 ghost use Rattle.std.specs.Ordering.{nat_cmp};
@@ -9,6 +9,7 @@ ghost use Rattle.ips_conflict.specs.declared.placed.Placed as declared;
 ghost use Rattle.ips_text.specs.Path.{IsPath};
 ghost use Rattle.ips_meaning.specs.Places.{AreLeading, IsWantedPath, AreWanted};
 ghost use Rattle.ips_meaning.specs.Want.{IsWanted, IsWantOf};
+ghost use Rattle.ips_meaning.specs.Together.{AreProper, HasProperParts};
 ghost use Rattle.ips_meaning.specs.View.{AreByPath, entries_of, paths_of};
 
 use crate::attributes::{entry_of, parsed};
@@ -51,7 +52,9 @@ impl Model for Want {
 impl Want {
     /// What these actions want.
     pub(crate) fn of(alloc: Global, kept: &[Placed]) -> Result<Want, AllocError>
-        ensures { IfOk result (λ want. IsWantOf kept.now want) }
+        ensures want { IfOk result (λ want. IsWantOf kept.now want) }
+        ensures whole { IfOk result (λ want. (path : List ℕ) → IsWantedPath kept.now path → Contains (map (λ e. e.0) want) path) }
+        ensures proper { IfOk result (λ want. AreProper want) }
     {
         let entries = entries(alloc, kept)?;
         Ok(Want { entries })
@@ -107,6 +110,8 @@ fn find(entries: &[Wanted], path: &RelPath) -> Option<usize>
 // What is wanted, in the order of the paths' bytes.
 fn entries(alloc: Global, kept: &[Placed]) -> Result<Vec<Wanted>, AllocError>
     ensures want { IfOk result (λ entries. IsWantOf kept.now (entries_of entries.items)) }
+    ensures whole { IfOk result (λ entries. (path : List ℕ) → IsWantedPath kept.now path → Contains (map (λ e. e.0) (entries_of entries.items)) path) }
+    ensures proper { IfOk result (λ entries. AreProper (entries_of entries.items)) }
     ensures in_order { IfOk result (λ entries. AreByPath entries.items) }
 {
     let places = leading(alloc, kept)?;
@@ -130,6 +135,7 @@ fn wanted_at(
     requires proper { IsPath path.now }
     ensures path { IfOk result (λ wanted. wanted.path.bytes ≡ path.now) }
     ensures entry { IfOk result (λ wanted. IsWanted kept.now path.now wanted.entry) }
+    ensures proper { IfOk result (λ wanted. IsPath wanted.path.bytes × HasProperParts wanted.entry) }
 {
     let entry = entry_at(alloc, kept, places, path)?;
     let path = parsed(alloc, path)?;
@@ -144,7 +150,8 @@ fn entry_at(
 ) -> Result<Entry, AllocError>
     requires places { AreLeading kept.now places.now }
     requires wanted { IsWantedPath kept.now path.now }
-    ensures { IfOk result (λ entry. IsWanted kept.now path.now entry) }
+    ensures entry { IfOk result (λ entry. IsWanted kept.now path.now entry) }
+    ensures proper { IfOk result (λ entry. HasProperParts entry) }
 {
     match place_at(places, path) {
         Some(i) => Ok(entry_of(alloc, &kept[i].action)?),
