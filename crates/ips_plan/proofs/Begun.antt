@@ -1,20 +1,19 @@
 -- Steps for the first of the entries.
-use Rattle.std.proofs.Common.{◌≡◌, ◌⊎◌, ℕ, suc, ◌+◌, ◌<◌, ◌≤◌, Bool, true, false, List, [], ◌∷◌, ◌++◌, append_assoc, length, length-append, drop, drop-cons, Option, Some, None, below_more, refl, sym, ◌∙◌, ap, subst, arith}
+use Rattle.std.proofs.Common.{◌≡◌, ℕ, suc, ◌+◌, ◌<◌, ◌≤◌, true, false, List, [], ◌∷◌, ◌++◌, append_assoc, length, length-append, drop, drop-cons, Option, Some, None, below_more, refl, sym, ◌∙◌, ap, subst, arith}
 use Rattle.std.specs.Prelude.{slice_get}
 use Rattle.std.specs.List.{cons_option}
 use Rattle.std.specs.Option.{option_to_list}
 use Rattle.std.proofs.lemmas.Option.{slice_get_within, get_or_from_slice_get, same_Some}
 use Rattle.std.proofs.Math.ListN.{drop_of_length-le}
 use Rattle.ips_digest.specs.declared.name.PayloadName.{PayloadName}
-use Rattle.ips_outside.specs.declared.outside.Look.{Look}
 use Rattle.ips_outside.specs.Image as image
 use Rattle.ips_outside.specs.Image.{Image}
 use Rattle.ips_outside.specs.Outside.{look_of}
 use Rattle.ips_steps.specs.Steps.{Step}
 use Rattle.ips_meaning.specs.declared.entry.Entry.{Entry}
 use Rattle.ips_meaning.specs.declared.entry.Entry.TheVariants.{Dir, File, Link, Hard}
-use Rattle.ips_plan.specs.Planned.{Fits, AllFit, IsInTheWay, payload_of, payloads_of}
-use Rattle.ips_plan.specs.StepsFor.{can_come, step_at, makers, links, looks, AreMade}
+use Rattle.ips_plan.specs.Planned.{Fits, IsInTheWay, payload_of, payloads_of}
+use Rattle.ips_plan.specs.StepsFor.{can_come, step_at, makers, looks, AreMade}
 use Rattle.ips_plan.proofs.InOrder.{Entries, AreInOrder}
 
 pub comes_fits : (x : Option image.Entry) (e : Entry) → can_come (look_of x) e ≡ true → Fits x e

@@ -1,11 +1,10 @@
 -- Entries that hang together, in the order of their paths.
-use Rattle.std.proofs.Common.{◌≡◌, ◌⊎◌, inl, inr, ℕ, zero, suc, ◌≤◌, Bool, true, false, cond, not, List, [], ◌∷◌, length, map, Option, Some, None, refl, sym, ◌∙◌, ap, subst, arith, Contains}
+use Rattle.std.proofs.Common.{◌≡◌, inl, inr, ℕ, zero, suc, ◌≤◌, Bool, true, false, cond, not, List, [], ◌∷◌, length, map, Option, Some, refl, sym, ◌∙◌, ap, subst, arith, Contains}
 use Rattle.std.specs.List.{AllByRecursion}
 use Rattle.std.specs.List.Sorted.{IsStrictlySortedBy}
 use Rattle.std.specs.Ordering.{nat_cmp, is_gt}
 use Rattle.std.specs.Cmp.Lexicographic.{slice_cmp}
-use Rattle.std.specs.declared.cmp.Ordering.{Ordering}
-use Rattle.std.specs.declared.cmp.Ordering.TheVariants.{Less, Equal}
+use Rattle.std.specs.declared.cmp.Ordering.TheVariants.{Less}
 use Rattle.std.proofs.lemmas.Bool.{and_from, cases_Bool, false_from_ne_true}
 use Rattle.std.proofs.lemmas.Cmp.{nat_list_cmp_total, tied_itself}
 use Rattle.std.proofs.lemmas.List.Elements.{All-contains}
@@ -17,7 +16,7 @@ use Rattle.ips_outside.specs.Order.{comes_after, front_below}
 use Rattle.ips_outside.proofs.Order.{front_after, below_from, after_trans}
 use Rattle.ips_outside.proofs.Children.{parent_covers}
 use Rattle.ips_meaning.specs.declared.entry.Entry.{Entry}
-use Rattle.ips_meaning.specs.declared.entry.Entry.TheVariants.{Dir, File, Link, Hard}
+use Rattle.ips_meaning.specs.declared.entry.Entry.TheVariants.{Dir, Hard}
 use Rattle.ips_meaning.specs.Together.{IsDirWanted, IsFileWanted, LeadsToWanted, HangTogether}
 use Rattle.ips_plan.specs.Meant.{wanted_at}
 use Rattle.ips_plan.proofs.Elements.{here_or_later, first_of, later_of}

@@ -1,9 +1,8 @@
 -- The steps for what is wanted can be laid straight on the image.
-use Rattle.std.proofs.Common.{◌≡◌, ◌⊎◌, inl, inr, ⊎_elim, ℕ, ◌+◌, ◌==◌, ◌<◌, Bool, true, false, cond, not, ◌&&◌, ◌||◌, List, [], ◌∷◌, ◌++◌, length, Option, Some, None, is_some, unwrap_or, refl, sym, ◌∙◌, ap, subst, arith, Contains}
-use Rattle.std.specs.Prelude.{slice_get}
-use Rattle.std.proofs.lemmas.Bool.{and_parts, and_from, or_parts, not-true, false_from_ne_true, cases_Bool}
+use Rattle.std.proofs.Common.{◌≡◌, ◌⊎◌, inl, inr, ℕ, ◌+◌, Bool, true, false, cond, not, List, [], ◌∷◌, length, Option, Some, None, is_some, unwrap_or, refl, sym, ◌∙◌, ap, subst, arith, Contains}
+use Rattle.std.proofs.lemmas.Bool.{and_from, false_from_ne_true}
 use Rattle.std.proofs.lemmas.Option.{slice_get_within}
-use Rattle.std.proofs.lemmas.List.Elements.{Contains-append_cases, Contains-append_left, Contains-append_right}
+use Rattle.std.proofs.lemmas.List.Elements.{Contains-append_cases, Contains-append_left}
 use Rattle.std.specs.Ordering.{nat_cmp}
 use Rattle.std.specs.Cmp.Lexicographic.{slice_cmp}
 use Rattle.std.specs.declared.cmp.Ordering.TheVariants.{Less}
@@ -22,7 +21,7 @@ use Rattle.ips_outside.proofs.Images.{HasNodes}
 use Rattle.ips_outside.proofs.Trees.{nothing_below}
 use Rattle.ips_steps.specs.Steps as step
 use Rattle.ips_steps.specs.Steps.{Step, Stage, bytes_of, path_of, frees, freed, named, distinct, sound, can_lay, possible}
-use Rattle.ips_steps.specs.Outcome.{back, source, made, bare, with_modes, outcome, all_fit}
+use Rattle.ips_steps.specs.Outcome.{back, source, made, bare, with_modes, outcome}
 use Rattle.ips_steps.proofs.Lists.{clash, same_path-sym}
 use Rattle.ips_steps.proofs.ByPath.{freed_by}
 use Rattle.ips_steps.proofs.Laid.{fits_outcome, outcome_kept}
@@ -32,11 +31,11 @@ use Rattle.ips_meaning.specs.declared.entry.Entry.TheVariants.{Dir, File, Link, 
 use Rattle.ips_meaning.specs.Together.{HangTogether}
 use Rattle.ips_plan.specs.Meant.{implicit_mode}
 use Rattle.ips_plan.specs.Planned.{Fits, AllFit, payload_of, payloads_of}
-use Rattle.ips_plan.specs.StepsFor.{can_come, new_step, step_at, makers, link_step, links, looks, steps_for}
+use Rattle.ips_plan.specs.StepsFor.{new_step, step_at, makers, link_step, links, looks, steps_for}
 use Rattle.ips_plan.proofs.Elements.{here_or_later, first_of, later_of, place_of, recursion_from}
 use Rattle.ips_plan.proofs.InOrder.{Entries, AreInOrder, less_apart-back, later_covers, later_parent, later_less, rest_order, one_wanted, held_by, leads_to, hard_covers}
 use Rattle.ips_plan.proofs.Following.{Follows, AllFollow, follow_one, follow_both, freed_from, follow_distinct, follow_sound, fit_from}
-use Rattle.ips_plan.proofs.Makers.{IsMaker, maker_is, Made, made_from, Has, has_step, link_is, link_from, has_link}
+use Rattle.ips_plan.proofs.Makers.{IsMaker, maker_is, Made, made_from, Has, has_step, link_is, link_from}
 
 -- ---- what a look says
 
@@ -61,24 +60,24 @@ makers_follow found n [] order = tt
 makers_follow found n (e ∷ entries) order =
     follow_one (step_at (found e.0) n e.0 e.1) (makers found (n + length (payload_of e.1)) entries)
     (λ s is x one.
-        let maker = maker_is (found e.0) n e.0 e.1 s is in
-        let from = made_from found (n + length (payload_of e.1)) entries x one in
-        let later = maker_is (found from.path) from.number from.path from.entry x from.is in
-        let less : slice_cmp nat_cmp e.0 from.path ≡ Less = later_less e entries order (from.path, from.entry) from.one in
-        record {
-          apart = ap (λ (a : List ℕ). same_path a (path_of s)) later.path ∙ ap (same_path from.path) maker.path ∙ less_apart-back e.0 from.path less;
-          above = λ d up. false_from_ne_true _ (λ f.
-              let off = later_parent e.0 from.path d less (ap parent (sym maker.path) ∙ up) in
-              let on = (later.new d f).1 in
-              cc);
-          moded = λ m p is_mode. false_from_ne_true _ (λ f.
-              let at : p ≡ e.0 = ap path_of (sym is_mode) ∙ maker.path in
-              let off = later_covers e.0 from.path less in
-              let on = (later.new p f).1 in
-              let here : covers from.path e.0 ≡ true = ap (covers from.path) (sym at) ∙ on in
-              cc);
-          target = λ p to is_hard. absurd (maker.not_hard p to is_hard);
-        })
+    let maker = maker_is (found e.0) n e.0 e.1 s is in
+    let from = made_from found (n + length (payload_of e.1)) entries x one in
+    let later = maker_is (found from.path) from.number from.path from.entry x from.is in
+    let less : slice_cmp nat_cmp e.0 from.path ≡ Less = later_less e entries order (from.path, from.entry) from.one in
+    record {
+      apart = ap (λ (a : List ℕ). same_path a (path_of s)) later.path ∙ ap (same_path from.path) maker.path ∙ less_apart-back e.0 from.path less;
+      above = λ d up. false_from_ne_true _ (λ f.
+          let off = later_parent e.0 from.path d less (ap parent (sym maker.path) ∙ up) in
+          let on = (later.new d f).1 in
+          cc);
+      moded = λ m p is_mode. false_from_ne_true _ (λ f.
+          let at : p ≡ e.0 = ap path_of (sym is_mode) ∙ maker.path in
+          let off = later_covers e.0 from.path less in
+          let on = (later.new p f).1 in
+          let here : covers from.path e.0 ≡ true = ap (covers from.path) (sym at) ∙ on in
+          cc);
+      target = λ p to is_hard. absurd (maker.not_hard p to is_hard);
+    })
     (makers_follow found (n + length (payload_of e.1)) entries (rest_order e entries order))
 
 module _ (entries : Entries) (order : AreInOrder entries) (together : HangTogether entries) where
@@ -100,11 +99,11 @@ module _ (entries : Entries) (order : AreInOrder entries) (together : HangTogeth
   links_follow (e ∷ some) sorted all =
       follow_one (link_step e.0 e.1) (links some)
       (λ s is x one.
-          let here = link_is e.0 e.1 s is in
-          let later = link_from some x one in
-          let less : slice_cmp nat_cmp e.0 later.0 ≡ Less = later_less e some sorted (later.0, Hard later.1) later.2 in
-          let own : Contains entries (e.0, Hard here.0) = subst (λ (y : Entry). Contains entries (e.0, y)) here.1 (all e (first_of e some e refl)) in
-          subst (λ (y : Step). Follows y x) (sym here.2) (subst (Follows (step.Hard e.0 here.0.bytes)) (sym later.3) (link_follows_link e.0 later.0 here.0 later.1 own (all (later.0, Hard later.1) (later_of e some (later.0, Hard later.1) later.2)) less)))
+      let here = link_is e.0 e.1 s is in
+      let later = link_from some x one in
+      let less : slice_cmp nat_cmp e.0 later.0 ≡ Less = later_less e some sorted (later.0, Hard later.1) later.2 in
+      let own : Contains entries (e.0, Hard here.0) = subst (λ (y : Entry). Contains entries (e.0, y)) here.1 (all e (first_of e some e refl)) in
+      subst (λ (y : Step). Follows y x) (sym here.2) (subst (Follows (step.Hard e.0 here.0.bytes)) (sym later.3) (link_follows_link e.0 later.0 here.0 later.1 own (all (later.0, Hard later.1) (later_of e some (later.0, Hard later.1) later.2)) less)))
       (links_follow some (rest_order e some sorted) (λ x one. all x (later_of e some x one)))
 
   link_follows_maker : (found : List ℕ → Look) (s x : Step) → Contains (makers found 0 entries) s → Contains (links entries) x → Follows s x
@@ -254,9 +253,9 @@ module _ (entries : Entries) (t : Image) (ready : AreReady entries t) where
     made_there : (s : Step) (e : Entry) (x : Option image.Entry) → Contains (steps_for t entries) s → Contains entries (path_of s, e) → ((to : Kept) → e ≡ Hard to → ⊥) → frees s (path_of s) ≡ true → ((rest : List Step) → made stage (s ∷ rest) (path_of s) ≡ x) → (outcome stage (steps_for t entries) t).look (path_of s) ≡ x
     made_there s e x one wanted other own is =
         ap (bare stage (steps_for t entries) t) (source_own (steps_for t entries) (path_of s) (λ p to hard. false_from_ne_true _ (λ same.
-            let link = hard_wanted p to hard in
-            let at : p ≡ path_of s = same_path-true p (path_of s) same in
-            other link.0 (one_wanted entries ready.order (path_of s) e (Hard link.0) wanted (subst (λ (x : List ℕ). Contains entries (x, Hard link.0)) at link.2)))))
+        let link = hard_wanted p to hard in
+        let at : p ≡ path_of s = same_path-true p (path_of s) same in
+        other link.0 (one_wanted entries ready.order (path_of s) e (Hard link.0) wanted (subst (λ (x : List ℕ). Contains entries (x, Hard link.0)) at link.2)))))
         ∙ ap (λ (b : Bool). cond b (made stage (steps_for t entries) (path_of s)) (with_modes (freed (steps_for t entries)) (steps_for t entries) t (path_of s) (t.look (path_of s)))) (freed_by (steps_for t entries) s (path_of s) one own)
         ∙ made_by stage (steps_for t entries) s x followed one is
 

@@ -1,7 +1,6 @@
 -- Which steps there are for what is wanted.
-use Rattle.std.proofs.Common.{◌≡◌, ◌⊎◌, inl, inr, ℕ, zero, suc, ◌+◌, ◌==◌, ◌<◌, Bool, true, false, cond, List, [], ◌∷◌, ◌++◌, length, Option, Some, None, unwrap_or, refl, sym, ◌∙◌, ap, subst, arith, Contains}
+use Rattle.std.proofs.Common.{◌≡◌, inl, inr, ℕ, suc, ◌+◌, ◌==◌, Bool, true, false, cond, List, [], ◌∷◌, ◌++◌, length, Option, Some, None, unwrap_or, refl, ◌∙◌, ap, subst, arith, Contains}
 use Rattle.std.specs.Prelude.{slice_get}
-use Rattle.std.specs.List.{cons_option}
 use Rattle.std.proofs.lemmas.Bool.{eqb-false}
 use Rattle.std.proofs.lemmas.Option.{same_Some}
 use Rattle.ips_text.specs.Kept.{Kept}
@@ -15,7 +14,7 @@ use Rattle.ips_meaning.specs.declared.entry.Entry.{Entry}
 use Rattle.ips_meaning.specs.declared.entry.Entry.TheVariants.{Dir, File, Link, Hard}
 use Rattle.ips_plan.specs.Meant.{implicit_mode}
 use Rattle.ips_plan.specs.Planned.{payload_of, payloads_of}
-use Rattle.ips_plan.specs.StepsFor.{can_come, new_step, mode_step, over_step, step_at, makers, link_step, links}
+use Rattle.ips_plan.specs.StepsFor.{new_step, step_at, makers, link_step, links}
 use Rattle.ips_plan.proofs.Elements.{here_or_later, first_of, later_of, with_one, with_more, one_or_more, map_has, map_from}
 use Rattle.ips_plan.proofs.InOrder.{Entries}
 
@@ -35,17 +34,35 @@ pub record IsMaker (found : Look) (n : ℕ) (p : List ℕ) (entry : Entry) (s : 
 maker_new : (n : ℕ) (p : List ℕ) (entry : Entry) (s : Step) → new_step n p entry ≡ Some s → IsMaker look.Absent n p entry s
 maker_new n p (Dir mode) s is =
     let one : IsMaker look.Absent n p (Dir mode) (step.Fresh (unwrap_or mode implicit_mode) p) = record {
-      path = refl; not_gone = λ q e. cc; not_hard = λ q to e. cc; no_link = λ to e. cc; moded = λ m q e. cc; new = λ q f. (refl, f); put = λ k m q e. cc;
+      path = refl;
+      not_gone = λ q e. cc;
+      not_hard = λ q to e. cc;
+      no_link = λ to e. cc;
+      moded = λ m q e. cc;
+      new = λ q f. (refl, f);
+      put = λ k m q e. cc;
     } in
     subst (IsMaker look.Absent n p (Dir mode)) (same_Some _ s is) one
 maker_new n p (File payload mode preserve) s is =
     let one : IsMaker look.Absent n p (File payload mode preserve) (step.Put n mode p) = record {
-      path = refl; not_gone = λ q e. cc; not_hard = λ q to e. cc; no_link = λ to e. cc; moded = λ m q e. cc; new = λ q f. (refl, f); put = λ k m q e. (cc, (payload, refl));
+      path = refl;
+      not_gone = λ q e. cc;
+      not_hard = λ q to e. cc;
+      no_link = λ to e. cc;
+      moded = λ m q e. cc;
+      new = λ q f. (refl, f);
+      put = λ k m q e. (cc, (payload, refl));
     } in
     subst (IsMaker look.Absent n p (File payload mode preserve)) (same_Some _ s is) one
 maker_new n p (Link target) s is =
     let one : IsMaker look.Absent n p (Link target) (step.Symlink p target) = record {
-      path = refl; not_gone = λ q e. cc; not_hard = λ q to e. cc; no_link = λ to e. cc; moded = λ m q e. cc; new = λ q f. (refl, f); put = λ k m q e. cc;
+      path = refl;
+      not_gone = λ q e. cc;
+      not_hard = λ q to e. cc;
+      no_link = λ to e. cc;
+      moded = λ m q e. cc;
+      new = λ q f. (refl, f);
+      put = λ k m q e. cc;
     } in
     subst (IsMaker look.Absent n p (Link target)) (same_Some _ s is) one
 maker_new n p (Hard to) s is = cc
@@ -54,9 +71,13 @@ maker_mode : (was n : ℕ) (p : List ℕ) (mode : ℕ) (s : Step) (same : Bool) 
 maker_mode was n p mode s true e is = cc
 maker_mode was n p mode s false e is =
     let one : IsMaker (look.Dir was) n p (Dir (Some mode)) (step.Mode mode p) = record {
-      path = refl; not_gone = λ q e. cc; not_hard = λ q to e. cc; no_link = λ to e. cc;
+      path = refl;
+      not_gone = λ q e. cc;
+      not_hard = λ q to e. cc;
+      no_link = λ to e. cc;
       moded = λ m q e'. let mode_is : mode ≡ m = cc in (was, refl, ap (λ (x : ℕ). Dir (Some x)) mode_is, λ back. eqb-false mode was e (mode_is ∙ back));
-      new = λ q f. cc; put = λ k m q e. cc;
+      new = λ q f. cc;
+      put = λ k m q e. cc;
     } in
     subst (IsMaker (look.Dir was) n p (Dir (Some mode))) (same_Some _ s is) one
 
@@ -107,7 +128,11 @@ pub record Made (found : List ℕ → Look) (n : ℕ) (entries : Entries) (s : S
 module _ (found : List ℕ → Look) where
   made_later : (n : ℕ) (e : List ℕ × Entry) (entries : Entries) (s : Step) → Made found (n + length (payload_of e.1)) entries s → Made found n (e ∷ entries) s
   made_later n e entries s made = record {
-    path = made.path; entry = made.entry; one = later_of e entries (made.path, made.entry) made.one; number = made.number; is = made.is;
+    path = made.path;
+    entry = made.entry;
+    one = later_of e entries (made.path, made.entry) made.one;
+    number = made.number;
+    is = made.is;
     place = has_place_later n e entries made.number made.entry made.place;
   }
 
@@ -129,10 +154,10 @@ module _ (found : List ℕ → Look) where
   has_step n [] p entry (k, lt, is) = absurd (omega arith)
   has_step n (e ∷ entries) p entry one = elim (here_or_later e entries (p, entry) one) [
     | inl here ↦ subst (λ (x : List ℕ × Entry). Has n (e ∷ entries) x.0 x.1) here (record {
-        number = n;
-        has = λ s is. with_one (step_at (found e.0) n e.0 e.1) (makers found (n + length (payload_of e.1)) entries) s is;
-        place = has_place_here n e entries;
-      })
+      number = n;
+      has = λ s is. with_one (step_at (found e.0) n e.0 e.1) (makers found (n + length (payload_of e.1)) entries) s is;
+      place = has_place_here n e entries;
+    })
     | inr later ↦
         let rest = has_step (n + length (payload_of e.1)) entries p entry later in
         record {

@@ -1,13 +1,12 @@
 -- What the steps for what is wanted make of the image.
-use Rattle.std.proofs.Common.{◌≡◌, ◌⊎◌, inl, inr, ⊎_elim, ℕ, ◌+◌, ◌==◌, ◌<◌, Bool, true, false, cond, not, ◌&&◌, ◌||◌, List, [], ◌∷◌, ◌++◌, length, Option, Some, None, is_some, unwrap_or, refl, sym, ◌∙◌, ap, subst, arith, Contains}
+use Rattle.std.proofs.Common.{◌≡◌, inl, inr, ℕ, ◌==◌, Bool, true, false, cond, not, ◌&&◌, ◌||◌, List, [], ◌∷◌, length, Option, Some, None, is_some, unwrap_or, refl, sym, ◌∙◌, ap, subst, arith, Contains}
 use Rattle.std.specs.Prelude.{slice_get}
-use Rattle.std.specs.List.{All}
-use Rattle.std.proofs.lemmas.Bool.{and_parts, and_from, or_from, or_parts, not-true, false_from_ne_true, cases_Bool, eqb-true}
+use Rattle.std.proofs.lemmas.Bool.{and_from, false_from_ne_true, cases_Bool, eqb-true}
 use Rattle.std.proofs.lemmas.Option.{slice_get_within}
 use Rattle.std.proofs.lemmas.List.Elements.{Contains-append_right}
 use Rattle.ips_text.specs.Kept.{Kept}
-use Rattle.ips_text.specs.Ancestry.{same_path, covers}
-use Rattle.ips_text.proofs.Ancestry.{same_path-true, same_path-self, covers-self}
+use Rattle.ips_text.specs.Ancestry.{same_path}
+use Rattle.ips_text.proofs.Ancestry.{same_path-true, same_path-self}
 use Rattle.ips_digest.specs.declared.name.PayloadName.{PayloadName}
 use Rattle.ips_action.specs.declared.action.Preserve.{Preserve}
 use Rattle.ips_outside.specs.declared.outside.Look.{Look}
@@ -19,21 +18,20 @@ use Rattle.ips_outside.specs.Outside.{look_of}
 use Rattle.ips_steps.specs.Steps as step
 use Rattle.ips_steps.specs.Steps.{Step, Stage, bytes_of, path_of, frees, freed, named, all_laid}
 use Rattle.ips_steps.specs.Journal.{AllProper}
-use Rattle.ips_steps.specs.Outcome.{source, last_mode, mode_or, given, makes_at, IsLaidByPath}
+use Rattle.ips_steps.specs.Outcome.{source, last_mode, mode_or, given, IsLaidByPath}
 use Rattle.ips_steps.proofs.Lists.{clash, same_path-sym}
 use Rattle.ips_steps.proofs.ByPath.{by_path}
 use Rattle.ips_steps.proofs.Within.{all_formed}
 use Rattle.ips_install.specs.Layable.{HasEach}
 use Rattle.ips_meaning.specs.declared.entry.Entry.{Entry}
 use Rattle.ips_meaning.specs.declared.entry.Entry.TheVariants.{Dir, File, Link, Hard}
-use Rattle.ips_meaning.specs.Together.{HangTogether}
 use Rattle.ips_plan.specs.Meant.{implicit_mode, directory_over, Shows, wanted_at, wants_file, file_of, shares, IsMeant}
-use Rattle.ips_plan.specs.Planned.{Fits, AllFit, payloads_of, AreStaged}
-use Rattle.ips_plan.specs.StepsFor.{step_at, mode_step, makers, links, looks, steps_for}
+use Rattle.ips_plan.specs.Planned.{payloads_of, AreStaged}
+use Rattle.ips_plan.specs.StepsFor.{step_at, makers, links, looks, steps_for}
 use Rattle.ips_plan.proofs.Elements.{here_or_later, first_of, later_of, all_from}
-use Rattle.ips_plan.proofs.InOrder.{Entries, AreInOrder, wanted_there, wanted_from, one_wanted, leads_to}
-use Rattle.ips_plan.proofs.Following.{Follows, AllFollow, unnamed, unmade, follow_distinct, follow_sound}
-use Rattle.ips_plan.proofs.Makers.{IsMaker, has_link}
+use Rattle.ips_plan.proofs.InOrder.{Entries, wanted_there, wanted_from, one_wanted, leads_to}
+use Rattle.ips_plan.proofs.Following.{AllFollow, unmade, follow_distinct, follow_sound}
+use Rattle.ips_plan.proofs.Makers.{has_link}
 use Rattle.ips_plan.proofs.Layable.{AreReady, source_own, nodes, followed, dir_is, fits_none, fits_dir, fits_at, kind_of, maker_of, path_wanted, hard_wanted, freed_new, stands_unfreed, has_maker, maker_in, new_in, all_possible}
 
 -- ---- the mode that a list gives
@@ -69,12 +67,12 @@ one_mode free [] t q m f kept (k, lt, is) own = absurd (omega arith)
 one_mode free (s ∷ rest) t q m f kept one own = elim (here_or_later s rest (step.Mode m q) one) [
   | inl here ↦
       let none : last_mode free rest t q ≡ None = no_mode free rest t q (λ k p later.
-          own k p (later_of s rest (step.Mode k p) later)
-          ∙ (ap (same_path p) (ap path_of (sym here)) ∙ (f.0 (step.Mode k p) later).apart)) in
+      own k p (later_of s rest (step.Mode k p) later)
+      ∙ (ap (same_path p) (ap path_of (sym here)) ∙ (f.0 (step.Mode k p) later).apart)) in
       let names_own : names t q q ≡ true = own m q one ∙ same_path-self q in
       subst (λ (y : Step). last_mode free (y ∷ rest) t q ≡ Some m) (sym here)
       (ap (λ (o : Option ℕ). mode_or o (not (free q) && names t q q) m) none
-        ∙ ap (λ (b : Bool). cond b (Some m) None) (and_from (not (free q)) (names t q q) (ap not kept) names_own))
+      ∙ ap (λ (b : Bool). cond b (Some m) None) (and_from (not (free q)) (names t q q) (ap not kept) names_own))
   | inr later ↦ mode_over free s rest t q m (one_mode free rest t q m f.1 kept later (λ k p there. own k p (later_of s rest (step.Mode k p) there)))
 ]
 
@@ -88,8 +86,7 @@ module _ (entries : Entries) (t : Image) (ready : AreReady entries t) where
         let maker = maker_of entries t ready (step.Mode m p) from in
         let moded = maker.moded m p refl in
         let stands = dir_is (t.look from.path) moded.0 moded.1 in
-        let at : from.path ≡ p = sym maker.path in
-        (
+        let at : from.path ≡ p = sym maker.path in (
           moded.0,
           stands.0,
           ap t.look (sym at) ∙ stands.1,
@@ -104,9 +101,9 @@ module _ (entries : Entries) (t : Image) (ready : AreReady entries t) where
   names_own q m p one =
       let dir = moded_dir m p one in
       let apart : t.same p q ≡ false = false_from_ne_true _ (λ same.
-          let file = (ready.formed.files p q same).0 in
-          let no : is_file (t.look p) ≡ false = ap is_file dir.2 in
-          absurd (cc)) in
+      let file = (ready.formed.files p q same).0 in
+      let no : is_file (t.look p) ≡ false = ap is_file dir.2 in
+      absurd (cc)) in
       ap (λ (b : Bool). same_path p q || b) apart ∙ or_none (same_path p q)
     where
       or_none : (a : Bool) → (a || false) ≡ a
@@ -165,7 +162,7 @@ module _ (entries : Entries) (t : Image) (ready : AreReady entries t) where
         set_or_same m there false e =
             let found : looks t p ≡ look.Dir was = ap look_of stands in
             let is_step : step_at (looks t p) (has_maker entries t ready p (Dir (Some m)) there).number p (Dir (Some m)) ≡ Some (step.Mode m p) =
-                ap (λ (x : Look). step_at x (has_maker entries t ready p (Dir (Some m)) there).number p (Dir (Some m))) found ∙ ap (λ (b : Bool). cond b None (Some (step.Mode m p))) e in
+            ap (λ (x : Look). step_at x (has_maker entries t ready p (Dir (Some m)) there).number p (Dir (Some m))) found ∙ ap (λ (b : Bool). cond b None (Some (step.Mode m p))) e in
             let set = maker_in entries t ready p (Dir (Some m)) (step.Mode m p) there is_step in
             given_at (Some m) (image.Dir m foreign) (one_mode (freed (steps_for t entries)) (steps_for t entries) t p m (followed entries t ready) (stands_unfreed entries t ready p (image.Dir was foreign) stands) set (names_own p)) refl
 
@@ -201,8 +198,7 @@ module _ (entries : Entries) (t : Image) (ready : AreReady entries t) where
     shows_file : (p : List ℕ) (payload : PayloadName) (mode : ℕ) (preserve : Preserve) → Contains entries (p, File payload mode preserve) → Shows (AreStaged (payloads_of entries) stage) t (all_laid stage (steps_for t entries) t) p (File payload mode preserve)
     shows_file p payload mode preserve one =
         let put = put_in p payload mode preserve one in
-        let bytes = staged put.0 (each put.0 (slice_get_within (payloads_of entries) put.0 payload put.1)) in
-        (
+        let bytes = staged put.0 (each put.0 (slice_get_within (payloads_of entries) put.0 payload put.1)) in (
           bytes.0,
           record { at = put.0; stands = put.1; holds = bytes.1 },
           laid.put put.0 mode p put.2 ∙ ap (λ (x : Option (List ℕ)). Some (image.File mode (bytes_of x))) bytes.1,

@@ -34,11 +34,7 @@ pub struct Planned {
 
 /// The plan that brings what is wanted onto the image. Nothing is taken away: InTheWay names the first wanted path at which
 /// something stands that can't stay. A directory that stands keeps its mode where none is stated; a new one is made with 0755.
-pub fn plan<S: Source>(
-    alloc: Global,
-    want: &Want,
-    image: &mut S,
-) -> Result<Planned, Or<PlanFault>>
+pub fn plan<S: Source>(alloc: Global, want: &Want, image: &mut S) -> Result<Planned, Or<PlanFault>>
     requires proper { AreProper want.now }
     requires together { HangTogether want.now }
     ensures planned { IsTrue (S.outside.tells image.old) → IfOk result (λ plan. IsPlanOf want.now (S.outside.state image.old).held (map step_of plan.steps.items) plan.contents.items) }

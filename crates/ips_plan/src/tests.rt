@@ -91,7 +91,8 @@ fn show(alloc: Global, text: &mut String, step: &Step) -> Result<(), Fail> {
     Ok(())
 }
 
-const FILE: &str = "file da39a3ee5e6b4b0d3255bfef95601890afd80709 path=m mode=0644 owner=root group=bin";
+const FILE: &str =
+    "file da39a3ee5e6b4b0d3255bfef95601890afd80709 path=m mode=0644 owner=root group=bin";
 
 // A file with names before and behind it, and one between.
 const NAMES: &str = "hardlink path=a target=m
@@ -131,11 +132,7 @@ fn plans_what_is_wanted(rt: HostRuntime) -> Result<(), Fail> {
             "b file 0 4755, l link of 1, m file 1 644, z new 755, a as m, z/z as m, 2",
         ),
         // something stands that can't become a directory, a file, a link or one more name
-        (
-            "fvar",
-            "",
-            "in the way: var",
-        ),
+        ("fvar", "", "in the way: var"),
         (
             "lb dvar dvar/pkg",
             "dir path=b mode=0755 owner=root group=bin",

@@ -1,4 +1,4 @@
-use Rattle.std.proofs.Common.{◌≡◌, ◌+◌, ◌++◌, ℕ, List, length, length-append, map, Option, Some, None, IfSome, refl, sym, ◌∙◌, ap, subst, rules}
+use Rattle.std.proofs.Common.{◌≡◌, ◌+◌, ◌++◌, ℕ, length, length-append, map, Option, Some, None, IfSome, sym, ◌∙◌, ap, subst, rules}
 use Rattle.std.specs.Option.{option_map, option_to_list}
 use Rattle.ips_steps.specs.Journal.{IsProper}
 use Rattle.ips_steps.specs.Steps.{Step}

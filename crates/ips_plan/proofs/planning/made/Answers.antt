@@ -1,7 +1,6 @@
-use Rattle.std.proofs.Common.{◌≡◌, ◌+◌, ◌++◌, ℕ, Bool, true, false, List, length, map, Option, Some, Result, Ok, Err, refl, sym, ◌∙◌, ap, subst, arith}
+use Rattle.std.proofs.Common.{◌≡◌, ◌+◌, ◌++◌, ℕ, true, List, length, Some, sym, ◌∙◌, ap, subst, arith}
 use Rattle.std.specs.Prelude.{slice_get}
 use Rattle.std.specs.Option.{option_to_list}
-use Rattle.std.proofs.lemmas.Bool.{not-false}
 use Rattle.ips_digest.specs.declared.name.PayloadName.{PayloadName}
 use Rattle.ips_outside.specs.declared.outside.Look.{Look}
 use Rattle.ips_outside.specs.Image.{Image}
@@ -9,7 +8,6 @@ use Rattle.ips_outside.specs.State.{State}
 use Rattle.ips_outside.specs.Outside.{look_of}
 use Rattle.ips_repo.proofs.Calls.{reads_then}
 use Rattle.ips_steps.specs.Steps.{Step}
-use Rattle.ips_steps.specs.View.{step_of}
 use Rattle.ips_meaning.specs.declared.entry.Entry.{Entry}
 use Rattle.ips_plan.specs.Planned.{payload_of}
 use Rattle.ips_plan.specs.StepsFor.{can_come, looks, step_at}

@@ -1,4 +1,4 @@
-use Rattle.std.proofs.Common.{◌≡◌, IsTrue, length, map}
+use Rattle.std.proofs.Common.{IsTrue, length, map}
 use Rattle.ips_outside.specs.Outside.{Reads}
 use Rattle.ips_steps.specs.View.{step_of}
 use Rattle.ips_plan.specs.StepsFor.{AreNumbered}

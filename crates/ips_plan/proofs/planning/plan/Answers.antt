@@ -1,12 +1,11 @@
-use Rattle.std.proofs.Common.{◌≡◌, ◌++◌, List, length, map, refl, sym, ◌∙◌, ap, subst}
+use Rattle.std.proofs.Common.{◌≡◌, ◌++◌, List, length, map, sym, ◌∙◌, ap, subst}
 use Rattle.ips_digest.specs.declared.name.PayloadName.{PayloadName}
 use Rattle.ips_outside.specs.Image.{Image}
 use Rattle.ips_steps.specs.Steps.{Step}
 use Rattle.ips_steps.specs.View.{step_of}
 use Rattle.ips_steps.specs.Journal.{AllProper}
-use Rattle.ips_install.specs.Layable.{AreListed}
 use Rattle.ips_plan.specs.Planned.{payloads_of, IsPlanOf}
-use Rattle.ips_plan.specs.StepsFor.{makers, links, looks, steps_for, AreMade, AreNumbered}
+use Rattle.ips_plan.specs.StepsFor.{links, steps_for, AreMade, AreNumbered}
 use Rattle.ips_plan.proofs.InOrder.{Entries}
 use Rattle.ips_plan.proofs.Layable.{AreReady}
 use Rattle.ips_plan.proofs.Numbers.{are_listed, links_numbered}
