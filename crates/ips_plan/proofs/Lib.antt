@@ -7,4 +7,5 @@ pub mod Layable
 pub mod Makers
 pub mod Meaning
 pub mod Numbers
+pub mod Order
 pub mod Plans

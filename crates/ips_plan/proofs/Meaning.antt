@@ -80,7 +80,7 @@ one_mode free (s ∷ rest) t q m f kept one own = elim (here_or_later s rest (st
 
 module _ (entries : Entries) (t : Image) (ready : AreReady entries t) where
   -- a directory stands where a mode is set
-  moded_dir : (m : ℕ) (p : List ℕ) → Contains (steps_for t entries) (step.Mode m p) → (was : ℕ) × (foreign : Bool) × (t.look p ≡ Some (image.Dir was foreign)) × Contains entries (p, Dir (Some m)) × (m ≡ was → ⊥)
+  pub moded_dir : (m : ℕ) (p : List ℕ) → Contains (steps_for t entries) (step.Mode m p) → (was : ℕ) × (foreign : Bool) × (t.look p ≡ Some (image.Dir was foreign)) × Contains entries (p, Dir (Some m)) × (m ≡ was → ⊥)
   moded_dir m p one = elim (kind_of entries t ready (step.Mode m p) one) [
     | inl from ↦
         let maker = maker_of entries t ready (step.Mode m p) from in

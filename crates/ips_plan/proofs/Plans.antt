@@ -18,7 +18,8 @@ use Rattle.ips_plan.proofs.Elements.{first_of, later_of, place_of, any_from}
 use Rattle.ips_plan.proofs.InOrder.{Entries}
 use Rattle.ips_plan.proofs.Following.{freed_from, named_from}
 use Rattle.ips_plan.proofs.Layable.{AreReady, path_wanted, freed_new, are_layable}
-use Rattle.ips_plan.proofs.Meaning.{is_meant}
+use Rattle.ips_plan.proofs.Meaning.{moded_dir, is_meant}
+use Rattle.ips_plan.proofs.Order.{steps_sorted}
 
 frees_below : (s : Step) (q : List ℕ) → frees s q ≡ true → covers (path_of s) q ≡ true
 frees_below (step.Gone p) q f = f
@@ -71,10 +72,16 @@ module _ (entries : Entries) (t : Image) (ready : AreReady entries t) where
   is_plan proper = record {
     fit = ready.fit;
     contents_are = refl;
+    order = steps_sorted t entries ready.order;
     layable = are_layable entries t ready;
     means = λ stage each. is_meant entries t ready stage each proper;
     within = λ q f. let one = freed_from (steps_for t entries) q f in covered one.0 q one.1 (frees_below one.0 q one.2);
     modes = λ q n. let one = named_from (steps_for t entries) q n in covered one.0 q one.1 (same_covers (path_of one.0) q one.2);
+    other_mode = λ m p foreign one stands.
+        let dir = moded_dir entries t ready m p one in
+        let found : Some (image.Dir dir.0 dir.1) ≡ Some (image.Dir m foreign) = sym dir.2 ∙ stands in
+        let same : m ≡ dir.0 = cc in
+        dir.4 same;
     idle = idle;
     new = λ q f. freed_new entries t ready q f;
   }

@@ -1,11 +1,16 @@
 -- The steps of a plan, and what stands in the way of one.
 use Rattle.std.specs.Prelude.{◌≡◌, ℕ, ◌<◌, Bool, IsTrue, List, [], ◌∷◌, length, slice_get, Option, Some, None}
-use Rattle.std.specs.List.{list_any, flat_map}
+use Rattle.std.specs.List.{Contains, list_any, flat_map}
+use Rattle.std.specs.List.Sorted.{IsStrictlySortedBy}
+use Rattle.std.specs.Ordering.{nat_cmp, ordering_then}
+use Rattle.std.specs.Cmp.Lexicographic.{slice_cmp}
+use Rattle.std.specs.declared.cmp.Ordering.{Ordering}
 use Rattle.ips_text.specs.Ancestry.{covers}
 use Rattle.ips_outside.specs.Image.{Image}
 use Rattle.ips_outside.specs.Image as image
 use Rattle.ips_digest.specs.declared.name.PayloadName.{PayloadName}
-use Rattle.ips_steps.specs.Steps.{Step, Stage, all_laid, freed, named}
+use Rattle.ips_steps.specs.Steps as step
+use Rattle.ips_steps.specs.Steps.{Step, Stage, path_of, all_laid, freed, named}
 use Rattle.ips_install.specs.Layable.{AreLayable, HasEach}
 use Rattle.ips_meaning.specs.declared.entry.Entry.{Entry}
 use Rattle.ips_meaning.specs.declared.entry.Entry.TheVariants.{Dir, File, Link, Hard}
@@ -78,14 +83,30 @@ pub record AreStaged (contents : List PayloadName) (stage : Stage) (name : Paylo
   pub stands : slice_get contents at ≡ Some name
   pub holds : stage at ≡ Some bytes
 
+-- hard links come behind all other steps
+abbrev pub rank : Step → ℕ
+rank (step.Gone p) = 0
+rank (step.Fresh m p) = 0
+rank (step.Mode m p) = 0
+rank (step.Put n m p) = 0
+rank (step.Symlink p target) = 0
+rank (step.Hard p to) = 1
+
+-- the order of steps: by rank, and then by the bytes of their paths
+abbrev pub step_cmp : Step → Step → Ordering
+step_cmp s x = ordering_then (nat_cmp (rank s) (rank x)) (slice_cmp nat_cmp (path_of s) (path_of x))
+
 -- The steps can be laid straight on the image, and make it what the entries mean, whatever the bytes of the payloads are. They
--- change nothing but wanted paths, and of what stands no more than the modes of directories; where all stands already there are none.
+-- change nothing but wanted paths, and of what stands no more than the modes of directories that have another one; where all
+-- stands already there are none.
 pub record IsPlanOf (entries : List (List ℕ × Entry)) (t : Image) (steps : List Step) (contents : List PayloadName) : Type 0 where
   pub fit : AllFit t entries
   pub contents_are : contents ≡ payloads_of entries
+  pub order : IsStrictlySortedBy step_cmp steps
   pub layable : AreLayable (length contents) t steps
   pub means : (stage : Stage) → HasEach (length contents) stage → IsMeant (AreStaged contents stage) entries t (all_laid stage steps t)
   pub within : (q : List ℕ) → IsTrue (freed steps q) → IsTrue (is_covered entries q)
   pub modes : (q : List ℕ) → IsTrue (named steps q) → IsTrue (is_covered entries q)
+  pub other_mode : (m : ℕ) (p : List ℕ) (foreign : Bool) → Contains steps (step.Mode m p) → t.look p ≡ Some (image.Dir m foreign) → ⊥
   pub idle : AllStand t entries → steps ≡ []
   pub new : (q : List ℕ) → IsTrue (freed steps q) → t.look q ≡ None
