@@ -1,17 +1,14 @@
 -- The order of the steps.
-use Rattle.std.proofs.Common.{◌≡◌, ℕ, ◌+◌, List, [], ◌∷◌, ◌++◌, length, Option, Some, None, refl, sym, ◌∙◌, ap, subst, Contains}
+use Rattle.std.proofs.Common.{◌≡◌, ℕ, ◌+◌, List, [], ◌∷◌, ◌++◌, length, Option, Some, None, refl, ◌∙◌, ap, Contains}
 use Rattle.std.specs.List.{AllByRecursion, cons_option}
 use Rattle.std.specs.List.Sorted.{IsStrictlySortedBy}
 use Rattle.std.specs.Ordering.{nat_cmp, ordering_then}
 use Rattle.std.specs.Cmp.Lexicographic.{slice_cmp}
-use Rattle.std.specs.declared.cmp.Ordering.{Ordering}
 use Rattle.std.specs.declared.cmp.Ordering.TheVariants.{Less}
-use Rattle.std.proofs.lemmas.List.Elements.{Contains-append_cases}
 use Rattle.ips_outside.specs.declared.outside.Look.{Look}
 use Rattle.ips_outside.specs.Image.{Image}
 use Rattle.ips_steps.specs.Steps as step
 use Rattle.ips_steps.specs.Steps.{Step, path_of}
-use Rattle.ips_meaning.specs.declared.entry.Entry.{Entry}
 use Rattle.ips_meaning.specs.declared.entry.Entry.TheVariants.{Hard}
 use Rattle.ips_plan.specs.Planned.{payload_of, rank, step_cmp}
 use Rattle.ips_plan.specs.StepsFor.{step_at, makers, link_step, links, looks, steps_for}
@@ -65,10 +62,10 @@ makers_sorted found n [] order = sorted_none
 makers_sorted found n (e ∷ entries) order =
     sorted_one (step_at (found e.0) n e.0 e.1) (makers found (n + length (payload_of e.1)) entries)
     (λ s is x one.
-        let maker = maker_is (found e.0) n e.0 e.1 s is in
-        let from = made_from found (n + length (payload_of e.1)) entries x one in
-        let later = maker_is (found from.path) from.number from.path from.entry x from.is in
-        by_path s x e.0 from.path (rank_of s maker.not_hard) (rank_of x later.not_hard) maker.path later.path (later_less e entries order (from.path, from.entry) from.one))
+    let maker = maker_is (found e.0) n e.0 e.1 s is in
+    let from = made_from found (n + length (payload_of e.1)) entries x one in
+    let later = maker_is (found from.path) from.number from.path from.entry x from.is in
+    by_path s x e.0 from.path (rank_of s maker.not_hard) (rank_of x later.not_hard) maker.path later.path (later_less e entries order (from.path, from.entry) from.one))
     (makers_sorted found (n + length (payload_of e.1)) entries (rest_order e entries order))
 
 links_sorted : (entries : Entries) → AreInOrder entries → IsStrictlySortedBy step_cmp (links entries)
@@ -76,10 +73,10 @@ links_sorted [] order = sorted_none
 links_sorted (e ∷ entries) order =
     sorted_one (link_step e.0 e.1) (links entries)
     (λ s is x one.
-        let here = link_is e.0 e.1 s is in
-        let later = link_from entries x one in
-        let less : slice_cmp nat_cmp e.0 later.0 ≡ Less = later_less e entries order (later.0, Hard later.1) later.2 in
-        (λ i. step_cmp (here.2 i) (later.3 i)) ∙ less)
+    let here = link_is e.0 e.1 s is in
+    let later = link_from entries x one in
+    let less : slice_cmp nat_cmp e.0 later.0 ≡ Less = later_less e entries order (later.0, Hard later.1) later.2 in
+    (λ i. step_cmp (here.2 i) (later.3 i)) ∙ less)
     (links_sorted entries (rest_order e entries order))
 
 pub steps_sorted : (t : Image) (entries : Entries) → AreInOrder entries → IsStrictlySortedBy step_cmp (steps_for t entries)
