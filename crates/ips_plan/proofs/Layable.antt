@@ -184,17 +184,20 @@ pub record AreReady (entries : Entries) (t : Image) : Type 0 where
   pub fit : AllFit t entries
 
 module _ (entries : Entries) (t : Image) (ready : AreReady entries t) where
+  abbrev steps : List Step
+  steps = steps_for t entries
+
   pub nodes : HasNodes t
   nodes = record { self = ready.formed.self }
 
-  pub followed : AllFollow (steps_for t entries)
+  pub followed : AllFollow steps
   followed = all_follow entries ready.order ready.together t
 
   pub fits_at : (p : List ℕ) (e : Entry) → Contains entries (p, e) → Fits (t.look p) e
   fits_at p e one = let at = place_of entries (p, e) one in ready.fit at.0 p e at.1
 
   -- a step is a maker of an entry, or the hard link that one wants
-  pub kind_of : (s : Step) → Contains (steps_for t entries) s → Made (looks t) 0 entries s ⊎ ((p : List ℕ) × (to : Kept) × Contains entries (p, Hard to) × (s ≡ step.Hard p to.bytes))
+  pub kind_of : (s : Step) → Contains steps s → Made (looks t) 0 entries s ⊎ ((p : List ℕ) × (to : Kept) × Contains entries (p, Hard to) × (s ≡ step.Hard p to.bytes))
   kind_of s one = elim (Contains-append_cases (makers (looks t) 0 entries) (links entries) s one) [
     | inl made ↦ inl (made_from (looks t) 0 entries s made)
     | inr link ↦ inr (link_from entries s link)
@@ -204,13 +207,13 @@ module _ (entries : Entries) (t : Image) (ready : AreReady entries t) where
   maker_of s from = maker_is (looks t from.path) from.number from.path from.entry s from.is
 
   -- the path of a step is wanted
-  pub path_wanted : (s : Step) → Contains (steps_for t entries) s → (e : Entry) × Contains entries (path_of s, e)
+  pub path_wanted : (s : Step) → Contains steps s → (e : Entry) × Contains entries (path_of s, e)
   path_wanted s one = elim (kind_of s one) [
     | inl from ↦ (from.entry, subst (λ (p : List ℕ). Contains entries (p, from.entry)) (sym (maker_of s from).path) from.one)
     | inr link ↦ (Hard link.1, subst (λ (y : Step). Contains entries (path_of y, Hard link.1)) (sym link.3) link.2)
   ]
 
-  pub hard_wanted : (p to : List ℕ) → Contains (steps_for t entries) (step.Hard p to) → (k : Kept) × (to ≡ k.bytes) × Contains entries (p, Hard k)
+  pub hard_wanted : (p to : List ℕ) → Contains steps (step.Hard p to) → (k : Kept) × (to ≡ k.bytes) × Contains entries (p, Hard k)
   hard_wanted p to one = elim (kind_of (step.Hard p to) one) [
     | inl from ↦ absurd ((maker_of (step.Hard p to) from).not_hard p to refl)
     | inr link ↦
@@ -220,7 +223,7 @@ module _ (entries : Entries) (t : Image) (ready : AreReady entries t) where
   ]
 
   -- where a step frees a path, nothing stands there
-  frees_new : (s : Step) (q : List ℕ) → Contains (steps_for t entries) s → frees s q ≡ true → t.look q ≡ None
+  frees_new : (s : Step) (q : List ℕ) → Contains steps s → frees s q ≡ true → t.look q ≡ None
   frees_new s q one f = elim (kind_of s one) [
     | inl from ↦
         let new = (maker_of s from).new q f in
@@ -230,60 +233,63 @@ module _ (entries : Entries) (t : Image) (ready : AreReady entries t) where
         nothing_below t link.0 ready.formed none q (ap (λ (y : Step). frees y q) (sym link.3) ∙ f)
   ]
 
-  pub freed_new : (q : List ℕ) → freed (steps_for t entries) q ≡ true → t.look q ≡ None
-  freed_new q f = let one = freed_from (steps_for t entries) q f in frees_new one.0 q one.1 one.2
+  pub freed_new : (q : List ℕ) → freed steps q ≡ true → t.look q ≡ None
+  freed_new q f = let one = freed_from steps q f in frees_new one.0 q one.1 one.2
 
-  pub stands_unfreed : (q : List ℕ) (e : image.Entry) → t.look q ≡ Some e → freed (steps_for t entries) q ≡ false
+  pub stands_unfreed : (q : List ℕ) (e : image.Entry) → t.look q ≡ Some e → freed steps q ≡ false
   stands_unfreed q e is = false_from_ne_true _ (λ f. let none = freed_new q f in absurd (cc))
 
   -- the step of an entry that isn't a hard link
   pub has_maker : (p : List ℕ) (e : Entry) → Contains entries (p, e) → Has (looks t) 0 entries p e
   has_maker p e one = has_step (looks t) 0 entries p e one
 
-  pub maker_in : (p : List ℕ) (e : Entry) (s : Step) (one : Contains entries (p, e)) → step_at (looks t p) (has_maker p e one).number p e ≡ Some s → Contains (steps_for t entries) s
+  pub maker_in : (p : List ℕ) (e : Entry) (s : Step) (one : Contains entries (p, e)) → step_at (looks t p) (has_maker p e one).number p e ≡ Some s → Contains steps s
   maker_in p e s one is = Contains-append_left (makers (looks t) 0 entries) (links entries) s ((has_maker p e one).has s is)
 
-  pub new_in : (p : List ℕ) (e : Entry) (s : Step) (one : Contains entries (p, e)) → t.look p ≡ None → new_step (has_maker p e one).number p e ≡ Some s → Contains (steps_for t entries) s
+  pub new_in : (p : List ℕ) (e : Entry) (s : Step) (one : Contains entries (p, e)) → t.look p ≡ None → new_step (has_maker p e one).number p e ≡ Some s → Contains steps s
   new_in p e s one none is = maker_in p e s one (ap (λ (x : Option image.Entry). step_at (look_of x) (has_maker p e one).number p e) none ∙ is)
 
   -- ---- each step can be laid
 
   module _ (stage : Stage) where
+    abbrev left : Image
+    left = outcome stage steps t
+
     -- what is made at a wanted path that is no hard link's
-    made_there : (s : Step) (e : Entry) (x : Option image.Entry) → Contains (steps_for t entries) s → Contains entries (path_of s, e) → ((to : Kept) → e ≡ Hard to → ⊥) → frees s (path_of s) ≡ true → ((rest : List Step) → made stage (s ∷ rest) (path_of s) ≡ x) → (outcome stage (steps_for t entries) t).look (path_of s) ≡ x
+    made_there : (s : Step) (e : Entry) (x : Option image.Entry) → Contains steps s → Contains entries (path_of s, e) → ((to : Kept) → e ≡ Hard to → ⊥) → frees s (path_of s) ≡ true → ((rest : List Step) → made stage (s ∷ rest) (path_of s) ≡ x) → left.look (path_of s) ≡ x
     made_there s e x one wanted other own is =
-        ap (bare stage (steps_for t entries) t) (source_own (steps_for t entries) (path_of s) (λ p to hard. false_from_ne_true _ (λ same.
+        ap (bare stage steps t) (source_own steps (path_of s) (λ p to hard. false_from_ne_true _ (λ same.
         let link = hard_wanted p to hard in
         let at : p ≡ path_of s = same_path-true p (path_of s) same in
         other link.0 (one_wanted entries ready.order (path_of s) e (Hard link.0) wanted (subst (λ (x : List ℕ). Contains entries (x, Hard link.0)) at link.2)))))
-        ∙ ap (λ (b : Bool). cond b (made stage (steps_for t entries) (path_of s)) (with_modes (freed (steps_for t entries)) (steps_for t entries) t (path_of s) (t.look (path_of s)))) (freed_by (steps_for t entries) s (path_of s) one own)
-        ∙ made_by stage (steps_for t entries) s x followed one is
+        ∙ ap (λ (b : Bool). cond b (made stage steps (path_of s)) (with_modes (freed steps) steps t (path_of s) (t.look (path_of s)))) (freed_by steps s (path_of s) one own)
+        ∙ made_by stage steps s x followed one is
 
-    dir_stands : (d : List ℕ) (mode : Option ℕ) → Contains entries (d, Dir mode) → is_dir ((outcome stage (steps_for t entries) t).look d) ≡ true
+    dir_stands : (d : List ℕ) (mode : Option ℕ) → Contains entries (d, Dir mode) → is_dir (left.look d) ≡ true
     dir_stands d mode one = elim (fits_dir (t.look d) mode (fits_at d (Dir mode) one)) [
       | inl none ↦
           let s = step.Fresh (unwrap_or mode implicit_mode) d in
           ap is_dir (made_there s (Dir mode) (Some (image.Dir (unwrap_or mode implicit_mode) false)) (new_in d (Dir mode) s one none refl) one (λ to e. cc) (covers-self d) (λ rest. rw (same_path-self d) refl))
       | inr stands ↦
-          is_dir-alike _ (t.look d) (outcome_kept stage (steps_for t entries) t d (stands_unfreed d (image.Dir stands.0 stands.1) stands.2)) ∙ ap is_dir stands.2
+          is_dir-alike _ (t.look d) (outcome_kept stage steps t d (stands_unfreed d (image.Dir stands.0 stands.1) stands.2)) ∙ ap is_dir stands.2
     ]
 
-    file_stands : (p : List ℕ) (payload : PayloadName) (mode : ℕ) (preserve : Preserve) → Contains entries (p, File payload mode preserve) → is_file ((outcome stage (steps_for t entries) t).look p) ≡ true
+    file_stands : (p : List ℕ) (payload : PayloadName) (mode : ℕ) (preserve : Preserve) → Contains entries (p, File payload mode preserve) → is_file (left.look p) ≡ true
     file_stands p payload mode preserve one =
         let none = fits_none (t.look p) (File payload mode preserve) (fits_at p (File payload mode preserve) one) (λ m e. cc) in
         let n = (has_maker p (File payload mode preserve) one).number in
         let s = step.Put n mode p in
         ap is_file (made_there s (File payload mode preserve) (Some (image.File mode (bytes_of (stage n)))) (new_in p (File payload mode preserve) s one none refl) one (λ to e. cc) (covers-self p) (λ rest. rw (same_path-self p) refl))
 
-    parent_stands : (p : List ℕ) (e : Entry) → Contains entries (p, e) → has_parent (outcome stage (steps_for t entries) t) p ≡ true
+    parent_stands : (p : List ℕ) (e : Entry) → Contains entries (p, e) → has_parent left p ≡ true
     parent_stands p e one = go (parent p) refl
       where
-        go : (o : Option (List ℕ)) → parent p ≡ o → dir_or_none (outcome stage (steps_for t entries) t) o ≡ true
+        go : (o : Option (List ℕ)) → parent p ≡ o → dir_or_none left o ≡ true
         go None is = refl
         go (Some d) is = let dir = held_by entries ready.order ready.together p e d one is in dir_stands d dir.0 dir.1
 
     module _ (each : HasEach (length (payloads_of entries)) stage) where
-      content_stands : (n m : ℕ) (p : List ℕ) → Contains (steps_for t entries) (step.Put n m p) → is_some (stage n) ≡ true
+      content_stands : (n m : ℕ) (p : List ℕ) → Contains steps (step.Put n m p) → is_some (stage n) ≡ true
       content_stands n m p one = elim (kind_of (step.Put n m p) one) [
         | inl from ↦
             let put = (maker_of (step.Put n m p) from).put n m p refl in
@@ -293,7 +299,7 @@ module _ (entries : Entries) (t : Image) (ready : AreReady entries t) where
         | inr link ↦ let no : step.Put n m p ≡ step.Hard link.0 link.1.bytes = link.3 in cc
       ]
 
-      can_of : (s : Step) → Contains (steps_for t entries) s → can_lay stage s (outcome stage (steps_for t entries) t) ≡ true
+      can_of : (s : Step) → Contains steps s → can_lay stage s left ≡ true
       can_of (step.Gone p) one = refl
       can_of (step.Fresh m p) one = let wanted = path_wanted (step.Fresh m p) one in parent_stands p wanted.0 wanted.1
       can_of (step.Mode m p) one = let wanted = path_wanted (step.Mode m p) one in parent_stands p wanted.0 wanted.1
@@ -303,15 +309,15 @@ module _ (entries : Entries) (t : Image) (ready : AreReady entries t) where
           let link = hard_wanted p to one in
           let file = leads_to entries ready.order ready.together p link.0 link.2 in
           let off : covers p to ≡ false = ap (covers p) link.1 ∙ hard_covers entries ready.order ready.together p link.0 link.0.bytes (File file.0 file.1 file.2) link.2 file.3 (λ e. cc) in
-          let stands : is_file ((outcome stage (steps_for t entries) t).look to) ≡ true = ap (λ (x : List ℕ). is_file ((outcome stage (steps_for t entries) t).look x)) link.1 ∙ file_stands link.0.bytes file.0 file.1 file.2 file.3 in
+          let stands : is_file (left.look to) ≡ true = ap (λ (x : List ℕ). is_file (left.look x)) link.1 ∙ file_stands link.0.bytes file.0 file.1 file.2 file.3 in
           and_from _ _ (parent_stands p (Hard link.0) link.2) (and_from _ _ (ap not off) stands)
 
-      pub all_possible : possible stage (steps_for t entries) t ≡ true
-      all_possible = (fits_outcome stage (steps_for t entries) t nodes (follow_sound (steps_for t entries) followed) (follow_distinct (steps_for t entries) followed) (fit_from stage (steps_for t entries) _ can_of)).0
+      pub all_possible : possible stage steps t ≡ true
+      all_possible = (fits_outcome stage steps t nodes (follow_sound steps followed) (follow_distinct steps followed) (fit_from stage steps _ can_of)).0
 
   -- ---- nothing that stands gives way
 
-  plain_at : (s : Step) → Contains (steps_for t entries) s → IsPlain t s
+  plain_at : (s : Step) → Contains steps s → IsPlain t s
   plain_at (step.Gone p) one = elim (kind_of (step.Gone p) one) [
     | inl from ↦ (maker_of (step.Gone p) from).not_gone p refl
     | inr link ↦ let no : step.Gone p ≡ step.Hard link.0 link.1.bytes = link.3 in cc
@@ -328,10 +334,10 @@ module _ (entries : Entries) (t : Image) (ready : AreReady entries t) where
   plain_at (step.Symlink p target) one = frees_new (step.Symlink p target) p one (covers-self p)
   plain_at (step.Hard p to) one = frees_new (step.Hard p to) p one (covers-self p)
 
-  pub are_layable : AreLayable (length (payloads_of entries)) t (steps_for t entries)
+  pub are_layable : AreLayable (length (payloads_of entries)) t steps
   are_layable = record {
-    once = follow_distinct (steps_for t entries) followed;
-    is_sound = follow_sound (steps_for t entries) followed;
+    once = follow_distinct steps followed;
+    is_sound = follow_sound steps followed;
     can = λ stage each. all_possible stage each;
-    plain = recursion_from (IsPlain t) (steps_for t entries) plain_at;
+    plain = recursion_from (IsPlain t) steps plain_at;
   }

@@ -79,8 +79,11 @@ one_mode free (s ∷ rest) t q m f kept one own = elim (here_or_later s rest (st
 -- ---- the image that is left
 
 module _ (entries : Entries) (t : Image) (ready : AreReady entries t) where
+  abbrev steps : List Step
+  steps = steps_for t entries
+
   -- a directory stands where a mode is set
-  pub moded_dir : (m : ℕ) (p : List ℕ) → Contains (steps_for t entries) (step.Mode m p) → (was : ℕ) × (foreign : Bool) × (t.look p ≡ Some (image.Dir was foreign)) × Contains entries (p, Dir (Some m)) × (m ≡ was → ⊥)
+  pub moded_dir : (m : ℕ) (p : List ℕ) → Contains steps (step.Mode m p) → (was : ℕ) × (foreign : Bool) × (t.look p ≡ Some (image.Dir was foreign)) × Contains entries (p, Dir (Some m)) × (m ≡ was → ⊥)
   moded_dir m p one = elim (kind_of entries t ready (step.Mode m p) one) [
     | inl from ↦
         let maker = maker_of entries t ready (step.Mode m p) from in
@@ -97,7 +100,7 @@ module _ (entries : Entries) (t : Image) (ready : AreReady entries t) where
   ]
 
   -- so it has no other name
-  names_own : (q : List ℕ) (m : ℕ) (p : List ℕ) → Contains (steps_for t entries) (step.Mode m p) → names t p q ≡ same_path p q
+  names_own : (q : List ℕ) (m : ℕ) (p : List ℕ) → Contains steps (step.Mode m p) → names t p q ≡ same_path p q
   names_own q m p one =
       let dir = moded_dir m p one in
       let apart : t.same p q ≡ false = false_from_ne_true _ (λ same.
@@ -111,7 +114,7 @@ module _ (entries : Entries) (t : Image) (ready : AreReady entries t) where
       or_none false = refl
 
   -- a path that isn't wanted has no step
-  no_step : (q : List ℕ) → wanted_at entries q ≡ None → (s : Step) → Contains (steps_for t entries) s → same_path (path_of s) q ≡ false
+  no_step : (q : List ℕ) → wanted_at entries q ≡ None → (s : Step) → Contains steps s → same_path (path_of s) q ≡ false
   no_step q off s one = false_from_ne_true _ (λ same.
       let wanted = path_wanted entries t ready s one in
       let at : path_of s ≡ q = same_path-true (path_of s) q same in
@@ -120,33 +123,36 @@ module _ (entries : Entries) (t : Image) (ready : AreReady entries t) where
       absurd (cc))
 
   -- a path at which no hard link is wanted has its own file
-  source_plain : (q : List ℕ) → ((to : Kept) → wanted_at entries q ≡ Some (Hard to) → ⊥) → source (steps_for t entries) q ≡ q
-  source_plain q plain = source_own (steps_for t entries) q (λ p to hard. false_from_ne_true _ (λ same.
+  source_plain : (q : List ℕ) → ((to : Kept) → wanted_at entries q ≡ Some (Hard to) → ⊥) → source steps q ≡ q
+  source_plain q plain = source_own steps q (λ p to hard. false_from_ne_true _ (λ same.
       let link = hard_wanted entries t ready p to hard in
       let at : p ≡ q = same_path-true p q same in
       plain link.0 (ap (wanted_at entries) (sym at) ∙ wanted_there entries ready.order p (Hard link.0) link.2)))
 
-  module _ (stage : Stage) (each : HasEach (length (payloads_of entries)) stage) (proper : AllProper (steps_for t entries)) where
-    laid : IsLaidByPath stage (steps_for t entries) t (all_laid stage (steps_for t entries) t)
-    laid = by_path stage (steps_for t entries) t (nodes entries t ready) (follow_sound (steps_for t entries) (followed entries t ready)) (follow_distinct (steps_for t entries) (followed entries t ready)) (all_possible entries t ready stage each)
+  module _ (stage : Stage) (each : HasEach (length (payloads_of entries)) stage) (proper : AllProper steps) where
+    abbrev left : Image
+    left = all_laid stage steps t
 
-    left_formed : IsImage (all_laid stage (steps_for t entries) t)
-    left_formed = all_formed stage (steps_for t entries) t ready.formed proper (all_possible entries t ready stage each)
+    laid : IsLaidByPath stage steps t left
+    laid = by_path stage steps t (nodes entries t ready) (follow_sound steps (followed entries t ready)) (follow_distinct steps (followed entries t ready)) (all_possible entries t ready stage each)
+
+    left_formed : IsImage left
+    left_formed = all_formed stage steps t ready.formed proper (all_possible entries t ready stage each)
 
     -- ---- what stands at each wanted path
 
     -- a directory that stands has the mode that is stated, and else its own
-    dir_kept : (p : List ℕ) (mode : Option ℕ) (was : ℕ) (foreign : Bool) → Contains entries (p, Dir mode) → t.look p ≡ Some (image.Dir was foreign) → (all_laid stage (steps_for t entries) t).look p ≡ Some (directory_over mode (Some (image.Dir was foreign)))
+    dir_kept : (p : List ℕ) (mode : Option ℕ) (was : ℕ) (foreign : Bool) → Contains entries (p, Dir mode) → t.look p ≡ Some (image.Dir was foreign) → left.look p ≡ Some (directory_over mode (Some (image.Dir was foreign)))
     dir_kept p mode was foreign one stands =
         let kept = stands_unfreed entries t ready p (image.Dir was foreign) stands in
-        laid.kept p kept ∙ ap (given (last_mode (freed (steps_for t entries)) (steps_for t entries) t p)) stands ∙ modes mode one
+        laid.kept p kept ∙ ap (given (last_mode (freed steps) steps t p)) stands ∙ modes mode one
       where
-        given_at : (o : Option ℕ) (x : image.Entry) → last_mode (freed (steps_for t entries)) (steps_for t entries) t p ≡ o → given o (Some (image.Dir was foreign)) ≡ Some x → given (last_mode (freed (steps_for t entries)) (steps_for t entries) t p) (Some (image.Dir was foreign)) ≡ Some x
+        given_at : (o : Option ℕ) (x : image.Entry) → last_mode (freed steps) steps t p ≡ o → given o (Some (image.Dir was foreign)) ≡ Some x → given (last_mode (freed steps) steps t p) (Some (image.Dir was foreign)) ≡ Some x
         given_at o x is e = ap (λ (m : Option ℕ). given m (Some (image.Dir was foreign))) is ∙ e
 
         -- no mode is set but another one that is stated
-        unset : (wanted : Option ℕ) → Contains entries (p, Dir wanted) → ((m : ℕ) → wanted ≡ Some m → m ≡ was) → last_mode (freed (steps_for t entries)) (steps_for t entries) t p ≡ None
-        unset wanted there only = no_mode (freed (steps_for t entries)) (steps_for t entries) t p (λ m q set. names_own p m q set ∙ false_from_ne_true _ (λ same.
+        unset : (wanted : Option ℕ) → Contains entries (p, Dir wanted) → ((m : ℕ) → wanted ≡ Some m → m ≡ was) → last_mode (freed steps) steps t p ≡ None
+        unset wanted there only = no_mode (freed steps) steps t p (λ m q set. names_own p m q set ∙ false_from_ne_true _ (λ same.
             let dir = moded_dir m q set in
             let at : q ≡ p = same_path-true q p same in
             let found : Some (image.Dir dir.0 dir.1) ≡ Some (image.Dir was foreign) = sym dir.2 ∙ ap t.look at ∙ stands in
@@ -155,7 +161,7 @@ module _ (entries : Entries) (t : Image) (ready : AreReady entries t) where
             let stated : wanted ≡ Some m = cc in
             dir.4 (only m stated ∙ sym mode_was)))
 
-        set_or_same : (m : ℕ) → Contains entries (p, Dir (Some m)) → (same : Bool) → (m == was) ≡ same → given (last_mode (freed (steps_for t entries)) (steps_for t entries) t p) (Some (image.Dir was foreign)) ≡ Some (image.Dir m foreign)
+        set_or_same : (m : ℕ) → Contains entries (p, Dir (Some m)) → (same : Bool) → (m == was) ≡ same → given (last_mode (freed steps) steps t p) (Some (image.Dir was foreign)) ≡ Some (image.Dir m foreign)
         set_or_same m there true e =
             let is : m ≡ was = eqb-true m was e in
             given_at None (image.Dir m foreign) (unset (Some m) there (λ k stated. let k_is : k ≡ m = cc in k_is ∙ is)) (ap (λ (k : ℕ). Some (image.Dir k foreign)) (sym is))
@@ -164,21 +170,21 @@ module _ (entries : Entries) (t : Image) (ready : AreReady entries t) where
             let is_step : step_at (looks t p) (has_maker entries t ready p (Dir (Some m)) there).number p (Dir (Some m)) ≡ Some (step.Mode m p) =
             ap (λ (x : Look). step_at x (has_maker entries t ready p (Dir (Some m)) there).number p (Dir (Some m))) found ∙ ap (λ (b : Bool). cond b None (Some (step.Mode m p))) e in
             let set = maker_in entries t ready p (Dir (Some m)) (step.Mode m p) there is_step in
-            given_at (Some m) (image.Dir m foreign) (one_mode (freed (steps_for t entries)) (steps_for t entries) t p m (followed entries t ready) (stands_unfreed entries t ready p (image.Dir was foreign) stands) set (names_own p)) refl
+            given_at (Some m) (image.Dir m foreign) (one_mode (freed steps) steps t p m (followed entries t ready) (stands_unfreed entries t ready p (image.Dir was foreign) stands) set (names_own p)) refl
 
-        modes : (wanted : Option ℕ) → Contains entries (p, Dir wanted) → given (last_mode (freed (steps_for t entries)) (steps_for t entries) t p) (Some (image.Dir was foreign)) ≡ Some (directory_over wanted (Some (image.Dir was foreign)))
+        modes : (wanted : Option ℕ) → Contains entries (p, Dir wanted) → given (last_mode (freed steps) steps t p) (Some (image.Dir was foreign)) ≡ Some (directory_over wanted (Some (image.Dir was foreign)))
         modes None there = given_at None (image.Dir was foreign) (unset None there (λ m stated. cc)) refl
         modes (Some m) there = set_or_same m there (m == was) refl
 
     -- a new one has the mode that is stated, or the implicit one
-    dir_new : (p : List ℕ) (mode : Option ℕ) → Contains entries (p, Dir mode) → t.look p ≡ None → (all_laid stage (steps_for t entries) t).look p ≡ Some (directory_over mode None)
+    dir_new : (p : List ℕ) (mode : Option ℕ) → Contains entries (p, Dir mode) → t.look p ≡ None → left.look p ≡ Some (directory_over mode None)
     dir_new p mode one none = laid.fresh (unwrap_or mode implicit_mode) p (new_in entries t ready p (Dir mode) (step.Fresh (unwrap_or mode implicit_mode) p) one none refl) ∙ over mode
       where
         over : (m : Option ℕ) → Some (image.Dir (unwrap_or m implicit_mode) false) ≡ Some (directory_over m None)
         over None = refl
         over (Some m) = refl
 
-    shows_dir : (p : List ℕ) (mode : Option ℕ) → Contains entries (p, Dir mode) → Shows (AreStaged (payloads_of entries) stage) t (all_laid stage (steps_for t entries) t) p (Dir mode)
+    shows_dir : (p : List ℕ) (mode : Option ℕ) → Contains entries (p, Dir mode) → Shows (AreStaged (payloads_of entries) stage) t left p (Dir mode)
     shows_dir p mode one = elim (fits_dir (t.look p) mode (fits_at entries t ready p (Dir mode) one)) [
       | inl none ↦ dir_new p mode one none ∙ ap (λ (x : Option image.Entry). Some (directory_over mode x)) (sym none)
       | inr stands ↦ dir_kept p mode stands.0 stands.1 one stands.2 ∙ ap (λ (x : Option image.Entry). Some (directory_over mode x)) (sym stands.2)
@@ -187,15 +193,15 @@ module _ (entries : Entries) (t : Image) (ready : AreReady entries t) where
     absent : (p : List ℕ) (e : Entry) → Contains entries (p, e) → ((mode : Option ℕ) → e ≡ Dir mode → ⊥) → t.look p ≡ None
     absent p e one other = fits_none (t.look p) e (fits_at entries t ready p e one) other
 
-    put_in : (p : List ℕ) (payload : PayloadName) (mode : ℕ) (preserve : Preserve) → Contains entries (p, File payload mode preserve) → (n : ℕ) × (slice_get (payloads_of entries) n ≡ Some payload) × Contains (steps_for t entries) (step.Put n mode p)
+    put_in : (p : List ℕ) (payload : PayloadName) (mode : ℕ) (preserve : Preserve) → Contains entries (p, File payload mode preserve) → (n : ℕ) × (slice_get (payloads_of entries) n ≡ Some payload) × Contains steps (step.Put n mode p)
     put_in p payload mode preserve one =
         let e = File payload mode preserve in
         let has = has_maker entries t ready p e one in
         let place = has.place payload refl in
         let at : has.number ≡ place.0 = omega (arith, place.1) in
-        (place.0, place.2, subst (λ (n : ℕ). Contains (steps_for t entries) (step.Put n mode p)) at (new_in entries t ready p e (step.Put has.number mode p) one (absent p e one (λ m is. cc)) refl))
+        (place.0, place.2, subst (λ (n : ℕ). Contains steps (step.Put n mode p)) at (new_in entries t ready p e (step.Put has.number mode p) one (absent p e one (λ m is. cc)) refl))
 
-    shows_file : (p : List ℕ) (payload : PayloadName) (mode : ℕ) (preserve : Preserve) → Contains entries (p, File payload mode preserve) → Shows (AreStaged (payloads_of entries) stage) t (all_laid stage (steps_for t entries) t) p (File payload mode preserve)
+    shows_file : (p : List ℕ) (payload : PayloadName) (mode : ℕ) (preserve : Preserve) → Contains entries (p, File payload mode preserve) → Shows (AreStaged (payloads_of entries) stage) t left p (File payload mode preserve)
     shows_file p payload mode preserve one =
         let put = put_in p payload mode preserve one in
         let bytes = staged put.0 (each put.0 (slice_get_within (payloads_of entries) put.0 payload put.1)) in (
@@ -211,10 +217,10 @@ module _ (entries : Entries) (t : Image) (ready : AreReady entries t) where
         staged : (n : ℕ) → is_some (stage n) ≡ true → (bytes : List ℕ) × (stage n ≡ Some bytes)
         staged n is = some_of (stage n) is
 
-    link_in : (p : List ℕ) (to : Kept) → Contains entries (p, Hard to) → Contains (steps_for t entries) (step.Hard p to.bytes)
+    link_in : (p : List ℕ) (to : Kept) → Contains entries (p, Hard to) → Contains steps (step.Hard p to.bytes)
     link_in p to one = Contains-append_right (makers (looks t) 0 entries) (links entries) (step.Hard p to.bytes) (has_link entries p to one)
 
-    shows : (p : List ℕ) (e : Entry) → Contains entries (p, e) → Shows (AreStaged (payloads_of entries) stage) t (all_laid stage (steps_for t entries) t) p e
+    shows : (p : List ℕ) (e : Entry) → Contains entries (p, e) → Shows (AreStaged (payloads_of entries) stage) t left p e
     shows p (Dir mode) one = shows_dir p mode one
     shows p (File payload mode preserve) one = shows_file p payload mode preserve one
     shows p (Link target) one = laid.symlink p target (new_in entries t ready p (Link target) (step.Symlink p target) one (absent p (Link target) one (λ m is. cc)) refl)
@@ -222,27 +228,27 @@ module _ (entries : Entries) (t : Image) (ready : AreReady entries t) where
 
     -- ---- and elsewhere
 
-    elsewhere : (q : List ℕ) → wanted_at entries q ≡ None → (all_laid stage (steps_for t entries) t).look q ≡ t.look q
-    elsewhere q off = elim (cases_Bool (freed (steps_for t entries) q)) [
-      | inl f ↦ laid.absent q f (unmade (steps_for t entries) q (no_step q off)) ∙ sym (freed_new entries t ready q f)
+    elsewhere : (q : List ℕ) → wanted_at entries q ≡ None → left.look q ≡ t.look q
+    elsewhere q off = elim (cases_Bool (freed steps q)) [
+      | inl f ↦ laid.absent q f (unmade steps q (no_step q off)) ∙ sym (freed_new entries t ready q f)
       | inr kept ↦
           laid.kept q kept
-          ∙ ap (λ (m : Option ℕ). given m (t.look q)) (no_mode (freed (steps_for t entries)) (steps_for t entries) t q (λ m p set. names_own q m p set ∙ no_step q off (step.Mode m p) set))
+          ∙ ap (λ (m : Option ℕ). given m (t.look q)) (no_mode (freed steps) steps t q (λ m p set. names_own q m p set ∙ no_step q off (step.Mode m p) set))
     ]
 
     -- ---- which paths share a file
 
     -- where a file is wanted, it has a node of its own
-    file_node : (a : List ℕ) (payload : PayloadName) (mode : ℕ) (preserve : Preserve) → Contains entries (a, File payload mode preserve) → (b : List ℕ) → (all_laid stage (steps_for t entries) t).same a b ≡ same_path a (file_of (wanted_at entries b) b)
+    file_node : (a : List ℕ) (payload : PayloadName) (mode : ℕ) (preserve : Preserve) → Contains entries (a, File payload mode preserve) → (b : List ℕ) → left.same a b ≡ same_path a (file_of (wanted_at entries b) b)
     file_node a payload mode preserve one b = go (wanted_at entries b) refl
       where
-        put : (n : ℕ) × (slice_get (payloads_of entries) n ≡ Some payload) × Contains (steps_for t entries) (step.Put n mode a)
+        put : (n : ℕ) × (slice_get (payloads_of entries) n ≡ Some payload) × Contains steps (step.Put n mode a)
         put = put_in a payload mode preserve one
 
-        own : (q : List ℕ) → ((to : Kept) → wanted_at entries q ≡ Some (Hard to) → ⊥) → (all_laid stage (steps_for t entries) t).same a q ≡ same_path a q
+        own : (q : List ℕ) → ((to : Kept) → wanted_at entries q ≡ Some (Hard to) → ⊥) → left.same a q ≡ same_path a q
         own q plain = laid.own_node put.0 mode a put.2 q ∙ ap (same_path a) (source_plain q plain)
 
-        go : (y : Option Entry) → wanted_at entries b ≡ y → (all_laid stage (steps_for t entries) t).same a b ≡ same_path a (file_of y b)
+        go : (y : Option Entry) → wanted_at entries b ≡ y → left.same a b ≡ same_path a (file_of y b)
         go None is = own b (λ to hard. cc)
         go (Some (Dir m)) is = own b (λ to hard. cc)
         go (Some (File other m kept)) is = own b (λ to hard. cc)
@@ -256,10 +262,10 @@ module _ (entries : Entries) (t : Image) (ready : AreReady entries t) where
             ∙ left_formed.sym to.bytes a
             ∙ own to.bytes (λ k hard. cc)
 
-    file_shares : (a b : List ℕ) → wants_file (wanted_at entries a) ≡ true → (all_laid stage (steps_for t entries) t).same a b ≡ same_path (file_of (wanted_at entries a) a) (file_of (wanted_at entries b) b)
+    file_shares : (a b : List ℕ) → wants_file (wanted_at entries a) ≡ true → left.same a b ≡ same_path (file_of (wanted_at entries a) a) (file_of (wanted_at entries b) b)
     file_shares a b wants = go (wanted_at entries a) refl wants
       where
-        go : (x : Option Entry) → wanted_at entries a ≡ x → wants_file x ≡ true → (all_laid stage (steps_for t entries) t).same a b ≡ same_path (file_of x a) (file_of (wanted_at entries b) b)
+        go : (x : Option Entry) → wanted_at entries a ≡ x → wants_file x ≡ true → left.same a b ≡ same_path (file_of x a) (file_of (wanted_at entries b) b)
         go None is w = cc
         go (Some (Dir m)) is w = cc
         go (Some (File payload m kept)) is w = file_node a payload m kept (wanted_from entries a (File payload m kept) is) b
@@ -270,7 +276,7 @@ module _ (entries : Entries) (t : Image) (ready : AreReady entries t) where
             laid.hard_node a to.bytes (link_in a to link) b ∙ file_node to.bytes file.0 file.1 file.2 file.3 b
 
     -- what is made where no file is wanted is none
-    no_file : (a : List ℕ) → wants_file (wanted_at entries a) ≡ false → freed (steps_for t entries) a ≡ true → is_file ((all_laid stage (steps_for t entries) t).look a) ≡ false
+    no_file : (a : List ℕ) → wants_file (wanted_at entries a) ≡ false → freed steps a ≡ true → is_file (left.look a) ≡ false
     no_file a wants f = go (wanted_at entries a) refl wants
       where
         none : t.look a ≡ None
@@ -280,7 +286,7 @@ module _ (entries : Entries) (t : Image) (ready : AreReady entries t) where
         fresh None = refl
         fresh (Some m) = refl
 
-        go : (x : Option Entry) → wanted_at entries a ≡ x → wants_file x ≡ false → is_file ((all_laid stage (steps_for t entries) t).look a) ≡ false
+        go : (x : Option Entry) → wanted_at entries a ≡ x → wants_file x ≡ false → is_file (left.look a) ≡ false
         go None is w = ap is_file (elsewhere a is ∙ none)
         go (Some (Dir mode)) is w = ap is_file (dir_new a mode (wanted_from entries a (Dir mode) is) none) ∙ fresh mode
         go (Some (File payload m kept)) is w = cc
@@ -291,15 +297,15 @@ module _ (entries : Entries) (t : Image) (ready : AreReady entries t) where
     alone u formed a b apart = false_from_ne_true _ (λ same. let file = (formed.files a b same).0 in cc)
 
     -- a path with no file keeps that it shares none
-    none_shares : (a b : List ℕ) → wants_file (wanted_at entries a) ≡ false → freed (steps_for t entries) a ≡ true → (all_laid stage (steps_for t entries) t).same a b ≡ t.same a b
+    none_shares : (a b : List ℕ) → wants_file (wanted_at entries a) ≡ false → freed steps a ≡ true → left.same a b ≡ t.same a b
     none_shares a b wants f =
-        alone (all_laid stage (steps_for t entries) t) left_formed a b (no_file a wants f)
+        alone left left_formed a b (no_file a wants f)
         ∙ sym (alone t ready.formed a b (ap is_file (freed_new entries t ready a f)))
 
-    others_share : (a b : List ℕ) → wants_file (wanted_at entries a) ≡ false → wants_file (wanted_at entries b) ≡ false → (all_laid stage (steps_for t entries) t).same a b ≡ t.same a b
-    others_share a b wa wb = elim (cases_Bool (freed (steps_for t entries) a)) [
+    others_share : (a b : List ℕ) → wants_file (wanted_at entries a) ≡ false → wants_file (wanted_at entries b) ≡ false → left.same a b ≡ t.same a b
+    others_share a b wa wb = elim (cases_Bool (freed steps a)) [
       | inl fa ↦ none_shares a b wa fa
-      | inr ka ↦ elim (cases_Bool (freed (steps_for t entries) b)) [
+      | inr ka ↦ elim (cases_Bool (freed steps b)) [
         | inl fb ↦ left_formed.sym a b ∙ none_shares b a wb fb ∙ ready.formed.sym b a
         | inr kb ↦ laid.sharing a b ka kb
       ]
@@ -311,18 +317,18 @@ module _ (entries : Entries) (t : Image) (ready : AreReady entries t) where
       | inr apart ↦ false_from_ne_true _ (λ same. clash (same_path q p) (same_path-sym p q same) apart) ∙ sym apart
     ]
 
-    sharing : (a b : List ℕ) → (all_laid stage (steps_for t entries) t).same a b ≡ shares entries t a b
+    sharing : (a b : List ℕ) → left.same a b ≡ shares entries t a b
     sharing a b = go (wants_file (wanted_at entries a)) refl (wants_file (wanted_at entries b)) refl
       where
         go : (x : Bool) → wants_file (wanted_at entries a) ≡ x → (y : Bool) → wants_file (wanted_at entries b) ≡ y
-            → (all_laid stage (steps_for t entries) t).same a b ≡ cond (x || y) (same_path (file_of (wanted_at entries a) a) (file_of (wanted_at entries b) b)) (t.same a b)
+            → left.same a b ≡ cond (x || y) (same_path (file_of (wanted_at entries a) a) (file_of (wanted_at entries b) b)) (t.same a b)
         go true ex y ey = file_shares a b ex
         go false ex true ey = left_formed.sym a b ∙ file_shares b a ey ∙ same_back (file_of (wanted_at entries b) b) (file_of (wanted_at entries a) a)
         go false ex false ey = others_share a b ex ey
 
-    pub is_meant : IsMeant (AreStaged (payloads_of entries) stage) entries t (all_laid stage (steps_for t entries) t)
+    pub is_meant : IsMeant (AreStaged (payloads_of entries) stage) entries t left
     is_meant = record {
-      each = all_from (λ (e : List ℕ × Entry). Shows (AreStaged (payloads_of entries) stage) t (all_laid stage (steps_for t entries) t) e.0 e.1) entries (λ e one. shows e.0 e.1 one);
+      each = all_from (λ (e : List ℕ × Entry). Shows (AreStaged (payloads_of entries) stage) t left e.0 e.1) entries (λ e one. shows e.0 e.1 one);
       elsewhere = elsewhere;
       sharing = sharing;
     }

@@ -57,26 +57,29 @@ no_links t (e ∷ entries) stand =
 -- ---- all of it
 
 module _ (entries : Entries) (t : Image) (ready : AreReady entries t) where
-  covered : (s : Step) (q : List ℕ) → Contains (steps_for t entries) s → covers (path_of s) q ≡ true → is_covered entries q ≡ true
+  abbrev steps : List Step
+  steps = steps_for t entries
+
+  covered : (s : Step) (q : List ℕ) → Contains steps s → covers (path_of s) q ≡ true → is_covered entries q ≡ true
   covered s q one c =
       let wanted = path_wanted entries t ready s one in
       any_from (λ (e : List ℕ × Entry). covers e.0 q) entries (path_of s, wanted.0) wanted.1 c
 
-  idle : AllStand t entries → steps_for t entries ≡ []
+  idle : AllStand t entries → steps ≡ []
   idle stand =
       let each : (e : List ℕ × Entry) → Contains entries e → Stands (t.look e.0) e.1 = λ e one. let at = place_of entries e one in stand at.0 e.0 e.1 at.1 in
       ap (λ (l : List Step). l ++ links entries) (no_makers t 0 entries each) ∙ no_links t entries each
 
   -- The steps are a plan, where their parts are proper.
-  pub is_plan : AllProper (steps_for t entries) → IsPlanOf entries t (steps_for t entries) (payloads_of entries)
+  pub is_plan : AllProper steps → IsPlanOf entries t steps (payloads_of entries)
   is_plan proper = record {
     fit = ready.fit;
     contents_are = refl;
     order = steps_sorted t entries ready.order;
     layable = are_layable entries t ready;
     means = λ stage each. is_meant entries t ready stage each proper;
-    within = λ q f. let one = freed_from (steps_for t entries) q f in covered one.0 q one.1 (frees_below one.0 q one.2);
-    modes = λ q n. let one = named_from (steps_for t entries) q n in covered one.0 q one.1 (same_covers (path_of one.0) q one.2);
+    within = λ q f. let one = freed_from steps q f in covered one.0 q one.1 (frees_below one.0 q one.2);
+    modes = λ q n. let one = named_from steps q n in covered one.0 q one.1 (same_covers (path_of one.0) q one.2);
     other_mode = λ m p foreign one stands.
         let dir = moded_dir entries t ready m p one in
         let found : Some (image.Dir dir.0 dir.1) ≡ Some (image.Dir m foreign) = sym dir.2 ∙ stands in
