@@ -2,6 +2,9 @@
 
 ghost use Rattle.std.specs.Prelude.{◌≡◌, ◌≤◌, ◌<◌, ℕ, List, Some, map, length, slice_get, IfOk, IfSome, IfNone};
 ghost use Rattle.std.specs.List.{Contains};
+ghost use Rattle.std.specs.List.Sorted.{IsStrictlySortedBy};
+ghost use Rattle.std.specs.Ordering.{nat_cmp};
+ghost use Rattle.std.specs.Cmp.Lexicographic.{slice_cmp};
 ghost use Rattle.ips_conflict.specs.declared.placed.Placed as declared;
 ghost use Rattle.ips_text.specs.Path.{IsPath};
 ghost use Rattle.ips_meaning.specs.Places.{AreLeading, IsWantedPath, AreWanted};
@@ -59,7 +62,8 @@ impl Want {
 
     /// How many paths are wanted.
     pub fn len(&self) -> usize
-        ensures { result ≡ length self.now }
+        ensures count { result ≡ length self.now }
+        ensures in_order { IsStrictlySortedBy (slice_cmp nat_cmp) (map (λ e. e.0) self.now) }
     {
         self.entries.len()
     }

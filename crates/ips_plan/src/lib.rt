@@ -1,8 +1,18 @@
 //! From what an image should hold to the steps that bring it there.
+//!
+//! A look at each wanted path tells what stands there. Nothing is taken away: what can't become what is wanted is told. Where
+//! each entry can come to what stands, the steps can be laid straight on the image, and make of it the old image with each
+//! wanted entry, and each other path as before.
+//!
+//! In reading order: why there is no plan (`fault`), the step for one entry (`step`), and all of them (`planning`).
 #![tactic(auto)]
 
 mod fault;
 mod planning;
+mod step;
 
 pub use fault::PlanFault;
-pub use planning::{Plan, plan};
+pub use planning::{Planned, plan};
+
+#[cfg(test)]
+mod tests;

@@ -1,0 +1,11 @@
+pub mod Begun
+pub mod Elements
+pub mod Following
+pub mod InOrder
+pub mod Laws
+pub mod Layable
+pub mod Makers
+pub mod Meaning
+pub mod Numbers
+pub mod Order
+pub mod Plans
