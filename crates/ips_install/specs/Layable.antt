@@ -3,7 +3,7 @@ use Rattle.std.specs.Prelude.{◌≡◌, ℕ, ◌<◌, Bool, true, nat_lt, IsTru
 use Rattle.std.specs.List.{AllByRecursion}
 use Rattle.ips_outside.specs.Image.{Image, is_dir}
 use Rattle.ips_steps.specs.Steps.{Step, Gone, Fresh, Mode, Put, Symlink, Hard, Stage, possible, sound, distinct}
-use Rattle.ips_steps.specs.Journal.{AllProper}
+use Rattle.ips_steps.specs.Journal.{AllProper, numbered}
 
 -- the content of a file is one of so many
 abbrev pub is_within : ℕ → Step → Bool
@@ -14,10 +14,11 @@ is_within count (Put n m p) = nat_lt n count
 is_within count (Symlink p target) = true
 is_within count (Hard p to) = true
 
--- Each step has proper parts, and the content of each file is one of so many.
+-- Each step has proper parts, and the contents of files are so many, numbered from 0 on in the order of the steps.
 pub record AreListed (count : ℕ) (steps : List Step) : Type 0 where
   pub proper : AllProper steps
   pub contents : AllByRecursion (λ s. IsTrue (is_within count s)) steps
+  pub numbers : IsTrue (numbered 0 steps)
 
 -- nothing stands where the step makes something, and a directory does where it sets a mode; nothing is taken away
 abbrev pub IsPlain : Image → Step → Type 0

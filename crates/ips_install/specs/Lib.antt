@@ -1,3 +1,5 @@
 pub mod Layable
 pub mod Laid
 pub mod Fault
+pub mod Checking
+pub mod Laying
