@@ -1,0 +1,69 @@
+-- Places of lists.
+use Rattle.std.proofs.Common.{◌≡◌, ◌⊎◌, inl, inr, ⊎_elim, ℕ, zero, suc, ◌+◌, ◌<◌, List, [], ◌∷◌, ◌++◌, length, take, map, slice_get, Some, refl, ap, subst, arith}
+use Rattle.std.specs.List.{AllByRecursion}
+use Rattle.std.proofs.lemmas.Bool.{cases_lt}
+
+-- an element of the first ones
+pub front_at : {X : Type 0} (xs : List X) (n j : ℕ) (x : X) → slice_get (take n xs) j ≡ Some x → (j < n) × (slice_get xs j ≡ Some x)
+front_at [] zero j x is = cc
+front_at [] (suc n) j x is = cc
+front_at (y ∷ xs) zero j x is = cc
+front_at (y ∷ xs) (suc n) zero x is = (omega arith, is)
+front_at (y ∷ xs) (suc n) (suc j) x is = let rest = front_at xs n j x is in (omega (arith, rest.0), rest.1)
+
+pub at_front : {X : Type 0} (xs : List X) (n j : ℕ) (x : X) → j < n → slice_get xs j ≡ Some x → slice_get (take n xs) j ≡ Some x
+at_front [] n j x lt is = cc
+at_front (y ∷ xs) zero j x lt is = absurd (omega arith)
+at_front (y ∷ xs) (suc n) zero x lt is = is
+at_front (y ∷ xs) (suc n) (suc j) x lt is = at_front xs n j x (omega arith) is
+
+-- the place is below, or the last
+pub below_or_last : (j n : ℕ) → j < n + 1 → (j < n) ⊎ (j ≡ n)
+below_or_last j n lt = elim (cases_lt j n) [ inl below ↦ inl below | inr last ↦ inr (omega arith) ]
+
+-- what stands at a place of a list
+pub record At {X : Type 0} (xs : List X) (k : ℕ) : Type 0 where
+  pub x : X
+  pub stands : slice_get xs k ≡ Some x
+
+pub at_within : {X : Type 0} (xs : List X) (k : ℕ) → k < length xs → At xs k
+at_within [] k lt = absurd (omega arith)
+at_within (x ∷ xs) zero lt = record { x = x; stands = refl }
+at_within (x ∷ xs) (suc k) lt = let rest = at_within xs k (omega arith) in record { x = rest.x; stands = rest.stands }
+
+-- an element of a list with one more at its end
+pub push_at : {X : Type 0} (xs : List X) (y : X) (k : ℕ) (x : X) → slice_get (xs ++ y ∷ []) k ≡ Some x → ((k < length xs) × (slice_get xs k ≡ Some x)) ⊎ ((k ≡ length xs) × (y ≡ x))
+push_at [] y zero x is = let one : y ≡ x = cc in inr (refl, one)
+push_at [] y (suc k) x is = cc
+push_at (z ∷ xs) y zero x is = inl (omega arith, is)
+push_at (z ∷ xs) y (suc k) x is = ⊎_elim (λ before. inl (omega (arith, before.0), before.1)) (λ last. inr (ap suc last.0, last.1)) (push_at xs y k x is)
+
+module _ {A B : Type 0} (f : A → B) where
+  -- an element of a list of values
+  pub map_at : (xs : List A) (k : ℕ) (x : A) → slice_get xs k ≡ Some x → slice_get (map f xs) k ≡ Some (f x)
+  map_at [] k x is = cc
+  map_at (y ∷ xs) zero x is = let one : y ≡ x = cc in ap (λ (z : A). Some (f z)) one
+  map_at (y ∷ xs) (suc k) x is = map_at xs k x is
+
+  pub map_long : (xs : List A) → length (map f xs) ≡ length xs
+  map_long [] = refl
+  map_long (x ∷ xs) = ap suc (map_long xs)
+
+  pub map_more : (xs : List A) (x : A) → map f (xs ++ x ∷ []) ≡ map f xs ++ f x ∷ []
+  map_more [] x = refl
+  map_more (y ∷ xs) x = ap (λ (l : List B). f y ∷ l) (map_more xs x)
+
+front_suc : {X : Type 0} (xs : List X) (n : ℕ) (x : X) → slice_get xs n ≡ Some x → take (suc n) xs ≡ take n xs ++ x ∷ []
+front_suc [] n x is = cc
+front_suc (y ∷ xs) zero x is = let one : y ≡ x = cc in ap (λ (z : _). z ∷ []) one
+front_suc (y ∷ xs) (suc n) x is = ap (λ (l : List _). y ∷ l) (front_suc xs n x is)
+
+-- one more of the first ones
+pub front_more : {X : Type 0} (xs : List X) (n : ℕ) (x : X) → slice_get xs n ≡ Some x → take (n + 1) xs ≡ take n xs ++ x ∷ []
+front_more xs n x is = let one : suc n ≡ n + 1 = omega arith in subst (λ (k : ℕ). take k xs ≡ take n xs ++ x ∷ []) one (front_suc xs n x is)
+
+-- what holds of all holds at each place
+pub all_at : {X : Type 0} (P : X → Type 0) (xs : List X) → AllByRecursion P xs → (k : ℕ) (x : X) → slice_get xs k ≡ Some x → P x
+all_at P [] all k x is = cc
+all_at P (y ∷ xs) all zero x is = let one : y ≡ x = cc in subst P one all.0
+all_at P (y ∷ xs) all (suc k) x is = all_at P xs all.1 k x is
