@@ -1,16 +1,11 @@
-use Rattle.std.proofs.Common.{◌≡◌, true, false, Err, is_ok, sym, ◌∙◌, ap, subst}
-use Rattle.std.specs.List.{list_any}
+use Rattle.std.proofs.Common.{◌≡◌, true, false, nat_lt, length, Err, is_ok, sym, ◌∙◌, ap, subst}
 use Rattle.std.proofs.lemmas.Result.{err_from_is_err_and}
 use Rattle.ips_outside.proofs.Faults.{cause_as}
 use Rattle.ips_repo.proofs.Calls.{handed_on}
-use Rattle.ips_install.specs.Wanted.{delivers}
-use Rattle.ips_install.specs.Checking.{step_line}
-use Rattle.ips_install.specs.Laying.{lines_of, IsLayingFault}
+use Rattle.ips_install.specs.Laying.{IsLayingFault}
 use Rattle.ips_install.specs.declared.fault.InstallFault.{InstallFault}
 use Rattle.ips_install.specs.declared.fault.InstallFault.TheVariants as fault
-use Rattle.ips_install.specs.declared.step.Step.{Step}
-use Rattle.ips_install.proofs.Stepping.{any_lines}
-use Rattle.ips_install.proofs.Outcomes.{folder_unfinished, err_same, step_fault}
+use Rattle.ips_install.proofs.Outcomes.{folder_unfinished, err_same, step_fault, none_counted}
 use Rattle.ips_install.proofs.laying.lay.Goals as goal
 
 pub returns-in_err-lay_steps-clause-cause : goal.returns-in_err-lay_steps-clause-cause
@@ -29,13 +24,10 @@ returns-in_err-lay_steps-clause-faults g c =
     let tells = g.S.Source.outside.tells c.args.repo.now in
     let laying = subst (IsLayingFault tells) (sym left.2) c.in_err-lay_steps.ensures.faults in
     let was = c.in_err-lay_steps.was ∙ ap (λ (e : InstallFault). Err e) (sym left.2) in
-    rw left.1 (step_fault tells (list_any delivers (lines_of c.args.steps.items)) c.lay_steps.result left.0 was (λ none. (c.lay_steps.ensures.idle none).0) laying)
+    rw left.1 (step_fault tells (nat_lt 0 (length c.args.steps.now)) c.lay_steps.result left.0 was (λ none. (c.lay_steps.ensures.idle (none_counted (length c.args.steps.now) none)).0) laying)
 
 pub returns-in_err-lay_steps-clause-idle : goal.returns-in_err-lay_steps-clause-idle
 returns-in_err-lay_steps-clause-idle g c = λ none.
     let fine = (c.lay_steps.ensures.idle none).0 in
     let bad : is_ok c.lay_steps.result ≡ false = ap is_ok c.in_err-lay_steps.was in
     absurd (cc)
-
-pub returns-in_default-clause-faults : goal.returns-in_default-clause-faults
-returns-in_default-clause-faults g c = c.lay_something-changes.ensures ∙ ap (list_any (λ (s : Step). delivers (step_line s))) c.as_slice.ensures.value ∙ any_lines c.args.steps.items
