@@ -98,4 +98,4 @@ numbered_front n (Hard p to ∷ rest) (suc k) is = numbered_front n rest k is
 
 -- the front leaves the same with other contents behind it
 pub front_same : (c d : Stage) (steps : List Step) (k : ℕ) (t : Image) → numbered 0 steps ≡ true → ((j : ℕ) → j < puts (take k steps) → c j ≡ d j) → all_laid c (take k steps) t ≡ all_laid d (take k steps) t
-front_same c d steps k t is same = all_same c d 0 (take k steps) t (numbered_front 0 steps k is) same
+front_same c d steps k t is same = all_same c d 0 (take k steps) t (numbered_front 0 steps k is) (λ j lt. same j (omega (arith, lt)))

@@ -1,5 +1,6 @@
 -- What each phase's fault says of the whole.
-use Rattle.std.proofs.Common.{◌≡◌, ℕ, zero, suc, Bool, true, false, nat_lt, List, length, ◌∙◌, ap, subst, Result, Err, IsOk, is_ok, sym, refl}
+use Rattle.std.proofs.Common.{◌≡◌, ℕ, Bool, true, false, nat_lt, List, length, ◌∙◌, ap, subst, Result, Err, IsOk, is_ok, sym, refl, arith}
+use Rattle.std.proofs.lemmas.Bool.Decides.{nat_tests}
 use Rattle.ips_outside.specs.Image.{Image}
 use Rattle.ips_digest.specs.declared.name.PayloadName.{PayloadName}
 use Rattle.ips_install.specs.Laid.{AreIntact}
@@ -78,5 +79,4 @@ err_same r e f is given = cc
 
 -- no step
 pub none_counted : (n : ℕ) → nat_lt 0 n ≡ false → n ≡ 0
-none_counted zero off = refl
-none_counted (suc n) off = cc
+none_counted n off = grind (arith, nat_tests)
