@@ -1,5 +1,5 @@
 -- Steps laid, one after another.
-use Rattle.std.proofs.Common.{◌≡◌, ℕ, zero, suc, ◌+◌, ◌<◌, Bool, true, false, cond, not, ◌&&◌, ◌||◌, ◌==◌, nat_lt, IsTrue, List, [], ◌∷◌, length, take, drop, map, slice_get, Option, Some, None, is_some, is_none, refl, sym, ◌∙◌, ap, subst, arith}
+use Rattle.std.proofs.Common.{◌≡◌, ℕ, zero, suc, ◌+◌, ◌<◌, Bool, true, false, cond, not, ◌&&◌, ◌||◌, ◌==◌, nat_lt, IsTrue, List, [], ◌∷◌, length, take, drop, map, slice_get, Option, Some, None, is_some, is_none, refl, sym, ◌∙◌, ap, subst, eq-eqb, arith}
 use Rattle.std.specs.List.{AllByRecursion}
 use Rattle.std.proofs.lemmas.Bool.{and_parts, or_parts, or_from, or_left, not-true, false_from_ne_true, eqb-true, ltb-true}
 use Rattle.std.proofs.lemmas.Option.{slice_get_within}
@@ -51,10 +51,6 @@ front_named (x ∷ rest) (suc k) s once stands =
     (front_named rest k s parts.1 stands)
 
 -- ---- nothing comes to stand where no step makes anything
-
-nothing_else : (c : Bool) → cond c None None ≡ None {A = Entry}
-nothing_else true = refl
-nothing_else false = refl
 
 no_mode : (b : Bool) (m : ℕ) (e : Option Entry) → e ≡ None → cond b (with_mode m e) e ≡ None
 no_mode true m e none = ap (with_mode m) none
@@ -155,31 +151,31 @@ module _ (count : ℕ) (steps : List Step) (listed : AreListed count steps) (k :
       go (Hard p to) at = tt
 
   module _ (P : PayloadName → List ℕ → Type 0) (names : List PayloadName) (sized : length names ≡ count) (t u : Image) (formed : IsImage t) (layable : AreLayable count t steps) (done : AreLaid P names (take k steps) t u) where
+    -- the image at the turn
+    abbrev at_turn : Image
+    at_turn = all_laid done.stage (take k steps) t
+
+    each : HasEach count done.stage
+    each = subst (λ (n : ℕ). HasEach n done.stage) sized (has_each P names done.stage done.contents)
+
+    plain : (x : Step) → slice_get steps k ≡ Some x → IsPlain t x
+    plain x at = all_at (IsPlain t) steps layable.plain k x at
+
+    makes : (x : Step) → slice_get steps k ≡ Some x → t.look (path_of x) ≡ None → has_parent at_turn (path_of x) ≡ true → CanMake at_turn (path_of x)
+    makes x at none parent = record { absent = absent_all done.stage (take k steps) t (path_of x) (front_named steps k x layable.once at) none; parent = parent }
+
+    can_now : (x : Step) → slice_get steps k ≡ Some x → can_lay done.stage x at_turn ≡ true → CanLay at_turn x
+    can_now (Gone p) at can = tt
+    can_now (Fresh m p) at can = makes (Fresh m p) at (plain (Fresh m p) at) can
+    can_now (Mode m p) at can = dir_stays t formed p (plain (Mode m p) at) done.stage steps k layable.plain
+    can_now (Put n m p) at can = makes (Put n m p) at (plain (Put n m p) at) (and_parts (has_parent at_turn p) _ can).0
+    can_now (Symlink p target) at can = makes (Symlink p target) at (plain (Symlink p target) at) can
+    can_now (Hard p to) at can =
+        let parts = and_parts (has_parent at_turn p) _ can in
+        (makes (Hard p to) at (plain (Hard p to) at) parts.0, (and_parts (not (covers p to)) (is_file (at_turn.look to)) parts.1).1)
+
     pub step_can : CanLay u s
-    step_can = subst (λ (v : Image). CanLay v s) (sym done.laid) (go s stands (can_at stage steps k s t stands (layable.can stage each)))
-      where
-        stage = done.stage
-        each : HasEach count stage
-        each = subst (λ (n : ℕ). HasEach n stage) sized (has_each P names stage done.contents)
-
-        now : Image
-        now = all_laid stage (take k steps) t
-
-        makes : (x : Step) → slice_get steps k ≡ Some x → t.look (path_of x) ≡ None → has_parent now (path_of x) ≡ true → CanMake now (path_of x)
-        makes x at none parent = record { absent = absent_all stage (take k steps) t (path_of x) (front_named steps k x layable.once at) none; parent = parent }
-
-        plain : (x : Step) → slice_get steps k ≡ Some x → IsPlain t x
-        plain x at = all_at (IsPlain t) steps layable.plain k x at
-
-        go : (x : Step) → slice_get steps k ≡ Some x → can_lay stage x now ≡ true → CanLay now x
-        go (Gone p) at can = tt
-        go (Fresh m p) at can = makes (Fresh m p) at (plain (Fresh m p) at) can
-        go (Mode m p) at can = dir_stays t formed p (plain (Mode m p) at) stage steps k layable.plain
-        go (Put n m p) at can = makes (Put n m p) at (plain (Put n m p) at) (and_parts (has_parent now p) _ can).0
-        go (Symlink p target) at can = makes (Symlink p target) at (plain (Symlink p target) at) can
-        go (Hard p to) at can =
-            let parts = and_parts (has_parent now p) _ can in
-            (makes (Hard p to) at (plain (Hard p to) at) parts.0, (and_parts (not (covers p to)) (is_file (now.look to)) parts.1).1)
+    step_can = subst (λ (v : Image). CanLay v s) (sym done.laid) (can_now s stands (can_at done.stage steps k s t stands (layable.can done.stage each)))
 
 -- ---- one step more is laid
 
@@ -188,10 +184,7 @@ abbrev with_bytes : ℕ → List ℕ → Stage → Stage
 with_bytes n bytes stage j = cond (j == n) (Some bytes) (stage j)
 
 with_same : (n : ℕ) (bytes : List ℕ) (stage : Stage) → with_bytes n bytes stage n ≡ Some bytes
-with_same n bytes stage = rw (eqb-self n) refl
-  where
-    eqb-self : (n : ℕ) → (n == n) ≡ true
-    eqb-self n = search rules
+with_same n bytes stage = rw (eq-eqb n n refl) refl
 
 with_other : (n : ℕ) (bytes : List ℕ) (stage : Stage) (j : ℕ) → j < n → with_bytes n bytes stage j ≡ stage j
 with_other n bytes stage j lt = go (j == n) refl
@@ -231,7 +224,7 @@ module _ (tells : Bool) (publisher : List ℕ) (repository : Image) (all : List 
       record { named = lays.named; held = λ told. ap (file_at repository) (sym here.placed) ∙ lays.held told }
 
   -- before the first step
-  stage_from : (l : List Reading) → AllByRecursion (IsPrepared tells publisher repository) l → Stage
+  abbrev stage_from : (l : List Reading) → AllByRecursion (IsPrepared tells publisher repository) l → Stage
   stage_from [] h n = None
   stage_from (r ∷ rest) h zero = Some h.0.bytes
   stage_from (r ∷ rest) h (suc n) = stage_from rest h.1 n
@@ -259,7 +252,8 @@ module _ (tells : Bool) (publisher : List ℕ) (repository : Image) (all : List 
           → AreLaid (IsContent tells publisher repository) (names_of all) (take (k + 1) steps) t v
       file n m p at [] is lays = absurd lays
       file n m p at (r ∷ rest) is lays =
-          let number : n ≡ puts (take k steps) = number_at 0 steps k n m p listed.numbers at in
+          let counted = number_at 0 steps k n m p listed.numbers at in
+          let number : n ≡ puts (take k steps) = omega (arith, counted) in
           let here : slice_get all n ≡ Some r = ap (slice_get all) number ∙ first_of all (puts (take k steps)) r rest is in
           let stage = with_bytes n lays.bytes done.stage in
           let front : all_laid done.stage (take k steps) t ≡ all_laid stage (take k steps) t =
