@@ -1,6 +1,6 @@
 //! Steps laid on an image.
 
-ghost use Rattle.std.specs.Prelude.{◌≡◌, ◌⊎◌, Bool, IsTrue, Err, [], IfErr, OnOk, OnErr, length, map};
+ghost use Rattle.std.specs.Prelude.{◌≡◌, ◌⊎◌, Bool, true, IsTrue, Err, [], IfErr, OnOk, OnErr, length, map};
 ghost use Rattle.ips_outside.specs.State.{IsSettled};
 ghost use Rattle.ips_outside.specs.Outside.{HasCause};
 ghost use Rattle.ips_folder.specs.Calls.{Keeps};
