@@ -3,3 +3,4 @@ pub mod Laid
 pub mod Fault
 pub mod Checking
 pub mod Laying
+pub mod Example

@@ -228,7 +228,7 @@ pub(crate) fn lay<S: Source, F: Folder>(
     lay_steps(repo, payloads, image, steps, buffer)?;
     let Ok(()) = image.sync() else {
         return Err(InstallFault::Folder {
-            unfinished: 0 < steps.len(),
+            unfinished: !steps.is_empty(),
         });
     };
     Ok(())

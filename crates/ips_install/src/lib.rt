@@ -8,3 +8,6 @@ mod laying;
 
 pub use fault::{InstallFault, PayloadFault};
 pub use installing::install;
+
+#[cfg(test)]
+mod tests;
