@@ -5,3 +5,4 @@ pub mod Keeping
 pub mod Filled
 pub mod Numbers
 pub mod Stepping
+pub mod Examples

@@ -214,12 +214,21 @@ fn each_call_may_fail(rt: HostRuntime) -> Result<(), Fail> {
         assert!(rt; words_of(&ended) == want);
         assert!(rt; (look(alloc, &image, b"usr")? == Look::Dir { mode: 0o755 }) == laid);
     }
-    // the nine calls that lay the steps, the sync, and no call
+    // the nine calls that lay the steps, the sync, and none; what the call itself does stays, and nothing follows
     for call in 1..12u64 {
         let (ended, image) = run(alloc, Some(b"abc"), &[], &[call])?;
         let want = if call < 11 { "unfinished" } else { "done" };
         assert!(rt; words_of(&ended) == want);
-        assert!(rt; (look(alloc, &image, b"usr")? == Look::Dir { mode: 0o755 }) == (call > 1));
+        for (at, by) in [
+            (b"usr".as_slice(), 1),
+            (b"usr/f", 2),
+            (b"usr/e", 5),
+            (b"usr/l", 7),
+            (b"usr/h", 8),
+        ] {
+            assert!(rt; (look(alloc, &image, at)? != Look::Absent) == (call >= by));
+        }
+        assert!(rt; (look(alloc, &image, b"etc")? == Look::Dir { mode: 0o711 }) == (call >= 9));
     }
     Ok(())
 }
