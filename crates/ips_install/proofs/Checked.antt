@@ -18,7 +18,7 @@ use Rattle.ips_install.specs.declared.fault.PayloadFault.{PayloadFault}
 use Rattle.ips_install.specs.declared.fault.PayloadFault.TheVariants.{Missing, TooLarge, Damaged, Compressed}
 use Rattle.ips_install.specs.declared.fault.InstallFault.{InstallFault}
 use Rattle.ips_install.specs.declared.fault.InstallFault.TheVariants.{Payload, Source, Folder, OutOfMemory}
-use Rattle.ips_install.proofs.Places.{map_more, front_at, at_front, front_more, map_at, all_at}
+use Rattle.ips_install.proofs.Places.{map_more, at_front, front_more, map_at, all_at}
 
 -- ---- what is told of a payload
 
@@ -89,12 +89,6 @@ module _ (t : Image) (r s : Reading) (name : s.name ≡ r.name) (place : s.place
   -- to its end, all of the file was given
   pub whole_file : s.bytes ≡ f.file
   whole_file = h.whole ended ∙ same_file t r s place f h
-
-  pub whole_named : digest_by s.name s.bytes ≡ s.name → digest_by r.name f.file ≡ r.name
-  whole_named named = subst (λ (n : PayloadName). digest_by n f.file ≡ n) name (subst (λ (b : List ℕ). digest_by s.name b ≡ s.name) whole_file named)
-
-  pub named_whole : digest_by r.name f.file ≡ r.name → digest_by s.name s.bytes ≡ s.name
-  named_whole named = subst (λ (b : List ℕ). digest_by s.name b ≡ s.name) (sym whole_file) (subst (λ (n : PayloadName). digest_by n f.file ≡ n) (sym name) named)
 
   pub whole_judged : (why : InstallFault) → IsJudged s.name s.bytes why → SaysOfBytes r.name f.file why
   whole_judged why judged = told why (subst (λ (n : PayloadName). IsJudged n f.file why) name (subst (λ (b : List ℕ). IsJudged s.name b why) whole_file judged))

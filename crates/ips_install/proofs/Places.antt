@@ -3,40 +3,12 @@ use Rattle.std.proofs.Common.{◌≡◌, ◌⊎◌, inl, inr, ⊎_elim, ℕ, zer
 use Rattle.std.specs.List.{AllByRecursion}
 use Rattle.std.proofs.lemmas.Bool.{cases_lt}
 
--- an element of the first ones
-pub front_at : {X : Type 0} (xs : List X) (n j : ℕ) (x : X) → slice_get (take n xs) j ≡ Some x → (j < n) × (slice_get xs j ≡ Some x)
-front_at [] zero j x is = cc
-front_at [] (suc n) j x is = cc
-front_at (y ∷ xs) zero j x is = cc
-front_at (y ∷ xs) (suc n) zero x is = (omega arith, is)
-front_at (y ∷ xs) (suc n) (suc j) x is = let rest = front_at xs n j x is in (omega (arith, rest.0), rest.1)
-
+-- an element that is one of the first
 pub at_front : {X : Type 0} (xs : List X) (n j : ℕ) (x : X) → j < n → slice_get xs j ≡ Some x → slice_get (take n xs) j ≡ Some x
 at_front [] n j x lt is = cc
 at_front (y ∷ xs) zero j x lt is = absurd (omega arith)
 at_front (y ∷ xs) (suc n) zero x lt is = is
 at_front (y ∷ xs) (suc n) (suc j) x lt is = at_front xs n j x (omega arith) is
-
--- the place is below, or the last
-pub below_or_last : (j n : ℕ) → j < n + 1 → (j < n) ⊎ (j ≡ n)
-below_or_last j n lt = elim (cases_lt j n) [ inl below ↦ inl below | inr last ↦ inr (omega arith) ]
-
--- what stands at a place of a list
-pub record At {X : Type 0} (xs : List X) (k : ℕ) : Type 0 where
-  pub x : X
-  pub stands : slice_get xs k ≡ Some x
-
-pub at_within : {X : Type 0} (xs : List X) (k : ℕ) → k < length xs → At xs k
-at_within [] k lt = absurd (omega arith)
-at_within (x ∷ xs) zero lt = record { x = x; stands = refl }
-at_within (x ∷ xs) (suc k) lt = let rest = at_within xs k (omega arith) in record { x = rest.x; stands = rest.stands }
-
--- an element of a list with one more at its end
-pub push_at : {X : Type 0} (xs : List X) (y : X) (k : ℕ) (x : X) → slice_get (xs ++ y ∷ []) k ≡ Some x → ((k < length xs) × (slice_get xs k ≡ Some x)) ⊎ ((k ≡ length xs) × (y ≡ x))
-push_at [] y zero x is = let one : y ≡ x = cc in inr (refl, one)
-push_at [] y (suc k) x is = cc
-push_at (z ∷ xs) y zero x is = inl (omega arith, is)
-push_at (z ∷ xs) y (suc k) x is = ⊎_elim (λ before. inl (omega (arith, before.0), before.1)) (λ last. inr (ap suc last.0, last.1)) (push_at xs y k x is)
 
 module _ {A B : Type 0} (f : A → B) where
   -- an element of a list of values

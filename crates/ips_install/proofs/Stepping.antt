@@ -257,7 +257,7 @@ module _ (tells : Bool) (publisher : List ℕ) (repository : Image) (all : List 
           let here : slice_get all n ≡ Some r = ap (slice_get all) number ∙ first_of all (puts (take k steps)) r rest is in
           let stage = with_bytes n lays.bytes done.stage in
           let front : all_laid done.stage (take k steps) t ≡ all_laid stage (take k steps) t =
-              front_same done.stage stage steps k t listed.numbers (λ j lt. sym (with_other n lays.bytes done.stage j (omega (arith, number, lt)))) in
+          front_same done.stage stage steps k t listed.numbers (λ j lt. sym (with_other n lays.bytes done.stage j (omega (arith, number, lt)))) in
           record {
             stage = stage;
             contents = with_contents (IsContent tells publisher repository) (names_of all) done.stage n lays.bytes r.name (map_at (λ (x : Reading). x.name) all n r here) (laid_content r m p u v n here lays) done.contents;

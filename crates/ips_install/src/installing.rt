@@ -74,6 +74,12 @@ pub fn install<S: Source, F: Folder>(
         repo,
         buffer.as_mut_slice(),
     )?;
-    lay(repo, payloads, image, steps.as_slice(), buffer.as_mut_slice())?;
+    lay(
+        repo,
+        payloads,
+        image,
+        steps.as_slice(),
+        buffer.as_mut_slice(),
+    )?;
     Ok(())
 }

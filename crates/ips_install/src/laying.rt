@@ -1,6 +1,6 @@
 //! Steps laid on an image.
 
-ghost use Rattle.std.specs.Prelude.{◌≡◌, ◌<◌, ◌≢◌, ℕ, List, [], Bool, true, IsTrue, IsErr, IsOk, Some, Err, IfErr, OnOk, OnErr, length, map, nat_lt};
+ghost use Rattle.std.specs.Prelude.{◌≡◌, ◌<◌, ℕ, List, [], Bool, true, IsTrue, IsErr, IsOk, Some, Err, IfErr, OnOk, OnErr, length, map, nat_lt};
 ghost use Rattle.std.specs.List.{AllByRecursion};
 ghost use Rattle.ips_text.specs.Ancestry.{same_path, covers};
 ghost use Rattle.ips_outside.specs.Change.{appended};

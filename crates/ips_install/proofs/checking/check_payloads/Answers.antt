@@ -24,7 +24,7 @@ returns-in_err-payload-clause-wrong g c = λ told.
     let left = err_from_is_err_and c.from_residual.result c.from_residual.ensures.1 in
     let name : PayloadName = get_or names n (Sha1 []) in
     let first = first_wrong tells c.args.publisher.now held names n name c.loop-name.payloads.items told (slice_get-get_or names n (Sha1 []) c.loop-name-test.true) c.loop-name.invariant.named c.loop-name.invariant.prepared why
-        (subst (λ (t : Image). SaysOfPayload c.args.publisher.now t name why) same wrong) in
+    (subst (λ (t : Image). SaysOfPayload c.args.publisher.now t name why) same wrong) in
     rw left.1 (subst (SaysOfPayloads c.args.publisher.now held names) (sym left.2) first)
 
 pub loop-name-preserved : goal.loop-name-preserved

@@ -76,7 +76,7 @@ returns-in_err-lay-clause-refused g c = λ telling.
     let items = c.in_ok-payloads.payloads.items in
     let names = c.in_ok-payloads.ensures.named ∙ c.as_slice.ensures.value in
     let intact : AreIntact c.args.publisher.now held c.args.contents.items =
-        subst (AreIntact c.args.publisher.now held) names (all_intact tells c.args.publisher.now held items telling c.in_ok-payloads.ensures.prepared) in
+    subst (AreIntact c.args.publisher.now held) names (all_intact tells c.args.publisher.now held items telling c.in_ok-payloads.ensures.prepared) in
     let any = nat_lt 0 (length c.as_slice-2.result.now) in
     let why = c.in_err-lay.field-0.0 in
     let left = err_from_is_err_and c.from_residual-in_err-lay.result c.from_residual-in_err-lay.ensures.1 in
@@ -103,7 +103,7 @@ returns-in_err-lay-clause-looked g c = λ telling.
     let items = c.in_ok-payloads.payloads.items in
     let names = c.in_ok-payloads.ensures.named ∙ c.as_slice.ensures.value in
     let intact : AreIntact c.args.publisher.now held c.args.contents.items =
-        subst (AreIntact c.args.publisher.now held) names (all_intact tells c.args.publisher.now held items telling c.in_ok-payloads.ensures.prepared) in
+    subst (AreIntact c.args.publisher.now held) names (all_intact tells c.args.publisher.now held items telling c.in_ok-payloads.ensures.prepared) in
     let left = err_from_is_err_and c.from_residual-in_err-lay.result c.from_residual-in_err-lay.ensures.1 in
     rw left.1 (inr intact)
 
@@ -138,7 +138,7 @@ returns-clause-laid g c = λ told.
     let same : (g.S.Source.outside.state repo).held ≡ held = ap (λ (s : State). s.held) c.check_payloads.ensures.reads.kept in
     let kind = c.check_payloads.ensures.reads.call.same_kind in
     let prepared = subst (λ (t : Image). AllByRecursion (IsPrepared (g.S.Source.outside.tells repo) publisher t) items) (sym same)
-        (subst (λ (b : Bool). AllByRecursion (IsPrepared b publisher held) items) (sym kind) c.in_ok-payloads.ensures.prepared) in
+    (subst (λ (b : Bool). AllByRecursion (IsPrepared b publisher held) items) (sym kind) c.in_ok-payloads.ensures.prepared) in
     let done = c.in_ok-lay.ensures.laid told publisher prepared in
     subst (λ (l : List program.Step). AreLaid (IsContent tells publisher held) c.args.contents.items (map step_of l) old new) c.as_slice-2.ensures.value
     (subst (λ (l : List PayloadName). AreLaid (IsContent tells publisher held) l (map step_of c.as_slice-2.result.now) old new) names

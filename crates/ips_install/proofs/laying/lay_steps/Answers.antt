@@ -95,8 +95,8 @@ loop-step-preserved g c =
       laid = λ told publisher prepared.
           let same : (g.S.Source.outside.state c.loop-step.repo).held ≡ held = ap (λ (s : State). s.held) c.loop-step.invariant.reads.kept in
           let lays : LaysStep tells held c.loop-step.payloads.items s mid new =
-              subst (λ (b : Bool). LaysStep b held c.loop-step.payloads.items s mid new) c.loop-step.invariant.reads.call.same_kind
-              (subst (λ (t : Image). LaysStep (g.S.Source.outside.tells c.loop-step.repo) t c.loop-step.payloads.items s mid new) same (c.in_ok-lay_step.ensures.laid (c.loop-step.invariant.kind ∙ told))) in
+          subst (λ (b : Bool). LaysStep b held c.loop-step.payloads.items s mid new) c.loop-step.invariant.reads.call.same_kind
+          (subst (λ (t : Image). LaysStep (g.S.Source.outside.tells c.loop-step.repo) t c.loop-step.payloads.items s mid new) same (c.in_ok-lay_step.ensures.laid (c.loop-step.invariant.kind ∙ told))) in
           one_laid tells publisher held all prepared (length all) steps c.requires.listed k s stands c.loop-step.payloads.items c.loop-step.invariant.left old mid new (c.loop-step.invariant.laid told publisher prepared) lays;
       idle = λ none. absurd (let lt : k < length c.args.steps.now = c.loop-step-test.true in omega (arith, lt, none));
       moments = λ told.

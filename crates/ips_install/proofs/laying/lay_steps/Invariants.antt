@@ -17,7 +17,7 @@ invariant-loop-step g l = record {
   left : l.payloads.items ≡ drop (puts (take l.step-index (map step_of l.steps))) l.fn.payloads.items;
   laid : IsTrue (g.F.Source.outside.tells l.fn.image) → (publisher : List ℕ) → AllByRecursion (IsPrepared (g.S.Source.outside.tells l.fn.repo) publisher (g.S.Source.outside.state l.fn.repo).held) l.fn.payloads.items
       → AreLaid (IsContent (g.S.Source.outside.tells l.fn.repo) publisher (g.S.Source.outside.state l.fn.repo).held) (names_of l.fn.payloads.items) (take l.step-index (map step_of l.steps))
-          (g.F.Source.outside.state l.fn.image).held (g.F.Source.outside.state l.image).held;
+      (g.F.Source.outside.state l.fn.image).held (g.F.Source.outside.state l.image).held;
   idle : length l.steps ≡ 0 → g.F.Source.outside.state l.image ≡ g.F.Source.outside.state l.fn.image;
   moments : IsTrue (g.F.Source.outside.tells l.fn.image) → Keeps g.F.Source.outside (freed (map step_of l.steps)) (named (map step_of l.steps)) l.fn.image l.image;
 }
