@@ -1,5 +1,5 @@
 -- Payloads checked, one after another.
-use Rattle.std.proofs.Common.{◌≡◌, ◌⊎◌, inl, inr, ⊎_elim, ℕ, zero, suc, ◌+◌, ◌<◌, Bool, true, false, cond, nat_lt, IsTrue, List, [], ◌∷◌, ◌++◌, length, take, map, slice_get, Option, Some, None, Result, Ok, Err, refl, sym, ◌∙◌, ap, subst, arith}
+use Rattle.std.proofs.Common.{◌≡◌, ℕ, zero, suc, ◌+◌, ◌<◌, Bool, true, false, cond, nat_lt, IsTrue, List, [], ◌∷◌, ◌++◌, length, take, slice_get, Option, Some, None, Result, Ok, Err, refl, sym, ◌∙◌, ap, subst, arith}
 use Rattle.std.specs.List.{AllByRecursion}
 use Rattle.std.proofs.lemmas.Bool.Decides.{nat_tests}
 use Rattle.ips_text.specs.declared.limits.Which.{Which}
@@ -11,14 +11,14 @@ use Rattle.ips_repo.specs.Places.{payload_place}
 use Rattle.ips_repo.specs.Payload.{Reading, payload_limit, IsOpened, payload_in, payload_opening, from_start, IsFrontOf, digest_by, IsOpenFault, IsDamage}
 use Rattle.ips_repo.specs.declared.fault.RepoFault.{RepoFault}
 use Rattle.ips_repo.specs.declared.fault.RepoFault.TheVariants as repo
-use Rattle.ips_install.specs.Laid.{HasIntact, AreIntact, IsContent}
+use Rattle.ips_install.specs.Laid.{HasIntact, AreIntact}
 use Rattle.ips_install.specs.Fault.{IsDamageOf, IsWrong, IsPayloadFault, SaysOfPayloads}
 use Rattle.ips_install.specs.Checking.{IsKnown, IsVerified, IsPrepared, names_of, SaysOfPayload, SaysOfBytes, IsJudged, IsCheckingFault}
 use Rattle.ips_install.specs.declared.fault.PayloadFault.{PayloadFault}
 use Rattle.ips_install.specs.declared.fault.PayloadFault.TheVariants.{Missing, TooLarge, Damaged, Compressed}
 use Rattle.ips_install.specs.declared.fault.InstallFault.{InstallFault}
 use Rattle.ips_install.specs.declared.fault.InstallFault.TheVariants.{Payload, Source, Folder, OutOfMemory}
-use Rattle.ips_install.proofs.Places.{map_more, at_front, front_more, map_at, all_at}
+use Rattle.ips_install.proofs.Places.{map_more, at_front, front_more, all_at}
 
 -- ---- what is told of a payload
 

@@ -1,11 +1,11 @@
 -- The example's steps can be laid on its image.
-use Rattle.std.proofs.Common.{◌≡◌, ℕ, ◌<◌, true, false, is_some, List, [], ◌∷◌, Some, refl, sym, ◌∙◌, ap, subst, arith}
+use Rattle.std.proofs.Common.{◌≡◌, ℕ, true, false, is_some, List, [], ◌∷◌, Some, refl, sym, ◌∙◌, ap, subst, arith}
 use lib.Chars.{codes}
 use Rattle.ips_outside.specs.Image.{Image, Dir, nothing}
 use Rattle.ips_outside.specs.Change.{placed}
 use Rattle.ips_steps.specs.Steps.{Step, Fresh, Mode, Put, Symlink, Hard, Stage, possible}
 use Rattle.ips_steps.specs.Journal.{AllProper}
-use Rattle.ips_install.specs.Layable.{AreListed, HasEach, AreLayable}
+use Rattle.ips_install.specs.Layable.{AreListed, AreLayable}
 use Rattle.ips_install.specs.Example.{example, example_image}
 
 pub example_listed : AllProper example → AreListed 2 example

@@ -6,7 +6,7 @@ use Rattle.ips_outside.specs.Image.{Entry, Dir, File, Link, Other, Image, IsImag
 use Rattle.ips_outside.specs.Change.{names}
 use Rattle.ips_outside.specs.State.{State, nowhere}
 use Rattle.ips_outside.specs.Outside.{Outside, IsOutside}
-use Rattle.ips_folder.specs.Calls.{Writes, Keeps, IsSole}
+use Rattle.ips_folder.specs.Calls.{Writes, Keeps}
 use Rattle.ips_text.proofs.Ancestry.{same_path-self}
 use Rattle.ips_folder.proofs.Runs.{keeps_wider, one_write}
 

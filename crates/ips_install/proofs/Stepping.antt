@@ -1,18 +1,17 @@
 -- Steps laid, one after another.
-use Rattle.std.proofs.Common.{◌≡◌, ℕ, zero, suc, ◌+◌, ◌<◌, Bool, true, false, cond, not, ◌&&◌, ◌||◌, ◌==◌, nat_lt, IsTrue, List, [], ◌∷◌, length, take, drop, map, slice_get, Option, Some, None, is_some, is_none, refl, sym, ◌∙◌, ap, subst, eq-eqb, arith}
+use Rattle.std.proofs.Common.{◌≡◌, ℕ, zero, suc, ◌+◌, ◌<◌, Bool, true, false, cond, not, ◌||◌, ◌==◌, List, [], ◌∷◌, length, take, drop, slice_get, Option, Some, None, is_some, is_none, refl, sym, ◌∙◌, ap, subst, eq-eqb, arith}
 use Rattle.std.specs.List.{AllByRecursion}
-use Rattle.std.proofs.lemmas.Bool.{and_parts, or_parts, or_from, or_left, not-true, false_from_ne_true, eqb-true, ltb-true}
-use Rattle.std.proofs.lemmas.Option.{slice_get_within}
+use Rattle.std.proofs.lemmas.Bool.{and_parts, or_parts, or_from, not-true, false_from_ne_true, eqb-true, ltb-true}
 use Rattle.ips_text.specs.Ancestry.{same_path, covers}
 use Rattle.ips_outside.specs.Image.{Entry, Dir, File, Link, Image, IsImage, is_dir, is_file, has_parent, with_mode}
 use Rattle.ips_outside.specs.Change.{placed, names}
 use Rattle.ips_folder.specs.Calls.{CanMake}
 use Rattle.ips_digest.specs.declared.name.PayloadName.{PayloadName}
 use Rattle.ips_repo.specs.Files.{file_at}
-use Rattle.ips_repo.specs.Payload.{Reading, digest_by}
-use Rattle.ips_steps.specs.Steps.{Step, Gone, Fresh, Mode, Put, Symlink, Hard, Stage, path_of, bytes_of, laid, all_laid, can_lay, possible, frees, freed, named, distinct}
-use Rattle.ips_steps.specs.Journal.{IsProper, AllProper, numbered}
-use Rattle.ips_text.proofs.Ancestry.{same_path-true, same_path-self}
+use Rattle.ips_repo.specs.Payload.{Reading}
+use Rattle.ips_steps.specs.Steps.{Step, Gone, Fresh, Mode, Put, Symlink, Hard, Stage, path_of, bytes_of, laid, all_laid, can_lay, frees, freed, named, distinct}
+use Rattle.ips_steps.specs.Journal.{IsProper, AllProper}
+use Rattle.ips_text.proofs.Ancestry.{same_path-true}
 use Rattle.ips_outside.proofs.Agree.{is_dir-alike}
 use Rattle.ips_steps.proofs.Lists.{clash, same_path-sym}
 use Rattle.ips_steps.proofs.AtTurn.{can_at, laid_next, front_frees}

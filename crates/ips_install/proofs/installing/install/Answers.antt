@@ -1,10 +1,9 @@
-use Rattle.std.proofs.Common.{◌≡◌, inl, inr, Bool, true, false, nat_lt, [], List, length, map, Err, sym, ◌∙◌, ap, subst}
+use Rattle.std.proofs.Common.{◌≡◌, inr, Bool, true, false, nat_lt, List, length, map, Err, sym, ◌∙◌, ap, subst}
 use Rattle.std.specs.List.{AllByRecursion}
 use Rattle.std.proofs.lemmas.Result.{err_from_is_err_and}
 use Rattle.ips_outside.specs.Image.{Image}
 use Rattle.ips_outside.specs.State.{State}
 use Rattle.ips_outside.proofs.Faults.{no_cause, cause_as, cause_behind}
-use Rattle.ips_folder.specs.Calls.{Keeps}
 use Rattle.ips_folder.proofs.Runs.{begun}
 use Rattle.ips_digest.specs.declared.name.PayloadName.{PayloadName}
 use Rattle.ips_steps.specs.Steps.{freed, named}
@@ -12,7 +11,6 @@ use Rattle.ips_steps.specs.View.{step_of}
 use Rattle.ips_steps.specs.declared.step.Step as program
 use Rattle.ips_steps.proofs.Lists.{clash}
 use Rattle.ips_repo.proofs.Calls.{no_fault, handed_on}
-use Rattle.ips_install.specs.Layable.{AreListed, AreLayable}
 use Rattle.ips_install.specs.Laid.{IsContent, AreLaid, AreIntact}
 use Rattle.ips_install.specs.Fault.{SaysOfPayloads}
 use Rattle.ips_install.specs.Checking.{IsPrepared, names_of}

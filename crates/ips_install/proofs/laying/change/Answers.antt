@@ -1,8 +1,8 @@
-use Rattle.std.proofs.Common.{◌≡◌, true, refl, sym, subst}
-use Rattle.ips_text.specs.Ancestry.{same_path, covers}
+use Rattle.std.proofs.Common.{◌≡◌, true, sym, subst}
+use Rattle.ips_text.specs.Ancestry.{same_path}
 use Rattle.ips_outside.specs.Image.{is_dir}
 use Rattle.ips_folder.specs.Calls.{Keeps}
-use Rattle.ips_steps.specs.Steps.{Mode, Hard, frees, path_of}
+use Rattle.ips_steps.specs.Steps.{Mode, frees, path_of}
 use Rattle.ips_steps.specs.View.{step_of}
 use Rattle.ips_steps.specs.declared.step.Step as program
 use Rattle.ips_install.specs.Laying.{CanLay}
