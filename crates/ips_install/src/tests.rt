@@ -3,17 +3,44 @@ ghost use Rattle.ips_text.specs.Path.{IsPath};
 ghost use Rattle.ips_folder.specs.Memory.{mem_folder};
 ghost use Rattle.ips_steps.specs.Journal.{AllProper};
 ghost use Rattle.ips_steps.specs.View.{step_of};
-ghost use Rattle.ips_install.specs.Example.{example, example_image};
+ghost use Rattle.ips_install.specs.Example.{example, example_image, untold, untold_sane};
 
 use crate::fault::{InstallFault, PayloadFault};
 use crate::installing::install;
 use ips_digest::PayloadName;
 use ips_folder::MemFolder;
-use ips_outside::{Look, MemSource, Tree};
+use ips_outside::{Failed, Look, MemSource, Source, Tree};
 use ips_steps::{Step, Target};
 use ips_text::RelPath;
 use std::alloc::Global;
 use std::test::Fail;
+
+// A repository in which each file has three bytes: `abc` in the first two reads, and others in each later one.
+#[derive(Drop)]
+struct Changing {
+    reads: u64,
+}
+
+impl Source for Changing {
+    ghost outside = { untold };
+
+    ghost sane = { untold_sane };
+
+    fn look(&mut self, _path: &RelPath) -> Result<Look, Failed> {
+        Ok(Look::File {
+            mode: 0o644,
+            size: 3,
+        })
+    }
+
+    fn read(&mut self, _path: &RelPath, _at: u64, buf: &mut [u8]) -> Result<usize, Failed> {
+        self.reads = self.reads.saturating_add(1);
+        let bytes = if self.reads < 3 { b"abc" } else { b"abd" };
+        let count = buf.len().min(3);
+        buf[..count].copy_from_slice(&bytes[..count]);
+        Ok(count)
+    }
+}
 
 fn path(alloc: Global, bytes: &[u8]) -> Result<RelPath, Fail>
     ensures named { IfOk result (λ p. p.bytes ≡ bytes.now) }
@@ -56,13 +83,18 @@ fn example(alloc: Global) -> Result<Vec<Step>, Fail>
     Ok(Vec::from_array(alloc, [usr, first, second, link, hard, etc])?)
 }
 
-// The payloads of the two files: the bytes `abc`, and none.
-fn names(alloc: Global) -> Result<Vec<PayloadName>, Fail>
+// The SHA-1 digests of no bytes and of `abc`.
+const EMPTY: &str = "da39a3ee5e6b4b0d3255bfef95601890afd80709";
+
+const ABC: &str = "a9993e364706816aba3e25717850c26c9cd0d89d";
+
+// The payloads of these two names.
+fn names(alloc: Global, first: &str, second: &str) -> Result<Vec<PayloadName>, Fail>
     ensures { IfOk result (λ names. length names.items ≡ 2) }
 {
-    let abc = PayloadName::parse("a9993e364706816aba3e25717850c26c9cd0d89d").ok_or("name")?;
-    let empty = PayloadName::parse("da39a3ee5e6b4b0d3255bfef95601890afd80709").ok_or("name")?;
-    Ok(Vec::from_array(alloc, [abc, empty])?)
+    let first = PayloadName::parse(first).ok_or("name")?;
+    let second = PayloadName::parse(second).ok_or("name")?;
+    Ok(Vec::from_array(alloc, [first, second])?)
 }
 
 // An image with the directory `etc` alone, of which the listed calls fail.
@@ -100,7 +132,7 @@ fn repository(alloc: Global, abc: Option<&[u8]>, fails: Vec<u64>) -> Result<MemS
     Ok(MemSource::new(tree, fails))
 }
 
-// Lays the example, and answers how it ended and the image.
+// Lays the example with the bytes `abc` and no bytes, and answers how it ended and the image.
 fn run(
     alloc: Global,
     abc: Option<&[u8]>,
@@ -108,7 +140,7 @@ fn run(
     image_fails: &[u64],
 ) -> Result<(Result<(), InstallFault>, MemFolder), Fail> {
     let steps = example(alloc)?;
-    let names = names(alloc)?;
+    let names = names(alloc, ABC, EMPTY)?;
     let mut repo = repository(alloc, abc, Vec::from_slice(alloc, source_fails)?)?;
     let mut image = image(alloc, Vec::from_slice(alloc, image_fails)?)?;
     let ended = install(alloc, "test", steps, names, &mut repo, &mut image);
@@ -194,6 +226,21 @@ fn a_payload_that_is_not_intact_changes_nothing(rt: HostRuntime) -> Result<(), F
         assert!(rt; look(alloc, &image, b"usr")? == Look::Absent);
         assert!(rt; look(alloc, &image, b"etc")? == Look::Dir { mode: 0o700 });
     }
+    Ok(())
+}
+
+#[test]
+fn a_payload_that_changes_is_found_as_it_is_laid(rt: HostRuntime) -> Result<(), Fail> {
+    let alloc = rt.alloc();
+    let steps = example(alloc)?;
+    let names = names(alloc, ABC, ABC)?;
+    let mut image = image(alloc, Vec::new(alloc))?;
+    let mut repo = Changing { reads: 0 };
+    let ended = install(alloc, "test", steps, names, &mut repo, &mut image);
+    assert!(rt; words_of(&ended) == "damaged");
+    // the directory and the file were made, and the step behind them wasn't begun
+    assert!(rt; look(alloc, &image, b"usr/f")? != Look::Absent);
+    assert!(rt; look(alloc, &image, b"usr/e")? == Look::Absent);
     Ok(())
 }
 
