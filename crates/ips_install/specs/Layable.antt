@@ -14,7 +14,7 @@ is_within count (Put n m p) = nat_lt n count
 is_within count (Symlink p target) = true
 is_within count (Hard p to) = true
 
--- Each step has proper parts, and the contents of files are so many, numbered from 0 on in the order of the steps.
+-- Each step has proper parts, and the content of each file is one of so many, numbered from 0 on in the order of the steps.
 pub record AreListed (count : ℕ) (steps : List Step) : Type 0 where
   pub proper : AllProper steps
   pub contents : AllByRecursion (λ s. IsTrue (is_within count s)) steps

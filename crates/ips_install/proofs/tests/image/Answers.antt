@@ -1,6 +1,4 @@
-use Rattle.std.proofs.Common.{◌≡◌, false, List, ℕ, Some, sym, ◌∙◌, ap}
-use Rattle.ips_outside.specs.Image.{Image, Dir}
-use Rattle.ips_outside.specs.Change.{placed}
+use Rattle.std.proofs.Common.{◌∙◌, ap}
 use Rattle.ips_folder.specs.History.{Moment}
 use Rattle.ips_install.proofs.Examples.{image_built}
 use Rattle.ips_install.proofs.tests.image.Goals as goal

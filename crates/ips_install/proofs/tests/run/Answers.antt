@@ -1,11 +1,3 @@
-use Rattle.std.proofs.Common.{◌≡◌, ℕ, List, length, map, sym, subst}
-use Rattle.ips_outside.specs.Image.{Image}
-use Rattle.ips_folder.specs.Memory.{mem_folder}
-use Rattle.ips_steps.specs.Steps.{Step}
-use Rattle.ips_steps.specs.Journal.{AllProper}
-use Rattle.ips_steps.specs.View.{step_of}
-use Rattle.ips_install.specs.Layable.{AreListed, AreLayable}
-use Rattle.ips_install.specs.Example.{example, example_image}
 use Rattle.ips_install.proofs.Examples.{listed_as, layable_as}
 use Rattle.ips_install.proofs.tests.run.Goals as goal
 
