@@ -1,3 +1,6 @@
 pub mod Layable
 pub mod Laid
 pub mod Fault
+pub mod Checking
+pub mod Laying
+pub mod Example

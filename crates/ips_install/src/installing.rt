@@ -1,6 +1,6 @@
 //! Steps laid on an image.
 
-ghost use Rattle.std.specs.Prelude.{◌≡◌, ◌⊎◌, Bool, IsTrue, Err, [], IfErr, OnOk, OnErr, length, map};
+ghost use Rattle.std.specs.Prelude.{◌≡◌, ◌⊎◌, Bool, true, IsTrue, Err, [], IfErr, OnOk, OnErr, length, map};
 ghost use Rattle.ips_outside.specs.State.{IsSettled};
 ghost use Rattle.ips_outside.specs.Outside.{HasCause};
 ghost use Rattle.ips_folder.specs.Calls.{Keeps};
@@ -11,12 +11,17 @@ ghost use Rattle.ips_install.specs.Laid.{IsContent, AreLaid, AreIntact};
 ghost use Rattle.ips_install.specs.Fault.{SaysOfPayloads, IsInstallFault, is_refusal};
 ghost use Rattle.ips_install.specs.declared.fault.InstallFault.TheVariants as fault;
 
+use crate::checking::check_payloads;
 use crate::fault::InstallFault;
+use crate::laying::lay;
 use ips_digest::PayloadName;
 use ips_folder::Folder;
 use ips_outside::Source;
 use ips_steps::Step;
 use std::alloc::Global;
+
+/// How many bytes of a payload are held at a time.
+const CHUNK: usize = 65_536;
 
 /// Lays the steps in turn and syncs. The contents of files are the publisher's payloads of these names, by their numbers. Each
 /// payload is hashed whole before the first change, and once more as it is laid.
@@ -61,5 +66,20 @@ pub fn install<S: Source, F: Folder>(
     ensures same_source { S.outside.tells repo.new ≡ S.outside.tells repo.old }
     ensures same_folder { F.outside.tells image.new ≡ F.outside.tells image.old }
 {
-    Err(InstallFault::OutOfMemory)
+    let mut buffer = vec![in alloc; 0u8; CHUNK]?;
+    let payloads = check_payloads(
+        alloc,
+        publisher,
+        contents.as_slice(),
+        repo,
+        buffer.as_mut_slice(),
+    )?;
+    lay(
+        repo,
+        payloads,
+        image,
+        steps.as_slice(),
+        buffer.as_mut_slice(),
+    )?;
+    Ok(())
 }

@@ -1,0 +1,8 @@
+pub mod Places
+pub mod Checked
+pub mod Outcomes
+pub mod Keeping
+pub mod Filled
+pub mod Numbers
+pub mod Stepping
+pub mod Examples
