@@ -1,4 +1,1 @@
-pub mod Those
-pub mod Named
-pub mod Asked
-pub mod Placed
+pub mod Searched

@@ -1,3 +1,3 @@
-pub mod Naming
-pub mod Newest
 pub mod Lines
+pub mod First
+pub mod Sought

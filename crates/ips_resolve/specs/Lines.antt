@@ -1,21 +1,16 @@
--- What the lines of a manifest ask an image to have.
-use Rattle.std.specs.Prelude.{◌≡◌, ◌⊎◌, ℕ, Bool, true, false, ◌||◌, List, [], ◌∷◌, codes, Option, Some, None}
-use Rattle.std.specs.Str.Parse.{digits_value}
-use Rattle.ips_digest.specs.declared.name.PayloadName.{PayloadName}
+-- What the lines of manifests ask for.
+use Rattle.std.specs.Prelude.{ℕ, Bool, true, false, ◌||◌, ◌&&◌, IsTrue, List, [], ◌∷◌, codes}
+use Rattle.ips_text.specs.Ancestry.{covers}
 use Rattle.ips_action.specs.declared.kind.ActionKind.{ActionKind}
 use Rattle.ips_action.specs.declared.kind.ActionKind.TheVariants.{Set, Depend, Dir, File, Link, Hardlink, User, Group, Driver, License, Legacy, Signature}
 use Rattle.ips_action.specs.Attrs.{values_of}
 use Rattle.ips_action.specs.Action.{Fields}
-use Rattle.ips_action.specs.Judging.{first_of, path_of}
+use Rattle.ips_action.specs.Judging.{path_of}
 use Rattle.ips_manifest.specs.declared.line.Line.{Line}
 use Rattle.ips_filter.specs.Settings as settings
 use Rattle.ips_filter.specs.Admitted.{Admits}
-use Rattle.ips_install.specs.Wanted.{Wanted, Nothing, Lays, NotYet, Directory}
-use Rattle.ips_install.specs.Wanted as wanted
 
--- the permission bits of an action: its `mode`, in octal digits
-abbrev pub mode_of : Fields → ℕ
-mode_of action = digits_value 8 (first_of (values_of (codes "mode") action.attrs))
+-- ---- what can't be installed yet
 
 -- there is a value
 abbrev pub is_there : List (List ℕ) → Bool
@@ -26,37 +21,53 @@ is_there (value ∷ values) = true
 abbrev pub has_rules : Fields → Bool
 has_rules action = is_there (values_of (codes "preserve") action.attrs) || is_there (values_of (codes "overlay") action.attrs)
 
--- a file of this payload, where it has no rules of its own
-abbrev pub file_by : Bool → Option PayloadName → Fields → Wanted
-file_by true payload action = NotYet
-file_by false None action = NotYet
-file_by false (Some name) action = Lays (wanted.File name (mode_of action) (path_of action.attrs))
+-- an action of this kind can't be installed yet
+abbrev pub is_unbuilt_as : ActionKind → Fields → Bool
+is_unbuilt_as Set action = false
+is_unbuilt_as Depend action = false
+is_unbuilt_as Dir action = false
+is_unbuilt_as File action = has_rules action
+is_unbuilt_as Link action = false
+is_unbuilt_as Hardlink action = false
+is_unbuilt_as User action = true
+is_unbuilt_as Group action = true
+is_unbuilt_as Driver action = true
+is_unbuilt_as License action = true
+is_unbuilt_as Legacy action = true
+is_unbuilt_as Signature action = false
 
--- what an action of this kind asks for
-abbrev pub asked_as : ActionKind → Fields → Wanted
-asked_as Set action = Nothing
-asked_as Depend action = NotYet
-asked_as Dir action = Lays (Directory (mode_of action) (path_of action.attrs))
-asked_as File action = file_by (has_rules action) action.payload action
-asked_as Link action = NotYet
-asked_as Hardlink action = NotYet
-asked_as User action = NotYet
-asked_as Group action = NotYet
-asked_as Driver action = NotYet
-asked_as License action = NotYet
-asked_as Legacy action = NotYet
-asked_as Signature action = Nothing
+-- The action can't be installed yet: it is a user, a group, a driver, a license, an entry of a legacy package, or a file with rules of
+-- its own.
+abbrev pub is_unbuilt : Fields → Bool
+is_unbuilt action = is_unbuilt_as action.kind action
 
--- What an action asks for: a `dir` its directory, a `file` without rules of its own its file, `set` and `signature` nothing;
--- every other can't be installed yet.
-abbrev pub asked_by : Fields → Wanted
-asked_by action = asked_as action.kind action
+-- ---- paths
 
--- What a line asks for: what its action does, where that is admitted by what the image has set, and else nothing.
-abbrev pub AsksFor : settings.Set → Fields → Wanted → Type 0
-AsksFor s action line = (Admits s action.attrs × (line ≡ asked_by action)) ⊎ ((Admits s action.attrs → ⊥) × (line ≡ Nothing))
+-- an action of this kind gives a path
+abbrev pub gives_path : ActionKind → Bool
+gives_path Set = false
+gives_path Depend = false
+gives_path Dir = true
+gives_path File = true
+gives_path Link = true
+gives_path Hardlink = true
+gives_path User = false
+gives_path Group = false
+gives_path Driver = false
+gives_path License = false
+gives_path Legacy = false
+gives_path Signature = false
 
--- What the lines of a manifest ask for, one by one.
-abbrev pub AreLinesFor : settings.Set → List Line → List Wanted → Type 0
-AreLinesFor s [] wanted = wanted ≡ []
-AreLinesFor s (line ∷ lines) wanted = (first : Wanted) × (rest : List Wanted) × (wanted ≡ first ∷ rest) × AsksFor s line.action first × AreLinesFor s lines rest
+-- the action gives the path, or one below it
+abbrev pub is_placed_at : List ℕ → Fields → Bool
+is_placed_at path action = gives_path action.kind && covers path (path_of action.attrs)
+
+-- ---- lines
+
+-- The line is admitted by what the image has set, and can't be installed yet.
+abbrev pub IsUnbuilt : settings.Set → Line → Type 0
+IsUnbuilt s line = Admits s line.action.attrs × IsTrue (is_unbuilt line.action)
+
+-- The line is admitted by what the image has set, and gives the path or one below it.
+abbrev pub IsPlacedAt : settings.Set → List ℕ → Line → Type 0
+IsPlacedAt s path line = Admits s line.action.attrs × IsTrue (is_placed_at path line.action)

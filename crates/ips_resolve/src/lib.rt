@@ -1,18 +1,15 @@
-//! From a pattern to what is laid: which package of a repository the pattern names, in which version, and what the lines of its
-//! manifest ask an image to have.
+//! Lines of packages by what they ask for: the first that can't be installed yet, and the first at or below a path.
 //!
-//! What is promised: `resolve` answers the one stem that the pattern names in a catalog, and else just why it names none;
-//! `newest_admitted` the last version that the pattern admits; `wanted_lines` what each line asks for under the image's settings.
-//! The modules, in the order of the data: `naming`, `newest`, `lines`.
+//! What is promised: `first_unbuilt` and `first_below` answer the first line of its kind, package by package and line by line, that
+//! is admitted by the image's settings, with its package; None exactly where no admitted line is of its kind.
+//!
+//! In reading order: what single actions are (`judging`), and the first line (`first`).
 #![tactic(auto)]
 
-mod lines;
-mod naming;
-mod newest;
+mod first;
+mod judging;
 
-pub use lines::wanted_lines;
-pub use naming::{ResolveFault, resolve};
-pub use newest::newest_admitted;
+pub use first::{first_below, first_unbuilt};
 
 #[cfg(test)]
 mod tests;

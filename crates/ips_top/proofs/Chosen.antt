@@ -1,50 +1,107 @@
--- What is chosen, and what is said of it.
-use Rattle.std.proofs.Common.{◌≡◌, ℕ, List, map, Option, refl, sym, ◌∙◌, subst}
-use Rattle.ips_text.specs.declared.limits.Which.{Which}
-use Rattle.ips_text.specs.declared.limits.Which.TheVariants as which
+-- From a puzzle's answer to what is chosen.
+use Rattle.std.proofs.Common.{◌≡◌, ℕ, List, [], ◌∷◌, map, slice_get, Option, Some, None, option_map, option_and_then, refl, sym, ap, ap₂, subst, ◌∙◌}
+use Rattle.std.proofs.lemmas.Option.{none-some, same_Some, slice_get-map}
+use Rattle.ips_fmri.specs.Version.{Parts}
 use Rattle.ips_outside.specs.Image.{Image}
-use Rattle.ips_filter.specs.Settings.{Set}
-use Rattle.ips_repo.specs.Files.{HasSize}
-use Rattle.ips_repo.specs.Manifest.{manifest_file, HoldsManifest, IsTooLarge}
-use Rattle.ips_install.specs.Wanted.{seen}
-use Rattle.ips_resolve.specs.Lines.{AreLinesFor}
-use Rattle.ips_top.specs.Request.{publisher}
-use Rattle.ips_top.specs.Offer.{nothing_set}
-use Rattle.ips_top.specs.Answer.{OfChosen, HasTooMuch}
-use Rattle.ips_top.specs.Choice.{IsChoice, IsOffer}
-use Rattle.ips_top.specs.declared.choosing.Choice.{Choice}
-use Rattle.ips_top.specs.declared.choosing.Offer.{Offer}
+use Rattle.ips_manifest.specs.declared.package.Package.{Package}
+use Rattle.ips_state.specs.State.{Installed, installed}
+use Rattle.ips_refute.specs.Meaning.{HasNoChoice, pairs}
+use Rattle.ips_refute.specs.Refuting.{IsRefutation}
+use Rattle.ips_search.specs.Best.{IsFirst}
+use Rattle.ips_problem.specs.Case.{Case, Reading, said}
+use Rattle.ips_problem.specs.Candidates.{candidates}
+use Rattle.ips_problem.specs.Posed.{Posed, Offer, offer_of, row_of, posed, lines_said, meaning_of, picked}
+use Rattle.ips_problem.specs.Taken.{AreTaken, IsChoice, offer_at, package_of}
+use Rattle.ips_problem.proofs.Solving.{first_is_best, none_admissible}
+use Rattle.ips_top.specs.Unsolved.{Tried, offered, seen_tried, tried_of, tried_rows}
+use Rattle.ips_top.specs.Plan.{AreChosen, HasNoSolution, IsSpent, IsPastLimit}
+use Rattle.ips_top.specs.Offer.{AsksPosed}
+use Rattle.ips_top.specs.declared.unsolved.Unsolved.{Unsolved}
 
-module _ (words : List (List ℕ)) (t : Image) (c : Choice) (is : IsChoice words t c) where
-  -- what holds of the manifest's file
-  pub of_chosen : (fmri : List ℕ) (P : Option (List ℕ) → Type 0) → fmri ≡ c.fmri → P (manifest_file publisher c.stem c.version t) → OfChosen words t fmri P
-  of_chosen fmri P same holds = record {
-    chosen = is.chosen;
-    named = same ∙ is.fmri_is;
-    says = subst (λ (s : List ℕ). P (manifest_file publisher s is.chosen.version t)) is.stem_is (subst (λ (v : _). P (manifest_file publisher c.stem v t)) is.version_is holds);
-  }
+-- ---- packages
 
-  -- it is too large
-  pub large_told : (limit : Which) (count : ℕ) → IsTooLarge limit count → HasSize (manifest_file publisher c.stem c.version t) count → HasTooMuch words t limit count
-  large_told limit count large sized = subst (λ (w : Which). HasTooMuch words t w count) (sym large.0) (
-    c.fmri,
-    of_chosen c.fmri (λ file. IsTooLarge which.ManifestBytes count × HasSize file count) refl ((refl, large.1), sized),
-  )
+-- a candidate's package has the lines of its manifest
+offered_says : (c : Case) (stem : List ℕ) (o : Option (Option Parts)) (q : Installed) → package_of (Some stem) (option_and_then (λ (x : Option Offer). x) (option_map (offer_of c stem) o)) ≡ Some q
+    → q.lines ≡ lines_said (said c q.stem q.version)
+offered_says c stem None q is = absurd (none-some q is)
+offered_says c stem (Some None) q is = absurd (none-some q is)
+offered_says c stem (Some (Some v)) q is =
+    let own : Installed = record { stem = stem; version = v; lines = lines_said (said c stem v) } in
+    subst (λ (q : Installed). q.lines ≡ lines_said (said c q.stem q.version)) (same_Some own q is) refl
 
-  -- its manifest is held, and these are the lines that it asks for
-  pub offer_of : (o : Offer) (size : ℕ) (s : Set) → o.fmri ≡ c.fmri → HoldsManifest (manifest_file publisher c.stem c.version t) o.manifest.lines.items size → s ≡ nothing_set
-      → AreLinesFor s o.manifest.lines.items (map seen o.lines.items) → IsOffer words t o
-  offer_of o size s same holds unset asked = record {
-    planned = record {
-      chosen = is.chosen;
-      manifest = o.manifest.lines.items;
-      size = size;
-      holds = subst (λ (n : List ℕ). HoldsManifest (manifest_file publisher n is.chosen.version t) o.manifest.lines.items size) is.stem_is
-          (subst (λ (v : _). HoldsManifest (manifest_file publisher c.stem v t) o.manifest.lines.items size) is.version_is holds);
-      lines = map seen o.lines.items;
-      asked = subst (λ (u : Set). AreLinesFor u o.manifest.lines.items (map seen o.lines.items)) unset asked;
-    };
-    fmri_is = same ∙ is.fmri_is;
-    manifest_is = refl;
-    lines_are = refl;
-  }
+selected_says : (c : Case) (stem : Option (List ℕ)) (k : Option ℕ) (q : Installed) → package_of stem (offer_at (option_map (row_of c) stem) k) ≡ Some q → q.lines ≡ lines_said (said c q.stem q.version)
+selected_says c None k q is = absurd (none-some q is)
+selected_says c (Some stem) None q is = absurd (none-some q is)
+selected_says c (Some stem) (Some k) q is =
+    offered_says c stem (slice_get (candidates c stem) k) q
+    (ap (λ (o : Option (Option Offer)). package_of (Some stem) (option_and_then (λ (x : Option Offer). x) o)) (sym (slice_get-map (offer_of c stem) (candidates c stem) k)) ∙ is)
+
+-- the first choice takes the packages of the best selection
+pub first_chosen : (words : List (List ℕ)) (t : Image) (r : Reading) (limit : ℕ) (p : Posed) (choice : List ℕ) (packages : List Package)
+    → AsksPosed words t r limit p → IsFirst (meaning_of p) choice → AreTaken p choice (map installed packages) → AreChosen words t r packages
+first_chosen words t r limit p choice packages asks first taken =
+    let c = asks.the_case in
+    let reach = asks.reach in
+    let is_first = subst (λ (p : Posed). IsFirst (meaning_of p) choice) asks.same first in
+    let are = subst (λ (p : Posed). AreTaken p choice (map installed packages)) asks.same taken in (
+      record {
+        limit = limit;
+        the_case = c;
+        reach = reach;
+        asks = asks.asks;
+        selection = picked (posed c reach) (pairs choice);
+        best = first_is_best c reach choice asks.asks.is_reach is_first;
+        packages = map installed packages;
+        selected = record {
+          order = are.order;
+          versions = are.selection;
+          lines = λ q there.
+              let (i, at) = (are.each q).0 there in
+              selected_says c (slice_get reach i) (slice_get choice i) q
+              (ap (λ (row : Option _). package_of (slice_get reach i) (offer_at row (slice_get choice i))) (sym (slice_get-map (row_of c) reach i)) ∙ at);
+        };
+      },
+      refl,
+    )
+
+-- it is a choice
+pub first_is_choice : (p : Posed) (choice : List ℕ) → IsFirst (meaning_of p) choice → IsChoice p choice
+first_is_choice p choice first = record { each = first.0.0; offered = first.0.1.offered }
+
+-- ---- nothing fits
+
+versions_back : (c : Case) (stem : List ℕ) (os : List (Option Parts)) → map offered (map (offer_of c stem) os) ≡ os
+versions_back c stem [] = refl
+versions_back c stem (None ∷ os) = ap (λ (l : List (Option Parts)). None ∷ l) (versions_back c stem os)
+versions_back c stem (Some v ∷ os) = ap (λ (l : List (Option Parts)). Some v ∷ l) (versions_back c stem os)
+
+-- what there is to try of the stems of a puzzle is what the case says of those in reach
+tried_back : (c : Case) (reach : List (List ℕ)) → tried_rows reach (map (row_of c) reach) ≡ map (tried_of c) reach
+tried_back c [] = refl
+tried_back c (stem ∷ reach) =
+    ap₂ (λ (os : List (Option Parts)) (l : List Tried). record { stem = stem; candidates = os } ∷ l) (versions_back c stem (candidates c stem)) (tried_back c reach)
+
+pub none_chosen : (words : List (List ℕ)) (t : Image) (r : Reading) (limit : ℕ) (p : Posed) (u : Unsolved) → AsksPosed words t r limit p
+    → HasNoChoice (meaning_of p) → IsRefutation (meaning_of p) u.refutation.nogoods.items → map seen_tried u.stems.items ≡ tried_rows p.stems p.rows → HasNoSolution words t r u
+none_chosen words t r limit p u asks none refuted tried =
+    let c = asks.the_case in
+    let reach = asks.reach in
+    record {
+      limit = limit;
+      the_case = c;
+      reach = reach;
+      asks = asks.asks;
+      none = λ s. none_admissible c reach s asks.asks.is_reach (subst (λ (p : Posed). HasNoChoice (meaning_of p)) asks.same none);
+      tried = tried ∙ ap (λ (p : Posed). tried_rows p.stems p.rows) asks.same ∙ tried_back c reach;
+      refuted = subst (λ (p : Posed). IsRefutation (meaning_of p) u.refutation.nogoods.items) asks.same refuted;
+    }
+
+-- ---- the limit
+
+pub limit_past : (words : List (List ℕ)) (t : Image) (r : Reading) (limit : ℕ) (p : Posed) → AsksPosed words t r limit p → IsPastLimit (meaning_of p) limit → IsSpent words t r limit
+limit_past words t r limit p asks past = record {
+  the_case = asks.the_case;
+  reach = asks.reach;
+  asks = asks.asks;
+  past = subst (λ (p : Posed). IsPastLimit (meaning_of p) limit) asks.same past;
+}

@@ -1,6 +1,11 @@
-pub mod SixWords
-pub mod Tellings
-pub mod Blanks
+pub mod Fronts
+pub mod Pieces
+pub mod Showing
+pub mod Wording
+pub mod Asking
+pub mod Trying
 pub mod Chosen
-pub mod Planned
+pub mod Tellings
 pub mod Refusals
+pub mod Meanings
+pub mod Laying

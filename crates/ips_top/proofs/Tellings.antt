@@ -147,3 +147,10 @@ two_and_three a b c d e = append_assoc ((a ++ b) ++ c) d e ∙ append_assoc (a +
 -- or four, and then one
 pub four_and_one : (a b c d e : List ℕ) → (((a ++ b) ++ c) ++ d) ++ e ≡ ((a ++ b) ++ (c ++ d)) ++ e
 four_and_one a b c d e = ap (λ (l : List ℕ). l ++ e) (append_assoc (a ++ b) c d)
+
+-- or one, then two and two; or three together, and then two
+pub one_two_two : (a b c d e : List ℕ) → (((a ++ b) ++ c) ++ d) ++ e ≡ a ++ ((b ++ c) ++ (d ++ e))
+one_two_two a b c d e = append_assoc ((a ++ b) ++ c) d e ∙ ap (λ (l : List ℕ). l ++ (d ++ e)) (append_assoc a b c) ∙ append_assoc a (b ++ c) (d ++ e)
+
+pub three_and_two : (a b c d e : List ℕ) → (((a ++ b) ++ c) ++ d) ++ e ≡ (a ++ (b ++ c)) ++ (d ++ e)
+three_and_two a b c d e = append_assoc ((a ++ b) ++ c) d e ∙ ap (λ (l : List ℕ). l ++ (d ++ e)) (append_assoc a b c)

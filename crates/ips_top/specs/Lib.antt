@@ -1,8 +1,9 @@
 pub mod Words
 pub mod Request
-pub mod Offer
+pub mod Text
+pub mod Unsolved
+pub mod Plan
 pub mod Answer
-pub mod Choice
 pub mod Report
 pub mod Telling
-pub mod Refused
+pub mod Offer

@@ -1,85 +1,65 @@
-//! From a pattern to what is to be laid.
+//! From what the words ask for to the packages that are chosen.
 
-ghost use Rattle.std.specs.Prelude.{◌≡◌, ℕ, IsTrue, List, Ok, Err, IfOk, IfErr, map};
-ghost use Rattle.std.specs.List.{AllByRecursion};
+ghost use Rattle.std.specs.Prelude.{◌≡◌, ℕ, IsTrue, List, Ok, Err, IfOk, IfErr};
 ghost use Rattle.ips_outside.specs.Image.{Image};
 ghost use Rattle.ips_outside.specs.Outside.{Reads};
-ghost use Rattle.ips_catalog.specs.Listed.{Listed, versions_of};
 ghost use Rattle.ips_repo.specs.Answer.{IsMeantFault};
 ghost use Rattle.ips_repo.specs.Opening.{opening, IsOpeningFault};
-ghost use Rattle.ips_repo.specs.Manifest.{manifest_file, HoldsManifest, IsManifestFault, IsManifestRefusal};
 ghost use Rattle.ips_repo.specs.declared.fault.RepoFault.TheVariants as repo_fault;
-ghost use Rattle.ips_install.specs.Wanted.{HasMode, seen};
-ghost use Rattle.ips_resolve.specs.Naming.{Resolves, IsUnresolved};
-ghost use Rattle.ips_resolve.specs.Newest.{AdmitsNoVersion};
-ghost use Rattle.ips_top.specs.Request.{AsksFor, publisher};
+ghost use Rattle.ips_state.specs.State.{recorded};
+ghost use Rattle.ips_refute.specs.Refuting.{IsRefutation};
+ghost use Rattle.ips_problem.specs.Case.{Reading, IsReading};
+ghost use Rattle.ips_problem.specs.Held.{posed_of};
+ghost use Rattle.ips_problem.specs.Posed.{meaning_of};
+ghost use Rattle.ips_top.specs.Request.{AsksFor, AsksForSome, publisher};
+ghost use Rattle.ips_top.specs.Plan.{AreChosen, nothing_recorded, nothing_set};
 ghost use Rattle.ips_top.specs.Offer as offered;
-ghost use Rattle.ips_top.specs.Offer.{Opens};
-ghost use Rattle.ips_top.specs.Choice.{IsChoice, IsOffer, IsOpeningOutcome, IsEarly, PlansNothing};
+ghost use Rattle.ips_top.specs.Offer.{AsksPosed, IsEarly, PlansNothing};
 ghost use Rattle.ips_top.specs.declared.outcome.Outcome.TheVariants.{SourceFault};
 
 use crate::outcome::Outcome;
-use ips_catalog::Catalog;
+use crate::unsolved::{Unsolved, tried_in};
+use crate::words::Asked;
 use ips_filter::Settings;
-use ips_fmri::{Pattern, Version};
-use ips_install::Wanted;
-use ips_manifest::Manifest;
+use ips_fmri::Pattern;
+use ips_manifest::Package;
 use ips_outside::Source;
+use ips_problem::{Problem, ProblemFault, Request};
+use ips_refute::{Refutation, check};
 use ips_repo::{Repo, RepoFault};
-use ips_resolve::{ResolveFault, newest_admitted, resolve, wanted_lines};
+use ips_search::{Found, solve};
+use ips_state::State;
 use ips_text::{Or, Text};
 use std::alloc::{AllocError, Global};
 
 /// The publisher whose packages are installed.
 pub const PUBLISHER: &str = "test";
 
-/// What is to be laid.
-#[derive(Drop)]
-pub struct Offer {
-    /// How the package is named.
-    pub fmri: Text,
-    /// The package's manifest.
-    pub manifest: Manifest,
-    /// What each line of the manifest asks for.
-    pub lines: Vec<Wanted>,
-}
-
-/// The package that is chosen.
-#[derive(Drop)]
-struct Choice {
-    stem: Text,
-    version: Version,
-    fmri: Text,
-}
-
-/// What is to be laid for the pattern, by what the repository holds.
-pub fn offer_for<S: Source>(
+/// The packages of the best selection for what is asked, by what the repository holds: by the bytes of their stems.
+pub fn chosen_for<S: Source>(
     alloc: Global,
-    pattern: &Pattern,
+    asked: Asked,
     source: &mut S,
-) -> Result<Offer, Outcome>
-    ensures offered { IsTrue (S.outside.tells source.old) → (words : List (List ℕ)) → AsksFor words pattern.now → IfOk result (IsOffer words (S.outside.state source.old).held) }
-    ensures refused { IsTrue (S.outside.tells source.old) → (words : List (List ℕ)) → AsksFor words pattern.now → IfErr result (PlansNothing words (S.outside.state source.old).held) }
-    ensures modes { IfOk result (λ offer. AllByRecursion HasMode (map seen offer.lines.items)) }
+) -> Result<Vec<Package>, Outcome>
+    ensures chosen { IsTrue (S.outside.tells source.old) → (r : Reading) → IsReading nothing_set r → (words : List (List ℕ)) → AsksFor words asked.limit asked.patterns.items
+        → IfOk result (λ packages. AreChosen words (S.outside.state source.old).held r packages.items) }
+    ensures refused { IsTrue (S.outside.tells source.old) → (r : Reading) → IsReading nothing_set r → (words : List (List ℕ)) → AsksFor words asked.limit asked.patterns.items
+        → IfErr result (PlansNothing words (S.outside.state source.old).held r) }
     ensures faults { IfErr result IsEarly }
     ensures reads { Reads S.outside source.old source.new (result ≡ Err SourceFault) }
 {
+    let Asked { limit, patterns } = asked;
     let repo = open(alloc, source)?;
-    let choice = choose(alloc, repo.catalog(), pattern)?;
-    let manifest = manifest_of(alloc, &repo, &choice, source)?;
-    let lines = wanted_lines(alloc, &Settings::new(alloc), &manifest)?;
-    Ok(Offer {
-        fmri: choice.fmri,
-        manifest,
-        lines,
-    })
+    let problem = pose(alloc, patterns, &repo, source)?;
+    let packages = choose(alloc, &problem, limit)?;
+    Ok(packages)
 }
 
 /// The repository of the publisher.
 fn open<S: Source>(alloc: Global, source: &mut S) -> Result<Repo, Outcome>
     ensures publisher { IfOk result (λ repo. repo.publisher ≡ publisher) }
     ensures opened { IsTrue (S.outside.tells source.old) → IfOk result (λ repo. opening publisher (S.outside.state source.old).held ≡ Ok repo.catalog) }
-    ensures refused { IsTrue (S.outside.tells source.old) → IfErr result (IsOpeningOutcome (S.outside.state source.old).held) }
+    ensures refused { IsTrue (S.outside.tells source.old) → (r : Reading) (words : List (List ℕ)) → AsksForSome words → IfErr result (PlansNothing words (S.outside.state source.old).held r) }
     ensures faults { IfErr result IsEarly }
     ensures reads { Reads S.outside source.old source.new (result ≡ Err SourceFault) }
 {
@@ -93,7 +73,7 @@ fn open<S: Source>(alloc: Global, source: &mut S) -> Result<Repo, Outcome>
 // What is answered where the repository doesn't open.
 fn not_opened(fault: RepoFault) -> Outcome
     requires { IsOpeningFault fault }
-    ensures told { (t : Image) → IsMeantFault fault (opening publisher t) → IsOpeningOutcome t result }
+    ensures told { (t : Image) (r : Reading) (words : List (List ℕ)) → AsksForSome words → IsMeantFault fault (opening publisher t) → PlansNothing words t r result }
     ensures early { IsEarly result }
     ensures failed { fault ≡ repo_fault.SourceFault → result ≡ SourceFault }
     ensures steady { result ≡ SourceFault → fault ≡ repo_fault.SourceFault }
@@ -107,110 +87,97 @@ fn not_opened(fault: RepoFault) -> Outcome
     }
 }
 
-/// The package that the pattern names in the catalog, in the newest version that it admits.
-fn choose(alloc: Global, catalog: &Catalog, pattern: &Pattern) -> Result<Choice, Outcome>
-    ensures chosen { (words : List (List ℕ)) (t : Image) → Opens words t pattern.now catalog.now → IfOk result (IsChoice words t) }
-    ensures refused { (words : List (List ℕ)) (t : Image) → Opens words t pattern.now catalog.now → IfErr result (PlansNothing words t) }
-    ensures faults { IfErr result (λ why. IsEarly why × (why ≡ SourceFault → ⊥)) }
-{
-    let stem = match resolve(alloc, PUBLISHER, catalog, pattern) {
-        Ok(stem) => stem,
-        Err(Or::Bad(fault)) => return Err(unresolved(alloc, pattern, fault)),
-        Err(Or::OutOfMemory) => return Err(Outcome::OutOfMemory),
-    };
-    let Some(version) = newest_admitted(pattern, catalog.versions(stem.as_str())) else {
-        return Err(not_yet(alloc, pattern));
-    };
-    let fmri = name_of(alloc, stem.as_str(), version)?;
-    let version = version.copy(alloc)?;
-    Ok(Choice {
-        stem,
-        version,
-        fmri,
-    })
-}
-
-// How a package is named.
-fn name_of(alloc: Global, stem: &str, version: &Version) -> Result<Text, AllocError>
-    ensures { IfOk result (λ fmri. fmri ≡ offered.name_of stem.now version.now) }
-{
-    let version = version.print(alloc)?;
-    let fmri = format!(in alloc; "{stem}@{}", version.as_str())?;
-    Ok(Text::from_string(fmri))
-}
-
-// What is answered for a pattern that names no one package.
-fn unresolved(alloc: Global, pattern: &Pattern, fault: ResolveFault) -> Outcome
-    ensures told { (words : List (List ℕ)) (t : Image) (catalog : List Listed) → Opens words t pattern.now catalog → IsUnresolved publisher catalog pattern.now fault → PlansNothing words t result }
-    ensures early { IsEarly result × (result ≡ SourceFault → ⊥) }
-{
-    let Ok(pattern) = pattern.print(alloc) else {
-        return Outcome::OutOfMemory;
-    };
-    match fault {
-        ResolveFault::NoMatch => Outcome::NoMatch { pattern },
-        ResolveFault::Ambiguous { stems } => Outcome::Ambiguous { pattern, stems },
-        ResolveFault::Wild => Outcome::NotYet {
-            fmri: pattern,
-            line: 0,
-        },
-    }
-}
-
-// What is answered for a pattern that admits no version of the package that it names.
-fn not_yet(alloc: Global, pattern: &Pattern) -> Outcome
-    ensures told { (words : List (List ℕ)) (t : Image) (catalog : List Listed) (stem : List ℕ) → Opens words t pattern.now catalog → Resolves publisher catalog pattern.now stem
-        → AdmitsNoVersion pattern.now.version (versions_of catalog stem) → PlansNothing words t result }
-    ensures early { IsEarly result × (result ≡ SourceFault → ⊥) }
-{
-    match pattern.print(alloc) {
-        Ok(pattern) => Outcome::NotYet {
-            fmri: pattern,
-            line: 0,
-        },
-        Err(_) => Outcome::OutOfMemory,
-    }
-}
-
-/// The manifest of the chosen package.
-fn manifest_of<S: Source>(
+/// The puzzle of installing what the patterns name into an image of which nothing is recorded.
+fn pose<S: Source>(
     alloc: Global,
+    patterns: Vec<Pattern>,
     repo: &Repo,
-    choice: &Choice,
     source: &mut S,
-) -> Result<Manifest, Outcome>
+) -> Result<Problem, Outcome>
     requires { repo.now.publisher ≡ publisher }
-    ensures held { IsTrue (S.outside.tells source.old) → IfOk result (λ m. (size : ℕ) × HoldsManifest (manifest_file publisher choice.now.stem choice.now.version (S.outside.state source.old).held) m.lines.items size) }
-    ensures refused { IsTrue (S.outside.tells source.old) → (words : List (List ℕ)) → IsChoice words (S.outside.state source.old).held choice.now → IfErr result (PlansNothing words (S.outside.state source.old).held) }
+    ensures posed { IsTrue (S.outside.tells source.old) → (r : Reading) → IsReading nothing_set r → (words : List (List ℕ)) (limit : ℕ) → AsksFor words limit patterns.items
+        → opening publisher (S.outside.state source.old).held ≡ Ok repo.now.catalog
+        → IfOk result (λ p. AsksPosed words (S.outside.state source.old).held r limit (posed_of p)) }
+    ensures refused { IsTrue (S.outside.tells source.old) → (r : Reading) → IsReading nothing_set r → (words : List (List ℕ)) (limit : ℕ) → AsksFor words limit patterns.items
+        → opening publisher (S.outside.state source.old).held ≡ Ok repo.now.catalog
+        → IfErr result (PlansNothing words (S.outside.state source.old).held r) }
     ensures faults { IfErr result IsEarly }
     ensures reads { Reads S.outside source.old source.new (result ≡ Err SourceFault) }
 {
-    match repo.manifest(alloc, source, choice.stem.as_str(), &choice.version) {
-        Ok((manifest, _)) => Ok(manifest),
-        Err(Or::Bad(fault)) => Err(unread(alloc, choice, fault)),
+    let state = bare_state(alloc)?;
+    let request = Request::Install {
+        patterns,
+        reject: Vec::new(alloc),
+    };
+    match Problem::build(alloc, &state, &request, Some(repo), source) {
+        Ok(problem) => Ok(problem),
+        Err(Or::Bad(fault)) => Err(unposed(fault)),
         Err(Or::OutOfMemory) => Err(Outcome::OutOfMemory),
     }
 }
 
-// What is answered where the manifest of the chosen package isn't given.
-fn unread(alloc: Global, choice: &Choice, fault: RepoFault) -> Outcome
-    requires { IsManifestFault fault }
-    ensures told { (words : List (List ℕ)) (t : Image) → IsChoice words t choice.now → IsManifestRefusal (manifest_file publisher choice.now.stem choice.now.version t) fault → PlansNothing words t result }
-    ensures early { IsEarly result }
-    ensures failed { fault ≡ repo_fault.SourceFault → result ≡ SourceFault }
-    ensures steady { result ≡ SourceFault → fault ≡ repo_fault.SourceFault }
+// An image that records its publisher and nothing else.
+fn bare_state(alloc: Global) -> Result<State, AllocError>
+    ensures { IfOk result (λ state. recorded state ≡ nothing_recorded) }
+{
+    Ok(State {
+        publisher: Text::new(alloc, PUBLISHER)?,
+        actuator: None,
+        settings: Settings::new(alloc),
+        installed: Vec::new(alloc),
+        avoid: Vec::new(alloc),
+        freeze: Vec::new(alloc),
+        mediators: Vec::new(alloc),
+        history: Vec::new(alloc),
+    })
+}
+
+// What is answered where the request poses no puzzle.
+fn unposed(fault: ProblemFault) -> Outcome
+    ensures { result ≡ offered.unposed fault }
 {
     match fault {
-        RepoFault::ManifestMissing => match choice.fmri.copy(alloc) {
-            Ok(fmri) => Outcome::ManifestMissing { fmri },
-            Err(_) => Outcome::OutOfMemory,
-        },
-        RepoFault::BadManifest(fault) => match choice.fmri.copy(alloc) {
-            Ok(fmri) => Outcome::BadManifest { fmri, fault },
-            Err(_) => Outcome::OutOfMemory,
-        },
-        RepoFault::TooLarge { which, count } => Outcome::TooLarge { which, count },
-        RepoFault::SourceFault => Outcome::SourceFault,
-        _ => unreachable!(),
+        ProblemFault::NoMatch { pattern } => Outcome::NoMatch { pattern },
+        ProblemFault::Ambiguous { pattern, stems } => Outcome::Ambiguous { pattern, stems },
+        ProblemFault::ManifestMissing { fmri } => Outcome::ManifestMissing { fmri },
+        ProblemFault::BadManifest { fmri, fault } => Outcome::BadManifest { fmri, fault },
+        ProblemFault::BadDepend { fmri, line } => Outcome::BadDepend { fmri, line },
+        ProblemFault::TooLarge { which, count } => Outcome::TooLarge { which, count },
+        ProblemFault::SourceFault => Outcome::SourceFault,
+    }
+}
+
+/// The packages of the best selection.
+fn choose(alloc: Global, problem: &Problem, limit: u64) -> Result<Vec<Package>, Outcome>
+    ensures chosen { (words : List (List ℕ)) (t : Image) (r : Reading) → AsksPosed words t r limit (posed_of problem.now) → IfOk result (λ packages. AreChosen words t r packages.items) }
+    ensures refused { (words : List (List ℕ)) (t : Image) (r : Reading) → AsksPosed words t r limit (posed_of problem.now) → IfErr result (PlansNothing words t r) }
+    ensures faults { IfErr result (λ why. IsEarly why × (why ≡ SourceFault → ⊥)) }
+{
+    match solve(alloc, problem, limit) {
+        Ok(Found::Chosen(choice)) => {
+            let packages = problem.take(alloc, choice.as_slice())?;
+            Ok(packages)
+        }
+        Ok(Found::Refuted(refutation)) => Err(no_solution(alloc, problem, refutation)),
+        Ok(Found::Spent) => Err(Outcome::SearchSpent { limit }),
+        Err(_) => Err(Outcome::OutOfMemory),
+    }
+}
+
+// What is answered where a refutation was found. The search isn't trusted: the refutation is checked.
+fn no_solution(alloc: Global, problem: &Problem, refutation: Refutation) -> Outcome
+    requires { IsRefutation (meaning_of (posed_of problem.now)) refutation.nogoods.items }
+    ensures told { (words : List (List ℕ)) (t : Image) (r : Reading) (limit : ℕ) → AsksPosed words t r limit (posed_of problem.now) → PlansNothing words t r result }
+    ensures early { IsEarly result × (result ≡ SourceFault → ⊥) }
+{
+    if !check(problem, &refutation) {
+        unreachable!()
+    }
+    let Ok(stems) = tried_in(alloc, problem) else {
+        return Outcome::OutOfMemory;
+    };
+    match Unsolved::new(alloc, stems, refutation) {
+        Ok(unsolved) => Outcome::NoSolution(unsolved),
+        Err(_) => Outcome::OutOfMemory,
     }
 }

@@ -3,10 +3,12 @@
 ghost use Rattle.std.specs.Prelude.{◌≡◌};
 ghost use Rattle.ips_top.specs.Report.{status_number};
 
+use crate::unsolved::Unsolved;
 use ips_catalog::CatalogFault;
+use ips_conflict::Clash;
 use ips_digest::PayloadName;
 use ips_manifest::ManifestFault;
-use ips_text::{Text, Which};
+use ips_text::{RelPath, Text, Which};
 use std::alloc::AllocError;
 
 /// Why a word of the command line was refused.
@@ -31,25 +33,43 @@ pub enum Outcome {
     BadCatalog {
         fault: CatalogFault,
     },
-    /// The pattern matches no package.
+    /// The pattern, the first such, matches no package.
     NoMatch {
         pattern: Text,
     },
-    /// The pattern matches several packages, none of which equals it: their stems, by bytes.
+    /// The pattern, the first such, has no wildcard and matches several packages, none of which equals it: their stems, by bytes.
     Ambiguous {
         pattern: Text,
         stems: Vec<Text>,
     },
-    /// The repository has no manifest of the package.
+    /// The repository has no manifest of a package that is needed.
     ManifestMissing {
         fmri: Text,
     },
-    /// The package's manifest isn't one.
+    /// The manifest of a package that is needed isn't one.
     BadManifest {
         fmri: Text,
         fault: ManifestFault,
     },
-    /// A line of the package can't be installed yet, counted from 1; or, at line 0, what the pattern asks for can't.
+    /// A `depend` line of a manifest that is needed, counted from 1, should be a dependency and is none.
+    BadDepend {
+        fmri: Text,
+        line: u64,
+    },
+    /// No selection is admissible: the stems in reach, and why no choice of their candidates fits together.
+    NoSolution(Unsolved),
+    /// The search reached as many beginnings as its limit allows.
+    SearchSpent {
+        limit: u64,
+    },
+    /// An action of the packages gives a path where the image keeps its own records: the least such path.
+    Reserved {
+        path: RelPath,
+    },
+    /// Two actions of the packages can't stand in one image: their first clash.
+    Clash(Clash),
+    /// A line of the package can't be installed yet, counted from 1; or something stands in the image in its way. It is `image` and 0
+    /// where no line gives what something stands in the way of.
     NotYet {
         fmri: Text,
         line: u64,
@@ -73,7 +93,7 @@ pub enum Outcome {
         which: Which,
         count: u64,
     },
-    /// The package is installed.
+    /// The packages are installed.
     Done,
     /// A call on the repository failed.
     SourceFault,

@@ -2,15 +2,18 @@
 
 ghost use Rattle.std.specs.Prelude.{◌++◌, codes};
 ghost use Rattle.std.specs.Fmt.{decimal};
+ghost use Rattle.ips_text.specs.Quote.{shown};
 ghost use Rattle.ips_digest.specs.Name.{spelling};
-ghost use Rattle.ips_top.specs.Report.{report_text, line, behind_blanks};
+ghost use Rattle.ips_top.specs.Report.{report_text};
+ghost use Rattle.ips_top.specs.Text.{line, behind_blanks};
 ghost use Rattle.ips_top.specs.Telling.{Tells};
 
 use crate::outcome::Outcome;
-use crate::telling::{tell, tell_name, tell_three, tell_two, tell_words};
+use crate::telling::{tell, tell_name, tell_path, tell_three, tell_two, tell_words};
+use ips_conflict::Clash;
 use ips_digest::PayloadName;
 use ips_outside::Sink;
-use ips_text::Text;
+use ips_text::{RelPath, Text};
 use itoa::Buffer;
 
 /// Writes the report of the outcome, without memory, and answers whether all of it was written.
@@ -25,6 +28,13 @@ pub fn tell_report<O: Sink>(out: &mut O, outcome: &Outcome) -> bool
         Outcome::Ambiguous { pattern, stems } => tell_ambiguous(out, pattern, stems.as_slice()),
         Outcome::ManifestMissing { fmri } => tell_text(out, b"manifest missing ", fmri),
         Outcome::BadManifest { fmri, fault } => tell_line(out, b"bad manifest ", fmri, fault.line),
+        Outcome::BadDepend { fmri, line } => tell_line(out, b"bad depend ", fmri, *line),
+        Outcome::NoSolution(unsolved) => tell(out, unsolved.report.as_str().as_bytes()),
+        Outcome::SearchSpent { limit } => {
+            tell_number(out, b"search limit ", *limit, b" spent\n")
+        }
+        Outcome::Reserved { path } => tell_reserved(out, path),
+        Outcome::Clash(clash) => tell_clash(out, clash),
         Outcome::NotYet { fmri, line } => tell_line(out, b"not yet ", fmri, *line),
         Outcome::PayloadMissing { name } => tell_missing(out, name),
         Outcome::PayloadDamaged { name, found } => {
@@ -63,6 +73,32 @@ fn tell_line<O: Sink>(out: &mut O, before: &[u8], fmri: &Text, number: u64) -> b
         return false;
     }
     tell_number(out, b" line ", number, b"\n")
+}
+
+// Writes the line of a reserved path.
+fn tell_reserved<O: Sink>(out: &mut O, path: &RelPath) -> bool
+    ensures { Tells O.taking (line (codes "reserved " ++ shown path.now.bytes)) out.old out.new result }
+{
+    if !tell(out, b"reserved ") {
+        return false;
+    }
+    if !tell_path(out, path.bytes()) {
+        return false;
+    }
+    tell(out, b"\n")
+}
+
+// Writes the line of a clash.
+fn tell_clash<O: Sink>(out: &mut O, clash: &Clash) -> bool
+    ensures { Tells O.taking (line (codes "clash " ++ clash.now.key ++ codes " " ++ clash.now.first ++ codes " " ++ clash.now.second)) out.old out.new result }
+{
+    if !tell_three(out, b"clash ", clash.key.as_str().as_bytes(), b" ") {
+        return false;
+    }
+    if !tell_two(out, clash.first.as_str().as_bytes(), b" ") {
+        return false;
+    }
+    tell_two(out, clash.second.as_str().as_bytes(), b"\n")
 }
 
 // Writes the line of a payload that is missing.

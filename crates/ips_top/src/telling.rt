@@ -1,8 +1,11 @@
 //! Writes texts to a sink.
 
-ghost use Rattle.std.specs.Prelude.{◌++◌};
+ghost use Rattle.std.specs.Prelude.{◌≡◌, ◌++◌, ◌<◌, true};
+ghost use Rattle.std.specs.Fmt.{digit_glyph};
+ghost use Rattle.ips_text.specs.Quote as quote;
+ghost use Rattle.ips_text.specs.Quote.{shown};
 ghost use Rattle.ips_digest.specs.Name.{spelling};
-ghost use Rattle.ips_top.specs.Report.{behind_blanks};
+ghost use Rattle.ips_top.specs.Text.{behind_blanks, shown_byte};
 ghost use Rattle.ips_top.specs.Telling.{Tells};
 
 use ips_digest::PayloadName;
@@ -62,4 +65,45 @@ pub fn tell_words<O: Sink>(out: &mut O, words: &[Text]) -> bool
         }
     }
     true
+}
+
+/// Writes a path as it is shown.
+pub fn tell_path<O: Sink>(out: &mut O, path: &[u8]) -> bool
+    ensures { Tells O.taking (shown path.now) out.old out.new result }
+{
+    for byte in path {
+        if !tell_byte(out, *byte) {
+            return false;
+        }
+    }
+    true
+}
+
+// Writes a byte of a path as it is shown: itself, or `%` and two hexadecimal digits.
+fn tell_byte<O: Sink>(out: &mut O, byte: u8) -> bool
+    ensures { Tells O.taking (shown_byte byte) out.old out.new result }
+{
+    if byte == b'/' || is_plain(byte) {
+        return tell(out, &[byte]);
+    }
+    tell(out, &[b'%', digit(byte / 16), digit(byte % 16)])
+}
+
+// Whether the byte stands for itself.
+fn is_plain(byte: u8) -> bool
+    ensures { result ≡ quote.is_plain byte }
+{
+    byte.is_ascii_alphanumeric() || matches!(byte, b'_' | b'.' | b'-')
+}
+
+// The hexadecimal digit of a number.
+fn digit(number: u8) -> u8
+    requires { number < 16 }
+    ensures { result ≡ digit_glyph true number }
+{
+    if number < 10 {
+        b'0' + number
+    } else {
+        b'A' + (number - 10)
+    }
 }

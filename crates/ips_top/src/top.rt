@@ -3,10 +3,9 @@
 ghost use Rattle.std.specs.Prelude.{◌≡◌, ◌⊎◌, ◌++◌, ℕ, IsTrue, IsFalse, map, take, string_bytes};
 ghost use Rattle.ips_outside.specs.State.{IsSettled};
 ghost use Rattle.ips_outside.specs.Outside.{HasCause};
-ghost use Rattle.ips_install.specs.Installed.{CanInstall, IsInstalled, HaveBytes};
-ghost use Rattle.ips_top.specs.Request.{publisher};
-ghost use Rattle.ips_top.specs.Offer.{Planned, planned_name};
-ghost use Rattle.ips_top.specs.Answer.{SaysOfWords, SaysOfRepository, SaysOfLines, ChangesPlanned, IsFolderFault, is_refusal};
+ghost use Rattle.ips_problem.specs.Case.{Reading, IsReading};
+ghost use Rattle.ips_top.specs.Plan.{nothing_set};
+ghost use Rattle.ips_top.specs.Answer.{SaysOfWords, SaysOfRepository, SaysOfLines, ChangesWanted, CouldInstall, IsDone, IsFolderFault, is_refusal};
 ghost use Rattle.ips_top.specs.Report.{report_text};
 ghost use Rattle.ips_top.specs.declared.outcome.Outcome.TheVariants.{Done, SourceFault};
 
@@ -26,26 +25,26 @@ pub fn run<S: Source, F: Folder, O: Sink>(
     image: &mut F,
     out: &mut O,
 ) -> Status
-    // Each outcome comes exactly under its cause, a fault and want of memory apart.
+    // Each outcome comes exactly under its cause, a fault and want of memory apart. What is said of manifests is said of every way to
+    // read them by their grammar.
     ensures words { SaysOfWords (map string_bytes words.now) result.outcome }
-    ensures repository { IsTrue (S.outside.tells repo.old) → SaysOfRepository (map string_bytes words.now) (S.outside.state repo.old).held result.outcome }
-    ensures lines { IsTrue (S.outside.tells repo.old) → IsTrue (F.outside.tells image.old) → (p : Planned (map string_bytes words.now) (S.outside.state repo.old).held)
-        → SaysOfLines (S.outside.state repo.old).held (F.outside.state image.old).held (planned_name p) p.manifest p.lines result.outcome }
+    ensures repository { IsTrue (S.outside.tells repo.old) → (r : Reading) → IsReading nothing_set r → SaysOfRepository (map string_bytes words.now) (S.outside.state repo.old).held r result.outcome }
+    ensures lines { IsTrue (S.outside.tells repo.old) → IsTrue (F.outside.tells image.old) → (r : Reading) → IsReading nothing_set r
+        → SaysOfLines (map string_bytes words.now) (S.outside.state repo.old).held r (F.outside.state image.old).held result.outcome }
 
-    // Done: the image is the old one with what the package's lines ask for, safe from a crash; the bytes of each file have the
-    // digest that is its payload's name, and are those of the repository.
-    ensures installed { IsTrue (S.outside.tells repo.old) → IsTrue (F.outside.tells image.old) → (p : Planned (map string_bytes words.now) (S.outside.state repo.old).held)
-        → result.outcome ≡ Done → IsInstalled p.lines (F.outside.state image.old).held (F.outside.state image.new).held }
-    ensures filled { IsTrue (S.outside.tells repo.old) → IsTrue (F.outside.tells image.old) → (p : Planned (map string_bytes words.now) (S.outside.state repo.old).held)
-        → result.outcome ≡ Done → HaveBytes publisher (S.outside.state repo.old).held p.lines (F.outside.state image.new).held }
+    // Done: the image is the old one with what the packages of the best selection mean, safe from a crash; the bytes of each file have
+    // the digest that is its payload's name, and are those of the repository.
+    ensures done { IsTrue (S.outside.tells repo.old) → IsTrue (F.outside.tells image.old) → (r : Reading) → IsReading nothing_set r → result.outcome ≡ Done
+        → IsDone (map string_bytes words.now) (S.outside.state repo.old).held r (F.outside.state image.old).held (F.outside.state image.new).held }
     ensures safe { IsTrue (F.outside.tells image.old) → result.outcome ≡ Done → IsSettled (F.outside.state image.new) }
 
-    // A refusal changes nothing. Nothing is changed before every line and every payload was looked at, also where the end is a
-    // fault. At any moment nothing but the paths of the package's lines is changed.
+    // A refusal changes nothing. Nothing is changed before every line, every wanted path and every payload was looked at, also where
+    // the end is a fault. At any moment nothing but wanted paths is changed, and what stood there but for modes isn't.
     ensures refusals { IsTrue (is_refusal (S.outside.tells repo.old) result.outcome) → F.outside.state image.new ≡ F.outside.state image.old }
-    ensures looked { IsTrue (S.outside.tells repo.old) → IsTrue (F.outside.tells image.old) → (p : Planned (map string_bytes words.now) (S.outside.state repo.old).held)
-        → (F.outside.state image.new ≡ F.outside.state image.old) ⊎ CanInstall publisher (S.outside.state repo.old).held (F.outside.state image.old).held p.lines }
-    ensures any_moment { IsTrue (S.outside.tells repo.old) → IsTrue (F.outside.tells image.old) → ChangesPlanned F.outside (map string_bytes words.now) (S.outside.state repo.old).held image.old image.new }
+    ensures looked { IsTrue (S.outside.tells repo.old) → IsTrue (F.outside.tells image.old) → (r : Reading) → IsReading nothing_set r
+        → (F.outside.state image.new ≡ F.outside.state image.old) ⊎ CouldInstall (map string_bytes words.now) (S.outside.state repo.old).held r (F.outside.state image.old).held }
+    ensures any_moment { IsTrue (S.outside.tells repo.old) → IsTrue (F.outside.tells image.old) → (r : Reading) → IsReading nothing_set r
+        → ChangesWanted F.outside (map string_bytes words.now) (S.outside.state repo.old).held r image.old image.new }
     ensures repository_kept { S.outside.state repo.new ≡ S.outside.state repo.old }
 
     // A fault of the repository, the image or the sink is answered exactly where that object's count rose in this run.

@@ -1,7 +1,7 @@
 use Rattle.std.proofs.Common.{List, ℕ, [], ◌∷◌, ◌++◌, ◌∙◌, subst}
 use lib.Chars.{codes}
 use Rattle.std.proofs.lemmas.List.{append_assoc}
-use Rattle.ips_top.specs.Report.{behind_blanks}
+use Rattle.ips_top.specs.Text.{behind_blanks}
 use Rattle.ips_top.specs.Telling.{Tells}
 use Rattle.ips_top.proofs.Tellings.{tells_then, tells_stop, tells_part}
 use Rattle.ips_top.proofs.reporting.tell_ambiguous.Goals as goal

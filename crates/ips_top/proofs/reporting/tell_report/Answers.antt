@@ -16,6 +16,9 @@ returns-in-BadCatalog g c = rw c.in-BadCatalog.is c.tell-in-BadCatalog.ensures
 pub returns-in-BadManifest : goal.returns-in-BadManifest
 returns-in-BadManifest g c = rw c.in-BadManifest.is c.tell_line.ensures
 
+pub returns-in-BadDepend : goal.returns-in-BadDepend
+returns-in-BadDepend g c = rw c.in-BadDepend.is c.tell_line-in-BadDepend.ensures
+
 pub returns-in-PayloadDamaged : goal.returns-in-PayloadDamaged
 returns-in-PayloadDamaged g c = rw c.in-PayloadDamaged.is c.tell_found.ensures
 

@@ -1,5 +1,5 @@
 use Rattle.std.proofs.Common.{true, take}
-use Rattle.ips_top.specs.Report.{behind_blanks}
+use Rattle.ips_top.specs.Text.{behind_blanks}
 use Rattle.ips_top.specs.Telling.{Tells}
 use Rattle.ips_top.proofs.telling.tell_words.Given as goal
 
