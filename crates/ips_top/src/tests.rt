@@ -178,7 +178,7 @@ fn tells_each_outcome(rt: HostRuntime) -> Result<(), Fail> {
         (
             "-R i -s r install a b",
             1,
-            "no solution\nstem 0 a 1\nstem 1 b 1\nrefutation 1\n0.0 | 1 | t0\n- | 0 | n0\n",
+            "no solution\nstem 0 a 1\nstem 1 b 1\nrefutation 1\n0.0 | 1 | t1\n- | 0 | n0\n",
         ),
         // either is enough, absence of the first comes first, and three beginnings are needed
         (
