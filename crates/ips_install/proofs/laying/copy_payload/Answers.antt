@@ -1,11 +1,12 @@
-use Rattle.std.proofs.Common.{◌≡◌, ℕ, List, IsErr, ◌++◌, take, refl, sym, ◌∙◌, ap, subst}
+use Rattle.std.proofs.Common.{◌≡◌, ℕ, List, IsErr, ◌++◌, take, sym, ◌∙◌, ap, subst}
 use Rattle.ips_text.specs.Ancestry.{same_path, covers}
 use Rattle.ips_outside.specs.Image.{Image}
-use Rattle.ips_outside.specs.State.{State, nowhere}
+use Rattle.ips_outside.specs.State.{State}
 use Rattle.ips_outside.specs.Change.{appended}
-use Rattle.ips_folder.proofs.Runs.{keeps_then, keeps_wider, one_write}
+use Rattle.ips_folder.proofs.Runs.{keeps_then}
 use Rattle.ips_repo.specs.Payload.{Reading, IsFrontOf}
 use Rattle.ips_repo.proofs.Calls.{answered, reads_then}
+use Rattle.ips_install.proofs.Keeping.{path_written}
 use Rattle.ips_install.proofs.Filled.{appended_twice}
 use Rattle.ips_install.proofs.laying.copy_payload.Goals as goal
 
@@ -30,6 +31,10 @@ pieces-preserved g c = record {
       (c.next.ensures.front (c.pieces.invariant.reads.call.same_kind ∙ told) (subst (λ (t : Image). IsFrontOf t c.pieces.payload) (sym same) (c.pieces.invariant.front told front)));
   moments = λ told.
       keeps_then g.F.Source.outside (covers c.args.path.now.bytes) (same_path c.args.path.now.bytes) c.args.image.now c.pieces.image c.append.new.self (c.pieces.invariant.moments told)
-      (keeps_wider g.F.Source.outside (covers c.args.path.now.bytes) nowhere (covers c.args.path.now.bytes) (same_path c.args.path.now.bytes) c.pieces.image c.append.new.self (λ q none. none) (λ q none. refl)
-      (one_write g.F.Source.outside g.met.F.Source.sane c.pieces.image c.append.new.self (covers c.args.path.now.bytes) nowhere _ c.append.result (c.pieces.invariant.kind ∙ told) c.append.ensures));
+      (path_written g.F.Source.outside g.met.F.Source.sane c.args.path.now.bytes c.pieces.image c.append.new.self _ c.append.result (c.pieces.invariant.kind ∙ told) c.append.ensures);
 }
+
+pub returns-in_default-append-clause-any_moment : goal.returns-in_default-append-clause-any_moment
+returns-in_default-append-clause-any_moment g c = λ told.
+    keeps_then g.F.Source.outside (covers c.args.path.now.bytes) (same_path c.args.path.now.bytes) c.args.image.now c.pieces.image c.append.new.self (c.pieces.invariant.moments told)
+    (path_written g.F.Source.outside g.met.F.Source.sane c.args.path.now.bytes c.pieces.image c.append.new.self _ c.append.result (c.pieces.invariant.kind ∙ told) c.append.ensures)

@@ -10,6 +10,10 @@ use Rattle.ips_install.proofs.Keeping.{path_written, mode_written}
 use Rattle.ips_install.proofs.Filled.{sole_placed, filled_mode, filled_sole, filled_moded}
 use Rattle.ips_install.proofs.laying.lay_file.Goals as goal
 
+pub returns-in_default-clause-any_moment : goal.returns-in_default-clause-any_moment
+returns-in_default-clause-any_moment g c = λ told.
+    path_written g.F.Source.outside g.met.F.Source.sane c.args.path.now.bytes c.args.image.now c.make_file.new.self _ c.make_file.result told c.make_file.ensures
+
 pub copy_payload-requires-clause-can : goal.copy_payload-requires-clause-can
 copy_payload-requires-clause-can g c = λ told.
     let first = sym c.make_file.ensures.call.same_kind ∙ told in
