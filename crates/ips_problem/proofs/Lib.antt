@@ -3,7 +3,7 @@ pub mod Named
 pub mod StemLists
 pub mod Reached
 pub mod Restricting
-pub mod Tests
+pub mod CaseTests
 pub mod Picking
 pub mod Solving
 pub mod Looking

@@ -23,7 +23,7 @@ use Rattle.ips_problem.proofs.Members.{Among, contained_at, at_contained, among_
 use Rattle.ips_problem.proofs.StemLists.{AreDistinct, distinct_firsts, number_found, number_within, numbered_has, standing_has, own_number}
 use Rattle.ips_problem.proofs.Reached.{absence_offered, wanted_in_reach}
 use Rattle.ips_problem.proofs.Restricting.{restricted_admissible, restricted_within}
-use Rattle.ips_problem.proofs.Tests.{test, test_of, tested}
+use Rattle.ips_problem.proofs.CaseTests.{test, test_of, tested}
 use Rattle.ips_problem.proofs.Picking.{chosen_at, row_at, picked_at, picked_apart, spared_in_reach, judged_by_wanted}
 
 -- ---- numbers of a selection

@@ -13,8 +13,8 @@
 
 mod answers;
 mod arranging;
-mod avoiding;
 mod asking;
+mod avoiding;
 mod building;
 mod fault;
 mod gathered;
@@ -33,9 +33,9 @@ mod reading;
 mod request;
 mod role;
 mod rows;
-mod taking;
 mod stems;
 mod subject;
+mod taking;
 mod versions;
 
 pub use fault::ProblemFault;

@@ -192,7 +192,9 @@ fn fault_told(alloc: Global, fault: &ProblemFault) -> Result<String, Fail> {
         ProblemFault::BadDepend { fmri, line } => {
             format!(in alloc; "bad depend {} line {line}", fmri.as_str())?
         }
-        ProblemFault::TooLarge { which, count } => format!(in alloc; "too large {which:?} {count}")?,
+        ProblemFault::TooLarge { which, count } => format!(in alloc;
+            "too large {which:?} {count}"
+        )?,
         ProblemFault::SourceFault => format!(in alloc; "source fault")?,
     };
     Ok(text)
@@ -260,7 +262,13 @@ fn stems_in_reach_have_their_candidates_in_order(rt: HostRuntime) -> Result<(), 
         ),
         // named and not installed: nothing is drawn in that stands already, and named stems come in the request's order
         (Kind::Install, "c", "", "", "c 3 1; a 2.1 6 4; b 2.1 6 4; "),
-        (Kind::Install, "c b", "", "", "c 3 1; b 6 4 2.1; a 2.1 6 4; "),
+        (
+            Kind::Install,
+            "c b",
+            "",
+            "",
+            "c 3 1; b 6 4 2.1; a 2.1 6 4; ",
+        ),
         // what a pattern doesn't admit is taken out
         (Kind::Install, "a@4", "", "", "a 4; b 2.1 6 4; "),
         (Kind::Install, "a@1", "", "", "a; b 2.1 6 4; "),
@@ -295,7 +303,13 @@ fn stems_in_reach_have_their_candidates_in_order(rt: HostRuntime) -> Result<(), 
         (Kind::Update, "", "", "b@2", "a 6 - 4 2.1; b 2.1; c - 3 1; "),
         (Kind::Update, "", "", "b@5", "a 6 - 4 2.1; b -; c - 3 1; "),
         (Kind::Install, "c", "", "b@5", "c 3 1; a 2.1 6 4; b; "),
-        (Kind::Install, "a", "", "c@1", "a 6 4 2.1; b 2.1 6 4; c - 1; "),
+        (
+            Kind::Install,
+            "a",
+            "",
+            "c@1",
+            "a 6 4 2.1; b 2.1 6 4; c - 1; ",
+        ),
     ] {
         let first = package(alloc, "a", "2.1", "depend fmri=c type=require\n")?;
         let second = package(alloc, "b", "2.1", "")?;

@@ -25,10 +25,9 @@ loop-dependency-preserved c =
     let one : declared.Numbered = record { stem = stem; candidate = candidate; test = c.in_ok-test.test } in
     let added = ap (map seen_test) c.in_ok-push.ensures.items ∙ map_push seen_test c.loop-dependency.tests.items one ∙ ap (λ (d : Dependency). now ++ test d ∷ []) c.in_ok-test.ensures in
     let cur = stems_of c.loop-dependency.stems.keys in
-    let wants = λ (d : Dependency). stems (wanted d) in
-    (
+    let wants = λ (d : Dependency). stems (wanted d) in (
       list_next (map seen_test c.args.tests.now.items) now (map seen_test c.push.new.self.items) (numbered stem candidate (take i ds)) (test d ∷ []) (numbered stem candidate (take (i + 1) ds))
-      (ap (numbered stem candidate) (next_of ds i d l at) ∙ map_push test (take i ds) d) c.loop-dependency.invariant.0 added,
+          (ap (numbered stem candidate) (next_of ds i d l at) ∙ map_push test (take i ds) d) c.loop-dependency.invariant.0 added,
       put_next (stems_of c.args.stems.now.keys) cur (stems_of c.add_fmris.new.stems.keys) (stems_wanted (take i ds)) (wants d) (stems_wanted (take (i + 1) ds))
-      (flat_next wants ds i d l at) c.loop-dependency.invariant.1 (c.in_ok-add_fmris.ensures ∙ ap (λ (fs : List Fmri). put_all cur (stems fs)) c.wanted.ensures)
+          (flat_next wants ds i d l at) c.loop-dependency.invariant.1 (c.in_ok-add_fmris.ensures ∙ ap (λ (fs : List Fmri). put_all cur (stems fs)) c.wanted.ensures),
     )

@@ -25,10 +25,9 @@ loop-candidate-preserved c =
     let cur = stems_of c.loop-candidate.stems.keys in
     let wants = λ (o : Option ℕ). stems_wanted (asked_at reads o) in
     let place : 0 + length (take i os) ≡ i = omega (arith, length-take-le i os (omega (arith, l))) in
-    let more = ap (tests_asked stem 0 reads) (next_of os i o l at) ∙ tests_asked_more stem 0 reads (take i os) o ∙ ap (λ (n : ℕ). tests_asked stem 0 reads (take i os) ++ numbered stem n (asked_at reads o)) place in
-    (
+    let more = ap (tests_asked stem 0 reads) (next_of os i o l at) ∙ tests_asked_more stem 0 reads (take i os) o ∙ ap (λ (n : ℕ). tests_asked stem 0 reads (take i os) ++ numbered stem n (asked_at reads o)) place in (
       list_next (map seen_test c.args.tests.now.items) now (map seen_test c.add_all.new.tests.items) (tests_asked stem 0 reads (take i os)) (numbered stem i (asked_at reads o)) (tests_asked stem 0 reads (take (i + 1) os))
-      more c.loop-candidate.invariant.0 (c.in_ok-add_all.ensures.tests ∙ ap (λ (ds : List Dependency). now ++ numbered stem i ds) wanted),
+          more c.loop-candidate.invariant.0 (c.in_ok-add_all.ensures.tests ∙ ap (λ (ds : List Dependency). now ++ numbered stem i ds) wanted),
       put_next (stems_of c.args.stems.now.keys) cur (stems_of c.add_all.new.stems.keys) (flat_map wants (take i os)) (wants o) (flat_map wants (take (i + 1) os))
-      (flat_next wants os i o l at) c.loop-candidate.invariant.1 (c.in_ok-add_all.ensures.stems ∙ ap (λ (ds : List Dependency). put_all cur (stems_wanted ds)) wanted)
+          (flat_next wants os i o l at) c.loop-candidate.invariant.1 (c.in_ok-add_all.ensures.stems ∙ ap (λ (ds : List Dependency). put_all cur (stems_wanted ds)) wanted),
     )
