@@ -200,21 +200,58 @@ fn fault_told(alloc: Global, fault: &ProblemFault) -> Result<String, Fail> {
     Ok(text)
 }
 
-// The problem of a request: the stems in reach with their candidates, or the fault.
+// What is shown of a problem.
+#[derive(Clone, Copy)]
+enum Shown {
+    Stems,
+    Choice,
+}
+
+// The problem of a request, or the fault.
 fn told<S: Source>(
     alloc: Global,
     state: &State,
     request: &Request,
     repo: &Repo,
     source: &mut S,
+    shown: Shown,
 ) -> Result<String, Fail>
     requires { IsLawful (recorded state.now) }
 {
     match Problem::build(alloc, state, request, looked_at(request, repo), source) {
-        Ok(problem) => stems_told(alloc, &problem),
+        Ok(problem) => match shown {
+            Shown::Stems => stems_told(alloc, &problem),
+            Shown::Choice => chosen_told(alloc, &problem),
+        },
         Err(Or::Bad(fault)) => fault_told(alloc, &fault),
         Err(Or::OutOfMemory) => Ok(format!(in alloc; "no memory")?),
     }
+}
+
+// The same over the repository in a tree, of which the listed call fails.
+fn answer(
+    alloc: Global,
+    state: &State,
+    request: &Request,
+    tree: Tree,
+    fails: u64,
+    shown: Shown,
+) -> Result<String, Fail>
+    requires { IsLawful (recorded state.now) }
+{
+    let fails = Vec::from_slice(alloc, &[fails])?;
+    let mut source = MemSource::new(tree, fails);
+    let repo = Repo::open(alloc, &mut source, "test").map_err(|_| "repository")?;
+    told(alloc, state, request, &repo, &mut source, shown)
+}
+
+// An image with `a`, which has this manifest, and `b`, both at a version.
+fn with_a_and_b(alloc: Global, version: &str, manifest: &str, freeze: &str) -> Result<State, Fail>
+    ensures { IfOk result (λ s. IsLawful (recorded s)) }
+{
+    let first = package(alloc, "a", version, manifest)?;
+    let second = package(alloc, "b", version, "")?;
+    image(alloc, first, second, freeze)
 }
 
 // `a` and `b` are installed at 2.1, and `a` requires `c`. The catalog doesn't have these versions. Those at 3 and 5 of `a` and
@@ -246,11 +283,22 @@ fn offered(alloc: Global) -> Result<Tree, Fail> {
     Ok(tree)
 }
 
+fn offers_told(
+    alloc: Global,
+    kind: Kind,
+    named: &str,
+    rejected: &str,
+    freeze: &str,
+) -> Result<String, Fail> {
+    let state = with_a_and_b(alloc, "2.1", "depend fmri=c type=require\n", freeze)?;
+    let request = request(alloc, kind, named, rejected)?;
+    let tree = offered(alloc)?;
+    answer(alloc, &state, &request, tree, 0, Shown::Stems)
+}
+
 #[test]
 fn stems_in_reach_have_their_candidates_in_order(rt: HostRuntime) -> Result<(), Fail> {
     let alloc = rt.alloc();
-    let mut source = MemSource::new(offered(alloc)?, Vec::new(alloc));
-    let repo = Repo::open(alloc, &mut source, "test").map_err(|_| "repository")?;
     for (kind, named, rejected, freeze, want) in [
         // named by an install: no absence; the others that are installed stay before they change
         (
@@ -311,11 +359,7 @@ fn stems_in_reach_have_their_candidates_in_order(rt: HostRuntime) -> Result<(), 
             "a 6 4 2.1; b 2.1 6 4; c - 1; ",
         ),
     ] {
-        let first = package(alloc, "a", "2.1", "depend fmri=c type=require\n")?;
-        let second = package(alloc, "b", "2.1", "")?;
-        let state = image(alloc, first, second, freeze)?;
-        let request = request(alloc, kind, named, rejected)?;
-        let told = told(alloc, &state, &request, &repo, &mut source)?;
+        let told = offers_told(alloc, kind, named, rejected, freeze)?;
         assert!(rt; told.as_str() == want, "{told}");
     }
     Ok(())
@@ -342,23 +386,24 @@ fn chosen_told(alloc: Global, problem: &Problem) -> Result<String, Fail> {
     Ok(out)
 }
 
-// The group dependency doesn't hold back what is obsolete, and its stem is avoided from then on.
-#[test]
-fn an_update_lets_an_obsolete_package_go(rt: HostRuntime) -> Result<(), Fail> {
-    let alloc = rt.alloc();
-    let mut tree = repository(alloc, r#"{"test": {"x": [{"version": "2"}]}}"#)?;
-    add_manifest(alloc, &mut tree, "x", "2", OBSOLETE.as_bytes())?;
-    let mut source = MemSource::new(tree, Vec::new(alloc));
-    let repo = Repo::open(alloc, &mut source, "test").map_err(|_| "repository")?;
+// `g`, which has a group dependency on `x`, and `x` are installed; a later version of `x` is obsolete.
+fn obsolete_told(alloc: Global, shown: Shown) -> Result<String, Fail> {
     let first = package(alloc, "g", "1", "depend fmri=x type=group\n")?;
     let second = package(alloc, "x", "1", "")?;
     let state = image(alloc, first, second, "")?;
     let request = request(alloc, Kind::Update, "", "")?;
-    let repo = looked_at(&request, &repo);
-    let problem = Problem::build(alloc, &state, &request, repo, &mut source).map_err(|_| "fault")?;
-    let told = stems_told(alloc, &problem)?;
+    let mut tree = repository(alloc, r#"{"test": {"x": [{"version": "2"}]}}"#)?;
+    add_manifest(alloc, &mut tree, "x", "2", OBSOLETE.as_bytes())?;
+    answer(alloc, &state, &request, tree, 0, shown)
+}
+
+// The group dependency doesn't hold back what is obsolete, and its stem is avoided from then on.
+#[test]
+fn an_update_lets_an_obsolete_package_go(rt: HostRuntime) -> Result<(), Fail> {
+    let alloc = rt.alloc();
+    let told = obsolete_told(alloc, Shown::Stems)?;
     assert!(rt; told.as_str() == "g 1; x - 1; ", "{told}");
-    let told = chosen_told(alloc, &problem)?;
+    let told = obsolete_told(alloc, Shown::Choice)?;
     assert!(rt; told.as_str() == "g@1 avoids x", "{told}");
     Ok(())
 }
@@ -371,19 +416,27 @@ const FAULTY: &str = r#"{"test": {
     "x/e": [{"version": "1"}],
     "y/e": [{"version": "1"}]}}"#;
 
+fn faulty(alloc: Global, large: bool) -> Result<Tree, Fail> {
+    let mut tree = repository(alloc, FAULTY)?;
+    add_manifest(alloc, &mut tree, "d", "1", b"\nfrob a=b\n")?;
+    add_manifest(alloc, &mut tree, "f", "1", b"depend fmri=x type=origin\n")?;
+    if large {
+        let text = vec![in alloc; b'#'; 16_777_217]?;
+        add_manifest(alloc, &mut tree, "large", "1", text.as_slice())?;
+    }
+    Ok(tree)
+}
+
+fn faults_told(alloc: Global, kind: Kind, named: &str, rejected: &str) -> Result<String, Fail> {
+    let state = with_a_and_b(alloc, "1", "", "")?;
+    let request = request(alloc, kind, named, rejected)?;
+    let tree = faulty(alloc, named == "large")?;
+    answer(alloc, &state, &request, tree, 0, Shown::Stems)
+}
+
 #[test]
 fn each_fault_of_a_request_is_told(rt: HostRuntime) -> Result<(), Fail> {
     let alloc = rt.alloc();
-    let mut tree = repository(alloc, FAULTY)?;
-    let large = vec![in alloc; b'#'; 16_777_217]?;
-    add_manifest(alloc, &mut tree, "d", "1", b"\nfrob a=b\n")?;
-    add_manifest(alloc, &mut tree, "f", "1", b"depend fmri=x type=origin\n")?;
-    add_manifest(alloc, &mut tree, "large", "1", large.as_slice())?;
-    let mut source = MemSource::new(tree, Vec::new(alloc));
-    let repo = Repo::open(alloc, &mut source, "test").map_err(|_| "repository")?;
-    let first = package(alloc, "a", "1", "")?;
-    let second = package(alloc, "b", "1", "")?;
-    let state = image(alloc, first, second, "")?;
     for (kind, named, rejected, want) in [
         (Kind::Install, "none", "", "no match none"),
         (Kind::Install, "e", "", "ambiguous e: x/e y/e"),
@@ -405,31 +458,30 @@ fn each_fault_of_a_request_is_told(rt: HostRuntime) -> Result<(), Fail> {
         (Kind::Update, "d", "", "no match d"),
         (Kind::Uninstall, "d", "", "no match d"),
     ] {
-        let request = request(alloc, kind, named, rejected)?;
-        let told = told(alloc, &state, &request, &repo, &mut source)?;
+        let told = faults_told(alloc, kind, named, rejected)?;
         assert!(rt; told.as_str() == want, "{told}");
     }
     Ok(())
 }
 
+fn failing_told(alloc: Global, fails: u64) -> Result<String, Fail> {
+    let state = with_a_and_b(alloc, "1", "", "")?;
+    let request = request(alloc, Kind::Install, "c", "")?;
+    let mut tree = repository(alloc, r#"{"test": {"c": [{"version": "1"}]}}"#)?;
+    add_manifest(alloc, &mut tree, "c", "1", b"set name=a value=b\n")?;
+    answer(alloc, &state, &request, tree, fails, Shown::Stems)
+}
+
 #[test]
 fn a_call_that_fails_is_told(rt: HostRuntime) -> Result<(), Fail> {
     let alloc = rt.alloc();
-    let first = package(alloc, "a", "1", "")?;
-    let second = package(alloc, "b", "1", "")?;
-    let state = image(alloc, first, second, "")?;
     for (fails, want) in [
         // behind the four calls that open the repository: the manifest looked for and read, and no further call
         (5, "source fault"),
         (6, "source fault"),
         (7, "c 1; a 1; b 1; "),
     ] {
-        let mut tree = repository(alloc, r#"{"test": {"c": [{"version": "1"}]}}"#)?;
-        add_manifest(alloc, &mut tree, "c", "1", b"set name=a value=b\n")?;
-        let mut source = MemSource::new(tree, Vec::from_slice(alloc, &[fails])?);
-        let repo = Repo::open(alloc, &mut source, "test").map_err(|_| "repository")?;
-        let request = request(alloc, Kind::Install, "c", "")?;
-        let told = told(alloc, &state, &request, &repo, &mut source)?;
+        let told = failing_told(alloc, fails)?;
         assert!(rt; told.as_str() == want, "{fails}: {told}");
     }
     Ok(())
