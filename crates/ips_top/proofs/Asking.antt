@@ -38,6 +38,7 @@ asks_posed words t r limit request repo p opens reading asked =
         names = asked.names;
         case_is = refl;
         is_reach = poses.reach;
+        read = poses.read;
       };
       same = poses.same;
     }

@@ -1,5 +1,6 @@
 -- From a puzzle's answer to what is chosen.
-use Rattle.std.proofs.Common.{◌≡◌, ℕ, List, [], ◌∷◌, map, slice_get, Option, Some, None, option_map, option_and_then, refl, sym, ap, ap₂, subst, ◌∙◌}
+use Rattle.std.proofs.Common.{◌≡◌, ℕ, List, [], ◌∷◌, map, slice_get, Option, Some, None, option_map, option_and_then, true, ◌||◌, bytes_eq, refl, sym, ap, ap₂, subst, ◌∙◌}
+use Rattle.std.proofs.lemmas.Bool.{cond-true, or_right}
 use Rattle.std.proofs.lemmas.Option.{none-some, same_Some, slice_get-map}
 use Rattle.ips_fmri.specs.Version.{Parts}
 use Rattle.ips_outside.specs.Image.{Image}
@@ -7,11 +8,17 @@ use Rattle.ips_manifest.specs.declared.package.Package.{Package}
 use Rattle.ips_state.specs.State.{Installed, installed}
 use Rattle.ips_refute.specs.Meaning.{HasNoChoice, pairs}
 use Rattle.ips_refute.specs.Refuting.{IsRefutation}
-use Rattle.ips_search.specs.Best.{IsFirst}
+use Rattle.ips_search.specs.Best.{IsFirst, NotLater}
+use Rattle.ips_depend.specs.Selection.{Selection}
+use Rattle.ips_problem.specs.Stems.{has}
 use Rattle.ips_problem.specs.Case.{Case, Reading, said}
 use Rattle.ips_problem.specs.Candidates.{candidates}
+use Rattle.ips_problem.specs.Laws.{has_first}
+use Rattle.ips_problem.specs.Reach.{IsReach}
+use Rattle.ips_problem.specs.Selecting.{AreNumbers, IsAdmissible, IsBestSelection, restricted}
 use Rattle.ips_problem.specs.Posed.{Posed, Offer, offer_of, row_of, posed, lines_said, meaning_of, picked}
 use Rattle.ips_problem.specs.Taken.{AreTaken, IsChoice, offer_at, package_of}
+use Rattle.ips_problem.proofs.Restricting.{restricted_admissible, restricted_within}
 use Rattle.ips_problem.proofs.Solving.{first_is_best, none_admissible}
 use Rattle.ips_top.specs.Unsolved.{Tried, offered, seen_tried, tried_of, tried_rows}
 use Rattle.ips_top.specs.Plan.{AreChosen, HasNoSolution, IsSpent, IsPastLimit}
@@ -36,6 +43,24 @@ selected_says c (Some stem) (Some k) q is =
     offered_says c stem (slice_get (candidates c stem) k) q
     (ap (λ (o : Option (Option Offer)). package_of (Some stem) (option_and_then (λ (x : Option Offer). x) o)) (sym (slice_get-map (offer_of c stem) (candidates c stem) k)) ∙ is)
 
+-- the numbers that a selection has for stems in reach stay where the stems out of reach are left out
+still_numbered : (c : Case) (reach : List (List ℕ)) (s : Selection) (stems : List (List ℕ)) (numbers : List ℕ) → ((stem : List ℕ) → has stem stems ≡ true → has stem reach ≡ true)
+    → AreNumbers c s stems numbers → AreNumbers c (restricted reach s) stems numbers
+still_numbered c reach s [] [] within are = tt
+still_numbered c reach s [] (k ∷ numbers) within are = absurd are
+still_numbered c reach s (stem ∷ stems) [] within are = absurd are
+still_numbered c reach s (stem ∷ stems) (k ∷ numbers) within are = (
+  subst (λ (o : Option Parts). slice_get (candidates c stem) k ≡ Some o) (sym (cond-true (has stem reach) (s stem) None (within stem (has_first stem stems)))) are.0,
+  still_numbered c reach s stems numbers (λ y there. within y (or_right (bytes_eq y stem) (has y stems) there)) are.1,
+)
+
+-- no admissible selection comes before the best, whether it selects stems out of reach or not
+first_of_all : (c : Case) (reach : List (List ℕ)) (s other : Selection) (others : List ℕ) → IsReach c reach → (best : IsBestSelection c reach s) → IsAdmissible c other → AreNumbers c other reach others
+    → NotLater best.numbers others
+first_of_all c reach s other others is_reach best admissible are =
+    best.first (restricted reach other) others (restricted_admissible c reach other is_reach admissible) (restricted_within reach other)
+    (still_numbered c reach other reach others (λ stem there. there) are)
+
 -- the first choice takes the packages of the best selection
 pub first_chosen : (words : List (List ℕ)) (t : Image) (r : Reading) (limit : ℕ) (p : Posed) (choice : List ℕ) (packages : List Package)
     → AsksPosed words t r limit p → IsFirst (meaning_of p) choice → AreTaken p choice (map installed packages) → AreChosen words t r packages
@@ -43,14 +68,16 @@ first_chosen words t r limit p choice packages asks first taken =
     let c = asks.the_case in
     let reach = asks.reach in
     let is_first = subst (λ (p : Posed). IsFirst (meaning_of p) choice) asks.same first in
-    let are = subst (λ (p : Posed). AreTaken p choice (map installed packages)) asks.same taken in (
+    let are = subst (λ (p : Posed). AreTaken p choice (map installed packages)) asks.same taken in
+    let best = first_is_best c reach choice asks.asks.is_reach is_first in (
       record {
         limit = limit;
         the_case = c;
         reach = reach;
         asks = asks.asks;
         selection = picked (posed c reach) (pairs choice);
-        best = first_is_best c reach choice asks.asks.is_reach is_first;
+        best = best;
+        foremost = λ other others. first_of_all c reach (picked (posed c reach) (pairs choice)) other others asks.asks.is_reach best;
         packages = map installed packages;
         selected = record {
           order = are.order;

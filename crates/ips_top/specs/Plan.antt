@@ -11,7 +11,7 @@ use Rattle.ips_repo.specs.Opening.{Opened, opening}
 use Rattle.ips_state.specs.State.{Installed, Recorded, Ascend, installed}
 use Rattle.ips_refute.specs.Meaning.{Meaning}
 use Rattle.ips_refute.specs.Refuting.{IsRefutation}
-use Rattle.ips_search.specs.Best.{IsBest}
+use Rattle.ips_search.specs.Best.{IsBest, NotLater}
 use Rattle.ips_search.specs.Beginnings.{beginnings}
 use Rattle.ips_depend.specs.Selection.{Selection}
 use Rattle.ips_problem.specs.declared.kind.Kind.TheVariants as kind
@@ -19,7 +19,8 @@ use Rattle.ips_problem.specs.declared.request.Request.{Request}
 use Rattle.ips_problem.specs.declared.fault.ProblemFault.{ProblemFault}
 use Rattle.ips_problem.specs.Case.{Case, Reading, said}
 use Rattle.ips_problem.specs.Reach.{IsReach}
-use Rattle.ips_problem.specs.Selecting.{IsAdmissible, IsBestSelection}
+use Rattle.ips_problem.specs.Fault.{AreRead, manifests_of}
+use Rattle.ips_problem.specs.Selecting.{AreNumbers, IsAdmissible, IsBestSelection}
 use Rattle.ips_problem.specs.Posed.{meaning_of, posed, lines_said}
 use Rattle.ips_problem.specs.Taken.{package_with}
 use Rattle.ips_problem.specs.Asked.{AreNames, IsProblemFault, asked_case, kind_of, patterns_of, rejects_of}
@@ -66,7 +67,8 @@ pub record Opens (words : List (List ℕ)) (t : Image) (limit : ℕ) (request : 
   pub publisher_is : repo.publisher ≡ publisher
   pub opened : opening publisher t ≡ Ok repo.catalog
 
--- The words ask for what this case says, with these stems in reach, where manifests are read so.
+-- The words ask for what this case says, with these stems in reach, where manifests are read so; of the manifests that these stems
+-- need none has a fault.
 pub record Asks (words : List (List ℕ)) (t : Image) (r : Reading) (limit : ℕ) (c : Case) (reach : List (List ℕ)) : Type 0 where
   pub request : Request
   pub repo : Opened
@@ -76,6 +78,7 @@ pub record Asks (words : List (List ℕ)) (t : Image) (r : Reading) (limit : ℕ
   pub names : AreNames request nothing_recorded repo.catalog named rejects
   pub case_is : c ≡ asked_case request nothing_recorded repo.catalog (files_of (Some repo) t) named rejects r
   pub is_reach : IsReach c reach
+  pub read : AreRead c (manifests_of c reach)
 
 -- ---- what is chosen
 
@@ -86,7 +89,7 @@ pub record AreSelected (c : Case) (s : Selection) (packages : List Installed) : 
   pub versions : (stem : List ℕ) → s stem ≡ option_map (λ (q : Installed). q.version) (package_with stem packages)
   pub lines : (q : Installed) → Contains packages q → q.lines ≡ lines_said (said c q.stem q.version)
 
--- What is chosen: the packages of the best selection.
+-- What is chosen: the packages of the best selection. None that is admissible comes before it, also of those that select stems out of reach.
 pub record Chosen (words : List (List ℕ)) (t : Image) (r : Reading) : Type 0 where
   pub limit : ℕ
   pub the_case : Case
@@ -94,6 +97,7 @@ pub record Chosen (words : List (List ℕ)) (t : Image) (r : Reading) : Type 0 w
   pub asks : Asks words t r limit the_case reach
   pub selection : Selection
   pub best : IsBestSelection the_case reach selection
+  pub foremost : (other : Selection) (others : List ℕ) → IsAdmissible the_case other → AreNumbers the_case other reach others → NotLater best.numbers others
   pub packages : List Installed
   pub selected : AreSelected the_case selection packages
 
