@@ -7,5 +7,6 @@ pub mod Layable
 pub mod Makers
 pub mod Meaning
 pub mod Numbers
+pub mod OneMeaning
 pub mod Order
 pub mod Plans

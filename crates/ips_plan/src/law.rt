@@ -1,0 +1,16 @@
+//! A law of what is meant, the contract of a function that does nothing.
+
+ghost use Rattle.std.specs.Prelude.{◌≡◌, ℕ, true, List};
+ghost use Rattle.ips_outside.specs.Image.{Image};
+ghost use Rattle.ips_install.specs.Laid.{IsContent};
+ghost use Rattle.ips_meaning.specs.declared.entry.Entry.{Entry};
+ghost use Rattle.ips_meaning.specs.Together.{HangTogether};
+ghost use Rattle.ips_plan.specs.Meant.{IsMeant};
+
+/// Entries that hang together mean one image of an old one, where the bytes of files are those of the payloads in a repository:
+/// two that they mean show the same at each path, and in both the same paths share a file.
+pub fn one_meaning()
+    ensures { (publisher : List ℕ) (repository : Image) (entries : List (List ℕ × Entry)) (old a b : Image) → HangTogether entries
+        → IsMeant (IsContent true publisher repository) entries old a → IsMeant (IsContent true publisher repository) entries old b
+        → ((q : List ℕ) → a.look q ≡ b.look q) × ((p q : List ℕ) → a.same p q ≡ b.same p q) }
+{}
