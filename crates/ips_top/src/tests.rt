@@ -174,7 +174,7 @@ fn tells_each_outcome(rt: HostRuntime) -> Result<(), Fail> {
         // the version that is incorporated, of which then all stands
         ("-R i -s r install inc", 0, "done\n"),
         ("-R i -s r install inc", 0, "done\n"),
-        // two that exclude each other
+        // two that exclude each other: either dependency refutes it
         (
             "-R i -s r install a b",
             1,

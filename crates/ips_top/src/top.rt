@@ -39,7 +39,7 @@ pub fn run<S: Source, F: Folder, O: Sink>(
     ensures safe { IsTrue (F.outside.tells image.old) → result.outcome ≡ Done → IsSettled (F.outside.state image.new) }
 
     // A refusal changes nothing. Nothing is changed before every line, every wanted path and every payload was looked at, also where
-    // the end is a fault. At any moment nothing but wanted paths is changed, and what stood there but for modes isn't.
+    // the end is a fault. At any moment only wanted paths are changed, and of what stood at them nothing but modes.
     ensures refusals { IsTrue (is_refusal (S.outside.tells repo.old) result.outcome) → F.outside.state image.new ≡ F.outside.state image.old }
     ensures looked { IsTrue (S.outside.tells repo.old) → IsTrue (F.outside.tells image.old) → (r : Reading) → IsReading nothing_set r
         → (F.outside.state image.new ≡ F.outside.state image.old) ⊎ CouldInstall (map string_bytes words.now) (S.outside.state repo.old).held r (F.outside.state image.old).held }
