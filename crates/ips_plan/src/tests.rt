@@ -94,6 +94,10 @@ fn show(alloc: Global, text: &mut String, step: &Step) -> Result<(), Fail> {
 const FILE: &str =
     "file da39a3ee5e6b4b0d3255bfef95601890afd80709 path=m mode=0644 owner=root group=bin";
 
+const TWINS: &str =
+    "file da39a3ee5e6b4b0d3255bfef95601890afd80709 path=n mode=0600 owner=root group=bin
+file da39a3ee5e6b4b0d3255bfef95601890afd80709 path=m mode=0644 owner=root group=bin";
+
 // A file with names before and behind it, and one between.
 const NAMES: &str = "hardlink path=a target=m
 hardlink path=z/z target=../m
@@ -131,6 +135,8 @@ fn plans_what_is_wanted(rt: HostRuntime) -> Result<(), Fail> {
             NAMES,
             "b file 0 4755, l link of 1, m file 1 644, z new 755, a as m, z/z as m, 2",
         ),
+        // two files of one content are two files
+        ("dvar dvar/pkg", TWINS, "m file 0 644, n file 1 600, 2"),
         // something stands that can't become a directory, a file, a link or one more name
         ("fvar", "", "in the way: var"),
         (
@@ -148,6 +154,8 @@ fn plans_what_is_wanted(rt: HostRuntime) -> Result<(), Fail> {
         ("dl", NAMES, "in the way: l"),
         ("ll", NAMES, "in the way: l"),
         ("Dz fz/z", NAMES, "in the way: z/z"),
+        // no link is followed, not even one that holds a wanted path
+        ("lz dvar dvar/pkg", NAMES, "in the way: z"),
         ("da", NAMES, "in the way: a"),
         // the first of them by its bytes, whatever the order of the lines
         ("fm lb Dl", NAMES, "in the way: b"),
