@@ -28,10 +28,7 @@ fn copy_conditional(alloc: Global, both: &[Fmri; 2]) -> Result<Kept, AllocError>
     ensures { IfOk result (λ copy. dependency_of copy ≡ conditional_of both.now) }
 {
     let [predicate, fmri] = both;
-    Ok(Kept::Conditional([
-        predicate.copy(alloc)?,
-        fmri.copy(alloc)?,
-    ]))
+    Ok(Kept::Conditional([predicate.copy(alloc)?, fmri.copy(alloc)?]))
 }
 
 // The same FMRIs.
