@@ -26,8 +26,3 @@ pub use printing::{actions_read_back, print_line};
 pub use reading::parse_line;
 pub use table::{Row, Times, rows};
 pub use target::leads_to;
-
-#[cfg(test)]
-mod rows_tests;
-#[cfg(test)]
-mod tests;

@@ -17,6 +17,3 @@ pub use applying::apply;
 pub use copying::copy;
 pub use ips_journal::{StepFault, StepReader};
 pub use ips_kinds::{Act, Kind, Step};
-
-#[cfg(test)]
-mod tests;

@@ -8,6 +8,3 @@ mod table;
 
 pub use row::Row;
 pub use table::Cases;
-
-#[cfg(test)]
-mod tests;

@@ -15,6 +15,3 @@ mod stems;
 pub use catalog::Catalog;
 pub use fault::CatalogFault;
 pub use pointers::pointers_lead;
-
-#[cfg(test)]
-mod tests;

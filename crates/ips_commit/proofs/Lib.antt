@@ -11,4 +11,3 @@ pub mod Committed
 pub mod Staged
 pub mod Places
 pub mod Rolled
-pub mod TwoSteps

@@ -29,6 +29,3 @@ pub use found::Pending;
 pub use ready::Ready;
 pub use recovering::recover;
 pub use staging::stage;
-
-#[cfg(test)]
-mod tests;

@@ -22,6 +22,3 @@ mod verdict;
 pub use clashing::{Clash, Rule};
 pub use finding::clash;
 pub use placed::{Placed, Sort};
-
-#[cfg(test)]
-mod tests;

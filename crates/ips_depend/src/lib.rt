@@ -18,6 +18,3 @@ pub use dependency::Test;
 pub use laws::{asks_for_one_list, judged_by_mentions, only_wanted_drawn_in, versions_are_matched};
 pub use reading::{BadDepend, tests_of};
 pub use view::View;
-
-#[cfg(test)]
-mod tests;

@@ -7,6 +7,3 @@ mod taken;
 
 pub use hasher::Hasher;
 pub use name::{PayloadName, one_spelling, reads_back};
-
-#[cfg(test)]
-mod tests;

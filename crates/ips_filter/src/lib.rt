@@ -5,6 +5,3 @@ mod admitting;
 mod settings;
 
 pub use settings::Settings;
-
-#[cfg(test)]
-mod tests;

@@ -13,6 +13,3 @@ pub use folder::Folder;
 pub use listing::{ListFault, Listing, Paths};
 pub use memory::MemFolder;
 pub use stop::{Choice, Stop};
-
-#[cfg(test)]
-mod tests;

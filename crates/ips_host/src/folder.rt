@@ -106,6 +106,3 @@ impl<R: Runtime + Processes> Folder for HostFolder<R> {
         counted(&mut self.faults, answer)
     }
 }
-
-#[cfg(test)]
-mod tests;

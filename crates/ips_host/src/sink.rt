@@ -51,6 +51,3 @@ fn write_some<R: Print>(rt: &R, bytes: &[u8]) -> io::Result<usize>
     output.flush()?;
     Ok(count)
 }
-
-#[cfg(test)]
-mod tests;

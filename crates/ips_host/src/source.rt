@@ -46,6 +46,3 @@ impl<R: Runtime + Processes> Source for HostSource<R> {
         counted(&mut self.faults, answer)
     }
 }
-
-#[cfg(test)]
-mod tests;

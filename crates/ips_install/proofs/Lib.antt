@@ -5,4 +5,3 @@ pub mod Keeping
 pub mod Filled
 pub mod Numbers
 pub mod Stepping
-pub mod Examples

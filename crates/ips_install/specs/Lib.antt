@@ -3,4 +3,3 @@ pub mod Laid
 pub mod Fault
 pub mod Checking
 pub mod Laying
-pub mod Example

@@ -13,6 +13,3 @@ mod laying;
 
 pub use fault::{InstallFault, PayloadFault};
 pub use installing::install;
-
-#[cfg(test)]
-mod tests;

@@ -27,6 +27,3 @@ pub use laws::{journals_read_back, one_bad_line, steps_come_in_order};
 pub use reader::StepReader;
 pub use staged::Staged;
 pub use writing::write_steps;
-
-#[cfg(test)]
-mod tests;

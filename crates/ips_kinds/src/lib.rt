@@ -10,6 +10,3 @@ mod sorts;
 pub use ips_steps::{Sort, Step, Target, TargetFault};
 pub use kind::{Act, Kind, counts_each_step, ends_once};
 pub use sorts::{FreshKind, GoneKind, HardKind, LinkKind, ModeKind, PutKind};
-
-#[cfg(test)]
-mod tests;

@@ -16,6 +16,3 @@ mod words;
 pub use fault::WordFault;
 pub use printing::{lines_read_back, push_pair, push_payload, push_words};
 pub use words::{Pair, Word, Words, read_words};
-
-#[cfg(test)]
-mod tests;

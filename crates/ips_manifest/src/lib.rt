@@ -15,6 +15,3 @@ pub use fault::{LineFault, ManifestFault};
 pub use line::Line;
 pub use manifest::{Manifest, manifests_read_back};
 pub use package::Package;
-
-#[cfg(test)]
-mod tests;

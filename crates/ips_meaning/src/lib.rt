@@ -26,6 +26,3 @@ pub use entry::Entry;
 pub use fault::WantFault;
 pub use meaning::want;
 pub use wanted::Want;
-
-#[cfg(test)]
-mod tests;

@@ -16,6 +16,3 @@ mod set;
 pub use choice::{best_mediation_is_one, choose};
 pub use offer::{Priority, same_mediation};
 pub use set::SetMediator;
-
-#[cfg(test)]
-mod tests;

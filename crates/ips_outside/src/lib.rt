@@ -24,6 +24,3 @@ pub use refusal::TreeFault;
 pub use sink::MemSink;
 pub use source::{MemSource, SureSource};
 pub use tree::Tree;
-
-#[cfg(test)]
-mod tests;

@@ -16,6 +16,3 @@ mod step;
 pub use fault::PlanFault;
 pub use law::{meaning_or_fault, one_meaning};
 pub use planning::{Planned, plan};
-
-#[cfg(test)]
-mod tests;

@@ -43,6 +43,3 @@ pub use kind::Kind;
 pub use laws::reach_is_enough;
 pub use problem::Problem;
 pub use request::Request;
-
-#[cfg(test)]
-mod tests;

@@ -20,6 +20,3 @@ pub use nogoods::{Nogood, Pair, Reason, Refutation, refutations_read_back};
 pub use puzzle::Puzzle;
 pub use reading::BadLine;
 pub use table::{Rule, Table};
-
-#[cfg(test)]
-mod tests;

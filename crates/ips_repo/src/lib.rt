@@ -19,6 +19,3 @@ pub use payload::Payload;
 pub use places::places_are_paths;
 pub use reading::{FileFault, read_whole};
 pub use repository::Repo;
-
-#[cfg(test)]
-mod tests;

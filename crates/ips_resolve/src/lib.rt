@@ -10,6 +10,3 @@ mod first;
 mod judging;
 
 pub use first::{first_below, first_unbuilt};
-
-#[cfg(test)]
-mod tests;

@@ -8,6 +8,3 @@ mod copying;
 mod state;
 
 pub use state::State;
-
-#[cfg(test)]
-mod tests;

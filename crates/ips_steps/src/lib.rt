@@ -15,6 +15,3 @@ pub use laws::{
 };
 pub use step::{Sort, Step};
 pub use target::{Target, TargetFault};
-
-#[cfg(test)]
-mod tests;

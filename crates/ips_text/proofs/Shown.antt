@@ -13,7 +13,7 @@ use Rattle.ips_text.specs.Path.{parts}
 use Rattle.ips_text.specs.Quote.{is_plain, quoted_byte, quoted, shown, AreBytes}
 use Rattle.ips_text.proofs.Quotes.{high_ascii, low_ascii}
 
-abbrev shown_byte : ℕ → List ℕ
+abbrev pub shown_byte : ℕ → List ℕ
 shown_byte b = cond (eqb b 47) (b ∷ []) (quoted_byte b)
 
 escaped_set : agree_below (contains ESCAPED_IN_PATH) (λ b. not (is_plain b || eqb b 47)) 128 ≡ true
@@ -55,7 +55,7 @@ unfolding quoted
 behind_byte b x [] = refl
 behind_byte b x (y ∷ ys) = append_assoc (quoted_byte b) (quoted x) (47 ∷ join_with_byte 47 (map quoted (y ∷ ys)))
 
-shown_more : (b : ℕ) (bs : List ℕ) → shown (b ∷ bs) ≡ shown_byte b ++ shown bs
+pub shown_more : (b : ℕ) (bs : List ℕ) → shown (b ∷ bs) ≡ shown_byte b ++ shown bs
 unfolding shown quoted
 shown_more b bs = go (eqb b 47) refl (some_part bs)
   where

@@ -22,6 +22,3 @@ mod words;
 pub use outcome::{Outcome, Status, Why};
 pub use top::run;
 pub use unsolved::{Tried, Unsolved};
-
-#[cfg(test)]
-mod tests;

@@ -1,0 +1,2 @@
+pub mod TwoSteps
+pub mod Examples

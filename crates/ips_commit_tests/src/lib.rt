@@ -1,0 +1,11 @@
+//! Tests of steps that are laid: again over what a stop left, behind the gate, and straight.
+#![tactic(auto)]
+
+#[cfg(test)]
+mod apply;
+#[cfg(test)]
+mod commit;
+#[cfg(test)]
+mod install;
+#[cfg(test)]
+mod takers;

@@ -1,0 +1,13 @@
+//! Tests of images in memory, steps, and the folder with its stops and faults.
+#![tactic(auto)]
+
+#[cfg(test)]
+mod folder;
+#[cfg(test)]
+mod journal;
+#[cfg(test)]
+mod kinds;
+#[cfg(test)]
+mod outside;
+#[cfg(test)]
+mod steps;

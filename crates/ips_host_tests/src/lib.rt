@@ -1,0 +1,9 @@
+//! Tests of the adapters over real files.
+#![tactic(auto)]
+
+#[cfg(test)]
+mod folder;
+#[cfg(test)]
+mod sink;
+#[cfg(test)]
+mod source;

@@ -1,0 +1,5 @@
+//! Tests of repositories: the mark, the catalog, manifests and payloads.
+#![tactic(auto)]
+
+#[cfg(test)]
+mod repo;

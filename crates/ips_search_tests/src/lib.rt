@@ -1,0 +1,7 @@
+//! Tests of puzzles: the checker of refutations and the search.
+#![tactic(auto)]
+
+#[cfg(test)]
+mod refute;
+#[cfg(test)]
+mod search;

@@ -1,0 +1,50 @@
+use ips_cases::{Cases, Row};
+use std::test::Fail;
+
+const fn row(a: u32, b: u32, c: u32, d: u32, value: u8) -> Row {
+    Row {
+        sets: [a, b, c, d],
+        value,
+    }
+}
+
+#[test]
+fn each_key_has_the_value_of_its_row(rt: HostRuntime) -> Result<(), Fail> {
+    let rows = [
+        row(1, 3, 1, 1, 10),
+        row(2, 1, 1, 1, 20),
+        row(2, 2, 1, 1, 30),
+    ];
+    let table = Cases::new(rows, [2, 2, 1, 1]).ok_or("each key has a row")?;
+    assert_eq!(rt; table.find([0, 0, 0, 0]), 10);
+    assert_eq!(rt; table.find([0, 1, 0, 0]), 10);
+    assert_eq!(rt; table.find([1, 0, 0, 0]), 20);
+    assert_eq!(rt; table.find([1, 1, 0, 0]), 30);
+    Ok(())
+}
+
+#[test]
+fn gaps_and_overlaps_are_refused(rt: HostRuntime) {
+    let last_key_has_no_row = [row(1, 3, 1, 1, 10), row(2, 1, 1, 1, 20)];
+    assert!(rt; Cases::new(last_key_has_no_row, [2, 2, 1, 1]).is_none());
+    let last_key_has_two = [
+        row(1, 3, 1, 1, 10),
+        row(2, 3, 1, 1, 20),
+        row(2, 2, 1, 1, 30),
+    ];
+    assert!(rt; Cases::new(last_key_has_two, [2, 2, 1, 1]).is_none());
+    assert!(rt; Cases::new([], [1, 1, 1, 1]).is_none());
+}
+
+#[test]
+fn sizes_of_32(rt: HostRuntime) -> Result<(), Fail> {
+    const ALL: u32 = u32::MAX;
+    const TOP: u32 = 0x8000_0000;
+    let rows = [row(ALL, ALL, ALL, ALL - TOP, 1), row(ALL, ALL, ALL, TOP, 2)];
+    let table = Cases::new(rows, [32, 32, 32, 32]).ok_or("each key has a row")?;
+    assert_eq!(rt; table.find([31, 31, 31, 30]), 1);
+    assert_eq!(rt; table.find([31, 31, 31, 31]), 2);
+    let last_key_has_two = [rows[0], rows[1], row(TOP, TOP, TOP, TOP, 3)];
+    assert!(rt; Cases::new(last_key_has_two, [32, 32, 32, 32]).is_none());
+    Ok(())
+}

@@ -1,0 +1,13 @@
+//! Tests of the crates of words: paths and texts, words of a line, versions and names, payload names, and tables of cases.
+#![tactic(auto)]
+
+#[cfg(test)]
+mod cases;
+#[cfg(test)]
+mod digest;
+#[cfg(test)]
+mod fmri;
+#[cfg(test)]
+mod line;
+#[cfg(test)]
+mod text;
