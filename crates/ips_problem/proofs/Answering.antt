@@ -1,5 +1,5 @@
 -- What a problem answers of its tests.
-use Rattle.std.proofs.Common.{◌≡◌, ℕ, ◌<◌, Bool, true, false, not, ◌&&◌, List, [], ◌∷◌, map, length, slice_get, get_or, Option, Some, None, option_map, refl, sym, ap, subst, ◌∙◌, arith}
+use Rattle.std.proofs.Common.{◌≡◌, ℕ, ◌<◌, Bool, true, false, not, ◌&&◌, List, [], ◌∷◌, map, length, slice_get, get_or, Some, option_map, refl, sym, ap, subst, ◌∙◌, arith}
 use Rattle.std.proofs.lemmas.Bool.{and_left, and_right}
 use Rattle.std.proofs.lemmas.List.{length-map, get_or_default}
 use Rattle.std.proofs.lemmas.Option.{same_Some, slice_get-map, slice_get_read}
@@ -9,7 +9,7 @@ use Rattle.ips_problem.specs.declared.problem.Problem.{Problem}
 use Rattle.ips_problem.specs.declared.rows.Numbered.{Numbered}
 use Rattle.ips_problem.specs.declared.rows.Numbers.{Numbers}
 use Rattle.ips_problem.specs.declared.rows.Row.{Row}
-use Rattle.ips_problem.specs.Posed.{candidate_of, is_number, decides, picked, spared, version_at, greatest_of, stems_of_test, last_at, breaks, breaks_at}
+use Rattle.ips_problem.specs.Posed.{candidate_of, is_number, decides, picked, spared, version_at, greatest_of, stems_of_test, last_at, breaks_at}
 use Rattle.ips_problem.specs.Seen.{puzzle_of, seen_numbers, seen_row, seen_test}
 use Rattle.ips_problem.specs.Held.{posed_of}
 

@@ -1,10 +1,10 @@
 -- Which tests a case has.
-use Rattle.std.proofs.Common.{◌≡◌, ℕ, zero, suc, ◌+◌, List, [], ◌∷◌, ◌++◌, map, slice_get, Option, Some, None, refl, sym, ap, subst, ◌∙◌, inl, inr, ◌⊎◌, arith}
+use Rattle.std.proofs.Common.{◌≡◌, ℕ, zero, suc, ◌+◌, List, [], ◌∷◌, slice_get, Option, Some, refl, sym, ap, subst, ◌∙◌, inl, inr, arith}
 use Rattle.std.proofs.lemmas.Option.{none-some, same_Some}
 use Rattle.ips_fmri.specs.Version.{Parts}
 use Rattle.ips_depend.specs.Dependency.{Dependency}
-use Rattle.ips_problem.specs.Case.{Case}
-use Rattle.ips_problem.specs.Candidates.{candidates}
+use Rattle.ips_request.specs.Case.{Case}
+use Rattle.ips_request.specs.Candidates.{candidates}
 use Rattle.ips_problem.specs.Reach.{dependencies_of}
 use Rattle.ips_problem.specs.Posed.{Numbered, numbered, tests_of_candidates, tests_from}
 use Rattle.ips_problem.proofs.Members.{Among, among_left, among_right, among_cases, among_map, among_mapped}

@@ -13,18 +13,19 @@ use Rattle.ips_depend.specs.Dependency.{Dependency}
 use Rattle.ips_manifest.specs.declared.package.Package.{Package}
 use Rattle.ips_state.specs.State.{Installed, installed}
 use Rattle.ips_repo.specs.Manifest.{manifest_limit}
-use Rattle.ips_problem.specs.declared.fault.ProblemFault.{ProblemFault}
-use Rattle.ips_problem.specs.declared.read.Read.{Read}
+use Rattle.ips_request.specs.declared.fault.ProblemFault.{ProblemFault}
+use Rattle.ips_request.specs.declared.read.Read.{Read}
+use Rattle.ips_request.specs.Stems.{has, put, put_all, firsts, stems_of}
+use Rattle.ips_request.specs.Case.{Case, said}
+use Rattle.ips_request.specs.Candidates.{candidates}
+use Rattle.ips_request.specs.Manifests.{Needed, IsManifestFault, all_manifests_limit, bytes_read, needed}
+use Rattle.ips_request.proofs.Lookups.{next_of, put_all_append}
 use Rattle.ips_problem.specs.declared.rows.Numbered as numbers
 use Rattle.ips_problem.specs.declared.rows.Row as declared
-use Rattle.ips_problem.specs.Stems.{has, put, put_all, firsts}
-use Rattle.ips_problem.specs.Case.{Case, said}
-use Rattle.ips_problem.specs.Candidates.{candidates}
-use Rattle.ips_problem.specs.Fault.{Needed, AreRead, IsFirstFault, IsManifestFault, all_bytes, all_manifests_limit, bytes_read, manifests_at, manifests_of, needed}
+use Rattle.ips_problem.specs.Fault.{AreRead, IsFirstFault, all_bytes, manifests_at, manifests_of}
 use Rattle.ips_problem.specs.Reach.{drawn_in, grown, seeds, stems_wanted}
 use Rattle.ips_problem.specs.Posed.{Numbered, Row, numbered, row_of, still_avoided, tests_from, tests_of_candidates}
-use Rattle.ips_problem.specs.Seen.{seen_row, seen_test, stems_of}
-use Rattle.ips_problem.proofs.Lookups.{next_of, put_all_append}
+use Rattle.ips_problem.specs.Seen.{seen_row, seen_test}
 use Rattle.ips_problem.proofs.Offering.{drawn_alike, tests_alike}
 use Rattle.ips_problem.specs.Gathered.{AreReadBehind, IsFaultAmong, IsGoneThrough, IsPosedBy, IsReadBehind, IsReadOf, IsRowOf, asked_at, tests_asked}
 

@@ -1,9 +1,6 @@
 -- What reading a manifest says of its version.
-use Rattle.std.proofs.Common.{◌≡◌, ℕ, ◌+◌, ◌≤◌, Bool, true, false, cond, List, Option, Some, None, is_some, Result, Ok, Err, IfOk, option_map, refl, sym, ap, subst, ◌∙◌, arith}
+use Rattle.std.proofs.Common.{◌≡◌, ℕ, ◌+◌, ◌≤◌, Bool, true, false, cond, List, Option, Some, None, is_some, option_map, refl, sym, ap, subst, ◌∙◌, arith}
 use Rattle.std.specs.Option.{MatchOption, option_and_then}
-use Rattle.ips_text.specs.Reading.{IfBad}
-use Rattle.ips_text.specs.declared.refusal.Or.{Or}
-use Rattle.ips_text.specs.declared.refusal.Or.TheVariants.{Bad, OutOfMemory}
 use Rattle.ips_fmri.specs.Version.{Parts}
 use Rattle.ips_filter.specs.Settings.{Set}
 use Rattle.ips_manifest.specs.declared.line.Line.{Line}
@@ -13,28 +10,13 @@ use Rattle.ips_depend.specs.Asking.{LinesAsk}
 use Rattle.ips_depend.proofs.Lines.{lines_once}
 use Rattle.ips_state.specs.State.{Installed}
 use Rattle.ips_repo.specs.Manifest.{manifest_limit}
-use Rattle.ips_problem.specs.declared.fault.ProblemFault.{ProblemFault}
-use Rattle.ips_problem.specs.declared.fault.ProblemFault.TheVariants as fault
-use Rattle.ips_problem.specs.declared.read.Read.{Read}
-use Rattle.ips_problem.specs.Case.{Case, Reading, IsReading, at_version, facts_of, facts_in, installed_at, installed_version, is_same_version, own, said_of}
-use Rattle.ips_problem.specs.Candidates.{greatest, is_standing, may_come, tell_obsolete}
-use Rattle.ips_problem.specs.Fault.{FaultOf, IsFetched, IsFetchFault, IsFileFault, IsOwnFault, IsThere, bytes_of}
+use Rattle.ips_request.specs.declared.fault.ProblemFault.{ProblemFault}
+use Rattle.ips_request.specs.declared.fault.ProblemFault.TheVariants as fault
+use Rattle.ips_request.specs.declared.read.Read.{Read}
+use Rattle.ips_request.specs.Case.{Case, Reading, IsReading, at_version, facts_of, facts_in, installed_at, installed_version, is_same_version, own, said_of}
+use Rattle.ips_request.specs.Candidates.{greatest, is_standing, may_come, tell_obsolete}
+use Rattle.ips_request.specs.Manifests.{FaultOf, IsFetched, IsFetchFault, IsFileFault, IsOwnFault, IsThere, bytes_of}
 use Rattle.ips_problem.specs.Gathered.{Got, GotFault, IsJudgedRead, IsReadBehind}
-
--- ---- what answers say
-
-pub ok_also : {X E : Type 0} (r : Result X E) (P Q : X → Type 0) → IfOk r P → ((x : X) → P x → Q x) → IfOk r Q
-ok_also (Ok x) P Q h w = w x h
-ok_also (Err e) P Q h w = tt
-
-pub bad_also : {X F : Type 0} (r : Result X (Or F)) (P Q : F → Type 0) → IfBad r P → ((f : F) → P f → Q f) → IfBad r Q
-bad_also (Ok x) P Q h w = tt
-bad_also (Err (Bad f)) P Q h w = w f h
-bad_also (Err OutOfMemory) P Q h w = tt
-
--- a fault of which nothing holds doesn't come
-pub bad_not : {X F : Type 0} (r : Result X (Or F)) (P : F → Type 0) (f : F) → IfBad r P → r ≡ Err (Bad f) → P f
-bad_not r P f h e = subst (λ r. IfBad r P) e h
 
 -- ---- what a manifest says
 

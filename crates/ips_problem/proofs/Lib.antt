@@ -1,6 +1,4 @@
 pub mod Members
-pub mod Named
-pub mod StemLists
 pub mod Reached
 pub mod Restricting
 pub mod CaseTests
@@ -11,10 +9,7 @@ pub mod Answering
 pub mod Numbers
 pub mod Missing
 pub mod Packages
-pub mod Lookups
-pub mod Inserted
-pub mod Subjects
+pub mod Posing
 pub mod Judging
-pub mod Fetched
 pub mod Offering
 pub mod Growth

@@ -1,15 +1,14 @@
 -- Looking up stems and candidates by their numbers.
-use Rattle.std.proofs.Common.{◌≡◌, ℕ, ◌+◌, ◌<◌, ltb, Bool, false, not, cond, List, [], ◌∷◌, map, length, position, slice_get, get_or, Option, Some, None, option_map, option_and_then, refl, sym, ap, subst, ◌∙◌, bytes_eq, String, Global, string_bytes}
-use Rattle.std.specs.List.{position_or_len}
-use Rattle.std.proofs.lemmas.List.{length-map}
+use Rattle.std.proofs.Common.{◌≡◌, ℕ, ◌<◌, Bool, false, List, map, length, position, slice_get, get_or, Option, Some, None, option_map, option_and_then, sym, ap, subst, ◌∙◌, bytes_eq, String, Global}
 use Rattle.std.proofs.lemmas.List.Elements.{Contains-get_or}
 use Rattle.std.proofs.lemmas.Option.{slice_get-map}
 use Rattle.ips_refute.specs.declared.nogoods.Pair.{Pair}
 use Rattle.ips_refute.specs.Meaning.{OnePerStem}
 use Rattle.ips_fmri.specs.Version.{Parts}
+use Rattle.ips_request.specs.Stems.{stems_of}
 use Rattle.ips_problem.specs.declared.rows.Row.{Row}
 use Rattle.ips_problem.specs.Posed.{candidate_of, version_at, picked, tells_spared, spared_at, spared}
-use Rattle.ips_problem.specs.Seen.{seen_row, stems_of, puzzle_of}
+use Rattle.ips_problem.specs.Seen.{seen_row, puzzle_of}
 use Rattle.ips_problem.specs.Laws.{contained_candidate}
 
 -- what stands at a place of a set is the candidate of its stem
@@ -17,17 +16,6 @@ pub at_place : (set : List Pair) (i : ℕ) (d : Pair) (stem : ℕ) → OnePerSte
 at_place set i d stem one l e =
     sym (subst (λ (s : ℕ). candidate_of set s ≡ Some (get_or set i d).candidate) e
     (contained_candidate set (get_or set i d).stem (get_or set i d).candidate one (Contains-get_or set i d l)))
-
-position_map : {X Y : Type 0} (f : X → Y) (p : Y → Bool) (xs : List X) → position_or_len p (map f xs) ≡ position_or_len (λ x. p (f x)) xs
-position_map f p [] = refl
-position_map f p (x ∷ xs) = ap (λ (n : ℕ). cond (not (p (f x))) (1 + n) 0) (position_map f p xs)
-
--- the number of a stem among keys is its number among their texts
-pub number_among_keys : (stem : List ℕ) (keys : List (String Global)) → position (λ k. bytes_eq stem (string_bytes k)) keys ≡ position (bytes_eq stem) (stems_of keys)
-number_among_keys stem keys =
-    let at = sym (position_map (λ (k : String Global). string_bytes k) (bytes_eq stem) keys) in
-    let long = sym (length-map keys (λ (k : String Global). string_bytes k)) in
-    λ i. cond (ltb (at i) (long i)) (Some (at i)) None
 
 -- a stem without a number is picked at no version
 pub picked_without : (keys : List (String Global)) (rows : List Row) (set : List Pair) (stem : List ℕ) → None ≡ position (bytes_eq stem) (stems_of keys) → None ≡ picked (puzzle_of keys rows) set stem

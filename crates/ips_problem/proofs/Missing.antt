@@ -9,9 +9,10 @@ use Rattle.ips_fmri.specs.Version.{Parts}
 use Rattle.ips_refute.specs.Meaning.{pairs}
 use Rattle.ips_problem.specs.declared.rows.Row.{Row}
 use Rattle.ips_state.specs.State.{Ascend}
+use Rattle.ips_request.specs.Stems.{stems_of}
 use Rattle.ips_problem.specs.Avoided.{AreAvoided, IsMissed, group_stem, if_absent, missed_by}
 use Rattle.ips_problem.specs.Posed.{Numbered, Posed, is_number, version_at, picked}
-use Rattle.ips_problem.specs.Seen.{puzzle_of, seen_row, stems_of}
+use Rattle.ips_problem.specs.Seen.{puzzle_of, seen_row}
 use Rattle.ips_problem.proofs.Members.{Among, among_left, among_right, among_cases, among_at, among_map, among_mapped, place_among, contained_at, at_contained}
 use Rattle.ips_problem.proofs.Looking.{picked_with}
 use Rattle.ips_problem.proofs.Picking.{chosen_at}

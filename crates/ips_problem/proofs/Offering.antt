@@ -1,5 +1,5 @@
 -- The manifests that were read of a stem give its candidates and what they ask for.
-use Rattle.std.proofs.Common.{◌≡◌, ℕ, suc, ◌+◌, Bool, true, false, not, cond, ◌&&◌, ◌||◌, List, [], ◌∷◌, ◌++◌, map, filter, flat_map, reverse, slice_get, Option, Some, None, is_some, option_map, refl, sym, ap, subst, ◌∙◌, inl, inr, ◌⊎◌, arith}
+use Rattle.std.proofs.Common.{◌≡◌, ℕ, suc, ◌+◌, Bool, true, false, not, cond, ◌&&◌, ◌||◌, List, [], ◌∷◌, ◌++◌, map, filter, flat_map, reverse, length, slice_get, Option, Some, None, is_some, option_map, refl, sym, ap, subst, ◌∙◌, inl, inr, ◌⊎◌, arith}
 use Rattle.std.specs.List.{AllByRecursion, AllZip, list_any, last_or}
 use Rattle.std.specs.Ordering.{is_lt, is_eq}
 use Rattle.std.specs.declared.cmp.Ordering.{Ordering}
@@ -15,19 +15,19 @@ use Rattle.ips_fmri.specs.Version.{Parts}
 use Rattle.ips_fmri.specs.Order.{version_cmp}
 use Rattle.ips_fmri.proofs.Orders.{tells_equal, tells_greater, versions_tell}
 use Rattle.ips_catalog.specs.Listed.{versions_of}
-use Rattle.ips_problem.specs.declared.kind.Kind.{Kind}
-use Rattle.ips_problem.specs.declared.kind.Kind.TheVariants.{Install, Update, Uninstall, Keep}
-use Rattle.ips_problem.specs.declared.role.Role.{Role}
-use Rattle.ips_problem.specs.declared.role.Role.TheVariants.{Refused, Gone, Asked, Renewed, Standing, Free}
-use Rattle.ips_problem.specs.declared.read.Read.{Read}
+use Rattle.ips_request.specs.declared.kind.Kind.{Kind}
+use Rattle.ips_request.specs.declared.kind.Kind.TheVariants.{Install, Update, Uninstall, Keep}
+use Rattle.ips_request.specs.declared.role.Role.{Role}
+use Rattle.ips_request.specs.declared.role.Role.TheVariants.{Refused, Gone, Asked, Renewed, Standing, Free}
+use Rattle.ips_request.specs.declared.read.Read.{Read}
+use Rattle.ips_request.specs.Stems.{has}
+use Rattle.ips_request.specs.Case.{Case, is_named, is_installed, installed_version, said}
+use Rattle.ips_request.specs.Candidates.{with_installed, newest, may_come, coming, greatest, is_standing, is_obsolete, is_obsolete_at, says_obsolete, present, present_or_gone, beyond, candidates_in, candidates, role, role_by, is_target_of, is_spared}
+use Rattle.ips_request.specs.Manifests.{is_needed, needed}
+use Rattle.ips_request.specs.Reads.{is_gone, is_gone_at, stands, stands_at}
 use Rattle.ips_problem.specs.declared.rows.Row as declared
-use Rattle.ips_problem.specs.Stems.{has}
-use Rattle.ips_problem.specs.Case.{Case, is_named, is_installed, installed_version, said}
-use Rattle.ips_problem.specs.Candidates.{with_installed, newest, may_come, coming, greatest, is_standing, is_obsolete, is_obsolete_at, says_obsolete, present, present_or_gone, beyond, candidates_in, candidates, role, role_by, is_target_of, is_spared}
-use Rattle.ips_problem.specs.Fault.{is_needed, needed}
 use Rattle.ips_problem.specs.Reach.{dependencies_of, dependencies_said, stems_wanted}
 use Rattle.ips_problem.specs.Posed.{numbered, lines_said, offer_of, tests_of_candidates}
-use Rattle.ips_problem.specs.Reads.{is_gone, is_gone_at, stands, stands_at}
 use Rattle.ips_problem.specs.Seen.{seen_read, seen_candidate}
 use Rattle.ips_problem.specs.Gathered.{IsReadOf, IsRowOf, is_newest_gone, coming_from, asked, asked_at, tests_asked}
 
@@ -100,6 +100,18 @@ module _ {X Y : Type 0} (R : X → Y → Type 0) (gone stands : X → Bool) (goe
   zip_ignored : (q : Role) (kind : Kind) (xs : List X) (ys : List Y) → (q ≡ Refused) ⊎ (q ≡ Gone) → AllZip (Both R) (candidates_in q kind gone stands xs) (candidates_in q kind goes stays ys)
   zip_ignored q kind xs ys (inl e) = subst (λ q. AllZip (Both R) (candidates_in q kind gone stands xs) (candidates_in q kind goes stays ys)) (sym e) tt
   zip_ignored q kind xs ys (inr e) = subst (λ q. AllZip (Both R) (candidates_in q kind gone stands xs) (candidates_in q kind goes stays ys)) (sym e) (tt, tt)
+
+-- ---- what was read, numbered
+
+numbered_more : (b : Bool) (k : ℕ) (us ws more : List ℕ) → ws ≡ us ++ more → cond b (k ∷ ws) ws ≡ cond b (k ∷ us) us ++ more
+numbered_more true k us ws more e = ap (λ vs. k ∷ vs) e
+numbered_more false k us ws more e = e
+
+pub coming_more : (k : ℕ) (xs : List Read) (x : Read) → coming_from k (xs ++ x ∷ []) ≡ coming_from k xs ++ cond x.comes ((k + length xs) ∷ []) []
+coming_more k [] x = ap (λ (n : ℕ). cond x.comes (n ∷ []) []) (omega arith)
+coming_more k (y ∷ ys) x =
+    numbered_more y.comes k (coming_from (k + 1) ys) (coming_from (k + 1) (ys ++ x ∷ [])) (cond x.comes ((k + suc (length ys)) ∷ []) [])
+    (coming_more (k + 1) ys x ∙ ap (λ (n : ℕ). coming_from (k + 1) ys ++ cond x.comes (n ∷ []) []) (omega arith))
 
 -- ---- versions by their numbers
 

@@ -21,13 +21,14 @@ use Rattle.std.proofs.lemmas.Slice.Eq.{bytes_eq-Decides}
 use Rattle.ips_manifest.specs.declared.package.Package.{Package}
 use Rattle.ips_refute.specs.Meaning.{pairs}
 use Rattle.ips_state.specs.State.{Ascend, Installed, installed}
+use Rattle.ips_request.specs.Stems.{stems_of}
+use Rattle.ips_request.proofs.StemLists.{AreDistinct, own_number, same_stem}
 use Rattle.ips_problem.specs.declared.rows.Row as declared
 use Rattle.ips_problem.specs.Posed.{Offer, Row, Posed, candidate_of, number_of, picked, version_at, version_of}
-use Rattle.ips_problem.specs.Seen.{puzzle_of, seen_row, stems_of}
+use Rattle.ips_problem.specs.Seen.{puzzle_of, seen_row}
 use Rattle.ips_problem.specs.Taken.{AreTaken, offer_at, package_of, package_with, selected_at, selected_below}
 use Rattle.ips_problem.proofs.Members.{Among, among_left, among_right, among_cases, among_at, place_among, contained_at, at_contained}
 use Rattle.ips_problem.proofs.Picking.{chosen_at}
-use Rattle.ips_problem.proofs.StemLists.{AreDistinct, own_number, same_stem}
 
 -- ---- one stem more
 

@@ -1,19 +1,19 @@
 -- The selection that a choice makes.
-use Rattle.std.proofs.Common.{◌≡◌, ℕ, zero, suc, ◌+◌, ◌<◌, Bool, true, false, not, cond, ◌==◌, ◌||◌, List, [], ◌∷◌, map, length, position, slice_get, Option, Some, None, is_some, option_map, option_and_then, refl, sym, ap, subst, ◌∙◌, inl, inr, arith, eq-eqb, ne_eqb, bytes_eq}
-use Rattle.std.proofs.lemmas.Bool.{both_ways, cases_Bool, cond-true, cond-false}
-use Rattle.std.proofs.lemmas.Option.{none-some, same_Some, slice_get-map}
+use Rattle.std.proofs.Common.{◌≡◌, ℕ, zero, suc, ◌+◌, true, false, ◌==◌, ◌||◌, List, [], ◌∷◌, map, position, slice_get, Option, Some, None, is_some, option_map, option_and_then, refl, ap, ◌∙◌, arith, eq-eqb, ne_eqb, bytes_eq}
+use Rattle.std.proofs.lemmas.Bool.{cond-true, cond-false}
+use Rattle.std.proofs.lemmas.Option.{slice_get-map}
 use Rattle.ips_fmri.specs.Version.{Parts}
 use Rattle.ips_refute.specs.declared.nogoods.Pair.{Pair}
 use Rattle.ips_refute.specs.Meaning.{pairs_from, pairs}
-use Rattle.ips_depend.specs.Selection.{Selection, Spared, is_selected}
+use Rattle.ips_depend.specs.Selection.{Selection, Spared}
 use Rattle.ips_depend.specs.Dependency.{Dependency, Require, Optional, Incorporate, Exclude, Conditional, RequireAny, Group, Parent, wanted, stems}
 use Rattle.ips_depend.specs.Holds.{holds}
-use Rattle.ips_problem.specs.Stems.{has}
-use Rattle.ips_problem.specs.Case.{Case}
-use Rattle.ips_problem.specs.Candidates.{candidates, is_spared}
-use Rattle.ips_problem.specs.Posed.{Offer, Row, offer_of, row_of, posed, candidate_of, version_of, version_at, number_of, picked, tells_spared, spared_at, spared}
-use Rattle.ips_problem.specs.Laws.{has_first}
-use Rattle.ips_problem.proofs.StemLists.{number_found, number_none}
+use Rattle.ips_request.specs.Stems.{has}
+use Rattle.ips_request.specs.Case.{Case}
+use Rattle.ips_request.specs.Candidates.{candidates, is_spared}
+use Rattle.ips_request.specs.Laws.{has_first}
+use Rattle.ips_request.proofs.StemLists.{number_found, number_none}
+use Rattle.ips_problem.specs.Posed.{offer_of, row_of, posed, candidate_of, version_of, version_at, picked, tells_spared, spared_at, spared}
 
 -- the candidate of a choice's pairs is the number that stands in the choice
 chosen_from : (first : ℕ) (choice : List ℕ) (i : ℕ) → candidate_of (pairs_from first choice) (first + i) ≡ slice_get choice i

@@ -1,20 +1,20 @@
 -- What is in reach, and what is out of it.
-use Rattle.std.proofs.Common.{◌≡◌, ℕ, zero, suc, ◌<◌, Bool, true, false, not, cond, ◌||◌, List, [], ◌∷◌, ◌++◌, map, find, flat_map, length, take, Contains, Option, Some, None, is_some, refl, sym, ap, subst, ◌∙◌, inl, inr, ◌⊎◌, arith, take_all, bytes_eq}
+use Rattle.std.proofs.Common.{◌≡◌, ℕ, Bool, true, false, List, [], ◌∷◌, ◌++◌, map, find, flat_map, length, take, Contains, Option, Some, None, is_some, refl, sym, ap, subst, ◌∙◌, inl, inr, ◌⊎◌, arith, take_all, bytes_eq}
 use Rattle.std.specs.List.{list_any}
-use Rattle.std.proofs.lemmas.Bool.{both_ways, cases_Bool, or_cases, or_left, or_right, cond-true, cond-false, false_from_ne_true}
+use Rattle.std.proofs.lemmas.Bool.{both_ways, cases_Bool, or_cases, or_left, or_right, cond-false, false_from_ne_true}
 use Rattle.ips_fmri.specs.Version.{Parts}
 use Rattle.ips_state.specs.State.{Installed}
 use Rattle.ips_depend.specs.Dependency.{Dependency, wanted, stems}
-use Rattle.ips_problem.specs.declared.kind.Kind.{Kind}
-use Rattle.ips_problem.specs.declared.kind.Kind.TheVariants.{Install, Update, Uninstall, Keep}
-use Rattle.ips_problem.specs.Stems.{has, firsts}
-use Rattle.ips_problem.specs.Case.{Case, Naming, installed_at, installed_version, is_installed, is_named}
-use Rattle.ips_problem.specs.declared.role.Role.{Role}
-use Rattle.ips_problem.specs.declared.role.Role.TheVariants.{Refused, Gone, Asked, Renewed, Standing, Free}
-use Rattle.ips_problem.specs.Candidates.{is_target_of, role, role_by, candidates, candidates_in, present, coming, is_obsolete, is_standing}
-use Rattle.ips_problem.specs.Reach.{dependencies_of, stems_wanted, drawn_in, seeds, grown, IsReach}
+use Rattle.ips_request.specs.declared.kind.Kind.{Kind}
+use Rattle.ips_request.specs.declared.kind.Kind.TheVariants.{Install, Update, Uninstall, Keep}
+use Rattle.ips_request.specs.Stems.{has}
+use Rattle.ips_request.specs.Case.{Case, Naming, installed_version, is_installed, is_named}
+use Rattle.ips_request.specs.declared.role.Role.{Role}
+use Rattle.ips_request.specs.declared.role.Role.TheVariants.{Gone, Free}
+use Rattle.ips_request.specs.Candidates.{is_target_of, role, role_by, candidates, candidates_in, present, coming, is_obsolete, is_standing}
+use Rattle.ips_request.proofs.StemLists.{has_left, has_right, has_firsts, has_gathered}
+use Rattle.ips_problem.specs.Reach.{dependencies_of, stems_wanted, drawn_in, seeds, IsReach}
 use Rattle.ips_problem.proofs.Members.{Among}
-use Rattle.ips_problem.proofs.StemLists.{has_left, has_right, has_firsts, has_gathered, same_stem}
 
 -- ---- the list
 

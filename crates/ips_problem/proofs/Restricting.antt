@@ -1,18 +1,18 @@
 -- A selection with the stems out of reach left out.
-use Rattle.std.proofs.Common.{◌≡◌, ℕ, Bool, true, false, not, cond, ◌||◌, List, [], ◌∷◌, ◌++◌, flat_map, Contains, Option, Some, None, is_some, refl, sym, ap, subst, ◌∙◌, inl, inr, ◌⊎◌, bytes_eq}
-use Rattle.std.specs.List.{list_any, AllByRecursion}
-use Rattle.std.proofs.lemmas.Bool.{both_ways, cases_Bool, or_left, or_right, cond-true, cond-false}
-use Rattle.ips_fmri.specs.declared.fmri.Fmri.{Fmri}
-use Rattle.ips_depend.specs.Selection.{Selection, Spared, is_present, is_selected, is_within, is_some_that}
+use Rattle.std.proofs.Common.{◌≡◌, ℕ, true, false, not, ◌||◌, List, [], Contains, None, is_some, refl, sym, ap, subst, ◌∙◌, inl, inr, ◌⊎◌}
+use Rattle.std.specs.List.{AllByRecursion}
+use Rattle.std.proofs.lemmas.Bool.{cases_Bool, cond-true, cond-false}
+use Rattle.ips_depend.specs.Selection.{Selection, Spared, is_present, is_some_that}
 use Rattle.ips_depend.specs.Matching.{reaches, admits}
 use Rattle.ips_depend.specs.Dependency.{Dependency, Require, Optional, Incorporate, Exclude, Conditional, RequireAny, Group, Parent, wanted, stems}
 use Rattle.ips_depend.specs.Holds.{holds}
-use Rattle.ips_problem.specs.Stems.{has}
-use Rattle.ips_problem.specs.Case.{Case}
-use Rattle.ips_problem.specs.Candidates.{candidates, is_spared}
+use Rattle.ips_request.specs.Stems.{has}
+use Rattle.ips_request.specs.Case.{Case}
+use Rattle.ips_request.specs.Candidates.{candidates, is_spared}
+use Rattle.ips_request.specs.Laws.{has_first}
 use Rattle.ips_problem.specs.Reach.{dependencies_of, IsReach}
 use Rattle.ips_problem.specs.Selecting.{IsAdmissible, restricted, IsWithin}
-use Rattle.ips_problem.specs.Laws.{has_first, any_alike}
+use Rattle.ips_problem.specs.Laws.{any_alike}
 use Rattle.ips_problem.proofs.Members.{Among, contained_at, among_at, all_from_among, all_at_among}
 use Rattle.ips_problem.proofs.Reached.{absence_offered, wanted_in_reach}
 

@@ -1,26 +1,25 @@
 -- Choices that break no test, and admissible selections.
-use Rattle.std.proofs.Common.{◌≡◌, ℕ, zero, suc, ◌+◌, ◌<◌, ◌≤◌, Bool, true, false, not, cond, ◌&&◌, ◌||◌, List, [], ◌∷◌, ◌++◌, map, filter_map, flat_map, take, length, position, slice_get, slice_index, get_or, Contains, Option, Some, None, is_some, option_map, refl, sym, ap, subst, ◌∙◌, inl, inr, ◌⊎◌, arith, eq-eqb, eqb-true, bytes_eq}
-use Rattle.std.specs.List.{list_all, cons_option, AllByRecursion}
+use Rattle.std.proofs.Common.{◌≡◌, ℕ, zero, suc, ◌+◌, ◌<◌, Bool, true, false, not, ◌&&◌, List, [], ◌∷◌, ◌++◌, filter_map, flat_map, take, length, slice_get, slice_index, get_or, Contains, Option, Some, None, is_some, refl, sym, ap, subst, ◌∙◌, inl, inr, arith, eq-eqb, eqb-true}
+use Rattle.std.specs.List.{cons_option, AllByRecursion}
 use Rattle.std.proofs.lemmas.List.{length-map}
-use Rattle.std.proofs.lemmas.Bool.{both_ways, cases_Bool, and_parts, and_from, and_cases, not-false, false_from_ne_true, true≢false}
-use Rattle.std.proofs.lemmas.Option.{none-some, same_Some, slice_get-map, slice_get_within, slice_get-get_or, get_or_from_slice_get}
+use Rattle.std.proofs.lemmas.Bool.{both_ways, cases_Bool, and_parts, and_from, false_from_ne_true}
+use Rattle.std.proofs.lemmas.Option.{none-some, same_Some, slice_get_within, slice_get-get_or, get_or_from_slice_get}
 use Rattle.ips_fmri.specs.Version.{Parts}
 use Rattle.ips_fmri.specs.declared.fmri.Fmri.{Fmri}
 use Rattle.ips_refute.specs.declared.nogoods.Pair.{Pair}
 use Rattle.ips_refute.specs.Meaning.{pairs, Solves, HasNoChoice}
-use Rattle.ips_search.specs.Best.{NotLater, IsFirst}
+use Rattle.ips_search.specs.Best.{IsFirst}
 use Rattle.ips_depend.specs.Selection.{Selection}
 use Rattle.ips_depend.specs.Dependency.{Dependency, mentions, wanted, stems}
 use Rattle.ips_depend.specs.Holds.{holds}
-use Rattle.ips_problem.specs.Stems.{has, firsts}
-use Rattle.ips_problem.specs.Case.{Case}
-use Rattle.ips_problem.specs.Candidates.{candidates, is_spared}
-use Rattle.ips_problem.specs.Reach.{dependencies_of, seeds, drawn_in, grown, IsReach}
+use Rattle.ips_request.specs.Stems.{has}
+use Rattle.ips_request.specs.Case.{Case}
+use Rattle.ips_request.specs.Candidates.{candidates, is_spared}
+use Rattle.ips_request.proofs.StemLists.{AreDistinct, distinct_firsts, number_found, number_within, standing_has, own_number}
+use Rattle.ips_problem.specs.Reach.{dependencies_of, seeds, drawn_in, IsReach}
 use Rattle.ips_problem.specs.Selecting.{IsAdmissible, restricted, IsWithin, AreNumbers, IsBestSelection}
-use Rattle.ips_problem.specs.Posed.{Numbered, Posed, offer_of, row_of, posed, tests_from, candidate_of, count_at, number_of, picked, spared, stems_of_test, is_number, decides, breaks, breaks_at, meaning_of}
-use Rattle.ips_problem.specs.Laws.{some_of}
+use Rattle.ips_problem.specs.Posed.{Numbered, offer_of, posed, candidate_of, count_at, number_of, picked, spared, stems_of_test, is_number, decides, breaks, breaks_at, meaning_of}
 use Rattle.ips_problem.proofs.Members.{Among, contained_at, at_contained, among_at, place_among, all_from_among, all_at_among}
-use Rattle.ips_problem.proofs.StemLists.{AreDistinct, distinct_firsts, number_found, number_within, numbered_has, standing_has, own_number}
 use Rattle.ips_problem.proofs.Reached.{absence_offered, wanted_in_reach}
 use Rattle.ips_problem.proofs.Restricting.{restricted_admissible, restricted_within}
 use Rattle.ips_problem.proofs.CaseTests.{test, test_of, tested}

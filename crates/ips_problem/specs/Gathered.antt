@@ -8,16 +8,18 @@ use Rattle.ips_depend.specs.Dependency.{Dependency}
 use Rattle.ips_depend.specs.Asking.{LinesAsk}
 use Rattle.ips_state.specs.State.{Installed}
 use Rattle.ips_repo.specs.Manifest.{manifest_limit}
-use Rattle.ips_problem.specs.declared.fault.ProblemFault.{ProblemFault}
-use Rattle.ips_problem.specs.declared.read.Read.{Read}
+use Rattle.ips_request.specs.declared.fault.ProblemFault.{ProblemFault}
+use Rattle.ips_request.specs.declared.read.Read.{Read}
+use Rattle.ips_request.specs.Case.{Case, installed_version, said}
+use Rattle.ips_request.specs.Candidates.{may_come, greatest, is_standing, tell_obsolete, candidates}
+use Rattle.ips_request.specs.Stems.{stems_of}
+use Rattle.ips_request.specs.Manifests.{Needed, IsFetched, IsFetchFault, IsManifestFault, IsThere, all_manifests_limit, bytes_read}
 use Rattle.ips_problem.specs.declared.rows.Row as declared
 use Rattle.ips_problem.specs.declared.gathered.Gathered.{Gathered}
-use Rattle.ips_problem.specs.Case.{Case, installed_version, said}
-use Rattle.ips_problem.specs.Candidates.{may_come, greatest, is_standing, tell_obsolete, candidates}
 use Rattle.ips_problem.specs.Reach.{dependencies_of, grown, IsReach}
 use Rattle.ips_problem.specs.Posed.{Numbered, Posed, Row, numbered, posed, row_of, tests_from}
-use Rattle.ips_problem.specs.Seen.{seen_row, seen_test, stems_of}
-use Rattle.ips_problem.specs.Fault.{Needed, AreRead, IsFetched, IsFetchFault, IsManifestFault, IsThere, all_bytes, all_manifests_limit, bytes_read, manifests_at, manifests_of}
+use Rattle.ips_problem.specs.Seen.{seen_row, seen_test}
+use Rattle.ips_problem.specs.Fault.{AreRead, all_bytes, manifests_at, manifests_of}
 
 -- ---- one stem
 

@@ -3,9 +3,10 @@ use Rattle.std.proofs.Common.{◌<◌, map, length, string_bytes, sym, ◌∙◌
 use Rattle.std.proofs.lemmas.List.{length-map}
 use Rattle.std.proofs.lemmas.List.Elements.{recursion_from_All, All-map}
 use Rattle.ips_refute.specs.Meaning.{Lawful}
+use Rattle.ips_request.specs.Stems.{stems_of}
 use Rattle.ips_problem.specs.declared.problem.Problem.{Problem}
 use Rattle.ips_problem.specs.Posed.{Numbered, Posed, IsFormed, meaning_of}
-use Rattle.ips_problem.specs.Seen.{seen_row, seen_test, stems_of}
+use Rattle.ips_problem.specs.Seen.{seen_row, seen_test}
 use Rattle.ips_problem.specs.Laws.{posed_lawful}
 
 -- the puzzle that a problem is

@@ -1,7 +1,7 @@
 -- A puzzle's tests are facts about the pairs of their stems.
 use Rattle.std.proofs.Common.{◌≡◌, ℕ, zero, suc, ◌<◌, ◌≤◌, Bool, true, false, not, ◌==◌, ◌&&◌, ◌||◌, List, [], ◌∷◌, filter_map, All, Contains, length, slice_get, Option, Some, None, is_some, option_and_then, refl, sym, ap, subst, ◌∙◌, inl, inr, arith, eqb-true, eq-eqb, ne_eqb, bytes_eq}
 use Rattle.std.specs.List.{list_any, list_all, cons_option, AllByRecursion}
-use Rattle.std.proofs.lemmas.Bool.{both_ways, cases_Bool, or_cases, or_left, or_right, and_parts, and_from, cond-true, cond-false, cases_lt}
+use Rattle.std.proofs.lemmas.Bool.{both_ways, cases_Bool, or_cases, or_right, and_parts, and_from, cond-true, cond-false, cases_lt}
 use Rattle.std.proofs.lemmas.Option.{none-some, same_Some}
 use Rattle.std.proofs.lemmas.List.Elements.{All-contains}
 use Rattle.std.proofs.lemmas.List.Quantifiers.{position-Some}
@@ -13,18 +13,9 @@ use Rattle.ips_depend.specs.Selection.{Selection, Spared, is_present, is_some_th
 use Rattle.ips_depend.specs.Matching.{reaches, admits}
 use Rattle.ips_depend.specs.Dependency.{Dependency, Require, Optional, Incorporate, Exclude, Conditional, RequireAny, Group, Parent, mentions, stems}
 use Rattle.ips_depend.specs.Holds.{holds}
-use Rattle.ips_problem.specs.Stems.{has}
+use Rattle.ips_request.specs.Stems.{has}
+use Rattle.ips_request.specs.Laws.{has_first}
 use Rattle.ips_problem.specs.Posed.{Numbered, Posed, IsFormed, candidate_of, version_at, number_of, picked, spared, stems_of_test, greatest_of, is_number, decides, breaks, breaks_at, last_at, meaning_of}
-
--- ---- stems
-
--- a stem is the same as itself
-pub same_as_itself : (stem : List ℕ) → bytes_eq stem stem ≡ true
-same_as_itself stem = (bytes_eq-Decides stem stem).1 refl
-
--- the first of stems is one of them
-pub has_first : (stem : List ℕ) (others : List (List ℕ)) → has stem (stem ∷ others) ≡ true
-has_first stem others = or_left (bytes_eq stem stem) (has stem others) (same_as_itself stem)
 
 -- ---- dependencies
 

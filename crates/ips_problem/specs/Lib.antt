@@ -1,14 +1,7 @@
-pub mod Stems
-pub mod Reads
-pub mod Case
-pub mod Candidates
 pub mod Reach
 pub mod Selecting
 pub mod Posed
 pub mod Seen
-pub mod Named
-pub mod Listing
-pub mod Subject
 pub mod Fault
 pub mod Gathered
 pub mod Asked

@@ -11,8 +11,8 @@ use Rattle.ips_refute.specs.Meaning.{Meaning}
 use Rattle.ips_depend.specs.Dependency.{Dependency, mentions}
 use Rattle.ips_depend.specs.Selection.{Selection, Spared}
 use Rattle.ips_depend.specs.Holds.{holds}
-use Rattle.ips_problem.specs.Case.{Case, Facts, is_named, said}
-use Rattle.ips_problem.specs.Candidates.{candidates, is_spared, installs}
+use Rattle.ips_request.specs.Case.{Case, Facts, is_named, said}
+use Rattle.ips_request.specs.Candidates.{candidates, is_spared, installs}
 use Rattle.ips_problem.specs.Reach.{dependencies_of}
 
 -- ---- what a puzzle consists of

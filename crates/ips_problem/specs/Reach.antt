@@ -4,9 +4,9 @@ use Rattle.std.specs.List.{flat_map}
 use Rattle.ips_fmri.specs.Version.{Parts}
 use Rattle.ips_depend.specs.Dependency.{Dependency, wanted, stems}
 use Rattle.ips_state.specs.State.{Installed}
-use Rattle.ips_problem.specs.Stems.{firsts}
-use Rattle.ips_problem.specs.Case.{Case, Naming, Facts, said}
-use Rattle.ips_problem.specs.Candidates.{candidates}
+use Rattle.ips_request.specs.Stems.{firsts}
+use Rattle.ips_request.specs.Case.{Case, Naming, Facts, said}
+use Rattle.ips_request.specs.Candidates.{candidates}
 
 -- the dependencies of what is said
 abbrev pub dependencies_said : Option Facts → List Dependency

@@ -1,9 +1,10 @@
 -- What rows and tests in memory show.
-use Rattle.std.specs.Prelude.{ℕ, List, [], map, slice_get, string_bytes, Option, Some, None}
+use Rattle.std.specs.Prelude.{ℕ, List, [], map, slice_get, Option, Some, None}
 use Rattle.std.specs.Option.{option_map}
 use Rattle.std.specs.declared.alloc.Global.{Global}
 use Rattle.std.specs.declared.string.String.{String}
-use Rattle.ips_problem.specs.declared.read.Read.{Read}
+use Rattle.ips_request.specs.declared.read.Read.{Read}
+use Rattle.ips_request.specs.Stems.{stems_of}
 use Rattle.ips_problem.specs.declared.rows.Row as declared
 use Rattle.ips_problem.specs.declared.rows.Numbered as numbered
 use Rattle.ips_problem.specs.declared.rows.Numbers.{Numbers}
@@ -29,10 +30,6 @@ seen_test n = record { stem = n.stem; candidate = n.candidate; dependency = n.te
 -- the stems of a test
 abbrev pub seen_numbers : Numbers → List ℕ
 seen_numbers m = m.stems.items
-
--- the texts of stems
-abbrev pub stems_of : List (String Global) → List (List ℕ)
-stems_of keys = map (λ k. string_bytes k) keys
 
 -- the puzzle of these stems and rows, without tests
 abbrev pub puzzle_of : List (String Global) → List declared.Row → Posed

@@ -1,12 +1,12 @@
 -- Which selections are admissible, and which of them is the best.
-use Rattle.std.specs.Prelude.{◌≡◌, ℕ, true, false, if◌then◌else◌, List, [], ◌∷◌, Option, Some, None, slice_get, Contains}
+use Rattle.std.specs.Prelude.{◌≡◌, ℕ, true, false, if◌then◌else◌, List, [], ◌∷◌, Some, None, slice_get, Contains}
 use Rattle.std.specs.List.{AllByRecursion}
 use Rattle.ips_search.specs.Best.{NotLater}
 use Rattle.ips_depend.specs.Selection.{Selection}
 use Rattle.ips_depend.specs.Holds.{holds}
-use Rattle.ips_problem.specs.Stems.{has}
-use Rattle.ips_problem.specs.Case.{Case}
-use Rattle.ips_problem.specs.Candidates.{candidates, is_spared}
+use Rattle.ips_request.specs.Stems.{has}
+use Rattle.ips_request.specs.Case.{Case}
+use Rattle.ips_request.specs.Candidates.{candidates, is_spared}
 use Rattle.ips_problem.specs.Reach.{dependencies_of}
 
 -- A selection gives every stem, in reach or not, one of its candidates, and each dependency of what it selects holds.

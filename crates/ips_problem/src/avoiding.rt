@@ -10,10 +10,11 @@ ghost use Rattle.ips_problem.specs.Posed.{is_number, picked};
 ghost use Rattle.ips_problem.specs.Seen.{puzzle_of, seen_test};
 ghost use Rattle.ips_problem.specs.Taken.{IsChoice};
 
-use crate::picked::{number, version_of};
+use crate::picked::version_of;
 use crate::problem::Problem;
 use crate::rows::{Numbered, Row};
 use indexmap::IndexSet;
+use ips_request::number;
 use ips_text::Text;
 use std::alloc::{AllocError, Global};
 

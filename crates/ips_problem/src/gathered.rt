@@ -1,7 +1,7 @@
 //! What was gathered of the stems in reach.
 
 ghost use Rattle.std.specs.Prelude.{◌<◌, ◌≤◌, ◌^◌, All, length, vec_len};
-ghost use Rattle.ips_problem.specs.Fault.{all_manifests_limit};
+ghost use Rattle.ips_request.specs.Manifests.{all_manifests_limit};
 
 use crate::rows::{Numbered, Row};
 use indexmap::IndexSet;

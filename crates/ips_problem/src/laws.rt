@@ -4,7 +4,7 @@ ghost use Rattle.std.specs.Prelude.{ℕ, List};
 ghost use Rattle.ips_refute.specs.Meaning.{HasNoChoice, pairs};
 ghost use Rattle.ips_search.specs.Best.{IsFirst};
 ghost use Rattle.ips_depend.specs.Selection.{Selection};
-ghost use Rattle.ips_problem.specs.Case.{Case};
+ghost use Rattle.ips_request.specs.Case.{Case};
 ghost use Rattle.ips_problem.specs.Reach.{IsReach};
 ghost use Rattle.ips_problem.specs.Selecting.{IsAdmissible, IsBestSelection, restricted};
 ghost use Rattle.ips_problem.specs.Posed.{meaning_of, picked, posed};

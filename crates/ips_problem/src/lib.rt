@@ -6,40 +6,25 @@
 //! over these alone, and that is enough: it is a law that it has a solution exactly where a selection over all stems is
 //! admissible, and that its first solution is the best selection.
 //!
-//! In reading order: requests (`kind`, `request`, `fault`); what patterns name (`naming`); the versions of a stem (`versions`),
-//! what a request has in mind for it (`role`) and its candidates (`arranging`); manifests (`read`, `reading`); the puzzle (`rows`,
-//! `problem`, `numbering`, `answers`, `picked`, `puzzle`); and the law (`laws`).
+//! What a request asks of one stem, and how its manifests are read, is the crate `ips_request`. In reading order: what is known of a
+//! stem in reach (`rows`, `gathered`, `gathering`); the stems gone through one by one (`growing`, `building`); the puzzle (`problem`,
+//! `numbering`, `answers`, `picked`, `puzzle`); what a choice selects and avoids (`taking`, `avoiding`); and the law (`laws`).
 #![tactic(auto)]
 
 mod answers;
-mod arranging;
-mod asking;
 mod avoiding;
 mod building;
-mod fault;
 mod gathered;
 mod gathering;
 mod growing;
-mod kind;
-mod known;
 mod laws;
-mod naming;
 mod numbering;
 mod picked;
 mod problem;
 mod puzzle;
-mod read;
-mod reading;
-mod request;
-mod role;
 mod rows;
-mod stems;
-mod subject;
 mod taking;
-mod versions;
 
-pub use fault::ProblemFault;
-pub use kind::Kind;
+pub use ips_request::{Kind, ProblemFault, Request};
 pub use laws::reach_is_enough;
 pub use problem::Problem;
-pub use request::Request;

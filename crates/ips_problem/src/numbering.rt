@@ -5,15 +5,16 @@ ghost use Rattle.std.specs.List.{filter_map};
 ghost use Rattle.std.specs.Option.{option_to_list};
 ghost use Rattle.std.specs.Str.{bytes_eq};
 ghost use Rattle.ips_fmri.specs.declared.fmri.Fmri as declared;
+ghost use Rattle.ips_request.specs.Stems.{stems_of};
 ghost use Rattle.ips_problem.specs.Held.{posed_of};
 ghost use Rattle.ips_problem.specs.Posed.{greatest_of, stems_of_test};
-ghost use Rattle.ips_problem.specs.Seen.{puzzle_of, seen_numbers, seen_row, seen_test, stems_of};
+ghost use Rattle.ips_problem.specs.Seen.{puzzle_of, seen_numbers, seen_row, seen_test};
 
-use crate::picked::number;
 use crate::problem::Problem;
 use crate::rows::{Numbered, Numbers, Row};
 use indexmap::IndexSet;
 use ips_fmri::Fmri;
+use ips_request::number;
 use ips_text::Text;
 use std::alloc::{AllocError, Global};
 

@@ -1,18 +1,18 @@
 //! The selection that a set of candidates makes.
 
-ghost use Rattle.std.specs.Prelude.{◌≡◌, ◌∷◌, ◌<◌, IfSome, Some, length, position, slice_get};
+ghost use Rattle.std.specs.Prelude.{◌≡◌, ◌∷◌, Some, slice_get};
 ghost use Rattle.std.specs.Option.{option_map};
-ghost use Rattle.std.specs.Str.{bytes_eq};
 ghost use Rattle.ips_refute.specs.Meaning.{OnePerStem};
 ghost use Rattle.ips_problem.specs.Posed as posed;
 ghost use Rattle.ips_problem.specs.Posed.{candidate_of, decides, picked, spared, tells_spared};
-ghost use Rattle.ips_problem.specs.Seen.{puzzle_of, seen_row, stems_of};
+ghost use Rattle.ips_problem.specs.Seen.{puzzle_of, seen_row};
 
 use crate::rows::Row;
 use indexmap::IndexSet;
 use ips_depend::View;
 use ips_fmri::Version;
 use ips_refute::Pair;
+use ips_request::number;
 
 /// The selection that a set of candidates with one more makes, over the stems in reach: what has no candidate in it is absent.
 #[derive(Drop)]
@@ -65,14 +65,6 @@ impl View for Picked<'_> {
             None => false,
         }
     }
-}
-
-/// The number of a stem.
-pub fn number(stems: &IndexSet<String>, stem: &str) -> Option<usize>
-    ensures number { result ≡ position (bytes_eq stem.now) (stems_of stems.now.keys) }
-    ensures within { IfSome result (λ i. i < length stems.now.keys) }
-{
-    stems.get_index_of(stem)
 }
 
 // The version of the candidate that the set, with the pair `more`, has for the stem with this number.

@@ -1,7 +1,7 @@
 //! What is known of the stems in reach, and their tests.
 
-use crate::read::Read;
 use ips_depend::Test;
+use ips_request::Read;
 
 /// What is known of a stem in reach.
 #[derive(Drop)]

@@ -8,9 +8,9 @@ ghost use Rattle.ips_problem.specs.Seen.{puzzle_of, seen_read, seen_row};
 ghost use Rattle.ips_problem.specs.Taken.{AreTaken, IsChoice, offer_at, package_of, selected_below};
 
 use crate::problem::Problem;
-use crate::read::Read;
 use crate::rows::Row;
 use ips_manifest::Package;
+use ips_request::Read;
 use ips_text::Text;
 use std::alloc::{AllocError, Global};
 

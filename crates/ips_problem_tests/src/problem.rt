@@ -2,7 +2,7 @@ ghost use Rattle.std.specs.Prelude.{◌≡◌, IfOk, IsTrue, is_some, map};
 ghost use Rattle.std.specs.List.{AllByRecursion};
 ghost use Rattle.ips_fmri.specs.declared.fmri.Fmri as declared;
 ghost use Rattle.ips_state.specs.State.{Ascend, IsLawful, recorded};
-ghost use Rattle.ips_problem.specs.Asked.{looks_at_repository};
+ghost use Rattle.ips_request.specs.Request.{looks_at_repository};
 
 use ips_filter::Settings;
 use ips_fmri::{Fmri, Pattern, Version};

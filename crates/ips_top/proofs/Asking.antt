@@ -4,13 +4,14 @@ use Rattle.ips_outside.specs.Image.{Image}
 use Rattle.ips_outside.proofs.Children.{sorted_none}
 use Rattle.ips_repo.specs.Opening.{Opened}
 use Rattle.ips_state.specs.State.{Ascend, IsLawful}
-use Rattle.ips_problem.specs.declared.request.Request.{Request}
-use Rattle.ips_problem.specs.Case.{Reading, IsReading}
+use Rattle.ips_request.specs.declared.request.Request.{Request}
+use Rattle.ips_request.specs.Case.{Reading, IsReading}
+use Rattle.ips_request.specs.Subject.{files_of}
+use Rattle.ips_request.specs.Request.{asked_case}
+use Rattle.ips_request.specs.declared.fault.ProblemFault.{ProblemFault}
+use Rattle.ips_request.specs.declared.fault.ProblemFault.TheVariants as fault
 use Rattle.ips_problem.specs.Posed.{Posed}
-use Rattle.ips_problem.specs.Subject.{files_of}
-use Rattle.ips_problem.specs.Asked.{IsAsked, asked_case}
-use Rattle.ips_problem.specs.declared.fault.ProblemFault.{ProblemFault}
-use Rattle.ips_problem.specs.declared.fault.ProblemFault.TheVariants as fault
+use Rattle.ips_problem.specs.Asked.{IsAsked}
 use Rattle.ips_top.specs.Plan.{IsUnposed, Opens, nothing_recorded, nothing_set}
 use Rattle.ips_top.specs.Offer.{AsksPosed, PlansNothing, unposed}
 

@@ -10,10 +10,10 @@ use Rattle.ips_refute.specs.Meaning.{HasNoChoice, pairs}
 use Rattle.ips_refute.specs.Refuting.{IsRefutation}
 use Rattle.ips_search.specs.Best.{IsFirst, NotLater}
 use Rattle.ips_depend.specs.Selection.{Selection}
-use Rattle.ips_problem.specs.Stems.{has}
-use Rattle.ips_problem.specs.Case.{Case, Reading, said}
-use Rattle.ips_problem.specs.Candidates.{candidates}
-use Rattle.ips_problem.specs.Laws.{has_first}
+use Rattle.ips_request.specs.Stems.{has}
+use Rattle.ips_request.specs.Case.{Case, Reading, said}
+use Rattle.ips_request.specs.Candidates.{candidates}
+use Rattle.ips_request.specs.Laws.{has_first}
 use Rattle.ips_problem.specs.Reach.{IsReach}
 use Rattle.ips_problem.specs.Selecting.{AreNumbers, IsAdmissible, IsBestSelection, restricted}
 use Rattle.ips_problem.specs.Posed.{Posed, Offer, offer_of, row_of, posed, lines_said, meaning_of, picked}

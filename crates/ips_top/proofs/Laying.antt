@@ -13,7 +13,7 @@ use Rattle.ips_install.specs.declared.fault.PayloadFault.{PayloadFault}
 use Rattle.ips_install.specs.declared.fault.PayloadFault.TheVariants as payload
 use Rattle.ips_install.specs.declared.fault.InstallFault.{InstallFault}
 use Rattle.ips_install.specs.declared.fault.InstallFault.TheVariants as fault
-use Rattle.ips_problem.specs.Case.{Reading}
+use Rattle.ips_request.specs.Case.{Reading}
 use Rattle.ips_meaning.specs.declared.entry.Entry as meaning
 use Rattle.ips_meaning.specs.declared.entry.Entry.TheVariants as entry
 use Rattle.ips_plan.specs.Meant.{IsMeant, Shows}

@@ -2,7 +2,7 @@
 use Rattle.std.proofs.Common.{◌≡◌, inl, inr, ℕ, List, [], sym, subst}
 use Rattle.ips_outside.specs.Image.{Image}
 use Rattle.ips_manifest.specs.declared.package.Package.{Package}
-use Rattle.ips_problem.specs.Case.{Reading}
+use Rattle.ips_request.specs.Case.{Reading}
 use Rattle.ips_meaning.specs.declared.entry.Entry.{Entry}
 use Rattle.ips_meaning.specs.declared.fault.WantFault.{WantFault}
 use Rattle.ips_meaning.specs.declared.fault.WantFault.TheVariants as want

@@ -7,7 +7,7 @@ use Rattle.ips_install.specs.Fault as install
 use Rattle.ips_install.specs.declared.fault.PayloadFault.TheVariants as payload
 use Rattle.ips_install.specs.declared.fault.InstallFault.{InstallFault}
 use Rattle.ips_install.specs.declared.fault.InstallFault.TheVariants as fault
-use Rattle.ips_problem.specs.Case.{Reading}
+use Rattle.ips_request.specs.Case.{Reading}
 use Rattle.ips_top.specs.Request.{AsksForSome}
 use Rattle.ips_manifest.specs.declared.line.Line.{Line}
 use Rattle.ips_manifest.specs.declared.package.Package.{Package}

@@ -14,8 +14,8 @@ use Rattle.ips_install.specs.Laid.{AreIntact, IsContent}
 use Rattle.ips_install.specs.Fault.{IsFirstWrong}
 use Rattle.ips_install.specs.declared.fault.PayloadFault.{PayloadFault}
 use Rattle.ips_install.specs.declared.fault.PayloadFault.TheVariants as payload
-use Rattle.ips_problem.specs.Case.{Reading}
-use Rattle.ips_problem.specs.declared.fault.ProblemFault.TheVariants as problem
+use Rattle.ips_request.specs.Case.{Reading}
+use Rattle.ips_request.specs.declared.fault.ProblemFault.TheVariants as problem
 use Rattle.ips_meaning.specs.declared.entry.Entry.{Entry}
 use Rattle.ips_meaning.specs.declared.fault.WantFault.TheVariants as want
 use Rattle.ips_plan.specs.Meant.{IsMeant}

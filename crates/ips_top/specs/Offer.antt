@@ -9,10 +9,10 @@ use Rattle.ips_install.specs.declared.fault.PayloadFault.{PayloadFault}
 use Rattle.ips_install.specs.declared.fault.PayloadFault.TheVariants as payload
 use Rattle.ips_install.specs.declared.fault.InstallFault.{InstallFault}
 use Rattle.ips_install.specs.declared.fault.InstallFault.TheVariants as install
-use Rattle.ips_problem.specs.Case.{Case, Reading}
+use Rattle.ips_request.specs.Case.{Case, Reading}
+use Rattle.ips_request.specs.declared.fault.ProblemFault.{ProblemFault}
+use Rattle.ips_request.specs.declared.fault.ProblemFault.TheVariants as problem
 use Rattle.ips_problem.specs.Posed.{Posed, posed}
-use Rattle.ips_problem.specs.declared.fault.ProblemFault.{ProblemFault}
-use Rattle.ips_problem.specs.declared.fault.ProblemFault.TheVariants as problem
 use Rattle.ips_meaning.specs.Want.{PackagesMean, PackagesFail}
 use Rattle.ips_meaning.specs.declared.fault.WantFault.{WantFault}
 use Rattle.ips_meaning.specs.declared.fault.WantFault.TheVariants as want

@@ -14,17 +14,18 @@ use Rattle.ips_refute.specs.Refuting.{IsRefutation}
 use Rattle.ips_search.specs.Best.{IsBest, NotLater}
 use Rattle.ips_search.specs.Beginnings.{beginnings}
 use Rattle.ips_depend.specs.Selection.{Selection}
-use Rattle.ips_problem.specs.declared.kind.Kind.TheVariants as kind
-use Rattle.ips_problem.specs.declared.request.Request.{Request}
-use Rattle.ips_problem.specs.declared.fault.ProblemFault.{ProblemFault}
-use Rattle.ips_problem.specs.Case.{Case, Reading, said}
+use Rattle.ips_request.specs.declared.kind.Kind.TheVariants as kind
+use Rattle.ips_request.specs.declared.request.Request.{Request}
+use Rattle.ips_request.specs.declared.fault.ProblemFault.{ProblemFault}
+use Rattle.ips_request.specs.Case.{Case, Reading, said}
+use Rattle.ips_request.specs.Request.{AreNames, asked_case, kind_of, patterns_of, rejects_of}
+use Rattle.ips_request.specs.Subject.{files_of}
 use Rattle.ips_problem.specs.Reach.{IsReach}
 use Rattle.ips_problem.specs.Fault.{AreRead, manifests_of}
 use Rattle.ips_problem.specs.Selecting.{AreNumbers, IsAdmissible, IsBestSelection}
 use Rattle.ips_problem.specs.Posed.{meaning_of, posed, lines_said}
 use Rattle.ips_problem.specs.Taken.{package_with}
-use Rattle.ips_problem.specs.Asked.{AreNames, IsProblemFault, asked_case, kind_of, patterns_of, rejects_of}
-use Rattle.ips_problem.specs.Subject.{files_of}
+use Rattle.ips_problem.specs.Asked.{IsProblemFault}
 use Rattle.ips_resolve.specs.Lines.{IsUnbuilt, IsPlacedAt}
 use Rattle.ips_resolve.specs.First.{NoneHas, IsFirstWith, all_lines}
 use Rattle.ips_meaning.specs.declared.entry.Entry.{Entry}

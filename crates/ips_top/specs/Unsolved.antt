@@ -6,8 +6,8 @@ use Rattle.std.specs.Fmt.{decimal}
 use Rattle.ips_fmri.specs.Version.{Parts, version_text}
 use Rattle.ips_refute.specs.declared.nogoods.Nogood.{Nogood}
 use Rattle.ips_refute.specs.Text.{entries, refutation_text}
-use Rattle.ips_problem.specs.Case.{Case}
-use Rattle.ips_problem.specs.Candidates.{candidates}
+use Rattle.ips_request.specs.Case.{Case}
+use Rattle.ips_request.specs.Candidates.{candidates}
 use Rattle.ips_problem.specs.Posed.{Offer, Row}
 use Rattle.ips_top.specs.Text.{line}
 use Rattle.ips_top.specs.declared.unsolved.Tried as declared

@@ -8,7 +8,7 @@ ghost use Rattle.ips_steps.specs.View.{step_of};
 ghost use Rattle.ips_install.specs.Layable.{AreListed};
 ghost use Rattle.ips_meaning.specs.Together.{AreProper, HangTogether};
 ghost use Rattle.ips_plan.specs.Planned.{IsInTheWay, IsPlanOf, is_covered};
-ghost use Rattle.ips_problem.specs.Case.{Reading, IsReading};
+ghost use Rattle.ips_request.specs.Case.{Reading, IsReading};
 ghost use Rattle.ips_top.specs.Plan.{IsNamedFor, nothing_set};
 ghost use Rattle.ips_top.specs.Offer.{IsInstallOutcome, IsOffer, IsUnplanned};
 ghost use Rattle.ips_top.specs.Answer.{SaysOfWords, SaysOfRepository, SaysOfLines, ChangesWanted, CouldInstall, IsDone, IsFolderFault, is_new, is_refusal};

@@ -8,7 +8,7 @@ ghost use Rattle.ips_repo.specs.Opening.{opening, IsOpeningFault};
 ghost use Rattle.ips_repo.specs.declared.fault.RepoFault.TheVariants as repo_fault;
 ghost use Rattle.ips_state.specs.State.{recorded};
 ghost use Rattle.ips_refute.specs.Refuting.{IsRefutation};
-ghost use Rattle.ips_problem.specs.Case.{Reading, IsReading};
+ghost use Rattle.ips_request.specs.Case.{Reading, IsReading};
 ghost use Rattle.ips_problem.specs.Held.{posed_of};
 ghost use Rattle.ips_problem.specs.Posed.{meaning_of};
 ghost use Rattle.ips_top.specs.Request.{AsksFor, AsksForSome, publisher};

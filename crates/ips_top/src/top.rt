@@ -3,7 +3,7 @@
 ghost use Rattle.std.specs.Prelude.{◌≡◌, ◌⊎◌, ◌++◌, ℕ, IsTrue, IsFalse, map, take, string_bytes};
 ghost use Rattle.ips_outside.specs.State.{IsSettled};
 ghost use Rattle.ips_outside.specs.Outside.{HasCause};
-ghost use Rattle.ips_problem.specs.Case.{Reading, IsReading};
+ghost use Rattle.ips_request.specs.Case.{Reading, IsReading};
 ghost use Rattle.ips_top.specs.Plan.{nothing_set};
 ghost use Rattle.ips_top.specs.Answer.{SaysOfWords, SaysOfRepository, SaysOfLines, ChangesWanted, CouldInstall, IsDone, IsFolderFault, is_refusal};
 ghost use Rattle.ips_top.specs.Report.{report_text};

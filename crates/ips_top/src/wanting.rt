@@ -6,7 +6,7 @@ ghost use Rattle.ips_outside.specs.Outside.{Reads};
 ghost use Rattle.ips_meaning.specs.Want.{PackagesMean};
 ghost use Rattle.ips_meaning.specs.Together.{AreProper, HangTogether};
 ghost use Rattle.ips_resolve.specs.Lines.{IsUnbuilt};
-ghost use Rattle.ips_problem.specs.Case.{Reading, IsReading};
+ghost use Rattle.ips_request.specs.Case.{Reading, IsReading};
 ghost use Rattle.ips_top.specs.Request.{AsksFor};
 ghost use Rattle.ips_top.specs.Plan.{AreBuilt, AreChosen, IsFirstNamed, nothing_set};
 ghost use Rattle.ips_top.specs.Offer as offered;

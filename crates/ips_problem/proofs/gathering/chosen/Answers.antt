@@ -1,8 +1,8 @@
 use Rattle.std.proofs.Common.{◌++◌, ◌∷◌, [], ap, arith, filter, sym, take_all, ◌∙◌}
 use Rattle.ips_fmri.specs.Version.{Parts}
-use Rattle.ips_problem.specs.Fault.{is_needed}
-use Rattle.ips_problem.specs.Subject.{case_of}
-use Rattle.ips_problem.proofs.Lookups.{filter_kept, filter_left}
+use Rattle.ips_request.specs.Manifests.{is_needed}
+use Rattle.ips_request.specs.Subject.{case_of}
+use Rattle.ips_request.proofs.Lookups.{filter_kept, filter_left}
 use Rattle.ips_problem.proofs.gathering.chosen.Goals as goal
 use Rattle.ips_problem.proofs.gathering.chosen.Goals.{then-needs+in_ok-copy+in_ok-push, else-needs}
 

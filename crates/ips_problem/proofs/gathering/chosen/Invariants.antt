@@ -1,8 +1,8 @@
 use Rattle.std.proofs.Common.{◌≡◌, ℕ, List, Option, filter, take}
 use Rattle.ips_fmri.specs.Version.{Parts}
-use Rattle.ips_problem.specs.Case.{Reading}
-use Rattle.ips_problem.specs.Fault.{is_needed}
-use Rattle.ips_problem.specs.Subject.{case_of}
+use Rattle.ips_request.specs.Case.{Reading}
+use Rattle.ips_request.specs.Manifests.{is_needed}
+use Rattle.ips_request.specs.Subject.{case_of}
 use Rattle.ips_problem.proofs.gathering.chosen.Given as goal
 
 abbrev pub invariant-loop-version : goal.invariant-loop-version

@@ -1,8 +1,9 @@
 use Rattle.std.proofs.Common.{◌≡◌, ◌+◌, ◌++◌, ◌∷◌, [], ℕ, length, take, cond, ap, arith, append-nil, sym, ◌∙◌}
 use Rattle.std.proofs.lemmas.Bool.{cond-true, cond-false}
 use Rattle.std.proofs.lemmas.List.{length-take-le}
+use Rattle.ips_request.proofs.Lookups.{next_of}
 use Rattle.ips_problem.specs.Gathered.{coming_from}
-use Rattle.ips_problem.proofs.Lookups.{coming_more, next_of}
+use Rattle.ips_problem.proofs.Offering.{coming_more}
 use Rattle.ips_problem.proofs.gathering.coming.Goals as goal
 use Rattle.ips_problem.proofs.gathering.coming.Goals.{then-read+in_ok-push, else-read}
 

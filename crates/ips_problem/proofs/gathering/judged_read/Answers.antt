@@ -1,6 +1,6 @@
 use Rattle.std.proofs.Common.{refl}
 use Rattle.ips_state.specs.State.{installed}
-use Rattle.ips_problem.specs.Subject.{case_of}
+use Rattle.ips_request.specs.Subject.{case_of}
 use Rattle.ips_problem.proofs.Judging.{judged_so}
 use Rattle.ips_problem.proofs.gathering.judged_read.Goals as goal
 

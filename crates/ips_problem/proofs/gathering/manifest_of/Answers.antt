@@ -1,9 +1,9 @@
 use Rattle.std.proofs.Common.{◌∙◌, ap, option_map, refl, subst, sym}
 use Rattle.ips_state.specs.State.{installed}
-use Rattle.ips_problem.specs.Fault.{name_of}
+use Rattle.ips_request.specs.Manifests.{name_of}
+use Rattle.ips_request.specs.Subject.{files_of, repo_of}
+use Rattle.ips_request.proofs.Results.{ok_also, bad_also}
 use Rattle.ips_problem.specs.Gathered.{Got, GotFault}
-use Rattle.ips_problem.specs.Subject.{files_of, repo_of}
-use Rattle.ips_problem.proofs.Judging.{ok_also, bad_also}
 use Rattle.ips_problem.proofs.gathering.manifest_of.Goals as goal
 
 pub returns-in_ok-copy-in-Some-clause-got : goal.returns-in_ok-copy-in-Some-clause-got

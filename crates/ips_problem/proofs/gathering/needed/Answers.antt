@@ -2,11 +2,11 @@ use Rattle.std.proofs.Common.{◌≡◌, ◌∙◌, List, ℕ, Option, ap, filte
 use Rattle.ips_fmri.specs.Version.{Parts}
 use Rattle.ips_catalog.specs.Listed.{versions_of}
 use Rattle.ips_state.specs.State.{Installed, installed}
-use Rattle.ips_problem.specs.Case.{Case, installed_version}
-use Rattle.ips_problem.specs.Candidates.{newest, with_installed}
-use Rattle.ips_problem.specs.Fault.{is_needed}
-use Rattle.ips_problem.specs.Subject.{case_of}
-use Rattle.ips_problem.proofs.Judging.{ok_also}
+use Rattle.ips_request.specs.Case.{Case, installed_version}
+use Rattle.ips_request.specs.Candidates.{newest, with_installed}
+use Rattle.ips_request.specs.Manifests.{is_needed}
+use Rattle.ips_request.specs.Subject.{case_of}
+use Rattle.ips_request.proofs.Results.{ok_also}
 use Rattle.ips_problem.proofs.gathering.needed.Goals as goal
 use Rattle.ips_problem.proofs.gathering.needed.Goals.{in-Some, in-None}
 

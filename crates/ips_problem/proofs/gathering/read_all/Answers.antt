@@ -3,13 +3,13 @@ use Rattle.std.proofs.lemmas.Result.{err_from_is_err_and}
 use Rattle.ips_text.specs.declared.refusal.Or.TheVariants.{Bad}
 use Rattle.ips_outside.specs.State.{State}
 use Rattle.ips_repo.proofs.Calls.{handed_on, no_fault, reads_none, reads_then}
-use Rattle.ips_problem.specs.declared.fault.ProblemFault.TheVariants as fault
-use Rattle.ips_problem.specs.declared.read.Read.{Read}
-use Rattle.ips_problem.specs.Fault.{IsManifestFault}
+use Rattle.ips_request.specs.declared.fault.ProblemFault.TheVariants as fault
+use Rattle.ips_request.specs.declared.read.Read.{Read}
+use Rattle.ips_request.specs.Manifests.{IsManifestFault}
+use Rattle.ips_request.specs.Subject.{case_in}
+use Rattle.ips_request.proofs.Named.{bad_handed}
 use Rattle.ips_problem.specs.Gathered.{AreReadBehind, IsReadBehind}
-use Rattle.ips_problem.specs.Subject.{case_in}
 use Rattle.ips_problem.proofs.Growth.{none_read, read_next, fault_next}
-use Rattle.ips_problem.proofs.Named.{bad_handed}
 use Rattle.ips_problem.proofs.gathering.read_all.Goals as goal
 
 pub loop-version-init : goal.loop-version-init

@@ -1,9 +1,9 @@
 use Rattle.std.proofs.Common.{◌≤◌, IsTrue, take}
 use Rattle.ips_outside.specs.Outside.{Reads}
-use Rattle.ips_problem.specs.Case.{IsReading, Reading}
-use Rattle.ips_problem.specs.Fault.{all_manifests_limit}
+use Rattle.ips_request.specs.Case.{IsReading, Reading}
+use Rattle.ips_request.specs.Manifests.{all_manifests_limit}
+use Rattle.ips_request.specs.Subject.{case_in}
 use Rattle.ips_problem.specs.Gathered.{AreReadBehind}
-use Rattle.ips_problem.specs.Subject.{case_in}
 use Rattle.ips_problem.proofs.gathering.read_all.Given as goal
 
 abbrev pub invariant-loop-version : goal.invariant-loop-version

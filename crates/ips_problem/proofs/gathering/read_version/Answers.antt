@@ -2,13 +2,14 @@ use Rattle.std.proofs.Common.{refl}
 use Rattle.ips_text.specs.declared.refusal.Or.TheVariants.{Bad}
 use Rattle.ips_manifest.specs.declared.manifest.Manifest.{Manifest}
 use Rattle.ips_repo.proofs.Calls.{handed_on, no_fault, reads_as}
-use Rattle.ips_problem.specs.declared.fault.ProblemFault.TheVariants as fault
-use Rattle.ips_problem.specs.declared.read.Read.{Read}
-use Rattle.ips_problem.specs.Case.{own}
-use Rattle.ips_problem.specs.Fault.{name_of}
-use Rattle.ips_problem.specs.Subject.{case_in, files_of, repo_of}
-use Rattle.ips_problem.proofs.Judging.{ok_also, bad_also, bad_not, read_behind, judged_fault, got_fault}
-use Rattle.ips_problem.proofs.Named.{bad_handed}
+use Rattle.ips_request.specs.declared.fault.ProblemFault.TheVariants as fault
+use Rattle.ips_request.specs.declared.read.Read.{Read}
+use Rattle.ips_request.specs.Case.{own}
+use Rattle.ips_request.specs.Manifests.{name_of}
+use Rattle.ips_request.specs.Subject.{case_in, files_of, repo_of}
+use Rattle.ips_request.proofs.Results.{ok_also, bad_also, bad_not}
+use Rattle.ips_request.proofs.Named.{bad_handed}
+use Rattle.ips_problem.proofs.Judging.{read_behind, judged_fault, got_fault}
 use Rattle.ips_problem.proofs.gathering.read_version.Goals as goal
 
 pub returns-in-Ok-clause-read : goal.returns-in-Ok-clause-read

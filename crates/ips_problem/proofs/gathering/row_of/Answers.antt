@@ -1,11 +1,11 @@
 use Rattle.std.proofs.Common.{◌∙◌, Global, Vec, subst, sym}
 use Rattle.std.specs.List.{AllZip}
-use Rattle.ips_problem.specs.declared.read.Read.{Read}
+use Rattle.ips_request.specs.declared.read.Read.{Read}
+use Rattle.ips_request.specs.Manifests.{needed}
+use Rattle.ips_request.specs.Subject.{case_in, files_of, repo_of}
+use Rattle.ips_request.proofs.Named.{bad_handed}
 use Rattle.ips_problem.specs.declared.rows.Row.{Row}
-use Rattle.ips_problem.specs.Fault.{needed}
 use Rattle.ips_problem.specs.Gathered.{AreReadBehind, IsFaultAmong, IsReadOf}
-use Rattle.ips_problem.specs.Subject.{case_in, files_of, repo_of}
-use Rattle.ips_problem.proofs.Named.{bad_handed}
 use Rattle.ips_problem.proofs.Offering.{newest_gone, row_known}
 use Rattle.ips_problem.proofs.gathering.row_of.Goals as goal
 

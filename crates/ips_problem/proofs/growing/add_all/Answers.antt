@@ -2,13 +2,13 @@ use Rattle.std.proofs.Common.{◌+◌, ◌++◌, ◌∷◌, [], ◌∙◌, List,
 use Rattle.std.proofs.lemmas.List.{map_push}
 use Rattle.ips_fmri.specs.declared.fmri.Fmri.{Fmri}
 use Rattle.ips_depend.specs.Dependency.{Dependency, stems, wanted}
+use Rattle.ips_request.specs.Stems.{stems_of, put_all}
+use Rattle.ips_request.proofs.Lookups.{flat_next, next_of, put_next}
 use Rattle.ips_problem.specs.declared.rows.Numbered as declared
 use Rattle.ips_problem.specs.Posed.{Numbered, numbered}
 use Rattle.ips_problem.specs.Reach.{stems_wanted}
-use Rattle.ips_problem.specs.Seen.{seen_test, stems_of}
-use Rattle.ips_problem.specs.Stems.{put_all}
+use Rattle.ips_problem.specs.Seen.{seen_test}
 use Rattle.ips_problem.proofs.Growth.{list_next}
-use Rattle.ips_problem.proofs.Lookups.{flat_next, next_of, put_next}
 use Rattle.ips_problem.proofs.growing.add_all.Goals as goal
 
 pub loop-dependency-preserved : goal.loop-dependency-preserved

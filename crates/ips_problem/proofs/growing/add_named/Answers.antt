@@ -1,11 +1,10 @@
 use Rattle.std.proofs.Common.{◌+◌, ◌++◌, ◌∙◌, ap, flat_map, map, take, sym}
 use Rattle.std.proofs.lemmas.List.Folds.{flat_map-map}
-use Rattle.ips_problem.specs.declared.asking.Naming as declared
-use Rattle.ips_problem.specs.Case.{Naming}
-use Rattle.ips_problem.specs.Seen.{stems_of}
-use Rattle.ips_problem.specs.Stems.{put_all}
-use Rattle.ips_problem.specs.Subject.{seen_naming}
-use Rattle.ips_problem.proofs.Lookups.{flat_next, put_next}
+use Rattle.ips_request.specs.declared.asking.Naming as declared
+use Rattle.ips_request.specs.Case.{Naming}
+use Rattle.ips_request.specs.Stems.{stems_of, put_all}
+use Rattle.ips_request.specs.Subject.{seen_naming}
+use Rattle.ips_request.proofs.Lookups.{flat_next, put_next}
 use Rattle.ips_problem.proofs.growing.add_named.Goals as goal
 
 pub loop-naming-preserved : goal.loop-naming-preserved

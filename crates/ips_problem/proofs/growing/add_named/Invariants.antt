@@ -1,8 +1,7 @@
 use Rattle.std.proofs.Common.{◌≡◌, flat_map, map, take}
-use Rattle.ips_problem.specs.Case.{Naming}
-use Rattle.ips_problem.specs.Seen.{stems_of}
-use Rattle.ips_problem.specs.Stems.{put_all}
-use Rattle.ips_problem.specs.Subject.{seen_naming}
+use Rattle.ips_request.specs.Case.{Naming}
+use Rattle.ips_request.specs.Stems.{stems_of, put_all}
+use Rattle.ips_request.specs.Subject.{seen_naming}
 use Rattle.ips_problem.proofs.growing.add_named.Given as goal
 
 abbrev pub invariant-loop-naming : goal.invariant-loop-naming

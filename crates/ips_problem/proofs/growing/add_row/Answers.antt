@@ -1,13 +1,13 @@
 use Rattle.std.proofs.Common.{◌≡◌, ℕ, ◌+◌, ◌++◌, ◌<◌, ◌∙◌, List, None, Option, ap, arith, flat_map, get_or, length, map, subst, take}
 use Rattle.std.proofs.lemmas.List.{get_or_default, length-take-le}
 use Rattle.ips_depend.specs.Dependency.{Dependency}
+use Rattle.ips_request.specs.Stems.{stems_of, put_all}
+use Rattle.ips_request.proofs.Lookups.{flat_next, next_of, put_next}
 use Rattle.ips_problem.specs.Gathered.{asked_at, tests_asked}
 use Rattle.ips_problem.specs.Posed.{numbered}
 use Rattle.ips_problem.specs.Reach.{stems_wanted}
-use Rattle.ips_problem.specs.Seen.{seen_test, stems_of}
-use Rattle.ips_problem.specs.Stems.{put_all}
+use Rattle.ips_problem.specs.Seen.{seen_test}
 use Rattle.ips_problem.proofs.Growth.{list_next, tests_asked_more}
-use Rattle.ips_problem.proofs.Lookups.{flat_next, next_of, put_next}
 use Rattle.ips_problem.proofs.growing.add_row.Goals as goal
 
 pub loop-candidate-preserved : goal.loop-candidate-preserved

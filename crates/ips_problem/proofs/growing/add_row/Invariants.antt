@@ -1,8 +1,8 @@
 use Rattle.std.proofs.Common.{◌≡◌, ◌++◌, flat_map, map, take}
+use Rattle.ips_request.specs.Stems.{stems_of, put_all}
 use Rattle.ips_problem.specs.Gathered.{asked_at, tests_asked}
 use Rattle.ips_problem.specs.Reach.{stems_wanted}
-use Rattle.ips_problem.specs.Seen.{seen_test, stems_of}
-use Rattle.ips_problem.specs.Stems.{put_all}
+use Rattle.ips_problem.specs.Seen.{seen_test}
 use Rattle.ips_problem.proofs.growing.add_row.Given as goal
 
 abbrev pub invariant-loop-candidate : goal.invariant-loop-candidate

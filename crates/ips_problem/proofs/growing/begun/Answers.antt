@@ -1,13 +1,13 @@
 use Rattle.std.proofs.Common.{◌++◌, ◌∙◌, [], List, ap, flat_map, length, map, refl, sym}
-use Rattle.ips_problem.specs.declared.asking.Naming as declared
+use Rattle.ips_request.specs.declared.asking.Naming as declared
 use Rattle.ips_problem.specs.declared.rows.Row as rows
 use Rattle.ips_manifest.specs.declared.package.Package.{Package}
-use Rattle.ips_problem.specs.Case.{Naming}
-use Rattle.ips_problem.specs.Seen.{seen_row, seen_test, stems_of}
-use Rattle.ips_problem.specs.Stems.{firsts, put_all}
-use Rattle.ips_problem.specs.Subject.{case_of, seen_naming}
+use Rattle.ips_request.specs.Case.{Naming}
+use Rattle.ips_request.specs.Stems.{stems_of, firsts, put_all}
+use Rattle.ips_request.specs.Subject.{case_of, seen_naming}
+use Rattle.ips_request.proofs.Lookups.{put_all_append}
+use Rattle.ips_problem.specs.Seen.{seen_row, seen_test}
 use Rattle.ips_problem.proofs.Growth.{gathered_none, stems_installed}
-use Rattle.ips_problem.proofs.Lookups.{put_all_append}
 use Rattle.ips_problem.proofs.growing.begun.Goals as goal
 
 pub returns : goal.returns

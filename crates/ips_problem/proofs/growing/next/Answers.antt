@@ -2,15 +2,16 @@ use Rattle.std.proofs.Common.{◌≡◌, ℕ, ◌∙◌, List, Some, ap, length,
 use Rattle.std.proofs.lemmas.List.{length_push, map_push}
 use Rattle.ips_text.specs.declared.refusal.Or.TheVariants.{Bad}
 use Rattle.ips_repo.proofs.Calls.{handed_on, reads_as}
-use Rattle.ips_problem.specs.declared.fault.ProblemFault.TheVariants as fault
+use Rattle.ips_request.specs.declared.fault.ProblemFault.TheVariants as fault
+use Rattle.ips_request.specs.Manifests.{needed}
+use Rattle.ips_request.specs.Stems.{stems_of}
+use Rattle.ips_request.specs.Subject.{case_in}
+use Rattle.ips_request.proofs.Named.{bad_handed}
 use Rattle.ips_problem.specs.declared.gathered.Gathered.{Gathered}
 use Rattle.ips_problem.specs.declared.rows.Row as declared
-use Rattle.ips_problem.specs.Fault.{needed}
 use Rattle.ips_problem.specs.Gathered.{AreReadBehind, IsFaultAmong, IsGoneThrough, IsRowOf}
-use Rattle.ips_problem.specs.Seen.{seen_row, seen_test, stems_of}
-use Rattle.ips_problem.specs.Subject.{case_in}
+use Rattle.ips_problem.specs.Seen.{seen_row, seen_test}
 use Rattle.ips_problem.proofs.Growth.{first_fault, gathered_next}
-use Rattle.ips_problem.proofs.Named.{bad_handed}
 use Rattle.ips_problem.proofs.growing.next.Goals as goal
 
 pub returns-clause-gathered : goal.returns-clause-gathered

@@ -3,13 +3,13 @@ use Rattle.std.proofs.lemmas.Result.{err_from_is_err_and}
 use Rattle.ips_text.specs.declared.refusal.Or.TheVariants.{Bad}
 use Rattle.ips_outside.specs.State.{State}
 use Rattle.ips_repo.proofs.Calls.{handed_on, no_fault, reads_as, reads_none, reads_then}
-use Rattle.ips_problem.specs.declared.fault.ProblemFault.TheVariants as fault
+use Rattle.ips_request.specs.declared.fault.ProblemFault.TheVariants as fault
+use Rattle.ips_request.specs.Subject.{case_in, files_of, repo_of}
+use Rattle.ips_request.proofs.Named.{bad_handed}
 use Rattle.ips_problem.specs.declared.gathered.Gathered.{Gathered}
 use Rattle.ips_problem.specs.declared.problem.Problem.{Problem}
 use Rattle.ips_problem.specs.Fault.{IsFirstFault}
 use Rattle.ips_problem.specs.Gathered.{IsGathered}
-use Rattle.ips_problem.specs.Subject.{case_in, files_of, repo_of}
-use Rattle.ips_problem.proofs.Named.{bad_handed}
 use Rattle.ips_problem.proofs.growing.posed_by.Goals as goal
 
 pub loop-turn-init : goal.loop-turn-init

@@ -1,8 +1,8 @@
 use Rattle.std.proofs.Common.{IsTrue}
 use Rattle.ips_outside.specs.Outside.{Reads}
-use Rattle.ips_problem.specs.Case.{IsReading, Reading}
+use Rattle.ips_request.specs.Case.{IsReading, Reading}
+use Rattle.ips_request.specs.Subject.{case_in}
 use Rattle.ips_problem.specs.Gathered.{IsGathered}
-use Rattle.ips_problem.specs.Subject.{case_in}
 use Rattle.ips_problem.proofs.growing.posed_by.Given as goal
 
 abbrev pub invariant-loop-turn : goal.invariant-loop-turn

@@ -1,10 +1,10 @@
 use Rattle.std.proofs.Common.{◌≡◌, ℕ, ◌&&◌, ◌++◌, ◌∷◌, [], ◌∙◌, ◌<◌, List, map, not, ap, get_or, length, subst, sym}
 use Rattle.std.specs.List.{list_any}
-use Rattle.ips_problem.specs.Stems.{has}
-use Rattle.ips_problem.specs.Case.{Naming}
-use Rattle.ips_problem.specs.Candidates.{installs}
-use Rattle.ips_problem.specs.Subject.{seen_naming}
-use Rattle.ips_problem.proofs.Lookups.{filter_kept, filter_left}
+use Rattle.ips_request.specs.Stems.{has}
+use Rattle.ips_request.specs.Case.{Naming}
+use Rattle.ips_request.specs.Candidates.{installs}
+use Rattle.ips_request.specs.Subject.{seen_naming}
+use Rattle.ips_request.proofs.Lookups.{filter_kept, filter_left}
 use Rattle.ips_problem.proofs.growing.still_avoided.Goals as goal
 use Rattle.ips_problem.proofs.growing.still_avoided.Goals.{then-keeps_avoiding+in_ok-copy+in_ok-push, else-keeps_avoiding}
 

@@ -1,9 +1,9 @@
 use Rattle.std.proofs.Common.{◌≡◌, ℕ, ◌&&◌, not, List, filter, map, take}
 use Rattle.std.specs.List.{list_any}
-use Rattle.ips_problem.specs.Stems.{has}
-use Rattle.ips_problem.specs.Case.{Naming}
-use Rattle.ips_problem.specs.Candidates.{installs}
-use Rattle.ips_problem.specs.Subject.{seen_naming}
+use Rattle.ips_request.specs.Stems.{has}
+use Rattle.ips_request.specs.Case.{Naming}
+use Rattle.ips_request.specs.Candidates.{installs}
+use Rattle.ips_request.specs.Subject.{seen_naming}
 use Rattle.ips_problem.proofs.growing.still_avoided.Given as goal
 
 abbrev pub invariant-loop-stem : goal.invariant-loop-stem

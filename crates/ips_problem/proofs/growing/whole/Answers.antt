@@ -2,12 +2,13 @@ use Rattle.std.proofs.Common.{◌∙◌, ℕ, List, Option, map, length, string_
 use Rattle.std.proofs.lemmas.List.{length-map}
 use Rattle.std.proofs.lemmas.Result.{IfOk-weaker}
 use Rattle.ips_fmri.specs.Version.{Parts}
+use Rattle.ips_request.specs.Case.{Reading}
+use Rattle.ips_request.specs.Stems.{stems_of}
+use Rattle.ips_request.specs.Subject.{case_of}
 use Rattle.ips_problem.specs.declared.problem.Problem.{Problem}
-use Rattle.ips_problem.specs.Case.{Reading}
 use Rattle.ips_problem.specs.Gathered.{IsGathered, IsPosedBy}
 use Rattle.ips_problem.specs.Held.{posed_of}
-use Rattle.ips_problem.specs.Seen.{seen_row, seen_test, stems_of}
-use Rattle.ips_problem.specs.Subject.{case_of}
+use Rattle.ips_problem.specs.Seen.{seen_row, seen_test}
 use Rattle.ips_problem.proofs.Growth.{gone_all}
 use Rattle.ips_problem.proofs.growing.whole.Goals as goal
 

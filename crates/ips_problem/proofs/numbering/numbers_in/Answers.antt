@@ -1,6 +1,6 @@
 use Rattle.std.proofs.Common.{position, bytes_eq, List, ℕ, ap, ◌∙◌}
 use Rattle.ips_fmri.specs.declared.fmri.Fmri.{Fmri}
-use Rattle.ips_problem.specs.Seen.{stems_of}
+use Rattle.ips_request.specs.Stems.{stems_of}
 use Rattle.ips_problem.proofs.Numbers.{numbered_more}
 use Rattle.ips_problem.proofs.numbering.numbers_in.Goals as goal
 

@@ -1,6 +1,6 @@
 use Rattle.std.proofs.Common.{◌≡◌, ◌∷◌, take, position, filter_map, bytes_eq}
 use Rattle.ips_fmri.specs.declared.fmri.Fmri.{Fmri}
-use Rattle.ips_problem.specs.Seen.{stems_of}
+use Rattle.ips_request.specs.Stems.{stems_of}
 use Rattle.ips_problem.proofs.numbering.numbers_in.Given as goal
 
 abbrev pub invariant-loop-fmri : goal.invariant-loop-fmri

@@ -1,6 +1,6 @@
 use Rattle.std.proofs.Common.{Some, refl, sym, subst}
 use Rattle.ips_state.specs.State.{IsLawful, Recorded}
-use Rattle.ips_problem.specs.declared.request.Request.TheVariants as request
+use Rattle.ips_request.specs.declared.request.Request.TheVariants as request
 use Rattle.ips_problem.specs.Asked.{IsAsked, IsProblemFault}
 use Rattle.ips_problem.specs.Held.{posed_of}
 use Rattle.ips_top.proofs.Asking.{asks_posed, nothing_lawful, unposed_plans}

@@ -1,4 +1,4 @@
-use Rattle.std.proofs.Common.{◌∷◌, option_map, sym, ◌∙◌}
+use Rattle.std.proofs.Common.{◌∷◌, option_map}
 use Rattle.ips_problem.proofs.Looking.{picked_with}
 use Rattle.ips_problem.proofs.picked.PickedView.version.Goals as goal
 

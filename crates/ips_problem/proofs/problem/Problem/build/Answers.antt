@@ -1,12 +1,13 @@
 use Rattle.std.proofs.Common.{inl, inr}
 use Rattle.ips_repo.proofs.Calls.{reads_none}
 use Rattle.ips_state.specs.State.{recorded}
+use Rattle.ips_request.specs.declared.asking.Subject.{Subject}
+use Rattle.ips_request.specs.declared.fault.ProblemFault.TheVariants as fault
+use Rattle.ips_request.proofs.Named.{bad_handed}
+use Rattle.ips_request.proofs.Results.{bad_other, bad_then, ok_then}
 use Rattle.ips_problem.specs.Held.{posed_of}
-use Rattle.ips_problem.specs.declared.asking.Subject.{Subject}
-use Rattle.ips_problem.specs.declared.fault.ProblemFault.TheVariants as fault
 use Rattle.ips_problem.specs.declared.problem.Problem.{Problem}
-use Rattle.ips_problem.proofs.Named.{bad_handed}
-use Rattle.ips_problem.proofs.Subjects.{asked_by, bad_other, bad_then, needed_fault, ok_then}
+use Rattle.ips_problem.proofs.Posing.{asked_by, needed_fault}
 use Rattle.ips_problem.proofs.problem.Problem.build.Goals as goal
 
 pub returns-in-Ok-clause-asked : goal.returns-in-Ok-clause-asked

@@ -1,6 +1,0 @@
-use Rattle.std.proofs.Common.{◌≡◌, false, take}
-use Rattle.ips_problem.specs.Stems as lists
-use Rattle.ips_problem.proofs.naming.has.Given as goal
-
-abbrev pub invariant-loop-other : goal.invariant-loop-other
-invariant-loop-other l = lists.has l.stem (take l.other-index l.stems) ≡ false

@@ -1,6 +1,0 @@
-use Rattle.std.proofs.Common.{◌∙◌}
-use Rattle.ips_problem.proofs.Lookups.{last_is}
-use Rattle.ips_problem.proofs.subject.greatest.Goals as goal
-
-pub returns : goal.returns
-returns c = c.last.ensures.value ∙ last_is c.args.versions.now

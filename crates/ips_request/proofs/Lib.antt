@@ -1,0 +1,7 @@
+pub mod StemLists
+pub mod Lookups
+pub mod Inserted
+pub mod Named
+pub mod Results
+pub mod Subjects
+pub mod ManifestFiles

@@ -1,0 +1,10 @@
+pub mod Stems
+pub mod Laws
+pub mod Reads
+pub mod Case
+pub mod Candidates
+pub mod Manifests
+pub mod Named
+pub mod Listing
+pub mod Subject
+pub mod Request
