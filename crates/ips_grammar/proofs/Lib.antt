@@ -1,0 +1,11 @@
+pub mod Decided
+pub mod Stars
+pub mod Facets
+pub mod Tags
+pub mod Asked
+pub mod Numbers
+pub mod Checks
+pub mod Gathering
+pub mod Words
+pub mod Actions
+pub mod Texts
