@@ -3,5 +3,6 @@ pub mod Lookups
 pub mod Inserted
 pub mod Named
 pub mod Results
+pub mod Grammar
 pub mod Subjects
 pub mod ManifestFiles

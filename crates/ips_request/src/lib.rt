@@ -7,7 +7,7 @@
 //!
 //! In reading order: requests (`kind`, `request`, `fault`); sets of stems (`stems`); what patterns name (`known`, `naming`); what is
 //! asked of an image (`asking`, `making`, `subject`); the versions of a stem (`versions`), what a request has in mind for it (`role`)
-//! and its candidates (`arranging`); and manifests (`read`, `reading`).
+//! and its candidates (`arranging`); manifests (`read`, `reading`), and the law that they can be read (`law`).
 #![tactic(auto)]
 
 mod arranging;
@@ -15,6 +15,7 @@ mod asking;
 mod fault;
 mod kind;
 mod known;
+mod law;
 mod making;
 mod naming;
 mod read;
@@ -29,6 +30,7 @@ pub use arranging::arranged;
 pub use asking::{Naming, Subject};
 pub use fault::ProblemFault;
 pub use kind::Kind;
+pub use law::manifests_can_be_read;
 pub use making::subject_of;
 pub use read::Read;
 pub use reading::{fetched, judged, missing};
