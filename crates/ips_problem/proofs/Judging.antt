@@ -14,7 +14,7 @@ use Rattle.ips_request.specs.declared.fault.ProblemFault.{ProblemFault}
 use Rattle.ips_request.specs.declared.fault.ProblemFault.TheVariants as fault
 use Rattle.ips_request.specs.declared.read.Read.{Read}
 use Rattle.ips_request.specs.Case.{Case, Reading, IsReading, at_version, facts_of, facts_in, installed_at, installed_version, is_same_version, own, said_of}
-use Rattle.ips_request.specs.Candidates.{greatest, is_standing, may_come, tell_obsolete}
+use Rattle.ips_request.specs.Candidates.{greatest, is_version, may_come, tell_obsolete}
 use Rattle.ips_request.specs.Manifests.{FaultOf, IsFetched, IsFetchFault, IsFileFault, IsOwnFault, IsThere, bytes_of}
 use Rattle.ips_problem.specs.Gathered.{Got, GotFault, IsJudgedRead, IsReadBehind}
 
@@ -57,7 +57,7 @@ some_where true x = refl
 some_where false x = refl
 
 -- a version stands where the image has its manifest
-stands_at_own : (o : Option Installed) (v : Parts) → is_some (at_version o v) ≡ is_standing (option_map (λ (p : Installed). p.version) o) v
+stands_at_own : (o : Option Installed) (v : Parts) → is_some (at_version o v) ≡ is_version (option_map (λ (p : Installed). p.version) o) v
 stands_at_own None v = refl
 stands_at_own (Some p) v = some_where (is_same_version v p.version) p
 
@@ -68,15 +68,15 @@ still_some f (Some x) = refl
 -- a manifest that was judged, by what is told of its version
 pub judged_so : {A : Type 0} (settings : Set) (c : Case) (stem : List ℕ) (v w : Parts) (lines : List Line) (read : Read) (see : A → Installed) (mine : Option A) → w ≡ v → read.version ≡ w → read.manifest.lines.items ≡ lines
     → LinesAsk settings lines read.tests.items → read.gone ≡ tell_obsolete lines → read.comes ≡ may_come c stem w → read.stands ≡ is_some mine → option_map see mine ≡ own c stem w
-    → read.newest ≡ is_standing (greatest c stem) w → IsJudgedRead settings c stem v lines read
+    → read.newest ≡ is_version (greatest c stem) w → IsJudgedRead settings c stem v lines read
 judged_so settings c stem v w lines read see mine same version manifest asks gone comes stands found newest = record {
   version = version ∙ same;
   manifest = manifest;
   asks = asks;
   gone = gone;
   comes = comes ∙ ap (may_come c stem) same;
-  stands = stands ∙ still_some see mine ∙ ap is_some found ∙ stands_at_own (installed_at c stem) w ∙ ap (is_standing (installed_version c stem)) same;
-  newest = newest ∙ ap (is_standing (greatest c stem)) same;
+  stands = stands ∙ still_some see mine ∙ ap is_some found ∙ stands_at_own (installed_at c stem) w ∙ ap (is_version (installed_version c stem)) same;
+  newest = newest ∙ ap (is_version (greatest c stem)) same;
 }
 
 -- a manifest that was got and judged was read

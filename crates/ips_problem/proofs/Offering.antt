@@ -22,7 +22,7 @@ use Rattle.ips_request.specs.declared.role.Role.TheVariants.{Refused, Gone, Aske
 use Rattle.ips_request.specs.declared.read.Read.{Read}
 use Rattle.ips_request.specs.Stems.{has}
 use Rattle.ips_request.specs.Case.{Case, is_named, is_installed, installed_version, said}
-use Rattle.ips_request.specs.Candidates.{with_installed, newest, may_come, coming, greatest, is_standing, is_obsolete, is_obsolete_at, says_obsolete, present, present_or_gone, beyond, candidates_in, candidates, role, role_by, is_target_of, is_spared}
+use Rattle.ips_request.specs.Candidates.{with_installed, newest, may_come, coming, greatest, is_version, is_obsolete, is_obsolete_at, says_obsolete, present, present_or_gone, beyond, candidates_in, candidates, role, role_by, is_target_of, is_spared}
 use Rattle.ips_request.specs.Manifests.{is_needed, needed}
 use Rattle.ips_request.specs.Reads.{is_gone, is_gone_at, stands, stands_at}
 use Rattle.ips_problem.specs.declared.rows.Row as declared
@@ -136,7 +136,7 @@ zip_coming c stem reads k (x ∷ xs) (v ∷ vs) at h =
 gone_alike : (c : Case) (stem : List ℕ) (reads : List Read) (i : ℕ) (v : Parts) → IsAt c stem reads i v → is_gone_at reads i ≡ is_obsolete c stem v
 gone_alike c stem reads i v a = ap is_gone a.at ∙ a.is.gone ∙ ap says_obsolete (sym a.is.says)
 
-stands_alike : (c : Case) (stem : List ℕ) (reads : List Read) (i : ℕ) (v : Parts) → IsAt c stem reads i v → stands_at reads i ≡ is_standing (installed_version c stem) v
+stands_alike : (c : Case) (stem : List ℕ) (reads : List Read) (i : ℕ) (v : Parts) → IsAt c stem reads i v → stands_at reads i ≡ is_version (installed_version c stem) v
 stands_alike c stem reads i v a = ap stands a.at ∙ a.is.stands
 
 -- ---- which versions are gone through
@@ -165,8 +165,8 @@ goes_through Uninstall rejected = true
 goes_through Keep rejected = true
 
 comes_needed : (k : Kind) (c : Case) (stem : List ℕ) (v : Parts) → goes_through k (has stem c.rejected) ≡ true → may_come c stem v ≡ true → is_needed k c stem v ≡ true
-comes_needed Install c stem v h e = or_right (is_standing (greatest c stem) v) (not (has stem c.rejected) && may_come c stem v) (and_from (not (has stem c.rejected)) (may_come c stem v) h e)
-comes_needed Update c stem v h e = or_right (is_standing (greatest c stem) v) (not (has stem c.rejected) && may_come c stem v) (and_from (not (has stem c.rejected)) (may_come c stem v) h e)
+comes_needed Install c stem v h e = or_right (is_version (greatest c stem) v) (not (has stem c.rejected) && may_come c stem v) (and_from (not (has stem c.rejected)) (may_come c stem v) h e)
+comes_needed Update c stem v h e = or_right (is_version (greatest c stem) v) (not (has stem c.rejected) && may_come c stem v) (and_from (not (has stem c.rejected)) (may_come c stem v) h e)
 comes_needed Uninstall c stem v h e = refl
 comes_needed Keep c stem v h e = refl
 
@@ -192,10 +192,10 @@ offered_alike c stem reads h = elim (cases_Bool (goes_through c.kind (has stem c
       let through = filter_within (may_come c stem) (is_needed c.kind c stem) (λ v. is_some (said c stem v)) (newest c stem) (λ v m. comes_needed c.kind c stem v e m) (all_said c stem (needed c stem) reads h) in
       let zipped = zip_coming c stem reads 0 reads (needed c stem) (λ j. ap (slice_get reads) (omega arith)) h in
       let all = subst (AllZip (IsAt c stem reads) (coming_from 0 reads)) (sym through) zipped in
-      zip_candidates (IsAt c stem reads) (is_gone_at reads) (stands_at reads) (is_obsolete c stem) (is_standing (installed_version c stem)) (gone_alike c stem reads) (stands_alike c stem reads)
+      zip_candidates (IsAt c stem reads) (is_gone_at reads) (stands_at reads) (is_obsolete c stem) (is_version (installed_version c stem)) (gone_alike c stem reads) (stands_alike c stem reads)
       (role c stem) c.kind (coming_from 0 reads) (coming c stem) all
   | inr e ↦
-      zip_ignored (IsAt c stem reads) (is_gone_at reads) (stands_at reads) (is_obsolete c stem) (is_standing (installed_version c stem)) (gone_alike c stem reads) (stands_alike c stem reads)
+      zip_ignored (IsAt c stem reads) (is_gone_at reads) (stands_at reads) (is_obsolete c stem) (is_version (installed_version c stem)) (gone_alike c stem reads) (stands_alike c stem reads)
       (role c stem) c.kind (coming_from 0 reads) (coming c stem) (role_ignores c.kind (is_named c stem) (has stem c.rejected) (is_target_of c.named c stem) (is_installed c stem) e)
 ]
 
@@ -244,10 +244,10 @@ drawn_alike c stem reads (o ∷ os) (p ∷ ps) h = λ j. stems_wanted (h.0 j) ++
 
 -- ---- the greatest version of the catalog
 
-standing_same : (g v : Parts) → is_standing (Some g) v ≡ true → v ≡ g
+standing_same : (g v : Parts) → is_version (Some g) v ≡ true → v ≡ g
 standing_same g v e = (tells_equal (version_cmp v g) (versions_tell v g)).0 ((Equal-is (version_cmp v g)).0 e)
 
-standing_itself : (g : Parts) → is_standing (Some g) g ≡ true
+standing_itself : (g : Parts) → is_version (Some g) g ≡ true
 standing_itself g = ap is_eq ((tells_equal (version_cmp g g) (versions_tell g g)).1 refl)
 
 any_left : {X : Type 0} (p : X → Bool) (xs ys : List X) → list_any p xs ≡ true → list_any p (xs ++ ys) ≡ true
@@ -269,10 +269,10 @@ by_order Equal = inr (inl refl)
 by_order Greater = inr (inr refl)
 
 -- a version that is listed is among those of the stem
-any_installed : (g : Parts) (listed : List Parts) (o : Option Parts) → list_any (is_standing (Some g)) listed ≡ true → list_any (is_standing (Some g)) (with_installed listed o) ≡ true
+any_installed : (g : Parts) (listed : List Parts) (o : Option Parts) → list_any (is_version (Some g)) listed ≡ true → list_any (is_version (Some g)) (with_installed listed o) ≡ true
 any_installed g listed None h = h
 any_installed g listed (Some w) h =
-    let p = is_standing (Some g) in
+    let p = is_version (Some g) in
     let below = filter (λ v. is_lt (version_cmp v w)) listed in
     let above = filter (λ v. is_lt (version_cmp w v)) listed in
     elim (by_order (version_cmp g w)) [
@@ -287,19 +287,19 @@ any_installed g listed (Some w) h =
           any_right p below (w ∷ above) (or_right (p w) (list_any p above) rest)
     ]
 
-greatest_needed : (k : Kind) (c : Case) (stem : List ℕ) (v : Parts) → is_standing (greatest c stem) v ≡ true → is_needed k c stem v ≡ true
-greatest_needed Install c stem v e = or_left (is_standing (greatest c stem) v) (not (has stem c.rejected) && may_come c stem v) e
-greatest_needed Update c stem v e = or_left (is_standing (greatest c stem) v) (not (has stem c.rejected) && may_come c stem v) e
+greatest_needed : (k : Kind) (c : Case) (stem : List ℕ) (v : Parts) → is_version (greatest c stem) v ≡ true → is_needed k c stem v ≡ true
+greatest_needed Install c stem v e = or_left (is_version (greatest c stem) v) (not (has stem c.rejected) && may_come c stem v) e
+greatest_needed Update c stem v e = or_left (is_version (greatest c stem) v) (not (has stem c.rejected) && may_come c stem v) e
 greatest_needed Uninstall c stem v e = refl
 greatest_needed Keep c stem v e = refl
 
-greatest_read : (c : Case) (stem : List ℕ) (g : Parts) → greatest c stem ≡ Some g → list_any (is_standing (Some g)) (needed c stem) ≡ true
-greatest_read c stem g e = elim (last_any (is_standing (Some g)) None (versions_of c.catalog stem) g e (standing_itself g)) [
+greatest_read : (c : Case) (stem : List ℕ) (g : Parts) → greatest c stem ≡ Some g → list_any (is_version (Some g)) (needed c stem) ≡ true
+greatest_read c stem g e = elim (last_any (is_version (Some g)) None (versions_of c.catalog stem) g e (standing_itself g)) [
   | inl none ↦ absurd (none-some g none)
   | inr there ↦
       let all = with_installed (versions_of c.catalog stem) (installed_version c stem) in
-      any-filter_same (is_standing (Some g)) (is_needed c.kind c stem) true (λ v h. greatest_needed c.kind c stem v (ap (λ o. is_standing o v) e ∙ h)) (newest c stem)
-      ∙ sym (list_any-IsPermutation (is_standing (Some g)) all (reverse all) (IsPermutation-reverse all)) ∙ any_installed g (versions_of c.catalog stem) (installed_version c stem) there
+      any-filter_same (is_version (Some g)) (is_needed c.kind c stem) true (λ v h. greatest_needed c.kind c stem v (ap (λ o. is_version o v) e ∙ h)) (newest c stem)
+      ∙ sym (list_any-IsPermutation (is_version (Some g)) all (reverse all) (IsPermutation-reverse all)) ∙ any_installed g (versions_of c.catalog stem) (installed_version c stem) there
 ]
 
 and_alike : (m s x b : Bool) → m ≡ s → (s ≡ true → x ≡ b) → (m && x) ≡ (s && b)
@@ -314,15 +314,15 @@ both_or true false false = refl
 both_or false t b = refl
 
 gone_told : (c : Case) (stem : List ℕ) (g : Parts) (vs : List Parts) (reads : List Read) → greatest c stem ≡ Some g → AllZip (IsReadOf c stem) vs reads
-    → is_newest_gone reads ≡ (list_any (is_standing (Some g)) vs && is_obsolete c stem g)
+    → is_newest_gone reads ≡ (list_any (is_version (Some g)) vs && is_obsolete c stem g)
 gone_told c stem g [] [] e h = refl
 gone_told c stem g [] (x ∷ reads) e h = absurd h
 gone_told c stem g (v ∷ vs) [] e h = absurd h
 gone_told c stem g (v ∷ vs) (x ∷ reads) e h =
     let r = h.0 in
-    let first = and_alike x.newest (is_standing (Some g) v) x.gone (is_obsolete c stem g) (r.newest ∙ ap (λ o. is_standing o v) e)
+    let first = and_alike x.newest (is_version (Some g) v) x.gone (is_obsolete c stem g) (r.newest ∙ ap (λ o. is_version o v) e)
     (λ s. r.gone ∙ ap says_obsolete (sym r.says) ∙ ap (is_obsolete c stem) (standing_same g v s)) in
-    (λ i. first i || gone_told c stem g vs reads e h.1 i) ∙ both_or (is_standing (Some g) v) (list_any (is_standing (Some g)) vs) (is_obsolete c stem g)
+    (λ i. first i || gone_told c stem g vs reads e h.1 i) ∙ both_or (is_version (Some g) v) (list_any (is_version (Some g)) vs) (is_obsolete c stem g)
 
 none_told : (c : Case) (stem : List ℕ) (vs : List Parts) (reads : List Read) → greatest c stem ≡ None → AllZip (IsReadOf c stem) vs reads → is_newest_gone reads ≡ false
 none_told c stem [] [] e h = refl
@@ -330,7 +330,7 @@ none_told c stem [] (x ∷ reads) e h = absurd h
 none_told c stem (v ∷ vs) [] e h = absurd h
 none_told c stem (v ∷ vs) (x ∷ reads) e h =
     let r = h.0 in
-    let first = r.newest ∙ ap (λ o. is_standing o v) e in
+    let first = r.newest ∙ ap (λ o. is_version o v) e in
     (λ i. (first i && x.gone) || none_told c stem vs reads e h.1 i)
 
 some_or_none : (o : Option Parts) → (o ≡ None) ⊎ ((g : Parts) × (o ≡ Some g))

@@ -11,7 +11,7 @@ use Rattle.ips_request.specs.Stems.{has}
 use Rattle.ips_request.specs.Case.{Case, Naming, installed_version, is_installed, is_named}
 use Rattle.ips_request.specs.declared.role.Role.{Role}
 use Rattle.ips_request.specs.declared.role.Role.TheVariants.{Gone, Free}
-use Rattle.ips_request.specs.Candidates.{is_target_of, role, role_by, candidates, candidates_in, present, coming, is_obsolete, is_standing}
+use Rattle.ips_request.specs.Candidates.{is_target_of, role, role_by, candidates, candidates_in, present, coming, is_obsolete, is_version}
 use Rattle.ips_request.proofs.StemLists.{has_left, has_right, has_firsts, has_gathered}
 use Rattle.ips_problem.specs.Reach.{dependencies_of, stems_wanted, drawn_in, seeds, IsReach}
 use Rattle.ips_problem.proofs.Members.{Among}
@@ -96,7 +96,7 @@ absence_offered c reach x r h =
     let not_installed = false_from_ne_true (is_installed c x) (λ e. both_ways (has x reach) h (installed_in_reach c reach x r e)) in
     let target = not_target c.named c x not_named not_installed in
     let same : role c x ≡ role_by c.kind false (has x c.rejected) false false = λ i. role_by c.kind (not_named i) (has x c.rejected) (target i) (not_installed i) in
-    let offers = λ (q : Role). candidates_in q c.kind (is_obsolete c x) (is_standing (installed_version c x)) (coming c x) in
+    let offers = λ (q : Role). candidates_in q c.kind (is_obsolete c x) (is_version (installed_version c x)) (coming c x) in
     elim (role_apart c.kind (has x c.rejected)) [
       | inl e ↦ subst (λ q. Contains (offers q) None) (sym (same ∙ e)) (absent_first [])
       | inr e ↦ subst (λ q. Contains (offers q) None) (sym (same ∙ e)) (absent_first (present (is_obsolete c x) (coming c x)))

@@ -11,7 +11,7 @@ use Rattle.ips_repo.specs.Manifest.{manifest_limit}
 use Rattle.ips_request.specs.declared.fault.ProblemFault.{ProblemFault}
 use Rattle.ips_request.specs.declared.read.Read.{Read}
 use Rattle.ips_request.specs.Case.{Case, installed_version, said}
-use Rattle.ips_request.specs.Candidates.{may_come, greatest, is_standing, tell_obsolete, candidates}
+use Rattle.ips_request.specs.Candidates.{may_come, greatest, is_version, tell_obsolete, candidates}
 use Rattle.ips_request.specs.Stems.{stems_of}
 use Rattle.ips_request.specs.Manifests.{Needed, IsFetched, IsFetchFault, IsManifestFault, IsThere, all_manifests_limit, bytes_read}
 use Rattle.ips_problem.specs.declared.rows.Row as declared
@@ -29,8 +29,8 @@ pub record IsReadOf (c : Case) (stem : List ℕ) (v : Parts) (read : Read) : Typ
   pub says : said c stem v ≡ Some (record { lines = read.manifest.lines.items; dependencies = read.tests.items })
   pub gone : read.gone ≡ tell_obsolete read.manifest.lines.items
   pub comes : read.comes ≡ may_come c stem v
-  pub stands : read.stands ≡ is_standing (installed_version c stem) v
-  pub newest : read.newest ≡ is_standing (greatest c stem) v
+  pub stands : read.stands ≡ is_version (installed_version c stem) v
+  pub newest : read.newest ≡ is_version (greatest c stem) v
 
 -- The same of lines that were read, by the image's settings.
 pub record IsJudgedRead (settings : Set) (c : Case) (stem : List ℕ) (v : Parts) (lines : List Line) (read : Read) : Type 0 where
@@ -39,8 +39,8 @@ pub record IsJudgedRead (settings : Set) (c : Case) (stem : List ℕ) (v : Parts
   pub asks : LinesAsk settings lines read.tests.items
   pub gone : read.gone ≡ tell_obsolete lines
   pub comes : read.comes ≡ may_come c stem v
-  pub stands : read.stands ≡ is_standing (installed_version c stem) v
-  pub newest : read.newest ≡ is_standing (greatest c stem) v
+  pub stands : read.stands ≡ is_version (installed_version c stem) v
+  pub newest : read.newest ≡ is_version (greatest c stem) v
 
 -- the lines of the manifest of the image, where it has one, and else of the repository's file
 abbrev pub Got : Option Installed → Option (List ℕ) → ℕ → ℕ → List Line → Type 0

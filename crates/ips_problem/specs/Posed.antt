@@ -110,11 +110,12 @@ abbrev pub tells_spared : Option Row → Bool
 tells_spared None = false
 tells_spared (Some row) = row.spared
 
--- what is spared, as far as it is in reach
+-- a stem with this number is spared
 abbrev pub spared_at : Posed → Option ℕ → Bool
 spared_at p None = false
 spared_at p (Some i) = tells_spared (slice_get p.rows i)
 
+-- what is spared, as far as it is in reach
 abbrev pub spared : Posed → Spared
 spared p stem = spared_at p (number_of p stem)
 

@@ -43,10 +43,10 @@ may_come c stem v = reaches (installed_version c stem) v && is_allowed c stem v
 abbrev pub coming : Case → List ℕ → List Parts
 coming c stem = filter (λ v. may_come c stem v && is_some (said c stem v)) (newest c stem)
 
--- it is the version at which the stem is installed
-abbrev pub is_standing : Option Parts → Parts → Bool
-is_standing None v = false
-is_standing (Some w) v = is_same_version v w
+-- it is this version, where there is one
+abbrev pub is_version : Option Parts → Parts → Bool
+is_version None v = false
+is_version (Some w) v = is_same_version v w
 
 -- one of the lines tells that the package is obsolete
 abbrev pub tell_obsolete : List Line → Bool
@@ -112,7 +112,7 @@ candidates_in Free kind gone stands xs = None ∷ present gone xs
 
 -- the candidates of a stem
 abbrev pub candidates : Case → List ℕ → List (Option Parts)
-candidates c stem = candidates_in (role c stem) c.kind (is_obsolete c stem) (is_standing (installed_version c stem)) (coming c stem)
+candidates c stem = candidates_in (role c stem) c.kind (is_obsolete c stem) (is_version (installed_version c stem)) (coming c stem)
 
 -- ---- stems that group dependencies don't ask for
 

@@ -20,7 +20,7 @@ use Rattle.ips_request.specs.declared.fault.ProblemFault.{ProblemFault}
 use Rattle.ips_request.specs.declared.fault.ProblemFault.TheVariants as fault
 use Rattle.ips_request.specs.Stems.{has}
 use Rattle.ips_request.specs.Case.{Case, own}
-use Rattle.ips_request.specs.Candidates.{newest, may_come, greatest, is_standing}
+use Rattle.ips_request.specs.Candidates.{newest, may_come, greatest, is_version}
 
 -- the most bytes of all manifests that a request reads from the repository: 256 MiB
 abbrev pub all_manifests_limit : ℕ
@@ -29,8 +29,8 @@ all_manifests_limit = 268435456
 -- An install or an update reads the greatest version of the catalog, and, unless the stem is rejected, each version that the
 -- stem may come to. Uninstalling and keeping read what is installed.
 abbrev pub is_needed : Kind → Case → List ℕ → Parts → Bool
-is_needed Install c stem v = is_standing (greatest c stem) v || (not (has stem c.rejected) && may_come c stem v)
-is_needed Update c stem v = is_standing (greatest c stem) v || (not (has stem c.rejected) && may_come c stem v)
+is_needed Install c stem v = is_version (greatest c stem) v || (not (has stem c.rejected) && may_come c stem v)
+is_needed Update c stem v = is_version (greatest c stem) v || (not (has stem c.rejected) && may_come c stem v)
 is_needed Uninstall c stem v = true
 is_needed Keep c stem v = true
 

@@ -112,7 +112,7 @@ impl Subject<'_> {
 
     /// Whether the version is the greatest of the catalog.
     pub fn is_greatest(&self, stem: &str, version: &Version) -> bool
-        ensures { (file : List ℕ → Parts → Option (List ℕ)) (r : Reading) → result ≡ candidate.is_standing (candidate.greatest (case_of self.now file r) stem.now) version.now }
+        ensures { (file : List ℕ → Parts → Option (List ℕ)) (r : Reading) → result ≡ candidate.is_version (candidate.greatest (case_of self.now file r) stem.now) version.now }
     {
         match greatest(self.listed(stem)) {
             Some(greatest) => version.cmp(greatest).is_eq(),
@@ -132,7 +132,7 @@ impl Subject<'_> {
 
     // Whether the version is the greatest of the catalog, or one that the stem may come to, where it isn't rejected.
     fn looks_at(&self, stem: &str, version: &Version) -> bool
-        ensures { (file : List ℕ → Parts → Option (List ℕ)) (r : Reading) → result ≡ (candidate.is_standing (candidate.greatest (case_of self.now file r) stem.now) version.now || (not (has stem.now (stems_of self.now.rejected.keys)) && candidate.may_come (case_of self.now file r) stem.now version.now)) }
+        ensures { (file : List ℕ → Parts → Option (List ℕ)) (r : Reading) → result ≡ (candidate.is_version (candidate.greatest (case_of self.now file r) stem.now) version.now || (not (has stem.now (stems_of self.now.rejected.keys)) && candidate.may_come (case_of self.now file r) stem.now version.now)) }
     {
         self.is_greatest(stem, version) || (!self.rejects(stem) && self.may_come(stem, version))
     }

@@ -45,7 +45,7 @@ asks_posed words t r limit request repo p opens reading asked =
     }
 
 -- a fault of the request is told as it is
-pub unposed_plans : (words : List (List ℕ)) (t : Image) (r : Reading) (why : ProblemFault) → IsUnposed words t r why → PlansNothing words t r (unposed why)
+pub unposed_plans : (words : List (List ℕ)) (t : Image) (r : Reading) (why : ProblemFault) → IsUnposed words t why → PlansNothing words t r (unposed why)
 unposed_plans words t r (fault.NoMatch pattern) is = is
 unposed_plans words t r (fault.Ambiguous pattern stems) is = is
 unposed_plans words t r (fault.ManifestMissing fmri) is = is

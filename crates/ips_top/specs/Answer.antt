@@ -57,8 +57,8 @@ abbrev pub DoesNotOpen : List (List ℕ) → Image → RepoFault → Type 0
 DoesNotOpen words t why = AsksForSome words × (opening publisher t ≡ Err why)
 
 -- too much is to be read: of the catalog, or of the manifests that are needed
-abbrev pub IsTooMuch : List (List ℕ) → Image → Reading → Which → ℕ → Type 0
-IsTooMuch words t r which count = DoesNotOpen words t (fault.TooLarge which count) ⊎ IsUnposed words t r (problem.TooLarge which count)
+abbrev pub IsTooMuch : List (List ℕ) → Image → Which → ℕ → Type 0
+IsTooMuch words t which count = DoesNotOpen words t (fault.TooLarge which count) ⊎ IsUnposed words t (problem.TooLarge which count)
 
 -- Each refusal that has its cause in the repository comes exactly under it: its mark, its catalog, what the patterns name in it, the manifests
 -- that are needed, what fits together, and what the chosen packages mean, in this order. Where another outcome comes, a fault and want of
@@ -67,11 +67,11 @@ abbrev pub SaysOfRepository : List (List ℕ) → Image → Reading → Outcome 
 SaysOfRepository words t r (Usage place why) = Unit {0}
 SaysOfRepository words t r NoRepository = DoesNotOpen words t fault.NoRepository
 SaysOfRepository words t r (BadCatalog why) = DoesNotOpen words t (fault.BadCatalog why)
-SaysOfRepository words t r (NoMatch pattern) = IsUnposed words t r (problem.NoMatch pattern)
-SaysOfRepository words t r (Ambiguous pattern stems) = IsUnposed words t r (problem.Ambiguous pattern stems)
-SaysOfRepository words t r (ManifestMissing fmri) = IsUnposed words t r (problem.ManifestMissing fmri)
-SaysOfRepository words t r (BadManifest fmri why) = IsUnposed words t r (problem.BadManifest fmri why)
-SaysOfRepository words t r (BadDepend fmri line) = IsUnposed words t r (problem.BadDepend fmri line)
+SaysOfRepository words t r (NoMatch pattern) = IsUnposed words t (problem.NoMatch pattern)
+SaysOfRepository words t r (Ambiguous pattern stems) = IsUnposed words t (problem.Ambiguous pattern stems)
+SaysOfRepository words t r (ManifestMissing fmri) = IsUnposed words t (problem.ManifestMissing fmri)
+SaysOfRepository words t r (BadManifest fmri why) = IsUnposed words t (problem.BadManifest fmri why)
+SaysOfRepository words t r (BadDepend fmri line) = IsUnposed words t (problem.BadDepend fmri line)
 SaysOfRepository words t r (NoSolution unsolved) = HasNoSolution words t r unsolved
 SaysOfRepository words t r (SearchSpent limit) = IsSpent words t r limit
 SaysOfRepository words t r (Reserved path) = MeanNothing words t r (want.Reserved path)
@@ -80,7 +80,7 @@ SaysOfRepository words t r (NotYet fmri line) = Wants words t r
 SaysOfRepository words t r (PayloadMissing name) = Wants words t r
 SaysOfRepository words t r (PayloadDamaged name found) = Wants words t r
 SaysOfRepository words t r (Compressed name found) = Wants words t r
-SaysOfRepository words t r (TooLarge limit count) = IsTooMuch words t r limit count ⊎ ((limit ≡ which.PayloadBytes) × Wants words t r)
+SaysOfRepository words t r (TooLarge limit count) = IsTooMuch words t limit count ⊎ ((limit ≡ which.PayloadBytes) × Wants words t r)
 SaysOfRepository words t r Done = Wants words t r
 SaysOfRepository words t r SourceFault = Unit {0}
 SaysOfRepository words t r (FolderFault unfinished) = Wants words t r
@@ -139,7 +139,7 @@ SaysOfLines words repository r t (NotYet fmri line) = IsUnbuiltAt words reposito
 SaysOfLines words repository r t (PayloadMissing name) = LacksFirst words repository r t name payload.Missing
 SaysOfLines words repository r t (PayloadDamaged name found) = LacksFirst words repository r t name (payload.Damaged found)
 SaysOfLines words repository r t (Compressed name found) = LacksFirst words repository r t name (payload.Compressed found)
-SaysOfLines words repository r t (TooLarge limit count) = IsTooMuch words repository r limit count ⊎ ((limit ≡ which.PayloadBytes) × ((name : PayloadName) × LacksFirst words repository r t name (payload.TooLarge count)))
+SaysOfLines words repository r t (TooLarge limit count) = IsTooMuch words repository limit count ⊎ ((limit ≡ which.PayloadBytes) × ((name : PayloadName) × LacksFirst words repository r t name (payload.TooLarge count)))
 SaysOfLines words repository r t Done = CouldInstall words repository r t
 SaysOfLines words repository r t SourceFault = Unit {0}
 SaysOfLines words repository r t (FolderFault true) = CouldChange words repository r t

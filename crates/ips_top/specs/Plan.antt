@@ -128,7 +128,7 @@ AreBuilt packages = NoneHas (IsUnbuilt nothing_set) (all_lines packages)
 -- ---- where nothing is chosen
 
 -- The request poses no puzzle, and this is why.
-pub record IsUnposed (words : List (List ℕ)) (t : Image) (r : Reading) (why : ProblemFault) : Type 0 where
+pub record IsUnposed (words : List (List ℕ)) (t : Image) (why : ProblemFault) : Type 0 where
   pub limit : ℕ
   pub request : Request
   pub repo : Opened
