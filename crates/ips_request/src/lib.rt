@@ -1,9 +1,8 @@
 //! What a request asks of an image and a catalog, one stem at a time.
 //!
-//! A request names stems by patterns, rejects others, and is made on an image with its packages and freezes. Together they are a
-//! subject, which tells of each stem what the request has in mind for it, to which versions it may come and whose manifests that
-//! needs. Out of the manifests that were read, the candidates of a stem are put in order: versions, and absence where it may be
-//! absent. Each answer is that of the case that the request and the image make, which is a definition.
+//! A request and the image that it is made on are a subject, which tells of each stem what the request has in mind for it, to which
+//! versions it may come, and which manifests that needs. Out of the manifests that were read, the candidates of a stem are put in
+//! order: versions, and absence where it may be absent. Each answer is what the definitions say of the case that the two make.
 //!
 //! In reading order: requests (`kind`, `request`, `fault`); sets of stems (`stems`); what patterns name (`known`, `naming`); what is
 //! asked of an image (`asking`, `making`, `subject`); the versions of a stem (`versions`), what a request has in mind for it (`role`)
