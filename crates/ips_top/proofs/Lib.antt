@@ -9,3 +9,6 @@ pub mod Tellings
 pub mod Refusals
 pub mod Meanings
 pub mod Laying
+pub mod OneOrder
+pub mod OneAsking
+pub mod OneChosen
