@@ -12,3 +12,4 @@ pub mod Laying
 pub mod OneOrder
 pub mod OneAsking
 pub mod OneChosen
+pub mod OneMeaning

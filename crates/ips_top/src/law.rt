@@ -6,8 +6,10 @@ ghost use Rattle.ips_outside.specs.Image.{Image};
 ghost use Rattle.ips_manifest.specs.declared.package.Package.{Package};
 ghost use Rattle.ips_state.specs.State.{installed};
 ghost use Rattle.ips_request.specs.Case.{Case, Reading};
-ghost use Rattle.ips_top.specs.Plan.{AreChosen, Asks};
+ghost use Rattle.ips_meaning.specs.declared.fault.WantFault.{WantFault};
+ghost use Rattle.ips_top.specs.Plan.{AreChosen, Asks, Chosen, HasNoSolution, MeanNothing, Wants};
 ghost use Rattle.ips_top.specs.Request.{AsksFor};
+ghost use Rattle.ips_top.specs.declared.unsolved.Unsolved.{Unsolved};
 
 /// Words ask for one limit and one list of patterns.
 pub fn request_is_one()
@@ -24,4 +26,14 @@ pub fn case_is_one()
 pub fn packages_are_one()
     ensures { (words : List (List ℕ)) (t : Image) (r : Reading) (a b : List Package) → AreChosen words t r a → AreChosen words t r b
         → map installed a ≡ map installed b }
+{}
+
+/// That something is chosen and that there is no solution exclude each other.
+pub fn choice_excludes_none()
+    ensures { (words : List (List ℕ)) (t : Image) (r : Reading) (u : Unsolved) → Chosen words t r → HasNoSolution words t r u → ⊥ }
+{}
+
+/// An image that the chosen packages mean and a fault of what they say exclude each other.
+pub fn image_excludes_fault()
+    ensures { (words : List (List ℕ)) (t : Image) (r : Reading) (why : WantFault) → Wants words t r → MeanNothing words t r why → ⊥ }
 {}

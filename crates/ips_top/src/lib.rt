@@ -20,7 +20,9 @@ mod unsolved;
 mod wanting;
 mod words;
 
-pub use law::{case_is_one, packages_are_one, request_is_one};
+pub use law::{
+    case_is_one, choice_excludes_none, image_excludes_fault, packages_are_one, request_is_one,
+};
 pub use outcome::{Outcome, Status, Why};
 pub use top::run;
 pub use unsolved::{Tried, Unsolved};
