@@ -46,7 +46,7 @@ put_once k xs y l = cond_both (has y xs) xs (xs ++ y ∷ []) (λ z. take k z ≡
 longer : (k : ℕ) (xs : List (List ℕ)) (y : List ℕ) → k ≤ length xs → k ≤ length (put xs y)
 longer k xs y l = cond_both (has y xs) xs (xs ++ y ∷ []) (λ z. k ≤ length z) (λ e. l) (λ e. let long = length_push xs y in omega arith)
 
-put_prefix : (k : ℕ) (xs more : List (List ℕ)) → k ≤ length xs → take k (put_all xs more) ≡ take k xs
+pub put_prefix : (k : ℕ) (xs more : List (List ℕ)) → k ≤ length xs → take k (put_all xs more) ≡ take k xs
 put_prefix k xs [] l = refl
 put_prefix k xs (y ∷ more) l = put_prefix k (put xs y) more (longer k xs y l) ∙ put_once k xs y l
 

@@ -13,3 +13,5 @@ pub mod Posing
 pub mod Judging
 pub mod Offering
 pub mod Growth
+pub mod OneReach
+pub mod OneSelection

@@ -27,7 +27,7 @@ use Rattle.ips_problem.proofs.Picking.{chosen_at, row_at, picked_at, picked_apar
 
 -- ---- numbers of a selection
 
-length_numbers : (c : Case) (s : Selection) (stems : List (List ℕ)) (numbers : List ℕ) → AreNumbers c s stems numbers → length numbers ≡ length stems
+pub length_numbers : (c : Case) (s : Selection) (stems : List (List ℕ)) (numbers : List ℕ) → AreNumbers c s stems numbers → length numbers ≡ length stems
 length_numbers c s [] [] a = refl
 length_numbers c s [] (k ∷ numbers) a = absurd a
 length_numbers c s (stem ∷ stems) [] a = absurd a

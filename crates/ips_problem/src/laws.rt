@@ -1,6 +1,6 @@
-//! What makes the stems in reach enough.
+//! Laws of what is asked: the stems in reach are enough, and one list; and the best selection is one.
 
-ghost use Rattle.std.specs.Prelude.{ℕ, List};
+ghost use Rattle.std.specs.Prelude.{◌≡◌, ℕ, List};
 ghost use Rattle.ips_refute.specs.Meaning.{HasNoChoice, pairs};
 ghost use Rattle.ips_search.specs.Best.{IsFirst};
 ghost use Rattle.ips_depend.specs.Selection.{Selection};
@@ -16,4 +16,14 @@ pub fn reach_is_enough()
     ensures restricted { (c : Case) (reach : List (List ℕ)) (s : Selection) → IsReach c reach → IsAdmissible c s → IsAdmissible c (restricted reach s) }
     ensures none { (c : Case) (reach : List (List ℕ)) (s : Selection) → IsReach c reach → HasNoChoice (meaning_of (posed c reach)) → IsAdmissible c s → ⊥ }
     ensures best { (c : Case) (reach : List (List ℕ)) (choice : List ℕ) → IsReach c reach → IsFirst (meaning_of (posed c reach)) choice → IsBestSelection c reach (picked (posed c reach) (pairs choice)) }
+{}
+
+/// The stems in reach of a case are one list, in one order.
+pub fn reach_is_one()
+    ensures { (c : Case) (a b : List (List ℕ)) → IsReach c a → IsReach c b → a ≡ b }
+{}
+
+/// The best selection is one: two of them give every stem the same version, or are both without it.
+pub fn best_selection_is_one()
+    ensures { (c : Case) (reach : List (List ℕ)) (s t : Selection) → IsBestSelection c reach s → IsBestSelection c reach t → (stem : List ℕ) → s stem ≡ t stem }
 {}

@@ -8,7 +8,7 @@
 //!
 //! What a request asks of one stem, and how its manifests are read, is the crate `ips_request`. In reading order: what is known of a
 //! stem in reach (`rows`, `gathered`, `gathering`); the stems gone through one by one (`growing`, `building`); the puzzle (`problem`,
-//! `numbering`, `answers`, `picked`, `puzzle`); what a choice selects and avoids (`taking`, `avoiding`); and the law (`laws`).
+//! `numbering`, `answers`, `picked`, `puzzle`); what a choice selects and avoids (`taking`, `avoiding`); and the laws (`laws`).
 #![tactic(auto)]
 
 mod answers;
@@ -26,5 +26,5 @@ mod rows;
 mod taking;
 
 pub use ips_request::{Kind, ProblemFault, Request};
-pub use laws::reach_is_enough;
+pub use laws::{best_selection_is_one, reach_is_enough, reach_is_one};
 pub use problem::Problem;

@@ -1,5 +1,5 @@
 -- Manifests can be read: a text is the manifest that its grammar finds, where it finds one.
-use Rattle.std.proofs.Common.{inl, inr, ℕ, List, Option, Some, None, MatchOption}
+use Rattle.std.proofs.Common.{inl, inr, Option, Some, None, MatchOption}
 use Rattle.ips_manifest.specs.Logical.{lines_of}
 use Rattle.ips_manifest.specs.Manifest.{IsManifestOf}
 use Rattle.ips_filter.specs.Settings.{Set}

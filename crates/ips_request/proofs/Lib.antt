@@ -6,3 +6,4 @@ pub mod Results
 pub mod Grammar
 pub mod Subjects
 pub mod ManifestFiles
+pub mod OneReading

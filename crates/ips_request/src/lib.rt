@@ -29,7 +29,7 @@ pub use arranging::arranged;
 pub use asking::{Naming, Subject};
 pub use fault::ProblemFault;
 pub use kind::Kind;
-pub use law::manifests_can_be_read;
+pub use law::{manifests_can_be_read, reading_is_one};
 pub use making::subject_of;
 pub use read::Read;
 pub use reading::{fetched, judged, missing};

@@ -9,3 +9,7 @@ pub mod Tellings
 pub mod Refusals
 pub mod Meanings
 pub mod Laying
+pub mod OneOrder
+pub mod OneAsking
+pub mod OneChosen
+pub mod OneMeaning
