@@ -1,16 +1,18 @@
+//! Steps that are laid on a folder in memory, also again where a call failed.
+
 ghost use Rattle.ips_steps.specs.declared.step.Sort.TheVariants as of_sort;
 ghost use Rattle.ips_kinds.specs.Acts.{same_sort};
 
+use crate::script::{case_of, named, push_shown, read_step, words};
 use crate::takers::takes_all;
 use ips_apply::apply;
 use ips_folder::MemFolder;
 use ips_journal::{StepFault, StepReader, write_steps};
-use ips_kinds::{
-    Act, FreshKind, GoneKind, HardKind, Kind, LinkKind, ModeKind, PutKind, Sort, Step, Target,
-};
-use ips_outside::{Look, Tree};
-use ips_text::RelPath;
-use std::alloc::Global;
+use ips_kinds::{Act, FreshKind, GoneKind, HardKind, Kind, LinkKind, ModeKind, PutKind, Step};
+use ips_outside::Tree;
+use ips_text::octal;
+use std::alloc::{AllocError, Global};
+use std::process::Abort;
 use std::test::Fail;
 
 // A kind of the test's own, which takes the steps that put files.
@@ -46,55 +48,41 @@ impl Kind for OwnKind {
     }
 }
 
-fn path(alloc: Global, bytes: &[u8]) -> Result<RelPath, Fail> {
-    Ok(RelPath::parse(alloc, bytes)?)
-}
-
 // A directory with a file below it, a file with a second name, a symbolic link, something else, and one content.
+const STANDING: &str = "dir d 755
+file d/f 644 f
+file x 600 old
+hard y x
+link l t
+other o
+dir var 755
+dir var/pkg 755
+dir var/pkg/stage 700
+file var/pkg/stage/0 600 hello";
+
 fn standing(alloc: Global) -> Result<Tree, Fail> {
     let mut tree = Tree::new(alloc);
-    tree.dir(alloc, &path(alloc, b"d")?, 0o755)?;
-    tree.file(alloc, &path(alloc, b"d/f")?, 0o644, b"f")?;
-    tree.file(alloc, &path(alloc, b"x")?, 0o600, b"old")?;
-    tree.hard(alloc, &path(alloc, b"y")?, &path(alloc, b"x")?)?;
-    tree.link(alloc, &path(alloc, b"l")?, b"t")?;
-    tree.other(alloc, &path(alloc, b"o")?)?;
-    tree.dir(alloc, &path(alloc, b"var")?, 0o755)?;
-    tree.dir(alloc, &path(alloc, b"var/pkg")?, 0o755)?;
-    tree.dir(alloc, &path(alloc, b"var/pkg/stage")?, 0o700)?;
-    tree.file(alloc, &path(alloc, b"var/pkg/stage/0")?, 0o600, b"hello")?;
+    for line in STANDING.lines() {
+        let [name, at, second, third] = words(line);
+        let mode = octal(second.as_bytes()).unwrap_or(0);
+        let at = named(alloc, at)?;
+        match name {
+            "dir" => tree.dir(alloc, &at, mode)?,
+            "file" => tree.file(alloc, &at, mode, third.as_bytes())?,
+            "link" => tree.link(alloc, &at, second.as_bytes())?,
+            "other" => tree.other(alloc, &at)?,
+            _ => tree.hard(alloc, &at, &named(alloc, second)?)?,
+        }
+    }
     Ok(tree)
 }
 
-// That with a journal of these steps, of which the listed calls fail.
-fn pending(alloc: Global, steps: &[Step], fails: &[u64]) -> Result<MemFolder, Fail> {
+// That with a journal of these steps, of which the listed call fails.
+fn pending(alloc: Global, steps: &[Step], listed: u64) -> Result<MemFolder, Fail> {
     let mut tree = standing(alloc)?;
     let text = write_steps(alloc, steps)?;
-    tree.file(alloc, &path(alloc, b"var/pkg/journal")?, 0o600, &text)?;
-    Ok(MemFolder::new(alloc, tree, Vec::from_slice(alloc, fails)?, None)?)
-}
-
-// A step of each sort at the path. A hard link is to `y`.
-fn step(alloc: Global, sort: Sort, at: &[u8]) -> Result<Step, Fail> {
-    let path = RelPath::parse(alloc, at)?;
-    match sort {
-        Sort::Gone => Ok(Step::Gone { path }),
-        Sort::Fresh => Ok(Step::Fresh { path, mode: 0o750 }),
-        Sort::Mode => Ok(Step::Mode { path, mode: 0o711 }),
-        Sort::Put => Ok(Step::Put {
-            path,
-            mode: 0o640,
-            stage: 0,
-        }),
-        Sort::Link => Ok(Step::Link {
-            path,
-            target: Target::parse(alloc, b"t")?,
-        }),
-        Sort::Hard => Ok(Step::Hard {
-            path,
-            to: RelPath::parse(alloc, b"y")?,
-        }),
-    }
+    tree.file(alloc, &named(alloc, "var/pkg/journal")?, 0o600, &text)?;
+    Ok(MemFolder::new(alloc, tree, Vec::from_slice(alloc, &[listed])?, None)?)
 }
 
 // Lays the folder's journal from the front, through a buffer of two bytes. No journal has a line 0: that tells that some
@@ -112,12 +100,13 @@ fn run(
     Ok(apply(folder, &mut reader, kinds, &mut buffer))
 }
 
-// The line that is bad, if one is.
-fn bad_line(answer: Result<u64, StepFault>) -> Option<u64> {
-    match answer {
-        Err(StepFault::BadJournal { line }) => Some(line),
-        _ => None,
+// How many steps each kind has finished, one after another.
+fn tallies(alloc: Global, kinds: &Vec<Box<dyn Kind>>) -> Result<Vec<u64>, AllocError> {
+    let mut all = Vec::new(alloc);
+    for kind in kinds {
+        all.push(kind.tally())?;
     }
+    Ok(all)
 }
 
 // How many steps the kinds have finished together.
@@ -129,213 +118,191 @@ fn finished(kinds: &Vec<Box<dyn Kind>>) -> u64 {
     sum
 }
 
-// How many steps the kind at this place has finished.
-fn tally_at(kinds: &Vec<Box<dyn Kind>>, place: usize) -> Option<u64> {
-    match kinds.get(place) {
-        Some(kind) => Some(kind.tally()),
-        None => None,
-    }
-}
-
-#[test]
-fn each_sort_of_step_takes_the_place_of_each_entry(rt: HostRuntime) -> Result<(), Fail> {
-    let alloc = rt.alloc();
-    let mut kinds: Vec<Box<dyn Kind>> = Vec::new(alloc);
-    kinds.push(Box::new(alloc, GoneKind::new())?)?;
-    kinds.push(Box::new(alloc, FreshKind::new())?)?;
-    kinds.push(Box::new(alloc, ModeKind::new())?)?;
-    kinds.push(Box::new(alloc, PutKind::new())?)?;
-    kinds.push(Box::new(alloc, LinkKind::new())?)?;
-    kinds.push(Box::new(alloc, HardKind::new())?)?;
-    let y = path(alloc, b"y")?;
-    // what stands afterwards, whatever stood there
-    let table = [
-        (Sort::Gone, Look::Absent),
-        (Sort::Fresh, Look::Dir { mode: 0o750 }),
-        (
-            Sort::Put,
-            Look::File {
-                mode: 0o640,
-                size: 5,
-            },
-        ),
-        (Sort::Link, Look::Link),
-        (
-            Sort::Hard,
-            Look::File {
-                mode: 0o600,
-                size: 3,
-            },
-        ),
-    ];
-    let y_look = Look::File {
-        mode: 0o600,
-        size: 3,
+// How many steps were laid, or the line that is bad, and what stands at the paths.
+fn shown(
+    alloc: Global,
+    ended: Result<u64, StepFault>,
+    tree: &Tree,
+    paths: &str,
+) -> Result<Vec<u8>, Fail> {
+    let ended = match ended {
+        Ok(count) => format!(in alloc; "{count}:")?,
+        Err(StepFault::BadJournal { line }) => format!(in alloc; "line {line}:")?,
+        Err(StepFault::FolderFault) => format!(in alloc; "folder:")?,
     };
-    for at in [
-        b"d".as_slice(),
-        b"x".as_slice(),
-        b"l".as_slice(),
-        b"o".as_slice(),
-        b"n".as_slice(),
-    ] {
-        for (sort, wanted) in table {
-            let steps = vec![in alloc; step(alloc, sort, at)?]?;
-            let mut folder = pending(alloc, &steps, &[])?;
-            assert!(rt; run(alloc, &mut folder, &mut kinds)? == Ok(1));
-            assert!(rt; folder.tree().look(&path(alloc, at)?) == wanted);
-            assert!(rt; folder.tree().look(&y) == y_look);
-        }
+    let mut text = ended.into_bytes();
+    for path in paths.split_whitespace() {
+        push_shown(alloc, tree, path, &mut text)?;
     }
-    assert!(rt; finished(&kinds) == 25);
-    Ok(())
+    Ok(text)
 }
 
-#[test]
-fn a_mode_is_set_where_one_stands(rt: HostRuntime) -> Result<(), Fail> {
-    let alloc = rt.alloc();
-    let mut kinds: Vec<Box<dyn Kind>> = Vec::new(alloc);
-    kinds.push(Box::new(alloc, OwnKind { tally: 0 })?)?;
-    kinds.push(Box::new(alloc, GoneKind::new())?)?;
-    kinds.push(Box::new(alloc, FreshKind::new())?)?;
-    kinds.push(Box::new(alloc, ModeKind::new())?)?;
-    kinds.push(Box::new(alloc, PutKind::new())?)?;
-    kinds.push(Box::new(alloc, LinkKind::new())?)?;
-    kinds.push(Box::new(alloc, HardKind::new())?)?;
-    let y = path(alloc, b"y")?;
-    let below = path(alloc, b"d/f")?;
-    // what stands afterwards, and the mode of `y`
-    for (at, wanted, mode) in [
-        (b"d".as_slice(), Look::Dir { mode: 0o711 }, 0o600),
-        // `y` is another name of it
-        (
-            b"x".as_slice(),
-            Look::File {
-                mode: 0o711,
-                size: 3,
-            },
-            0o711,
-        ),
-        (b"l".as_slice(), Look::Link, 0o600),
-        (b"o".as_slice(), Look::Other, 0o600),
-        (b"n".as_slice(), Look::Absent, 0o600),
-    ] {
-        let steps = vec![in alloc; step(alloc, Sort::Mode, at)?]?;
-        let mut folder = pending(alloc, &steps, &[])?;
-        assert!(rt; run(alloc, &mut folder, &mut kinds)? == Ok(1));
-        assert!(rt; folder.tree().look(&path(alloc, at)?) == wanted);
-        assert!(rt; folder.tree().look(&y) == Look::File { mode, size: 3 });
-        // nothing was made again
-        assert!(rt;
-            folder.tree().look(&below)
-                == Look::File {
-                    mode: 0o644,
-                    size: 1
-                }
-        );
+// The steps, one behind another with `, ` between them.
+fn steps_of(alloc: Global, text: &str) -> Result<Vec<Step>, Fail> {
+    let mut steps = Vec::new(alloc);
+    for step in text.split(", ") {
+        steps.push(read_step(alloc, step)?)?;
     }
-    // a hard link whose target is laid before it; the first kind that takes the put counts it
-    let mut steps = vec![in alloc; step(alloc, Sort::Put, b"y")?]?;
-    steps.push(step(alloc, Sort::Hard, b"x")?)?;
-    let mut folder = pending(alloc, &steps, &[])?;
-    assert!(rt; run(alloc, &mut folder, &mut kinds)? == Ok(2));
-    assert!(rt; folder.tree().bytes(&path(alloc, b"x")?) == Some(b"hello".as_slice()));
-    assert!(rt; tally_at(&kinds, 0) == Some(1));
-    assert!(rt; tally_at(&kinds, 4) == Some(0));
-    assert!(rt; finished(&kinds) == 7);
-    Ok(())
+    Ok(steps)
 }
 
-#[test]
-fn an_impossible_step_ends_the_run_and_changes_nothing(rt: HostRuntime) -> Result<(), Fail> {
-    let alloc = rt.alloc();
-    let mut kinds: Vec<Box<dyn Kind>> = Vec::new(alloc);
-    kinds.push(Box::new(alloc, GoneKind::new())?)?;
-    kinds.push(Box::new(alloc, FreshKind::new())?)?;
-    kinds.push(Box::new(alloc, ModeKind::new())?)?;
-    kinds.push(Box::new(alloc, PutKind::new())?)?;
-    kinds.push(Box::new(alloc, LinkKind::new())?)?;
-    kinds.push(Box::new(alloc, HardKind::new())?)?;
-    let l = path(alloc, b"l")?;
-    for bad in [
-        // nothing stands above
-        step(alloc, Sort::Fresh, b"n/a")?,
-        // a file stands above
-        step(alloc, Sort::Link, b"x/a")?,
-        // a link stands above
-        step(alloc, Sort::Mode, b"l/a")?,
-        // nothing stands at the target
-        Step::Hard {
-            path: path(alloc, b"m")?,
-            to: path(alloc, b"n")?,
-        },
-        // the target is no file
-        Step::Hard {
-            path: path(alloc, b"m")?,
-            to: path(alloc, b"d")?,
-        },
-        // the target goes with what stands at the path
-        Step::Hard {
-            path: path(alloc, b"d")?,
-            to: path(alloc, b"d/f")?,
-        },
-    ] {
-        let mut steps = vec![in alloc; step(alloc, Sort::Gone, b"o")?]?;
-        steps.push(bad)?;
-        steps.push(step(alloc, Sort::Gone, b"l")?)?;
-        let mut folder = pending(alloc, &steps, &[])?;
-        assert!(rt; bad_line(run(alloc, &mut folder, &mut kinds)?) == Some(3));
-        assert!(rt; folder.tree().look(&path(alloc, b"o")?) == Look::Absent);
-        assert!(rt; folder.tree().look(&l) == Look::Link);
-    }
-    // the steps before were finished
-    assert!(rt; finished(&kinds) == 6);
-    Ok(())
-}
-
-#[test]
-fn each_call_fails_in_turn_and_the_list_is_laid_again(rt: HostRuntime) -> Result<(), Fail> {
-    let alloc = rt.alloc();
-    let mut kinds: Vec<Box<dyn Kind>> = Vec::new(alloc);
-    kinds.push(Box::new(alloc, GoneKind::new())?)?;
-    kinds.push(Box::new(alloc, FreshKind::new())?)?;
-    kinds.push(Box::new(alloc, ModeKind::new())?)?;
-    kinds.push(Box::new(alloc, PutKind::new())?)?;
-    kinds.push(Box::new(alloc, LinkKind::new())?)?;
-    kinds.push(Box::new(alloc, HardKind::new())?)?;
-    let mut steps = vec![in alloc; step(alloc, Sort::Gone, b"d")?]?;
-    steps.push(step(alloc, Sort::Fresh, b"e")?)?;
-    steps.push(step(alloc, Sort::Mode, b"x")?)?;
-    steps.push(step(alloc, Sort::Put, b"o")?)?;
-    steps.push(step(alloc, Sort::Link, b"n")?)?;
-    steps.push(step(alloc, Sort::Hard, b"l")?)?;
-    let o = path(alloc, b"o")?;
-    let l = path(alloc, b"l")?;
-    let mut failed = 0u64;
+// Lays the steps of a case while each call fails in turn, and then again: what comes of that, where it is the same for each
+// call, as more than twenty are made, to read the journal, to judge and to act.
+fn failing_in_turn(
+    rt: &impl Abort,
+    alloc: Global,
+    kinds: &mut Vec<Box<dyn Kind>>,
+    case: &str,
+    wanted: &str,
+) -> Result<(), Fail> {
+    let (steps, paths) = case.split_once(" | ").ok_or("paths")?;
+    let steps = steps_of(alloc, steps)?;
     for call in 1..100u64 {
-        let mut folder = pending(alloc, &steps, &[call])?;
-        let before = finished(&kinds);
-        match run(alloc, &mut folder, &mut kinds)? {
-            Ok(count) => {
-                assert!(rt; count == 6);
-                break;
-            }
-            Err(fault) => assert!(rt; fault == StepFault::FolderFault),
+        let mut folder = pending(alloc, &steps, call)?;
+        let before = finished(kinds);
+        let first = run(alloc, &mut folder, kinds)?;
+        if first.is_ok() {
+            assert!(rt; call > 21);
+            let shown = shown(alloc, first, folder.tree(), paths)?;
+            assert!(rt; shown.as_slice() == wanted.as_bytes(), "{case} {shown:?}");
+            return Ok(());
         }
-        failed = call;
+        assert!(rt; first == Err(StepFault::FolderFault), "{case} {call}");
         // what was finished was counted, and nothing more
-        assert!(rt; finished(&kinds) <= before.saturating_add(6));
-        assert!(rt; run(alloc, &mut folder, &mut kinds)? == Ok(6));
-        assert!(rt; folder.tree().bytes(&o) == Some(b"hello".as_slice()));
         assert!(rt;
-            folder.tree().look(&l)
-                == Look::File {
-                    mode: 0o711,
-                    size: 3
-                }
+            finished(kinds) <= before.saturating_add(6),
+            "{case} {call}"
+        );
+        let again = run(alloc, &mut folder, kinds)?;
+        let shown = shown(alloc, again, folder.tree(), paths)?;
+        assert!(rt;
+            shown.as_slice() == wanted.as_bytes(),
+            "{case} {call} {shown:?}"
         );
     }
-    // the calls on the folder: reading the journal, judging, and acting
-    assert!(rt; failed > 20);
+    assert!(rt; false, "{case}");
+    Ok(())
+}
+
+// Lays the steps of a case once, or tells how many steps each kind has finished.
+fn laid(alloc: Global, kinds: &mut Vec<Box<dyn Kind>>, case: &str) -> Result<Vec<u8>, Fail> {
+    if case == "tallies" {
+        return Ok(format!(in alloc; "{:?}", tallies(alloc, kinds)?)?.into_bytes());
+    }
+    let (steps, paths) = case.split_once(" | ").ok_or("paths")?;
+    let mut folder = pending(alloc, &steps_of(alloc, steps)?, 0)?;
+    let ended = run(alloc, &mut folder, kinds)?;
+    shown(alloc, ended, folder.tree(), paths)
+}
+
+// Lists of kinds, one behind another, and the steps of each case: how many were laid, and what stands at some paths.
+const LAID: &str = "
+# each sort of step takes the place of each entry: what stands afterwards, whatever stood there, and the file `y`
+no kinds -> yet
+kind of gone -> added
+kind of fresh -> added
+kind of mode -> added
+kind of put -> added
+kind of link -> added
+kind of hard -> added
+gone d | d y -> 1: absent 600=old
+fresh 0750 d | d y -> 1: 750/ 600=old
+put 0 0640 d | d y -> 1: 640=hello 600=old
+link d t | d y -> 1: >t 600=old
+hard d y | d y -> 1: 600=old 600=old
+gone x | x y -> 1: absent 600=old
+fresh 0750 x | x y -> 1: 750/ 600=old
+put 0 0640 x | x y -> 1: 640=hello 600=old
+link x t | x y -> 1: >t 600=old
+hard x y | x y -> 1: 600=old 600=old
+gone l | l y -> 1: absent 600=old
+fresh 0750 l | l y -> 1: 750/ 600=old
+put 0 0640 l | l y -> 1: 640=hello 600=old
+link l t | l y -> 1: >t 600=old
+hard l y | l y -> 1: 600=old 600=old
+gone o | o y -> 1: absent 600=old
+fresh 0750 o | o y -> 1: 750/ 600=old
+put 0 0640 o | o y -> 1: 640=hello 600=old
+link o t | o y -> 1: >t 600=old
+hard o y | o y -> 1: 600=old 600=old
+gone n | n y -> 1: absent 600=old
+fresh 0750 n | n y -> 1: 750/ 600=old
+put 0 0640 n | n y -> 1: 640=hello 600=old
+link n t | n y -> 1: >t 600=old
+hard n y | n y -> 1: 600=old 600=old
+tallies -> [5, 5, 0, 5, 5, 5]
+
+# an impossible step ends the run and changes nothing, and the steps before it are finished
+no kinds -> yet
+kind of gone -> added
+kind of fresh -> added
+kind of mode -> added
+kind of put -> added
+kind of link -> added
+kind of hard -> added
+# nothing, a file and a link stand above
+gone o, fresh 0750 n/a, gone l | o l -> line 3: absent >t
+gone o, link x/a t, gone l | o l -> line 3: absent >t
+gone o, mode 0711 l/a, gone l | o l -> line 3: absent >t
+# nothing stands at the target
+gone o, hard m n, gone l | o l -> line 3: absent >t
+# the target is no file
+gone o, hard m d, gone l | o l -> line 3: absent >t
+# the target goes with what stands at the path
+gone o, hard d d/f, gone l | o l -> line 3: absent >t
+tallies -> [6, 0, 0, 0, 0, 0]
+
+# each call fails in turn and the list is laid again
+failing: gone d, fresh 0750 e, mode 0711 x, put 0 0640 o, link n t, hard l y | o l -> 6: 640=hello 711=old
+
+# a mode is set where one stands, also at the other name of a file, and nothing is made again
+no kinds -> yet
+kind of the test -> added
+kind of gone -> added
+kind of fresh -> added
+kind of mode -> added
+kind of put -> added
+kind of link -> added
+kind of hard -> added
+mode 0711 d | d y d/f -> 1: 711/ 600=old 644=f
+mode 0711 x | x y d/f -> 1: 711=old 711=old 644=f
+mode 0711 l | l y d/f -> 1: >t 600=old 644=f
+mode 0711 o | o y d/f -> 1: other 600=old 644=f
+mode 0711 n | n y d/f -> 1: absent 600=old 644=f
+# a hard link whose target is laid before it; the first kind that takes the put counts it
+put 0 0640 y, hard x y | x -> 2: 640=hello
+tallies -> [1, 0, 0, 5, 0, 0, 1]
+";
+
+#[test]
+fn journals_are_laid(rt: HostRuntime) -> Result<(), Fail> {
+    let alloc = rt.alloc();
+    let mut kinds: Vec<Box<dyn Kind>> = Vec::new(alloc);
+    let mut played = 0u64;
+    for line in LAID.lines() {
+        let Some((case, wanted)) = case_of(line) else {
+            continue;
+        };
+        match case {
+            "no kinds" => kinds = Vec::new(alloc),
+            "kind of the test" => kinds.push(Box::new(alloc, OwnKind { tally: 0 })?)?,
+            "kind of gone" => kinds.push(Box::new(alloc, GoneKind::new())?)?,
+            "kind of fresh" => kinds.push(Box::new(alloc, FreshKind::new())?)?,
+            "kind of mode" => kinds.push(Box::new(alloc, ModeKind::new())?)?,
+            "kind of put" => kinds.push(Box::new(alloc, PutKind::new())?)?,
+            "kind of link" => kinds.push(Box::new(alloc, LinkKind::new())?)?,
+            "kind of hard" => kinds.push(Box::new(alloc, HardKind::new())?)?,
+            _ => {
+                if let Some(failing) = case.strip_prefix("failing: ") {
+                    failing_in_turn(&rt, alloc, &mut kinds, failing, wanted)?;
+                } else {
+                    let laid = laid(alloc, &mut kinds, case)?;
+                    assert!(rt; laid.as_slice() == wanted.as_bytes(), "{line} {laid:?}");
+                }
+            }
+        }
+        played = played.saturating_add(1);
+    }
+    assert_eq!(rt; played, 63);
     Ok(())
 }

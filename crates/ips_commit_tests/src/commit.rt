@@ -202,6 +202,38 @@ fn recovers_after_stops(
     Ok(false)
 }
 
+// How a change that is stopped there ends once it is mended: as it was, where the gate wasn't open, or else done, also where
+// the recovery is itself stopped three times at each of its calls.
+fn ending(alloc: Global, stop: Stop, kinds: &mut Vec<Box<dyn Kind>>) -> Result<&'static str, Fail> {
+    let (is_done, left) = left_by(alloc, stop, kinds)?;
+    if is_done {
+        return Ok("done before the stop");
+    }
+    let is_open = left.look(&gate(alloc)?) != Look::Absent;
+    let (_, mut mended) = mend(alloc, left.copy(alloc)?, None, kinds)?;
+    if !is_new(alloc, &mut mended)? && (is_open || !is_old(alloc, mended.tree())?) {
+        return Ok("neither undone nor done");
+    }
+    if !is_bare(alloc, &mut mended) {
+        return Ok("something left");
+    }
+    if !is_open {
+        return Ok("behind the gate");
+    }
+    if !recovers_after_stops(alloc, &left, stop.choice, kinds)? {
+        return Ok("not recovered");
+    }
+    Ok("done")
+}
+
+const CHOICES: [Choice; 5] = [
+    Choice::Before,
+    Choice::After,
+    Choice::Gone,
+    Choice::Junk,
+    Choice::Torn,
+];
+
 #[test]
 fn a_stopped_change_is_undone_or_done(rt: HostRuntime) -> Result<(), Fail> {
     let alloc = rt.alloc();
@@ -212,34 +244,18 @@ fn a_stopped_change_is_undone_or_done(rt: HostRuntime) -> Result<(), Fail> {
     kinds.push(Box::new(alloc, PutKind::new())?)?;
     kinds.push(Box::new(alloc, LinkKind::new())?)?;
     kinds.push(Box::new(alloc, HardKind::new())?)?;
-    let gate = path(alloc, b"var/pkg/gate")?;
     let mut opened = 0u64;
     let mut is_through = false;
     for call in 1..100u64 {
-        for choice in [
-            Choice::Before,
-            Choice::After,
-            Choice::Gone,
-            Choice::Junk,
-            Choice::Torn,
-        ] {
-            let stop = Stop { call, choice };
-            let (is_done, left) = left_by(alloc, stop, &mut kinds)?;
-            if is_done {
-                is_through = true;
-                break;
-            }
-            let is_open = left.look(&gate) != Look::Absent;
-            let (_, mut mended) = mend(alloc, left.copy(alloc)?, None, &mut kinds)?;
-            let is_new = is_new(alloc, &mut mended)?;
-            assert!(rt; is_new || (is_old(alloc, mended.tree())? && !is_open));
-            assert!(rt; is_bare(alloc, &mut mended));
-            if is_open {
-                opened = opened.saturating_add(1);
-            }
-            // the recovery, itself stopped three times at each of its calls
-            if is_open {
-                assert!(rt; recovers_after_stops(alloc, &left, choice, &mut kinds)?);
+        for choice in CHOICES {
+            match ending(alloc, Stop { call, choice }, &mut kinds)? {
+                "behind the gate" => {}
+                "done" => opened = opened.saturating_add(1),
+                "done before the stop" => {
+                    is_through = true;
+                    break;
+                }
+                other => assert!(rt; false, "{other} {call} {choice:?}"),
             }
         }
     }

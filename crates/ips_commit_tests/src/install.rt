@@ -1,3 +1,5 @@
+//! Steps that are laid straight on an image in memory, with payloads from a repository in memory.
+
 ghost use Rattle.std.specs.Prelude.{◌≡◌, IfOk, length, map};
 ghost use Rattle.ips_text.specs.Path.{IsPath};
 ghost use Rattle.ips_folder.specs.Memory.{mem_folder};
@@ -5,6 +7,7 @@ ghost use Rattle.ips_steps.specs.Journal.{AllProper};
 ghost use Rattle.ips_steps.specs.View.{step_of};
 ghost use Rattle.ips_commit_tests.specs.Example.{example, example_image, untold, untold_sane};
 
+use crate::script::{case_of, push_shown, words};
 use ips_digest::PayloadName;
 use ips_folder::MemFolder;
 use ips_install::{InstallFault, PayloadFault, install};
@@ -131,17 +134,18 @@ fn repository(alloc: Global, abc: Option<&[u8]>, fails: Vec<u64>) -> Result<MemS
     Ok(MemSource::new(tree, fails))
 }
 
-// Lays the example with the bytes `abc` and no bytes, and answers how it ended and the image.
+// Lays the example with these bytes at the name of `abc`, where there are some, and no bytes; a call on the repository and
+// one on the image may be listed as one that fails. It answers how it ended, and the image.
 fn run(
     alloc: Global,
     abc: Option<&[u8]>,
-    source_fails: &[u64],
-    image_fails: &[u64],
+    source_fails: u64,
+    image_fails: u64,
 ) -> Result<(Result<(), InstallFault>, MemFolder), Fail> {
     let steps = example(alloc)?;
     let names = names(alloc, ABC, EMPTY)?;
-    let mut repo = repository(alloc, abc, Vec::from_slice(alloc, source_fails)?)?;
-    let mut image = image(alloc, Vec::from_slice(alloc, image_fails)?)?;
+    let mut repo = repository(alloc, abc, Vec::from_slice(alloc, &[source_fails])?)?;
+    let mut image = image(alloc, Vec::from_slice(alloc, &[image_fails])?)?;
     let ended = install(alloc, "test", steps, names, &mut repo, &mut image);
     Ok((ended, image))
 }
@@ -163,68 +167,86 @@ fn words_of(ended: &Result<(), InstallFault>) -> &str {
     }
 }
 
-// What stands at a path of the image.
-fn look(alloc: Global, image: &MemFolder, bytes: &[u8]) -> Result<Look, Fail> {
-    Ok(image.tree().look(&path(alloc, bytes)?))
+// How it ended, and what stands on the image.
+fn shown(
+    alloc: Global,
+    ended: &Result<(), InstallFault>,
+    image: &MemFolder,
+) -> Result<Vec<u8>, Fail> {
+    let mut text = Vec::from_slice(alloc, words_of(ended).as_bytes())?;
+    for name in ["etc", "usr", "usr/f", "usr/e", "usr/l", "usr/h"] {
+        push_shown(alloc, image.tree(), name, &mut text)?;
+    }
+    let (file, hard) = (path(alloc, b"usr/f")?, path(alloc, b"usr/h")?);
+    if image.tree().same(&file, &hard) {
+        text.extend_from_slice(b" of one file")?;
+    }
+    Ok(text)
+}
+
+// The payload `abc`, the call of the repository that fails and the call of the image that does, if one does: how it ends, and
+// what stands at `etc`, `usr`, `usr/f`, `usr/e`, `usr/l` and `usr/h`.
+const INSTALLED: &str = "
+# a step of each sort is laid
+abc 0 0 -> done 711/ 755/ 644=abc 600= >f 644=abc of one file
+
+# a payload that is not intact changes nothing: another digest, too few bytes, and as a gzip file begins
+none 0 0 -> missing 700/ absent absent absent absent absent
+abd 0 0 -> damaged 700/ absent absent absent absent absent
+ab 0 0 -> damaged 700/ absent absent absent absent absent
+gzip 0 0 -> compressed 700/ absent absent absent absent absent
+
+# payloads are checked: the first is looked for and read, the second looked for
+abc 1 0 -> source 700/ absent absent absent absent absent
+abc 2 0 -> source 700/ absent absent absent absent absent
+abc 3 0 -> source 700/ absent absent absent absent absent
+# the first is read again, into the file that was made
+abc 4 0 -> source 700/ 755/ 600= absent absent absent
+abc 5 0 -> done 711/ 755/ 644=abc 600= >f 644=abc of one file
+
+# the nine calls that lay the steps, the sync, and none; what the call itself does stays, and nothing follows
+abc 0 1 -> unfinished 700/ 755/ absent absent absent absent
+abc 0 2 -> unfinished 700/ 755/ 600= absent absent absent
+abc 0 3 -> unfinished 700/ 755/ 600=abc absent absent absent
+abc 0 4 -> unfinished 700/ 755/ 644=abc absent absent absent
+abc 0 5 -> unfinished 700/ 755/ 644=abc 600= absent absent
+abc 0 6 -> unfinished 700/ 755/ 644=abc 600= absent absent
+abc 0 7 -> unfinished 700/ 755/ 644=abc 600= >f absent
+abc 0 8 -> unfinished 700/ 755/ 644=abc 600= >f 644=abc of one file
+abc 0 9 -> unfinished 711/ 755/ 644=abc 600= >f 644=abc of one file
+abc 0 10 -> unfinished 711/ 755/ 644=abc 600= >f 644=abc of one file
+abc 0 11 -> done 711/ 755/ 644=abc 600= >f 644=abc of one file
+";
+
+// The bytes of a payload of the table.
+fn payload(name: &str) -> Option<&[u8]> {
+    match name {
+        "none" => None,
+        "gzip" => Some(b"\x1f\x8b\x08"),
+        bytes => Some(bytes.as_bytes()),
+    }
 }
 
 #[test]
-fn a_step_of_each_sort_is_laid(rt: HostRuntime) -> Result<(), Fail> {
+fn installs_all_or_tells_why(rt: HostRuntime) -> Result<(), Fail> {
     let alloc = rt.alloc();
-    let (ended, image) = run(alloc, Some(b"abc"), &[], &[])?;
-    assert!(rt; words_of(&ended) == "done");
-    for (at, want) in [
-        (b"usr".as_slice(), Look::Dir { mode: 0o755 }),
-        // the file of three bytes, and its other name
-        (
-            b"usr/f",
-            Look::File {
-                mode: 0o644,
-                size: 3,
-            },
-        ),
-        (
-            b"usr/h",
-            Look::File {
-                mode: 0o644,
-                size: 3,
-            },
-        ),
-        (
-            b"usr/e",
-            Look::File {
-                mode: 0o600,
-                size: 0,
-            },
-        ),
-        (b"usr/l", Look::Link),
-        (b"etc", Look::Dir { mode: 0o711 }),
-    ] {
-        assert!(rt; look(alloc, &image, at)? == want);
+    let mut played = 0u64;
+    for line in INSTALLED.lines() {
+        let Some((case, wanted)) = case_of(line) else {
+            continue;
+        };
+        let [abc, source_fails, image_fails, _] = words(case);
+        let (ended, image) = run(
+            alloc,
+            payload(abc),
+            source_fails.parse()?,
+            image_fails.parse()?,
+        )?;
+        let shown = shown(alloc, &ended, &image)?;
+        assert!(rt; shown.as_slice() == wanted.as_bytes(), "{line} {shown:?}");
+        played = played.saturating_add(1);
     }
-    let tree = image.tree();
-    let file = path(alloc, b"usr/f")?;
-    assert!(rt; tree.bytes(&file) == Some(b"abc".as_slice()));
-    assert!(rt; tree.same(&file, &path(alloc, b"usr/h")?));
-    assert!(rt; tree.target(&path(alloc, b"usr/l")?) == Some(b"f".as_slice()));
-    Ok(())
-}
-
-#[test]
-fn a_payload_that_is_not_intact_changes_nothing(rt: HostRuntime) -> Result<(), Fail> {
-    let alloc = rt.alloc();
-    for (abc, want) in [
-        (None, "missing"),
-        // another digest, too few bytes, and as a gzip file begins
-        (Some(b"abd".as_slice()), "damaged"),
-        (Some(b"ab".as_slice()), "damaged"),
-        (Some(b"\x1f\x8b\x08".as_slice()), "compressed"),
-    ] {
-        let (ended, image) = run(alloc, abc, &[], &[])?;
-        assert!(rt; words_of(&ended) == want);
-        assert!(rt; look(alloc, &image, b"usr")? == Look::Absent);
-        assert!(rt; look(alloc, &image, b"etc")? == Look::Dir { mode: 0o700 });
-    }
+    assert_eq!(rt; played, 21);
     Ok(())
 }
 
@@ -236,45 +258,9 @@ fn a_payload_that_changes_is_found_as_it_is_laid(rt: HostRuntime) -> Result<(), 
     let mut image = image(alloc, Vec::new(alloc))?;
     let mut repo = Changing { reads: 0 };
     let ended = install(alloc, "test", steps, names, &mut repo, &mut image);
-    assert!(rt; words_of(&ended) == "damaged");
     // the directory and the file were made, and the step behind them wasn't begun
-    assert!(rt; look(alloc, &image, b"usr/f")? != Look::Absent);
-    assert!(rt; look(alloc, &image, b"usr/e")? == Look::Absent);
-    Ok(())
-}
-
-#[test]
-fn each_call_may_fail(rt: HostRuntime) -> Result<(), Fail> {
-    let alloc = rt.alloc();
-    // the call of the repository that fails, how it ends, and whether something was laid
-    for (call, want, laid) in [
-        // payloads are checked: the first is looked for and read, the second looked for
-        (1, "source", false),
-        (2, "source", false),
-        (3, "source", false),
-        // the first is read again
-        (4, "source", true),
-        (5, "done", true),
-    ] {
-        let (ended, image) = run(alloc, Some(b"abc"), &[call], &[])?;
-        assert!(rt; words_of(&ended) == want);
-        assert!(rt; (look(alloc, &image, b"usr")? == Look::Dir { mode: 0o755 }) == laid);
-    }
-    // the nine calls that lay the steps, the sync, and none; what the call itself does stays, and nothing follows
-    for call in 1..12u64 {
-        let (ended, image) = run(alloc, Some(b"abc"), &[], &[call])?;
-        let want = if call < 11 { "unfinished" } else { "done" };
-        assert!(rt; words_of(&ended) == want);
-        for (at, by) in [
-            (b"usr".as_slice(), 1),
-            (b"usr/f", 2),
-            (b"usr/e", 5),
-            (b"usr/l", 7),
-            (b"usr/h", 8),
-        ] {
-            assert!(rt; (look(alloc, &image, at)? != Look::Absent) == (call >= by));
-        }
-        assert!(rt; (look(alloc, &image, b"etc")? == Look::Dir { mode: 0o711 }) == (call >= 9));
-    }
+    let shown = shown(alloc, &ended, &image)?;
+    assert!(rt; shown.starts_with(b"damaged 700/ 755/ 6"), "{shown:?}");
+    assert!(rt; shown.ends_with(b" absent absent absent"), "{shown:?}");
     Ok(())
 }

@@ -8,4 +8,6 @@ mod commit;
 #[cfg(test)]
 mod install;
 #[cfg(test)]
+mod script;
+#[cfg(test)]
 mod takers;

@@ -1,26 +1,32 @@
 //! The text of a journal, and how it is read from a folder in memory.
 
-ghost use Rattle.std.specs.Prelude.{IsSome, IsTrue};
+ghost use Rattle.std.specs.Prelude.{IsSome};
 
+use crate::outside::tree_of;
+use crate::script::{call_of, path};
+use crate::steps::read_step;
 use ips_folder::MemFolder;
 use ips_journal::{StepFault, StepReader, write_steps};
-use ips_outside::Tree;
-use ips_steps::{Sort, Step};
 use ips_text::RelPath;
-use std::alloc::Global;
+use std::alloc::{AllocError, Global};
+use std::str;
 use std::test::Fail;
+
+// The bytes of a journal whose lines each end in `;`.
+fn lines_of(alloc: Global, text: &str) -> Result<Vec<u8>, AllocError> {
+    let mut bytes = Vec::from_slice(alloc, text.as_bytes())?;
+    for byte in bytes.iter_mut() {
+        if *byte == b';' {
+            *byte = b'\n';
+        }
+    }
+    Ok(bytes)
+}
 
 // A folder that holds this journal, and of which the call with this number fails.
 fn folder(alloc: Global, journal: &[u8], fails: u64) -> Result<MemFolder, Fail> {
-    let mut tree = Tree::new(alloc);
-    tree.dir(alloc, &RelPath::parse(alloc, b"var")?, 0o755)?;
-    tree.dir(alloc, &RelPath::parse(alloc, b"var/pkg")?, 0o755)?;
-    tree.file(
-        alloc,
-        &RelPath::parse(alloc, b"var/pkg/journal")?,
-        0o644,
-        journal,
-    )?;
+    let mut tree = tree_of(alloc, "dir var 755\ndir var/pkg 755")?;
+    tree.file(alloc, &path(alloc, "var/pkg/journal")?, 0o644, journal)?;
     let fails = Vec::from_slice(alloc, &[fails])?;
     Ok(MemFolder::new(alloc, tree, fails, None)?)
 }
@@ -36,46 +42,53 @@ fn read_all(reader: &mut StepReader, folder: &mut MemFolder) -> Result<u64, Step
     Ok(10)
 }
 
+// Journals, each line of which ends in `;`, and the number of the first bad line.
+const BAD_LINES: &str = "
+ -> 1
+journal 1 -> 1
+journal 2;end 0; -> 1
+# no last line, and one without its newline
+journal 1; -> 2
+journal 1;end 0 -> 2
+# another number of steps
+journal 1;end 1; -> 2
+journal 1;gone a;end 0; -> 3
+# more behind the last line
+journal 1;end 0;end 0; -> 3
+# no path, one that isn't shown so, and names that no step may have
+journal 1;gone /a;end 1; -> 2
+journal 1;gone a b;end 1; -> 2
+journal 1;gone var;end 1; -> 2
+journal 1;gone a;gone var/pkg/stage/0;end 2; -> 3
+# a mode of three digits
+journal 1;fresh 755 a;end 1; -> 2
+# contents that aren't numbered one after another
+journal 1;put 1 0644 a;end 1; -> 2
+journal 1;put 0 0644 a;put 0 0644 b;end 2; -> 3
+# no target, and one that isn't quoted so
+journal 1;link a ;end 1; -> 2
+journal 1;link a %2f;end 1; -> 2
+";
+
 #[test]
 fn tells_the_first_bad_line(rt: HostRuntime) -> Result<(), Fail> {
     let alloc = rt.alloc();
     let mut reader = StepReader::new(alloc)?;
-    for (journal, line) in [
-        (b"".as_slice(), 1),
-        (b"journal 1".as_slice(), 1),
-        (b"journal 2\nend 0\n".as_slice(), 1),
-        // no last line, and one without its newline
-        (b"journal 1\n".as_slice(), 2),
-        (b"journal 1\nend 0".as_slice(), 2),
-        // another number of steps
-        (b"journal 1\nend 1\n".as_slice(), 2),
-        (b"journal 1\ngone a\nend 0\n".as_slice(), 3),
-        // more behind the last line
-        (b"journal 1\nend 0\nend 0\n".as_slice(), 3),
-        // no path, one that isn't shown so, and names that no step may have
-        (b"journal 1\ngone /a\nend 1\n".as_slice(), 2),
-        (b"journal 1\ngone a b\nend 1\n".as_slice(), 2),
-        (b"journal 1\ngone var\nend 1\n".as_slice(), 2),
-        (
-            b"journal 1\ngone a\ngone var/pkg/stage/0\nend 2\n".as_slice(),
-            3,
-        ),
-        // a mode of three digits
-        (b"journal 1\nfresh 755 a\nend 1\n".as_slice(), 2),
-        // contents that aren't numbered one after another
-        (b"journal 1\nput 1 0644 a\nend 1\n".as_slice(), 2),
-        (
-            b"journal 1\nput 0 0644 a\nput 0 0644 b\nend 2\n".as_slice(),
-            3,
-        ),
-        // no target, and one that isn't quoted so
-        (b"journal 1\nlink a \nend 1\n".as_slice(), 2),
-        (b"journal 1\nlink a %2f\nend 1\n".as_slice(), 2),
-    ] {
-        let mut folder = folder(alloc, journal, 0)?;
-        assert!(rt; read_all(&mut reader, &mut folder) == Err(StepFault::BadJournal { line }));
-        assert!(rt; reader.line() == line);
+    let mut played = 0u64;
+    for row in BAD_LINES.lines() {
+        let Some((journal, line)) = call_of(row) else {
+            continue;
+        };
+        let line = line.parse()?;
+        let mut folder = folder(alloc, &lines_of(alloc, journal)?, 0)?;
+        assert!(rt;
+            read_all(&mut reader, &mut folder) == Err(StepFault::BadJournal { line }),
+            "{row}"
+        );
+        assert!(rt; reader.line() == line, "{row}");
+        played = played.saturating_add(1);
     }
+    assert_eq!(rt; played, 17);
     Ok(())
 }
 
@@ -91,122 +104,91 @@ fn each_failed_call_is_a_fault_of_the_folder(rt: HostRuntime) -> Result<(), Fail
     Ok(())
 }
 
-fn path(alloc: Global, bytes: &[u8]) -> Result<RelPath, Fail> {
-    Ok(RelPath::parse(alloc, bytes)?)
-}
-
-// A put with mode 0644.
-fn put(alloc: Global, bytes: &[u8], stage: u64) -> Result<Step, Fail> {
-    let path = path(alloc, bytes)?;
-    Ok(Step::Put {
-        path,
-        mode: 0o644,
-        stage,
-    })
-}
-
-fn fresh(alloc: Global, bytes: &[u8]) -> Result<Step, Fail> {
-    let path = path(alloc, bytes)?;
-    Ok(Step::Fresh { path, mode: 0o755 })
-}
-
 // The steps of a first installation, of a package with one file.
+const FIRST_INSTALLATION: &str = "fresh 0755 usr
+fresh 0755 usr/share
+put 0 0644 usr/share/hello
+put 1 0644 var/pkg/history
+put 2 0644 var/pkg/installed
+put 3 0644 var/pkg/manifests/hello
+put 4 0644 var/pkg/owners";
+
+// Their journal, each line of which ends in `;`.
+const FIRST_JOURNAL: &str =
+    "journal 1;fresh 0755 usr;fresh 0755 usr/share;put 0 0644 usr/share/hello;\
+    put 1 0644 var/pkg/history;put 2 0644 var/pkg/installed;put 3 0644 var/pkg/manifests/hello;\
+    put 4 0644 var/pkg/owners;end 7;";
+
 #[test]
 fn writes_the_journal_of_a_first_installation(rt: HostRuntime) -> Result<(), Fail> {
     let alloc = rt.alloc();
     let mut steps = Vec::new(alloc);
-    steps.push(fresh(alloc, b"usr")?)?;
-    steps.push(fresh(alloc, b"usr/share")?)?;
-    steps.push(put(alloc, b"usr/share/hello", 0)?)?;
-    steps.push(put(alloc, b"var/pkg/history", 1)?)?;
-    steps.push(put(alloc, b"var/pkg/installed", 2)?)?;
-    steps.push(put(alloc, b"var/pkg/manifests/hello", 3)?)?;
-    steps.push(put(alloc, b"var/pkg/owners", 4)?)?;
+    for line in FIRST_INSTALLATION.lines() {
+        steps.push(read_step(alloc, line)?)?;
+    }
     let text = write_steps(alloc, &steps)?;
-    assert!(rt;
-        text.as_slice()
-            == b"journal 1\nfresh 0755 usr\nfresh 0755 usr/share\nput 0 0644 usr/share/hello\nput 1 0644 var/pkg/history\nput 2 0644 var/pkg/installed\nput 3 0644 var/pkg/manifests/hello\nput 4 0644 var/pkg/owners\nend 7\n".as_slice()
-    );
+    assert!(rt; text.as_slice() == lines_of(alloc, FIRST_JOURNAL)?.as_slice());
     let mut reader = StepReader::new(alloc)?;
     assert!(rt; read_all(&mut reader, &mut folder(alloc, &text, 0)?) == Ok(7));
     Ok(())
 }
 
-// Whether the reader lends a step of this sort and path, with this parent and this file of a content, empty where there is
-// none.
-fn lends(reader: &StepReader, sort: Sort, path: &[u8], above: &[u8], file: &[u8]) -> bool
-    requires { IsSome reader.now.step }
-{
-    let above_is = match reader.parent() {
-        Some(dir) => dir.bytes() == above,
-        None => above.is_empty(),
-    };
-    let file_is = match reader.staged() {
-        Some(staged) => staged.bytes() == file,
-        None => file.is_empty(),
-    };
-    let step = reader.step();
-    above_is && file_is && step.sort() == sort && step.path().bytes() == path
+fn push_path(text: &mut String, front: &str, path: &RelPath) -> Result<(), Fail> {
+    text.push_str(front)?;
+    text.push_str(str::from_utf8(path.bytes())?)?;
+    Ok(())
 }
 
-// Reads the next step, and tells whether it is this one.
-fn is_next(
-    reader: &mut StepReader,
-    folder: &mut MemFolder,
-    sort: Sort,
-    path: &[u8],
-    above: &[u8],
-    file: &[u8],
-) -> bool
-    requires { IsTrue reader.old.is_open }
-    ensures { IsTrue result → IsTrue reader.new.is_open }
+// The sort and path of the step that the reader lends, its parent and the file of its content, where it has one.
+fn push_step(alloc: Global, reader: &StepReader, text: &mut String) -> Result<(), Fail>
+    requires { IsSome reader.now.step }
 {
-    match reader.next(folder) {
-        Ok(true) => lends(reader, sort, path, above, file),
-        _ => false,
+    let step = reader.step();
+    text.push_str(&format!(in alloc; "{:?}", step.sort())?)?;
+    push_path(text, " ", step.path())?;
+    if let Some(dir) = reader.parent() {
+        push_path(text, " below ", dir)?;
     }
+    if let Some(file) = reader.staged() {
+        push_path(text, " of ", file)?;
+    }
+    text.push_str("\n")?;
+    Ok(())
 }
+
+// What the reader lends of a journal of which each line but the first and the last is a step.
+fn lent(alloc: Global, reader: &mut StepReader, folder: &mut MemFolder) -> Result<String, Fail> {
+    let mut text = String::new(alloc);
+    reader.rewind();
+    for line in 2..12u64 {
+        if !reader.next(folder)? {
+            break;
+        }
+        text.push_str(&format!(in alloc;
+            "{line}{} ",
+            if reader.line() == line { "" } else { "?" }
+        )?)?;
+        push_step(alloc, reader, &mut text)?;
+    }
+    Ok(text)
+}
+
+const JOURNAL: &str =
+    "journal 1;gone usr%20a/b;mode 0700 var/pkg;put 0 0644 a;link a/b %2Fc;hard a/c a/b;end 5;";
+
+const LENT: &str = "2 Gone usr a/b below usr a
+3 Mode var/pkg below var
+4 Put a of var/pkg/stage/0
+5 Link a/b below a
+6 Hard a/c below a
+";
 
 #[test]
 fn lends_each_step_with_its_parent_and_file(rt: HostRuntime) -> Result<(), Fail> {
     let alloc = rt.alloc();
     let mut reader = StepReader::new(alloc)?;
-    let journal =
-        b"journal 1\ngone usr%20a/b\nmode 0700 var/pkg\nput 0 0644 a\nlink a/b %2Fc\nhard a/c a/b\nend 5\n";
-    let mut folder = folder(alloc, journal, 0)?;
-    assert!(rt;
-        is_next(
-            &mut reader,
-            &mut folder,
-            Sort::Gone,
-            b"usr a/b",
-            b"usr a",
-            b""
-        )
-    );
-    assert!(rt;
-        is_next(
-            &mut reader,
-            &mut folder,
-            Sort::Mode,
-            b"var/pkg",
-            b"var",
-            b""
-        )
-    );
-    assert!(rt;
-        is_next(
-            &mut reader,
-            &mut folder,
-            Sort::Put,
-            b"a",
-            b"",
-            b"var/pkg/stage/0"
-        )
-    );
-    assert!(rt; reader.line() == 4);
-    assert!(rt; is_next(&mut reader, &mut folder, Sort::Link, b"a/b", b"a", b""));
-    assert!(rt; is_next(&mut reader, &mut folder, Sort::Hard, b"a/c", b"a", b""));
-    assert!(rt; reader.next(&mut folder) == Ok(false));
+    let mut folder = folder(alloc, &lines_of(alloc, JOURNAL)?, 0)?;
+    let lent = lent(alloc, &mut reader, &mut folder)?;
+    assert!(rt; lent.as_str() == LENT, "{lent}");
     Ok(())
 }

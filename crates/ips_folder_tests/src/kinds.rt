@@ -1,11 +1,14 @@
+//! Kinds of steps, and which of a list carries a step out.
+
 ghost use Rattle.std.specs.Prelude.{◌≡◌, ◌||◌, IsTrue};
 ghost use Rattle.ips_steps.specs.View.{step_of, sort_of};
 ghost use Rattle.ips_steps.specs.declared.step.Sort.TheVariants as of_sort;
 ghost use Rattle.ips_kinds.specs.Acts.{same_sort};
 
+use crate::script::call_of;
+use crate::steps::read_step;
 use ips_kinds::{Act, FreshKind, GoneKind, HardKind, Kind, LinkKind, ModeKind, PutKind};
-use ips_steps::{Sort, Step, Target};
-use ips_text::{Or, PathFault, RelPath};
+use ips_steps::{Sort, Step};
 use std::alloc::{AllocError, Global};
 use std::test::Fail;
 
@@ -70,21 +73,6 @@ fn carried_out(
     Ok(Vec::new(alloc))
 }
 
-fn bin(alloc: Global) -> Result<RelPath, Or<PathFault>> {
-    RelPath::parse(alloc, b"usr/bin")
-}
-
-// The acts of the step, by the first kind that takes it, are these.
-fn does(
-    alloc: Global,
-    kinds: &mut Vec<Box<dyn Kind>>,
-    step: Step,
-    want: &[Act],
-) -> Result<bool, AllocError> {
-    let acts = carried_out(alloc, kinds, &step)?;
-    Ok(acts.as_slice() == want)
-}
-
 // How many steps each kind has finished, one after another.
 fn tallies(alloc: Global, kinds: &Vec<Box<dyn Kind>>) -> Result<Vec<u64>, AllocError> {
     let mut all = Vec::new(alloc);
@@ -94,112 +82,72 @@ fn tallies(alloc: Global, kinds: &Vec<Box<dyn Kind>>) -> Result<Vec<u64>, AllocE
     Ok(all)
 }
 
-#[test]
-fn the_first_kind_that_takes_a_step_carries_it_out(rt: HostRuntime) -> Result<(), Fail> {
-    let alloc = rt.alloc();
-    let mut kinds: Vec<Box<dyn Kind>> = Vec::new(alloc);
-    kinds.push(Box::new(alloc, DirKind { tally: 0 })?)?;
-    kinds.push(Box::new(alloc, GoneKind::new())?)?;
-    let gone = Step::Gone { path: bin(alloc)? };
-    assert!(rt; does(alloc, &mut kinds, gone, &[Act::Clear, Act::Finished])?);
-    let fresh = Step::Fresh {
-        path: bin(alloc)?,
-        mode: 0o755,
-    };
-    assert!(rt;
-        does(
-            alloc,
-            &mut kinds,
-            fresh,
-            &[Act::Clear, Act::MakeDir, Act::Finished]
-        )?
-    );
-    // no kind takes it
-    let mode = Step::Mode {
-        path: bin(alloc)?,
-        mode: 0o700,
-    };
-    assert!(rt; does(alloc, &mut kinds, mode, &[])?);
-    assert!(rt; tallies(alloc, &kinds)?.as_slice() == [2, 0].as_slice());
-    Ok(())
+// Lists of kinds, one behind another: which kinds a list has, steps and the acts of each, and how many steps each kind has
+// finished.
+const LISTS: &str = "
+# the first kind that takes a step carries it out
+no kinds -> yet
+kind of gone and fresh -> added
+kind of gone -> added
+gone usr/bin -> [Clear, Finished]
+fresh 0755 usr/bin -> [Clear, MakeDir, Finished]
+# no kind takes it
+mode 0700 usr/bin -> []
+tallies -> [2, 0]
+# directories and modes
+no kinds -> yet
+kind of fresh -> added
+kind of mode -> added
+kind of gone -> added
+gone usr/bin -> [Clear, Finished]
+fresh 0755 usr/bin -> [Clear, MakeDir, Finished]
+mode 0700 usr/bin -> [SetMode, Finished]
+tallies -> [1, 1, 1]
+# files and links
+no kinds -> yet
+kind of put -> added
+kind of link -> added
+kind of hard -> added
+put 0 0644 usr/bin -> [Clear, MakeFile, Copy, SetMode, Finished]
+link usr/bin ../sbin -> [Clear, MakeLink, Finished]
+hard usr/bin usr/sbin -> [Clear, MakeHard, Finished]
+tallies -> [1, 1, 1]
+";
+
+// What the list does with the step, or how many steps its kinds have finished.
+fn answer(alloc: Global, kinds: &mut Vec<Box<dyn Kind>>, call: &str) -> Result<String, Fail> {
+    if call == "tallies" {
+        return Ok(format!(in alloc; "{:?}", tallies(alloc, kinds)?)?);
+    }
+    let step = read_step(alloc, call)?;
+    Ok(format!(in alloc; "{:?}", carried_out(alloc, kinds, &step)?)?)
 }
 
 #[test]
-fn directories_and_modes(rt: HostRuntime) -> Result<(), Fail> {
+fn lists_of_kinds_carry_steps_out(rt: HostRuntime) -> Result<(), Fail> {
     let alloc = rt.alloc();
     let mut kinds: Vec<Box<dyn Kind>> = Vec::new(alloc);
-    kinds.push(Box::new(alloc, FreshKind::new())?)?;
-    kinds.push(Box::new(alloc, ModeKind::new())?)?;
-    kinds.push(Box::new(alloc, GoneKind::new())?)?;
-    let gone = Step::Gone { path: bin(alloc)? };
-    assert!(rt; does(alloc, &mut kinds, gone, &[Act::Clear, Act::Finished])?);
-    let fresh = Step::Fresh {
-        path: bin(alloc)?,
-        mode: 0o755,
-    };
-    assert!(rt;
-        does(
-            alloc,
-            &mut kinds,
-            fresh,
-            &[Act::Clear, Act::MakeDir, Act::Finished]
-        )?
-    );
-    let mode = Step::Mode {
-        path: bin(alloc)?,
-        mode: 0o700,
-    };
-    assert!(rt; does(alloc, &mut kinds, mode, &[Act::SetMode, Act::Finished])?);
-    assert!(rt; tallies(alloc, &kinds)?.as_slice() == [1, 1, 1].as_slice());
-    Ok(())
-}
-
-#[test]
-fn files_and_links(rt: HostRuntime) -> Result<(), Fail> {
-    let alloc = rt.alloc();
-    let mut kinds: Vec<Box<dyn Kind>> = Vec::new(alloc);
-    kinds.push(Box::new(alloc, PutKind::new())?)?;
-    kinds.push(Box::new(alloc, LinkKind::new())?)?;
-    kinds.push(Box::new(alloc, HardKind::new())?)?;
-    let put = Step::Put {
-        path: bin(alloc)?,
-        mode: 0o644,
-        stage: 0,
-    };
-    let acts = [
-        Act::Clear,
-        Act::MakeFile,
-        Act::Copy,
-        Act::SetMode,
-        Act::Finished,
-    ];
-    assert!(rt; does(alloc, &mut kinds, put, &acts)?);
-    let target = Target::parse(alloc, b"../sbin")?;
-    let link = Step::Link {
-        path: bin(alloc)?,
-        target,
-    };
-    assert!(rt;
-        does(
-            alloc,
-            &mut kinds,
-            link,
-            &[Act::Clear, Act::MakeLink, Act::Finished]
-        )?
-    );
-    let to = RelPath::parse(alloc, b"usr/sbin")?;
-    let hard = Step::Hard {
-        path: bin(alloc)?,
-        to,
-    };
-    assert!(rt;
-        does(
-            alloc,
-            &mut kinds,
-            hard,
-            &[Act::Clear, Act::MakeHard, Act::Finished]
-        )?
-    );
-    assert!(rt; tallies(alloc, &kinds)?.as_slice() == [1, 1, 1].as_slice());
+    let mut played = 0u64;
+    for line in LISTS.lines() {
+        let Some((call, wanted)) = call_of(line) else {
+            continue;
+        };
+        match call {
+            "no kinds" => kinds = Vec::new(alloc),
+            "kind of gone and fresh" => kinds.push(Box::new(alloc, DirKind { tally: 0 })?)?,
+            "kind of gone" => kinds.push(Box::new(alloc, GoneKind::new())?)?,
+            "kind of fresh" => kinds.push(Box::new(alloc, FreshKind::new())?)?,
+            "kind of mode" => kinds.push(Box::new(alloc, ModeKind::new())?)?,
+            "kind of put" => kinds.push(Box::new(alloc, PutKind::new())?)?,
+            "kind of link" => kinds.push(Box::new(alloc, LinkKind::new())?)?,
+            "kind of hard" => kinds.push(Box::new(alloc, HardKind::new())?)?,
+            _ => {
+                let answer = answer(alloc, &mut kinds, call)?;
+                assert!(rt; answer.as_str() == wanted, "{line} {answer}");
+            }
+        }
+        played = played.saturating_add(1);
+    }
+    assert_eq!(rt; played, 23);
     Ok(())
 }

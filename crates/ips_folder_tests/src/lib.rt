@@ -10,4 +10,6 @@ mod kinds;
 #[cfg(test)]
 mod outside;
 #[cfg(test)]
+mod script;
+#[cfg(test)]
 mod steps;

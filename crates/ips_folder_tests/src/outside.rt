@@ -1,200 +1,342 @@
+//! Trees, sources and sinks in memory.
+
+use crate::script::{bytes, call_of, look_shown, path, words};
 use ips_outside::{Failed, Look, MemSink, MemSource, Sink, Source, SureSource, Tree, TreeFault};
-use ips_text::{Or, RelPath};
+use ips_text::{Or, RelPath, octal};
 use std::alloc::Global;
+use std::process::Abort;
 use std::test::Fail;
 
-#[test]
-fn makers_refuse_in_order(rt: HostRuntime) -> Result<(), Fail> {
-    let alloc = rt.alloc();
+// How a maker of a tree answered.
+fn fault_shown(made: Result<(), Or<TreeFault>>) -> &'static str {
+    match made {
+        Ok(()) => "ok",
+        Err(Or::Bad(TreeFault::NoParent)) => "no parent",
+        Err(Or::Bad(TreeFault::Taken)) => "taken",
+        Err(Or::Bad(TreeFault::NoFile)) => "no file",
+        Err(Or::OutOfMemory) => "out of memory",
+    }
+}
+
+// Makes something at a path: `dir PATH MODE`, `file PATH MODE BYTES`, `link PATH TARGET`, `other PATH` or `hard PATH TO`.
+fn make(
+    alloc: Global,
+    tree: &mut Tree,
+    at: &RelPath,
+    name: &str,
+    second: &str,
+    third: &str,
+) -> Result<&'static str, Fail> {
+    let mode = octal(second.as_bytes()).unwrap_or(0);
+    Ok(fault_shown(match name {
+        "dir" => tree.dir(alloc, at, mode),
+        "file" => tree.file(alloc, at, mode, &bytes(alloc, third)?),
+        "link" => tree.link(alloc, at, &bytes(alloc, second)?),
+        "other" => tree.other(alloc, at),
+        _ => tree.hard(alloc, at, &path(alloc, second)?),
+    }))
+}
+
+// Each maker, once with both faults of a hard link; `@` is the path itself.
+const MAKERS: [&str; 6] = [
+    "dir @ 700",
+    "file @ 600 nothing",
+    "link @ x",
+    "other @",
+    "hard @ etc/motd",
+    "hard @ @",
+];
+
+// What each of the makers answers at the path, or that they differ.
+fn make_each(alloc: Global, tree: &mut Tree, at: &str) -> Result<&'static str, Fail> {
+    let path = path(alloc, at)?;
+    let mut common = "none";
+    for maker in MAKERS {
+        let [name, _, second, third] = words(maker);
+        let second = if second == "@" { at } else { second };
+        let answer = make(alloc, tree, &path, name, second, third)?;
+        if common != "none" && common != answer {
+            return Ok("they differ");
+        }
+        common = answer;
+    }
+    Ok(common)
+}
+
+fn yes_or_no(is_so: bool) -> &'static str {
+    if is_so { "yes" } else { "no" }
+}
+
+// Changes a tree by a call that no fault is told of: `mark PATH`, `mode PATH MODE` or `remove PATH`.
+fn change(tree: &mut Tree, at: &RelPath, call: [&str; 4]) -> &'static str {
+    match call[0] {
+        "mark" => {
+            if !tree.mark_foreign(at) {
+                return "no directory";
+            }
+        }
+        "mode" => tree.set_mode(at, octal(call[2].as_bytes()).unwrap_or(0)),
+        _ => tree.remove(at),
+    }
+    "ok"
+}
+
+// The paths right below, one behind another.
+fn children(alloc: Global, tree: &Tree, at: &RelPath) -> Result<Vec<u8>, Fail> {
+    let mut shown = Vec::new(alloc);
+    for child in &tree.children(alloc, at)? {
+        if !shown.is_empty() {
+            shown.push(b' ')?;
+        }
+        shown.extend_from_slice(child.bytes())?;
+    }
+    Ok(shown)
+}
+
+// What a tree tells of a path: `bytes PATH`, `target PATH`, `same PATH OTHER` or `foreign PATH`.
+fn seen<'a>(
+    alloc: Global,
+    tree: &'a Tree,
+    at: &RelPath,
+    call: [&str; 4],
+) -> Result<&'a [u8], Fail> {
+    Ok(match call[0] {
+        "bytes" => tree.bytes(at).unwrap_or(b"none"),
+        "target" => tree.target(at).unwrap_or(b"none"),
+        "same" => yes_or_no(tree.same(at, &path(alloc, call[2])?)).as_bytes(),
+        _ => yes_or_no(tree.is_foreign(at)).as_bytes(),
+    })
+}
+
+// What a call on a tree answers.
+fn answer(alloc: Global, tree: &mut Tree, call: &str) -> Result<Vec<u8>, Fail> {
+    let call = words(call);
+    let at = path(alloc, call[1])?;
+    let answer = match call[0] {
+        "look" => return Ok(look_shown(alloc, tree.look(&at))?.into_bytes()),
+        "children" => return children(alloc, tree, &at),
+        "bytes" | "target" | "same" | "foreign" => {
+            return Ok(Vec::from_slice(alloc, seen(alloc, tree, &at, call)?)?);
+        }
+        "mark" | "mode" | "remove" => change(tree, &at, call).as_bytes(),
+        "each" => make_each(alloc, tree, call[1])?.as_bytes(),
+        _ => make(alloc, tree, &at, call[0], call[2], call[3])?.as_bytes(),
+    };
+    Ok(Vec::from_slice(alloc, answer)?)
+}
+
+/// The tree that comes of these calls, one a line, none of which is refused.
+pub fn tree_of(alloc: Global, calls: &str) -> Result<Tree, Fail> {
     let mut tree = Tree::new(alloc);
-    let motd = RelPath::parse(alloc, b"etc/motd")?;
-    tree.dir(alloc, &RelPath::parse(alloc, b"etc")?, 0o755)?;
-    tree.file(alloc, &motd, 0o644, b"hi")?;
-    tree.link(alloc, &RelPath::parse(alloc, b"etc/now")?, b"motd")?;
-    tree.other(alloc, &RelPath::parse(alloc, b"etc/pipe")?)?;
-    for (path, fault) in [
-        // its parent isn't there
-        ("usr/bin", TreeFault::NoParent),
-        // its parent is a file, a link, and neither
-        ("etc/motd/x", TreeFault::NoParent),
-        ("etc/now/x", TreeFault::NoParent),
-        ("etc/pipe/x", TreeFault::NoParent),
-        ("etc", TreeFault::Taken),
-        ("etc/motd", TreeFault::Taken),
-        ("etc/now", TreeFault::Taken),
-        ("etc/pipe", TreeFault::Taken),
-    ] {
-        let path = RelPath::parse(alloc, path.as_bytes())?;
-        for answer in [
-            tree.dir(alloc, &path, 0o700),
-            tree.file(alloc, &path, 0o600, b""),
-            tree.link(alloc, &path, b"x"),
-            tree.other(alloc, &path),
-            tree.hard(alloc, &path, &motd),
-            // both faults hold
-            tree.hard(alloc, &path, &path),
-        ] {
+    for call in calls.lines() {
+        if answer(alloc, &mut tree, call)?.as_slice() != b"ok".as_slice() {
+            return Err("a call was refused".into());
+        }
+    }
+    Ok(tree)
+}
+
+// Plays a script of so many calls on an empty tree. After `copy` the calls are on the copy, after `back` on the first tree.
+fn play(rt: &impl Abort, alloc: Global, script: &str, count: u64) -> Result<(), Fail> {
+    let mut tree = Tree::new(alloc);
+    let mut other = Tree::new(alloc);
+    let mut played = 0u64;
+    for line in script.lines() {
+        let Some((call, wanted)) = call_of(line) else {
+            continue;
+        };
+        if call == "copy" {
+            other = tree;
+            tree = other.copy(alloc)?;
+        } else if call == "back" {
+            let copy = tree;
+            tree = other;
+            other = copy;
+        } else {
+            let answer = answer(alloc, &mut tree, call)?;
             assert!(rt;
-                matches!(answer, Err(Or::Bad(found)) if found == fault),
-                "{path:?}"
+                answer.as_slice() == bytes(alloc, wanted)?.as_slice(),
+                "{line}"
             );
         }
+        played = played.saturating_add(1);
     }
-    for to in ["etc", "etc/now", "etc/pipe", "etc/new", "usr"] {
-        let path = RelPath::parse(alloc, b"etc/new")?;
-        let to = RelPath::parse(alloc, to.as_bytes())?;
-        assert!(rt;
-            matches!(
-                tree.hard(alloc, &path, &to),
-                Err(Or::Bad(TreeFault::NoFile))
-            ),
-            "{to:?}"
-        );
-        assert_eq!(rt; tree.look(&path), Look::Absent);
-    }
+    assert_eq!(rt; played, count);
     Ok(())
 }
 
-#[test]
-fn hard_links_show_one_file(rt: HostRuntime) -> Result<(), Fail> {
-    let alloc = rt.alloc();
-    let mut tree = Tree::new(alloc);
-    let first = RelPath::parse(alloc, b"first")?;
-    let second = RelPath::parse(alloc, b"second")?;
-    let third = RelPath::parse(alloc, b"third")?;
-    tree.file(alloc, &first, 0o644, b"one")?;
-    tree.hard(alloc, &second, &first)?;
-    tree.file(alloc, &third, 0o644, b"one")?;
-    tree.set_mode(&second, 0o4711);
-    for (a, b, one) in [
-        (&first, &second, true),
-        (&second, &first, true),
-        (&first, &first, true),
-        (&first, &third, false),
-        (&third, &second, false),
-    ] {
-        assert_eq!(rt; tree.same(a, b), one, "{a:?} {b:?}");
-    }
-    // the other name stays, with the mode that both had
-    tree.remove(&first);
-    assert_eq!(rt; tree.look(&first), Look::Absent);
-    assert_eq!(rt;
-        tree.look(&second),
-        Look::File {
-            mode: 0o4711,
-            size: 3
-        }
-    );
-    assert!(rt; !tree.same(&first, &second));
-    assert!(rt; !tree.same(&first, &first));
-    Ok(())
-}
+const MAKERS_REFUSE_IN_ORDER: &str = "
+dir etc 755 -> ok
+file etc/motd 644 hi -> ok
+link etc/now motd -> ok
+other etc/pipe -> ok
+# its parent isn't there
+each usr/bin -> no parent
+# its parent is a file, a link, and neither
+each etc/motd/x -> no parent
+each etc/now/x -> no parent
+each etc/pipe/x -> no parent
+each etc -> taken
+each etc/motd -> taken
+each etc/now -> taken
+each etc/pipe -> taken
+# a hard link to what is no file
+hard etc/new etc -> no file
+look etc/new -> absent
+hard etc/new etc/now -> no file
+look etc/new -> absent
+hard etc/new etc/pipe -> no file
+look etc/new -> absent
+hard etc/new etc/new -> no file
+look etc/new -> absent
+hard etc/new usr -> no file
+look etc/new -> absent
+";
+
+const HARD_LINKS_SHOW_ONE_FILE: &str = "
+file first 644 one -> ok
+hard second first -> ok
+file third 644 one -> ok
+mode second 4711 -> ok
+same first second -> yes
+same second first -> yes
+same first first -> yes
+same first third -> no
+same third second -> no
+# the other name stays, with the mode that both had
+remove first -> ok
+look first -> absent
+look second -> file 4711 3
+same first second -> no
+same first first -> no
+";
+
+const LINKS_AND_MARKS: &str = "
+dir etc 755 -> ok
+file etc/motd 644 hello -> ok
+# a target may be any bytes
+link etc/now ../%ff/%00 -> ok
+other etc/pipe -> ok
+look etc/now -> link
+look etc/pipe -> other
+target etc/now -> ../%ff/%00
+bytes etc/now -> none
+target etc/pipe -> none
+target etc/motd -> none
+# directories alone are marked, and what stands there stays
+look etc -> dir 755
+mark etc -> ok
+look etc -> dir 755
+look etc/motd -> file 644 5
+mark etc/motd -> no directory
+look etc/motd -> file 644 5
+mark etc/now -> no directory
+look etc/now -> link
+mark etc/pipe -> no directory
+look etc/pipe -> other
+look usr -> absent
+mark usr -> no directory
+look usr -> absent
+";
+
+const REMOVES_A_SUBTREE: &str = "
+dir a 755 -> ok
+dir a-b 755 -> ok
+dir a/b 755 -> ok
+dir a/b/c 755 -> ok
+dir a0 755 -> ok
+dir b 755 -> ok
+file a/b/c/file 600 x -> ok
+hard b/kept a/b/c/file -> ok
+link a/link ../b -> ok
+remove a -> ok
+# nothing stands there
+remove a/b -> ok
+remove c -> ok
+look a -> absent
+look a-b -> dir 755
+look a/b -> absent
+look a/b/c -> absent
+look a/b/c/file -> absent
+look a/link -> absent
+look a0 -> dir 755
+look b -> dir 755
+bytes b/kept -> x
+dir a 700 -> ok
+";
+
+const LOOKS: &str = "
+dir etc 755 -> ok
+file etc/motd 644 hi -> ok
+mode etc 1777 -> ok
+copy -> the copy
+back -> the tree
+mode etc/motd 4755 -> ok
+look etc -> dir 1777
+look etc/motd -> file 4755 2
+look etc/mot -> absent
+look etc/motd/x -> absent
+bytes etc -> none
+back -> the copy, which has the old mode
+look etc -> dir 1777
+look etc/motd -> file 644 2
+look etc/mot -> absent
+look etc/motd/x -> absent
+bytes etc/motd -> hi
+";
+
+const LISTS_CHILDREN_BY_BYTES: &str = "
+dir d 755 -> ok
+dir d0 755 -> ok
+dir d- 755 -> ok
+dir d/a0 755 -> ok
+dir d/a 755 -> ok
+dir d/a/z 755 -> ok
+dir d/a/z/y 755 -> ok
+dir d/a-b 755 -> ok
+dir d/a-b/c 755 -> ok
+dir d/a/b 755 -> ok
+dir d/é 755 -> ok
+file d/a! 644 nothing -> ok
+link d/a/now z -> ok
+mark d/a -> ok
+children d -> d/a d/a! d/a-b d/a0 d/é
+foreign d -> no
+children d/a -> d/a/b d/a/now d/a/z
+foreign d/a -> yes
+children d/a/b -> nothing
+foreign d/a/b -> no
+children d0 -> nothing
+foreign d0 -> no
+# no directories
+children d/a! -> nothing
+foreign d/a! -> no
+children d/a/now -> nothing
+foreign d/a/now -> no
+children e -> nothing
+foreign e -> no
+copy -> the copy has the mark too, and a mode leaves it
+mode d/a 700 -> ok
+foreign d/a -> yes
+remove d/a -> ok
+children d -> d/a! d/a-b d/a0 d/é
+";
 
 #[test]
-fn links_and_marks(rt: HostRuntime) -> Result<(), Fail> {
+fn trees_answer_as_they_are_to(rt: HostRuntime) -> Result<(), Fail> {
     let alloc = rt.alloc();
-    let mut tree = sample(alloc)?;
-    let link = RelPath::parse(alloc, b"etc/now")?;
-    let pipe = RelPath::parse(alloc, b"etc/pipe")?;
-    // a target may be any bytes
-    tree.link(alloc, &link, b"../\xff/\0")?;
-    tree.other(alloc, &pipe)?;
-    assert_eq!(rt; tree.look(&link), Look::Link);
-    assert_eq!(rt; tree.look(&pipe), Look::Other);
-    assert!(rt; tree.target(&link) == Some(b"../\xff/\0".as_slice()));
-    assert!(rt; tree.bytes(&link).is_none());
-    assert!(rt; tree.target(&pipe).is_none());
-    assert!(rt; tree.target(&RelPath::parse(alloc, b"etc/motd")?).is_none());
-    for (path, marked) in [
-        ("etc", true),
-        ("etc/motd", false),
-        ("etc/now", false),
-        ("etc/pipe", false),
-        ("usr", false),
-    ] {
-        let path = RelPath::parse(alloc, path.as_bytes())?;
-        let found = tree.look(&path);
-        assert_eq!(rt; tree.mark_foreign(&path), marked, "{path:?}");
-        assert_eq!(rt; tree.look(&path), found, "{path:?}");
-    }
-    Ok(())
-}
-
-#[test]
-fn removes_a_subtree(rt: HostRuntime) -> Result<(), Fail> {
-    let alloc = rt.alloc();
-    let mut tree = Tree::new(alloc);
-    for path in ["a", "a-b", "a/b", "a/b/c", "a0", "b"] {
-        tree.dir(alloc, &RelPath::parse(alloc, path.as_bytes())?, 0o755)?;
-    }
-    let kept = RelPath::parse(alloc, b"b/kept")?;
-    tree.file(alloc, &RelPath::parse(alloc, b"a/b/c/file")?, 0o600, b"x")?;
-    tree.hard(alloc, &kept, &RelPath::parse(alloc, b"a/b/c/file")?)?;
-    tree.link(alloc, &RelPath::parse(alloc, b"a/link")?, b"../b")?;
-    tree.remove(&RelPath::parse(alloc, b"a")?);
-    // nothing stands there
-    tree.remove(&RelPath::parse(alloc, b"a/b")?);
-    tree.remove(&RelPath::parse(alloc, b"c")?);
-    for (path, stands) in [
-        ("a", false),
-        ("a-b", true),
-        ("a/b", false),
-        ("a/b/c", false),
-        ("a/b/c/file", false),
-        ("a/link", false),
-        ("a0", true),
-        ("b", true),
-    ] {
-        let path = RelPath::parse(alloc, path.as_bytes())?;
-        assert_eq!(rt; tree.look(&path) != Look::Absent, stands, "{path:?}");
-    }
-    assert!(rt; tree.bytes(&kept) == Some(b"x".as_slice()));
-    tree.dir(alloc, &RelPath::parse(alloc, b"a")?, 0o700)?;
-    Ok(())
-}
-
-#[test]
-fn looks(rt: HostRuntime) -> Result<(), Fail> {
-    let alloc = rt.alloc();
-    let mut tree = Tree::new(alloc);
-    tree.dir(alloc, &RelPath::parse(alloc, b"etc")?, 0o755)?;
-    tree.file(alloc, &RelPath::parse(alloc, b"etc/motd")?, 0o644, b"hi")?;
-    tree.set_mode(&RelPath::parse(alloc, b"etc")?, 0o1777);
-    let copy = tree.copy(alloc)?;
-    tree.set_mode(&RelPath::parse(alloc, b"etc/motd")?, 0o4755);
-    for (path, found, copied) in [
-        (
-            "etc",
-            Look::Dir { mode: 0o1777 },
-            Look::Dir { mode: 0o1777 },
-        ),
-        (
-            "etc/motd",
-            Look::File {
-                mode: 0o4755,
-                size: 2,
-            },
-            Look::File {
-                mode: 0o644,
-                size: 2,
-            },
-        ),
-        ("etc/mot", Look::Absent, Look::Absent),
-        ("etc/motd/x", Look::Absent, Look::Absent),
-    ] {
-        let path = RelPath::parse(alloc, path.as_bytes())?;
-        assert_eq!(rt; tree.look(&path), found, "{path:?}");
-        assert_eq!(rt; copy.look(&path), copied, "{path:?}");
-    }
-    assert!(rt; tree.bytes(&RelPath::parse(alloc, b"etc")?).is_none());
-    assert!(rt; copy.bytes(&RelPath::parse(alloc, b"etc/motd")?) == Some(b"hi".as_slice()));
-    Ok(())
+    play(&rt, alloc, MAKERS_REFUSE_IN_ORDER, 22)?;
+    play(&rt, alloc, HARD_LINKS_SHOW_ONE_FILE, 14)?;
+    play(&rt, alloc, LINKS_AND_MARKS, 23)?;
+    play(&rt, alloc, REMOVES_A_SUBTREE, 22)?;
+    play(&rt, alloc, LOOKS, 17)?;
+    play(&rt, alloc, LISTS_CHILDREN_BY_BYTES, 33)
 }
 
 #[test]
 fn appends(rt: HostRuntime) -> Result<(), Fail> {
     let alloc = rt.alloc();
-    let path = RelPath::parse(alloc, b"log")?;
+    let path = path(alloc, "log")?;
     let mut tree = Tree::new(alloc);
     tree.file(alloc, &path, 0o600, b"one ")?;
     tree.append(&path, b"two")?;
@@ -202,54 +344,11 @@ fn appends(rt: HostRuntime) -> Result<(), Fail> {
     Ok(())
 }
 
-#[test]
-fn lists_children_by_bytes(rt: HostRuntime) -> Result<(), Fail> {
-    let alloc = rt.alloc();
-    let mut tree = Tree::new(alloc);
-    for path in [
-        "d", "d0", "d-", "d/a0", "d/a", "d/a/z", "d/a/z/y", "d/a-b", "d/a-b/c", "d/a/b", "d/\u{e9}",
-    ] {
-        tree.dir(alloc, &RelPath::parse(alloc, path.as_bytes())?, 0o755)?;
-    }
-    tree.file(alloc, &RelPath::parse(alloc, b"d/a!")?, 0o644, b"")?;
-    tree.link(alloc, &RelPath::parse(alloc, b"d/a/now")?, b"z")?;
-    assert!(rt; tree.mark_foreign(&RelPath::parse(alloc, b"d/a")?));
-    for (dir, want, foreign) in [
-        ("d", "d/a d/a! d/a-b d/a0 d/\u{e9} ", false),
-        ("d/a", "d/a/b d/a/now d/a/z ", true),
-        ("d/a/b", "", false),
-        ("d0", "", false),
-        // no directories
-        ("d/a!", "", false),
-        ("d/a/now", "", false),
-        ("e", "", false),
-    ] {
-        let dir = RelPath::parse(alloc, dir.as_bytes())?;
-        let mut shown = Vec::new(alloc);
-        for child in &tree.children(alloc, &dir)? {
-            shown.extend_from_slice(child.bytes())?;
-            shown.push(b' ')?;
-        }
-        assert!(rt; shown.as_slice() == want.as_bytes(), "{dir:?}");
-        assert_eq!(rt; tree.is_foreign(&dir), foreign, "{dir:?}");
-    }
-    // a copy has the mark too, and a mode leaves it
-    let mut copy = tree.copy(alloc)?;
-    let marked = RelPath::parse(alloc, b"d/a")?;
-    copy.set_mode(&marked, 0o700);
-    assert!(rt; copy.is_foreign(&marked));
-    copy.remove(&marked);
-    assert_eq!(rt;
-        copy.children(alloc, &RelPath::parse(alloc, b"d")?)?.len(),
-        4
-    );
-    Ok(())
-}
-
+// A directory with a file of five bytes.
 fn sample(alloc: Global) -> Result<Tree, Fail> {
     let mut tree = Tree::new(alloc);
-    tree.dir(alloc, &RelPath::parse(alloc, b"etc")?, 0o755)?;
-    tree.file(alloc, &RelPath::parse(alloc, b"etc/motd")?, 0o644, b"hello")?;
+    tree.dir(alloc, &path(alloc, "etc")?, 0o755)?;
+    tree.file(alloc, &path(alloc, "etc/motd")?, 0o644, b"hello")?;
     Ok(tree)
 }
 
@@ -260,37 +359,43 @@ fn size<S: Source>(source: &mut S, path: &RelPath) -> Result<Option<u64>, Failed
     }
 }
 
+// What is read of a path from a place on, into four bytes.
+const READS: &str = "
+etc/motd 0 -> hell
+etc/motd 3 -> lo
+# the end, and places past it
+etc/motd 5 -> nothing
+etc/motd 18446744073709551615 -> nothing
+# no files
+etc 0 -> nothing
+usr 0 -> nothing
+";
+
 #[test]
 fn sources_read(rt: HostRuntime) -> Result<(), Fail> {
     let alloc = rt.alloc();
     let mut source = SureSource::new(sample(alloc)?);
-    for (path, at, want) in [
-        ("etc/motd", 0, "hell"),
-        ("etc/motd", 3, "lo"),
-        // the end, and places past it
-        ("etc/motd", 5, ""),
-        ("etc/motd", u64::MAX, ""),
-        // no files
-        ("etc", 0, ""),
-        ("usr", 0, ""),
-    ] {
-        let path = RelPath::parse(alloc, path.as_bytes())?;
+    let mut played = 0u64;
+    for line in READS.lines() {
+        let Some((call, wanted)) = call_of(line) else {
+            continue;
+        };
+        let [at, place, _, _] = words(call);
         let mut buf = [0u8; 4];
-        let count = source.read(&path, at, &mut buf)?;
+        let count = source.read(&path(alloc, at)?, place.parse()?, &mut buf)?;
         assert!(rt; count <= buf.len());
-        assert!(rt; &buf[..count] == want.as_bytes(), "{path:?} {at}");
+        assert!(rt; &buf[..count] == bytes(alloc, wanted)?.as_slice(), "{line}");
+        played = played.saturating_add(1);
     }
-    assert_eq!(rt;
-        size(&mut source, &RelPath::parse(alloc, b"etc/motd")?),
-        Ok(Some(5))
-    );
+    assert_eq!(rt; played, 6);
+    assert_eq!(rt; size(&mut source, &path(alloc, "etc/motd")?), Ok(Some(5)));
     Ok(())
 }
 
 #[test]
 fn listed_calls_fail(rt: HostRuntime) -> Result<(), Fail> {
     let alloc = rt.alloc();
-    let path = RelPath::parse(alloc, b"etc/motd")?;
+    let path = path(alloc, "etc/motd")?;
     let mut source = MemSource::new(sample(alloc)?, Vec::from_slice(alloc, &[2, 3, 5])?);
     for fails in [false, true, true, false, true, false] {
         assert_eq!(rt; size(&mut source, &path).is_err(), fails);
@@ -298,22 +403,32 @@ fn listed_calls_fail(rt: HostRuntime) -> Result<(), Fail> {
     Ok(())
 }
 
+// What a sink with room for five bytes takes of each text, where its second call fails.
+const WRITES: &str = "
+abc -> 3
+# listed
+x -> failed
+# room for two
+defg -> 2
+nothing -> 0
+# full
+h -> failed
+";
+
 #[test]
 fn a_sink_fills(rt: HostRuntime) -> Result<(), Fail> {
     let alloc = rt.alloc();
     let mut sink = MemSink::new(alloc, 5, Vec::from_slice(alloc, &[2])?)?;
-    for (bytes, want) in [
-        ("abc", Ok(3)),
-        // listed
-        ("x", Err(Failed)),
-        // room for two
-        ("defg", Ok(2)),
-        ("", Ok(0)),
-        // full
-        ("h", Err(Failed)),
-    ] {
-        assert_eq!(rt; sink.write(bytes.as_bytes()), want, "{bytes}");
+    let mut played = 0u64;
+    for line in WRITES.lines() {
+        let Some((text, wanted)) = call_of(line) else {
+            continue;
+        };
+        let taken = sink.write(&bytes(alloc, text)?).ok();
+        assert_eq!(rt; taken, wanted.parse().ok(), "{line}");
+        played = played.saturating_add(1);
     }
+    assert_eq!(rt; played, 5);
     assert!(rt; sink.taken() == b"abcde".as_slice());
     Ok(())
 }

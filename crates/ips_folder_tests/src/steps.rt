@@ -1,62 +1,134 @@
-use ips_steps::{Sort, Step, Target, TargetFault};
-use ips_text::{Or, PathFault, RelPath};
+//! Steps and the targets of links.
+
+use crate::script::{bytes, call_of, path, words};
+use ips_steps::{Step, Target, TargetFault};
+use ips_text::{Or, octal};
 use std::alloc::{AllocError, Global};
 use std::test::Fail;
 
-// So many bytes `x`.
-fn long(alloc: Global, count: usize) -> Result<Vec<u8>, AllocError> {
+/// The step that a line of a journal is, but that its path is not quoted.
+pub fn read_step(alloc: Global, line: &str) -> Result<Step, Fail> {
+    let [name, first, second, third] = words(line);
+    let mode = octal(first.as_bytes()).unwrap_or(0);
+    Ok(match name {
+        "gone" => Step::Gone {
+            path: path(alloc, first)?,
+        },
+        "fresh" => Step::Fresh {
+            path: path(alloc, second)?,
+            mode,
+        },
+        "mode" => Step::Mode {
+            path: path(alloc, second)?,
+            mode,
+        },
+        "put" => Step::Put {
+            path: path(alloc, third)?,
+            mode: octal(second.as_bytes()).unwrap_or(0),
+            stage: first.parse()?,
+        },
+        "link" => Step::Link {
+            path: path(alloc, first)?,
+            target: Target::parse(alloc, second.as_bytes())?,
+        },
+        _ => Step::Hard {
+            path: path(alloc, first)?,
+            to: path(alloc, second)?,
+        },
+    })
+}
+
+const STEPS: &str = "
+gone usr/bin -> Gone
+fresh 0755 usr/bin -> Fresh
+mode 0700 usr/bin -> Mode
+put 0 0644 usr/bin -> Put
+link usr/bin ../sbin -> Link
+hard usr/bin usr/sbin -> Hard
+";
+
+#[test]
+fn steps_tell_their_path_and_sort(rt: HostRuntime) -> Result<(), Fail> {
+    let alloc = rt.alloc();
+    let mut played = 0u64;
+    for line in STEPS.lines() {
+        let Some((step, wanted)) = call_of(line) else {
+            continue;
+        };
+        let step = read_step(alloc, step)?;
+        assert!(rt; step.path().bytes() == b"usr/bin".as_slice(), "{line}");
+        assert!(rt;
+            format!(in alloc; "{:?}", step.sort())?.as_str() == wanted,
+            "{line}"
+        );
+        played = played.saturating_add(1);
+    }
+    assert_eq!(rt; played, 6);
+    Ok(())
+}
+
+// So many bytes `x`, and these behind them.
+fn long(alloc: Global, count: usize, behind: &[u8]) -> Result<Vec<u8>, AllocError> {
     let mut bytes = Vec::new(alloc);
     for _ in 0..count {
         bytes.push(b'x')?;
     }
+    bytes.extend_from_slice(behind)?;
     Ok(bytes)
 }
+
+// Whether the target holds these bytes, or why there is none.
+fn held(target: Result<Target, Or<TargetFault>>, bytes: &[u8]) -> &'static str {
+    match target {
+        Ok(target) if target.bytes() == bytes => "these bytes",
+        Ok(_) => "other bytes",
+        Err(Or::Bad(TargetFault::Empty)) => "empty",
+        Err(Or::Bad(TargetFault::NulByte)) => "a nul byte",
+        Err(Or::Bad(TargetFault::TooLong)) => "too long",
+        Err(Or::OutOfMemory) => "out of memory",
+    }
+}
+
+// A copy of the target that keeps room.
+fn with_room(alloc: Global, bytes: &[u8]) -> Result<Target, Or<TargetFault>> {
+    let target = Target::with_room(alloc, bytes)?;
+    Ok(target.copy(alloc)?)
+}
+
+// How many `x` stand before the bytes, and what comes of them all as a target.
+const TARGETS: &str = "
+0 ../lib/libc.so.1 -> these bytes
+0 / -> these bytes
+0 . -> these bytes
+# no UTF-8
+0 %ff%01 -> these bytes
+0 nothing -> empty
+0 %00 -> a nul byte
+0 a%00 -> a nul byte
+# the longest, and the first of both faults that is looked for
+4095 nothing -> these bytes
+4096 nothing -> too long
+4096 %00 -> a nul byte
+";
 
 #[test]
 fn reads_targets_and_tells_the_first_fault(rt: HostRuntime) -> Result<(), Fail> {
     let alloc = rt.alloc();
-    for bytes in [
-        b"../lib/libc.so.1".as_slice(),
-        b"/".as_slice(),
-        b".".as_slice(),
-        // no UTF-8
-        b"\xff\x01".as_slice(),
-    ] {
-        assert!(rt; Target::parse(alloc, bytes)?.bytes() == bytes);
-        assert!(rt; Target::with_room(alloc, bytes)?.copy(alloc)?.bytes() == bytes);
-    }
-    for (bytes, fault) in [
-        (b"".as_slice(), TargetFault::Empty),
-        (b"\0".as_slice(), TargetFault::NulByte),
-        (b"a\0".as_slice(), TargetFault::NulByte),
-    ] {
-        assert!(rt; matches!(Target::parse(alloc, bytes), Err(Or::Bad(found)) if found == fault));
+    let mut played = 0u64;
+    for line in TARGETS.lines() {
+        let Some((call, wanted)) = call_of(line) else {
+            continue;
+        };
+        let [count, behind, _, _] = words(call);
+        let bytes = long(alloc, count.parse()?, &bytes(alloc, behind)?)?;
         assert!(rt;
-            matches!(Target::with_room(alloc, bytes), Err(Or::Bad(found)) if found == fault)
+            held(Target::parse(alloc, &bytes), &bytes) == wanted,
+            "{line}"
         );
+        assert!(rt; held(with_room(alloc, &bytes), &bytes) == wanted, "{line}");
+        played = played.saturating_add(1);
     }
-    Ok(())
-}
-
-#[test]
-fn bounds_targets(rt: HostRuntime) -> Result<(), Fail> {
-    let alloc = rt.alloc();
-    let longest = long(alloc, 4095)?;
-    assert!(rt; Target::parse(alloc, &longest)?.bytes() == longest.as_slice());
-    let mut longer = long(alloc, 4096)?;
-    assert!(rt;
-        matches!(
-            Target::parse(alloc, &longer),
-            Err(Or::Bad(TargetFault::TooLong))
-        )
-    );
-    longer.push(0)?;
-    assert!(rt;
-        matches!(
-            Target::parse(alloc, &longer),
-            Err(Or::Bad(TargetFault::NulByte))
-        )
-    );
+    assert_eq!(rt; played, 10);
     Ok(())
 }
 
@@ -64,62 +136,11 @@ fn bounds_targets(rt: HostRuntime) -> Result<(), Fail> {
 fn sets_a_target_that_keeps_room(rt: HostRuntime) -> Result<(), Fail> {
     let alloc = rt.alloc();
     let mut target = Target::with_room(alloc, b"a")?;
-    let longest = long(alloc, 4095)?;
+    let longest = long(alloc, 4095, b"")?;
     assert!(rt; target.set(&longest).is_ok());
     assert!(rt; target.bytes() == longest.as_slice());
     assert!(rt; target.set(b"c").is_ok());
     assert!(rt; target.set(b"d\0") == Err(TargetFault::NulByte));
     assert!(rt; target.bytes() == b"c".as_slice());
-    Ok(())
-}
-
-fn bin(alloc: Global) -> Result<RelPath, Or<PathFault>> {
-    RelPath::parse(alloc, b"usr/bin")
-}
-
-// The step is about that path, and of this sort.
-fn is_one(step: Step, sort: Sort) -> bool {
-    step.path().bytes() == b"usr/bin".as_slice() && step.sort() == sort
-}
-
-#[test]
-fn steps_tell_their_path_and_sort(rt: HostRuntime) -> Result<(), Fail> {
-    let alloc = rt.alloc();
-    let gone = Step::Gone { path: bin(alloc)? };
-    assert!(rt; is_one(gone, Sort::Gone));
-    let fresh = Step::Fresh {
-        path: bin(alloc)?,
-        mode: 0o755,
-    };
-    assert!(rt; is_one(fresh, Sort::Fresh));
-    let mode = Step::Mode {
-        path: bin(alloc)?,
-        mode: 0o700,
-    };
-    assert!(rt; is_one(mode, Sort::Mode));
-    Ok(())
-}
-
-#[test]
-fn steps_of_files_and_links_tell_their_path_and_sort(rt: HostRuntime) -> Result<(), Fail> {
-    let alloc = rt.alloc();
-    let put = Step::Put {
-        path: bin(alloc)?,
-        mode: 0o644,
-        stage: 0,
-    };
-    assert!(rt; is_one(put, Sort::Put));
-    let target = Target::parse(alloc, b"../sbin")?;
-    let link = Step::Link {
-        path: bin(alloc)?,
-        target,
-    };
-    assert!(rt; is_one(link, Sort::Link));
-    let to = RelPath::parse(alloc, b"usr/sbin")?;
-    let hard = Step::Hard {
-        path: bin(alloc)?,
-        to,
-    };
-    assert!(rt; is_one(hard, Sort::Hard));
     Ok(())
 }

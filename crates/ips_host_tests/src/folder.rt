@@ -1,31 +1,114 @@
+use crate::script::{call_of, path, set_up, words};
+use crate::source::told;
 use ips_folder::Folder;
 use ips_host::{HostFolder, HostSource};
 use ips_outside::{Failed, Look, Source};
-use ips_text::{RelPath, Text};
+use ips_text::{RelPath, Text, octal};
+use std::alloc::Global;
 use std::fs;
-use std::os::unix::fs::symlink;
-use std::process::Command;
+use std::process::{Abort, Command};
 use std::test::Fail;
+
+type Files = HostFolder<HostRuntime>;
+
+// How a call ended that makes or changes something at a path.
+fn change(
+    alloc: Global,
+    folder: &mut Files,
+    name: &str,
+    at: &RelPath,
+    rest: &str,
+) -> Result<&'static str, Fail> {
+    let mode = octal(rest.as_bytes()).unwrap_or(0);
+    let answer = match name {
+        "make_dir" => folder.make_dir(at, mode),
+        "make_file" => folder.make_file(at),
+        "append" => folder.append(at, rest.as_bytes()),
+        "set_mode" => folder.set_mode(at, mode),
+        "make_link" => folder.make_link(at, rest.as_bytes()),
+        "make_hard" => folder.make_hard(at, &path(alloc, rest)?),
+        "remove" => folder.remove(at),
+        _ => folder.sync(),
+    };
+    Ok(if answer.is_ok() { "ok" } else { "failed" })
+}
+
+// Whether both paths are names of one file.
+fn same(folder: &mut Files, a: &RelPath, b: &RelPath) -> &'static str {
+    match folder.same(a, b) {
+        Ok(true) => "yes",
+        Ok(false) => "no",
+        Err(Failed) => "failed",
+    }
+}
+
+// The names in a directory, and whether there are foreign ones.
+fn list(alloc: Global, folder: &mut Files, at: &RelPath) -> Result<Vec<u8>, Fail> {
+    let Ok(listing) = folder.list(alloc, at) else {
+        return Ok(Vec::from_slice(alloc, b"failed")?);
+    };
+    let mut shown = Vec::from_slice(alloc, if listing.foreign { b"foreign" } else { b"all" })?;
+    for name in listing.names.as_slice() {
+        shown.push(b' ')?;
+        shown.extend_from_slice(name.bytes())?;
+    }
+    Ok(shown)
+}
+
+// What a call on the folder answers.
+fn answer(alloc: Global, folder: &mut Files, call: [&str; 3]) -> Result<Vec<u8>, Fail> {
+    let [name, at, rest] = call;
+    let at = path(alloc, if at.is_empty() { "-" } else { at })?;
+    let answer = match name {
+        "list" => return list(alloc, folder, &at),
+        "look" => return Ok(told(alloc, folder, &at, 0)?.into_bytes()),
+        "same" => same(folder, &at, &path(alloc, rest)?),
+        _ => change(alloc, folder, name, &at, rest)?,
+    };
+    Ok(Vec::from_slice(alloc, answer.as_bytes())?)
+}
+
+// Plays a script of so many calls.
+fn play(
+    rt: &impl Abort,
+    alloc: Global,
+    folder: &mut Files,
+    script: &str,
+    count: u64,
+) -> Result<(), Fail> {
+    let mut played = 0u64;
+    for line in script.lines() {
+        let Some((call, wanted)) = call_of(line) else {
+            continue;
+        };
+        let answer = answer(alloc, folder, words(call))?;
+        assert!(rt; answer.as_slice() == wanted.as_bytes(), "{line} {answer:?}");
+        played = played.saturating_add(1);
+    }
+    assert_eq!(rt; played, count);
+    Ok(())
+}
+
+const MADE: &str = "
+make_dir usr 1777 -> ok
+make_file usr/f -> ok
+append usr/f abc -> ok
+append usr/f def -> ok
+set_mode usr/f 4751 -> ok
+sync -> ok
+";
 
 #[test]
 fn makes_what_a_source_reads_back(rt: HostRuntime) -> Result<(), Fail> {
     let alloc = rt.alloc();
-    let _ = fs::remove_dir_all(&rt, "made");
-    fs::create_dir(&rt, "made")?;
-    let dir = RelPath::parse(alloc, b"usr")?;
-    let file = RelPath::parse(alloc, b"usr/f")?;
+    set_up(&rt, "made", "dir made")?;
     let mut folder = HostFolder::new(rt.clone()?, Text::new(alloc, "made")?);
-    assert!(rt; folder.make_dir(&dir, 0o1777).is_ok());
-    assert!(rt; folder.make_file(&file).is_ok());
-    assert!(rt; folder.append(&file, b"abc").is_ok());
-    assert!(rt; folder.append(&file, b"def").is_ok());
-    assert!(rt; folder.set_mode(&file, 0o4751).is_ok());
-    assert!(rt; folder.sync().is_ok());
-    assert!(rt; folder.faults == 0);
+    play(&rt, alloc, &mut folder, MADE, 6)?;
 
     let mut source = HostSource::new(rt.clone()?, Text::new(alloc, "made/")?);
+    assert!(rt; source.look(&path(alloc, "usr")?) == Ok(Look::Dir { mode: 0o1777 }));
+    let file = path(alloc, "usr/f")?;
     let (mode, size) = (0o4751, 6);
-    assert!(rt; source.look(&dir) == Ok(Look::Dir { mode: 0o1777 }));
     assert!(rt; source.look(&file) == Ok(Look::File { mode, size }));
     let mut buf = [0; 6];
     assert!(rt; source.read(&file, 0, &mut buf) == Ok(6));
@@ -34,113 +117,124 @@ fn makes_what_a_source_reads_back(rt: HostRuntime) -> Result<(), Fail> {
 }
 
 // Links to what stands outside the image and to nothing, and a named pipe.
-fn make_traps(rt: &HostRuntime) -> Result<(), Fail> {
-    let _ = fs::remove_dir_all(rt, "traps");
-    fs::create_dir(rt, "traps")?;
-    fs::create_dir(rt, "traps/image")?;
-    fs::create_dir(rt, "traps/outside")?;
-    fs::write(rt, "traps/outside/f", "old")?;
-    symlink(rt, "../outside", "traps/image/dir")?;
-    symlink(rt, "../outside/f", "traps/image/file")?;
-    symlink(rt, "../outside/new", "traps/image/new")?;
-    Command::new(rt.alloc(), "mkfifo")?
-        .arg("traps/image/pipe")?
-        .status(rt)?;
-    Ok(())
-}
+const TRAPS: &str = "dir traps
+dir traps/image
+dir traps/outside
+file traps/outside/f old
+link traps/image/dir ../outside
+link traps/image/file ../outside/f
+link traps/image/new ../outside/new
+pipe traps/image/pipe";
+
+// Calls that fail at each of the paths; `@` stands for the path.
+const TRAPPED: &str = "dir dir/f dir/new file new pipe none/f";
+
+const FAILING: &str = "make_dir @ 755
+make_file @
+append @ x
+set_mode @ 777
+make_link @ f
+make_hard @ @
+same @ @
+list @";
 
 #[test]
-fn counts_each_fault_and_writes_through_no_link(rt: HostRuntime) -> Result<(), Fail> {
+fn fails_at_each_trap_and_writes_through_no_link(rt: HostRuntime) -> Result<(), Fail> {
     let alloc = rt.alloc();
-    make_traps(&rt)?;
+    set_up(&rt, "traps", TRAPS)?;
     let mut folder = HostFolder::new(rt.clone()?, Text::new(alloc, "traps/image")?);
-    for path in ["dir", "dir/f", "dir/new", "file", "new", "pipe", "none/f"] {
-        let path = RelPath::parse(alloc, path.as_bytes())?;
-        assert!(rt; folder.make_dir(&path, 0o755) == Err(Failed), "{path:?}");
-        assert!(rt; folder.make_file(&path) == Err(Failed), "{path:?}");
-        assert!(rt; folder.append(&path, b"x") == Err(Failed), "{path:?}");
-        assert!(rt; folder.set_mode(&path, 0o777) == Err(Failed), "{path:?}");
-        assert!(rt; folder.make_link(&path, b"f") == Err(Failed), "{path:?}");
-        assert!(rt; folder.make_hard(&path, &path) == Err(Failed), "{path:?}");
-        assert!(rt; folder.same(&path, &path) == Err(Failed), "{path:?}");
-        assert!(rt; folder.list(alloc, &path).is_err(), "{path:?}");
+    let mut failed = 0u64;
+    for at in TRAPPED.split_whitespace() {
+        for call in FAILING.lines() {
+            let [name, _, rest] = words(call);
+            let rest = if rest == "@" { at } else { rest };
+            let answer = answer(alloc, &mut folder, [name, at, rest])?;
+            assert!(rt; answer.as_slice() == b"failed".as_slice(), "{call} {at}");
+            failed = failed.saturating_add(1);
+        }
     }
-    assert!(rt; folder.faults == 56);
+    assert_eq!(rt; failed, 56);
     assert!(rt; fs::read_to_string(&rt, "traps/outside/f")?.as_str() == "old");
     assert!(rt; !fs::exists(&rt, "traps/outside/new")?);
 
     let mut nowhere = HostFolder::new(rt.clone()?, Text::new(alloc, "nowhere")?);
-    assert!(rt; nowhere.sync() == Err(Failed));
-    assert!(rt; nowhere.faults == 1);
+    play(&rt, alloc, &mut nowhere, "sync -> failed", 1)?;
     Ok(fs::remove_dir_all(&rt, "traps")?)
 }
+
+const NAMED: &str = "
+make_dir d 700 -> ok
+make_file d/f -> ok
+append d/f ab -> ok
+make_hard d/f- d/f -> ok
+make_file d/o -> ok
+same d/f d/f- -> yes
+same d/f d/o -> no
+append d/f- c -> ok
+look d/f -> file 600 3, 3 `abc`
+";
 
 // A link's target needs no text, and a listing tells of a name that is none.
 #[test]
 fn makes_links_and_names_and_lists_them(rt: HostRuntime) -> Result<(), Fail> {
     let alloc = rt.alloc();
-    let _ = fs::remove_dir_all(&rt, "named");
-    fs::create_dir(&rt, "named")?;
-    let path = |text: &str| RelPath::parse(alloc, text.as_bytes());
-    let (dir, file, hard) = (path("d")?, path("d/f")?, path("d/f-")?);
-    let (link, other) = (path("d/l")?, path("d/o")?);
+    set_up(&rt, "named", "dir named")?;
     let mut folder = HostFolder::new(rt.clone()?, Text::new(alloc, "named")?);
-    assert!(rt; folder.make_dir(&dir, 0o700) == Ok(()));
-    assert!(rt; folder.make_file(&file) == Ok(()));
-    assert!(rt; folder.append(&file, b"ab") == Ok(()));
-    assert!(rt; folder.make_hard(&hard, &file) == Ok(()));
-    assert!(rt; folder.make_file(&other) == Ok(()));
+    play(&rt, alloc, &mut folder, NAMED, 9)?;
+    let link = path(alloc, "d/l")?;
     assert!(rt; folder.make_link(&link, b"to\xff/x") == Ok(()));
-    assert!(rt; folder.same(&file, &hard) == Ok(true));
-    assert!(rt; folder.same(&file, &other) == Ok(false));
-    assert!(rt; folder.append(&hard, b"c") == Ok(()));
-    let (mode, size) = (0o600, 3);
-    assert!(rt; folder.look(&file) == Ok(Look::File { mode, size }));
-    assert!(rt; folder.look(&link) == Ok(Look::Link));
     assert!(rt; folder.target(alloc, &link)?.as_slice() == b"to\xff/x".as_slice());
-    let listing = folder.list(alloc, &dir)?;
-    let names = [path("d/f")?, path("d/f-")?, path("d/l")?, path("d/o")?];
-    assert!(rt; listing.names.as_slice() == names.as_slice() && !listing.foreign);
+    play(
+        &rt,
+        alloc,
+        &mut folder,
+        "look d/l -> link, 0 ``\nlist d -> all d/f d/f- d/l d/o",
+        2,
+    )?;
 
     // the host's `touch` takes the bytes of a name through its shell
     let words = "touch named/d/$(printf 'z\\377')";
     let mut command = Command::new(alloc, "/bin/sh")?;
     assert!(rt; command.arg("-c")?.arg(words)?.status(&rt)?.success());
-    let listing = folder.list(alloc, &dir)?;
-    assert!(rt; listing.names.as_slice() == names.as_slice() && listing.foreign);
-    assert!(rt; folder.sync() == Ok(()) && folder.faults == 0);
+    play(
+        &rt,
+        alloc,
+        &mut folder,
+        "list d -> foreign d/f d/f- d/l d/o\nsync -> ok",
+        2,
+    )?;
     Ok(fs::remove_dir_all(&rt, "named")?)
 }
+
+const CLEARED: &str = "dir cleared
+dir cleared/image
+dir cleared/image/d
+dir cleared/image/d/e
+dir cleared/out
+file cleared/out/f kept
+file cleared/image/d/junk
+link cleared/image/d/dir ../../out
+link cleared/image/d/e/file ../../../out/f
+link cleared/image/link ../out";
+
+const REMOVED: &str = "
+set_mode d 700 -> ok
+remove d -> ok
+remove link/f -> ok
+remove link -> ok
+remove link -> ok
+remove none/x -> ok
+look d -> absent, 0 ``
+look link -> absent, 0 ``
+";
 
 // What is removed goes with all below it, and what its links lead to stays.
 #[test]
 fn removes_a_subtree_and_follows_no_link(rt: HostRuntime) -> Result<(), Fail> {
     let alloc = rt.alloc();
-    let _ = fs::remove_dir_all(&rt, "cleared");
-    for dir in [
-        "cleared",
-        "cleared/image",
-        "cleared/image/d",
-        "cleared/image/d/e",
-        "cleared/out",
-    ] {
-        fs::create_dir(&rt, dir)?;
-    }
-    fs::write(&rt, "cleared/out/f", "kept")?;
-    fs::write(&rt, "cleared/image/d/junk", "")?;
-    symlink(&rt, "../../out", "cleared/image/d/dir")?;
-    symlink(&rt, "../../../out/f", "cleared/image/d/e/file")?;
-    symlink(&rt, "../out", "cleared/image/link")?;
+    set_up(&rt, "cleared", CLEARED)?;
     let mut folder = HostFolder::new(rt.clone()?, Text::new(alloc, "cleared/image")?);
-    let dir = RelPath::parse(alloc, b"d")?;
-    assert!(rt; folder.set_mode(&dir, 0o700) == Ok(()));
-    for path in ["d", "link/f", "link", "link", "none/x"] {
-        let path = RelPath::parse(alloc, path.as_bytes())?;
-        assert!(rt; folder.remove(&path) == Ok(()), "{path:?}");
-    }
-    assert!(rt; folder.look(&dir) == Ok(Look::Absent));
-    assert!(rt; folder.look(&RelPath::parse(alloc, b"link")?) == Ok(Look::Absent));
-    assert!(rt; folder.faults == 0);
+    play(&rt, alloc, &mut folder, REMOVED, 8)?;
     assert!(rt; fs::read_to_string(&rt, "cleared/out/f")?.as_str() == "kept");
     Ok(fs::remove_dir_all(&rt, "cleared")?)
 }

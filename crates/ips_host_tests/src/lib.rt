@@ -4,6 +4,8 @@
 #[cfg(test)]
 mod folder;
 #[cfg(test)]
+mod script;
+#[cfg(test)]
 mod sink;
 #[cfg(test)]
 mod source;

@@ -1,80 +1,85 @@
+use crate::script::{call_of, look_shown, path, set_up, words};
 use ips_host::HostSource;
 use ips_outside::{Failed, Look, Source};
 use ips_text::{RelPath, Text};
-use std::fs;
-use std::fs::Permissions;
-use std::os::unix::fs::{PermissionsExt, symlink};
-use std::process::Command;
+use std::alloc::Global;
 use std::test::Fail;
+use std::{fs, str};
+
+/// What a source tells of a path: what stands there, and how many bytes of four, and which, are read from a place on.
+pub fn told<S: Source>(
+    alloc: Global,
+    source: &mut S,
+    at: &RelPath,
+    place: u64,
+) -> Result<String, Fail> {
+    let mut buffer = [0; 4];
+    let Ok(look) = source.look(at) else {
+        return Ok(format!(in alloc; "failed")?);
+    };
+    let look = look_shown(alloc, look)?;
+    let Ok(count) = source.read(at, place, &mut buffer) else {
+        return Ok(format!(in alloc; "{look}, failed")?);
+    };
+    let bytes = str::from_utf8(buffer.get(..count).unwrap_or(b"?")).unwrap_or("?");
+    Ok(format!(in alloc; "{look}, {count} `{bytes}`")?)
+}
 
 // A directory, a file, links to both and a named pipe, below a root that is reached by a link.
-fn make_tree(rt: &HostRuntime) -> Result<(), Fail> {
-    let _ = fs::remove_dir_all(rt, "looked_at");
-    fs::create_dir(rt, "looked_at")?;
-    fs::create_dir(rt, "looked_at/tree")?;
-    symlink(rt, "tree", "looked_at/root")?;
-    fs::create_dir(rt, "looked_at/tree/d")?;
-    fs::write(rt, "looked_at/tree/d/f", "0123456789")?;
-    let (dir, file) = (
-        Permissions::from_mode(0o1751),
-        Permissions::from_mode(0o4640),
-    );
-    fs::set_permissions(rt, "looked_at/tree/d", dir)?;
-    fs::set_permissions(rt, "looked_at/tree/d/f", file)?;
-    symlink(rt, "d", "looked_at/tree/to_d")?;
-    symlink(rt, "f", "looked_at/tree/d/to_f")?;
-    Command::new(rt.alloc(), "mkfifo")?
-        .arg("looked_at/tree/pipe")?
-        .status(rt)?;
-    Ok(())
-}
+const LOOKED_AT: &str = "dir looked_at
+dir looked_at/tree
+link looked_at/root tree
+dir looked_at/tree/d
+file looked_at/tree/d/f 0123456789
+mode looked_at/tree/d 1751
+mode looked_at/tree/d/f 4640
+link looked_at/tree/to_d d
+link looked_at/tree/d/to_f f
+pipe looked_at/tree/pipe";
+
+// A path and a place: what stands there, and how many bytes are read, and which.
+const TOLD: &str = "
+d 0 -> dir 1751, 0 ``
+d/f 0 -> file 4640 10, 4 `0123`
+d/f 8 -> file 4640 10, 2 `89`
+d/f 10 -> file 4640 10, 0 ``
+d/f 18446744073709551615 -> file 4640 10, 0 ``
+d/to_f 0 -> link, 0 ``
+to_d 0 -> link, 0 ``
+to_d/f 0 -> absent, 0 ``
+d/f/x 0 -> absent, 0 ``
+none/f 0 -> absent, 0 ``
+pipe 0 -> other, 0 ``
+";
 
 #[test]
 fn looks_and_reads_and_follows_no_link(rt: HostRuntime) -> Result<(), Fail> {
-    make_tree(&rt)?;
+    set_up(&rt, "looked_at", LOOKED_AT)?;
     let alloc = rt.alloc();
     let mut source = HostSource::new(rt.clone()?, Text::new(alloc, "looked_at/root")?);
-    let file = Look::File {
-        mode: 0o4640,
-        size: 10,
-    };
-    for (path, look, at, bytes) in [
-        ("d", Look::Dir { mode: 0o1751 }, 0, ""),
-        ("d/f", file, 0, "0123"),
-        ("d/f", file, 8, "89"),
-        ("d/f", file, 10, ""),
-        ("d/f", file, u64::MAX, ""),
-        ("d/to_f", Look::Link, 0, ""),
-        ("to_d", Look::Link, 0, ""),
-        ("to_d/f", Look::Absent, 0, ""),
-        ("d/f/x", Look::Absent, 0, ""),
-        ("none/f", Look::Absent, 0, ""),
-        ("pipe", Look::Other, 0, ""),
-    ] {
-        let path = RelPath::parse(alloc, path.as_bytes())?;
-        let mut buf = [0; 4];
-        assert!(rt; source.look(&path) == Ok(look), "{path:?}");
-        assert!(rt;
-            source.read(&path, at, &mut buf) == Ok(bytes.len()),
-            "{path:?} at {at}"
-        );
-        assert!(rt; buf.starts_with(bytes.as_bytes()), "{path:?} at {at}");
+    let mut played = 0u64;
+    for line in TOLD.lines() {
+        let Some((call, wanted)) = call_of(line) else {
+            continue;
+        };
+        let [at, place, _] = words(call);
+        let told = told(alloc, &mut source, &path(alloc, at)?, place.parse()?)?;
+        assert!(rt; told.as_str() == wanted, "{line} {told}");
+        played = played.saturating_add(1);
     }
-    assert!(rt; source.faults == 0);
+    assert_eq!(rt; played, 11);
     Ok(fs::remove_dir_all(&rt, "looked_at")?)
 }
 
 #[test]
-fn counts_a_path_that_the_host_refuses(rt: HostRuntime) -> Result<(), Fail> {
+fn fails_at_a_path_that_the_host_refuses(rt: HostRuntime) -> Result<(), Fail> {
     let alloc = rt.alloc();
-    let path = RelPath::parse(alloc, b"f")?;
+    let path = path(alloc, "f")?;
     let mut nowhere = HostSource::new(rt.clone()?, Text::new(alloc, "")?);
     assert!(rt; nowhere.look(&path) == Ok(Look::Absent));
-    assert!(rt; nowhere.faults == 0);
 
     let mut long = HostSource::new(rt.clone()?, Text::from_string("x/".repeat(alloc, 2048)?));
     assert!(rt; long.look(&path) == Err(Failed));
     assert!(rt; long.read(&path, 0, &mut [0]) == Err(Failed));
-    assert!(rt; long.faults == 2);
     Ok(())
 }
