@@ -1,8 +1,8 @@
 //! Tables of cases as texts. A line is a case: `question -> answer`. Empty lines, and those that begin with `#` and say what
 //! the cases below them mean, are no cases.
 //!
-//! In both columns `¶` is the end of a line, `{blank}`, `{tab}` and `{hash}` are what they are called, `{0xff}` is the byte of that
-//! number, and `{a*255}` is 255 times `a`.
+//! In an answer, and in a question where its kind reads it by `spelled` or `text`, `¶` is the end of a line, `{blank}`, `{tab}` and `{hash}`
+//! are what they are called, `{0xff}` is the byte of that number, and `{a*255}` is 255 times `a`.
 
 use std::alloc::Global;
 use std::process::Abort;
@@ -99,9 +99,4 @@ pub fn columns(question: &str) -> (&str, &str) {
         Some((one, two)) => (one.trim(), two.trim()),
         None => (question, ""),
     }
-}
-
-/// `yes` or `no`.
-pub fn told(alloc: Global, is: bool) -> Result<String, Fail> {
-    Ok(String::from_str(alloc, if is { "yes" } else { "no" })?)
 }
