@@ -1,7 +1,40 @@
-use ips_action::{Action, ActionFault, Preserve, leads_to, parse_line, print_line};
+use crate::table::{Ask, columns, holds, text};
+use ips_action::{Action, ActionFault, leads_to, parse_line, print_line};
 use ips_text::{Or, Text};
 use std::alloc::{AllocError, Global};
 use std::test::Fail;
+
+// What a table asks of actions.
+#[derive(Drop)]
+enum Asked {
+    // What is told of a line.
+    Told,
+    // The canonical line of a line, which is its own one.
+    Canonical,
+    // Where a hardlink of this path and this target leads.
+    Leads,
+    // The value of the key attribute.
+    Key,
+    // How a file with these words is kept.
+    Kept,
+    // A value or a number of values of the action of this line.
+    Values(&'static str),
+}
+
+impl Ask for Asked {
+    fn answer(&mut self, alloc: Global, question: &str) -> Result<String, Fail> {
+        let spelled = text(alloc, question)?;
+        let spelled = spelled.as_str();
+        match self {
+            Asked::Told => Ok(String::from_str(alloc, told(alloc, spelled)?.as_str())?),
+            Asked::Canonical => canonical(alloc, spelled),
+            Asked::Leads => leads(alloc, spelled),
+            Asked::Key => or_none(alloc, action(alloc, spelled)?.key()),
+            Asked::Kept => kept(alloc, &action(alloc, spelled)?),
+            Asked::Values(line) => values(alloc, &action(alloc, line)?.copy(alloc)?, spelled),
+        }
+    }
+}
 
 /// The canonical line of what the line says, or its fault.
 pub fn told(alloc: Global, line: &str) -> Result<Text, AllocError> {
@@ -25,190 +58,169 @@ pub fn told(alloc: Global, line: &str) -> Result<Text, AllocError> {
     Ok(Text::from_string(told))
 }
 
+fn canonical(alloc: Global, line: &str) -> Result<String, Fail> {
+    let once = told(alloc, line)?;
+    let again = told(alloc, once.as_str())?;
+    let is_kept = once.as_str() == again.as_str();
+    let answer = if is_kept {
+        once.as_str()
+    } else {
+        "not its own canonical line"
+    };
+    Ok(String::from_str(alloc, answer)?)
+}
+
+fn or_none(alloc: Global, found: Option<&str>) -> Result<String, Fail> {
+    Ok(String::from_str(alloc, found.unwrap_or("none"))?)
+}
+
+fn leads(alloc: Global, question: &str) -> Result<String, Fail> {
+    let (path, target) = columns(question);
+    match leads_to(alloc, path.as_bytes(), target.as_bytes())? {
+        Some(found) => or_none(alloc, Some(str::from_utf8(found.bytes())?)),
+        None => or_none(alloc, None),
+    }
+}
+
+// The action that a line says.
+fn action(alloc: Global, line: &str) -> Result<Action, Fail> {
+    Ok(parse_line(alloc, line)?)
+}
+
+fn kept(alloc: Global, action: &Action) -> Result<String, Fail> {
+    let preserve = action.preserve();
+    Ok(format!(in alloc; "{preserve:?}")?)
+}
+
+fn values(alloc: Global, action: &Action, question: &str) -> Result<String, Fail> {
+    let (what, name) = question.split_once(' ').unwrap_or((question, ""));
+    match what {
+        "first" => or_none(alloc, action.get(name)),
+        "second" => or_none(alloc, action.nth(name, 1)),
+        "third" => or_none(alloc, action.nth(name, 2)),
+        "key" => or_none(alloc, action.key()),
+        _ => {
+            let count = if name.is_empty() {
+                action.attrs.list().len()
+            } else {
+                action.count(name)
+            };
+            Ok(format!(in alloc; "{count}")?)
+        }
+    }
+}
+
 #[test]
 fn prints_the_canonical_line(rt: HostRuntime) -> Result<(), Fail> {
-    let alloc = rt.alloc();
-    for (line, canonical) in [
-        (
-            r#"set value="a \"b\" c" name=pkg.summary"#,
-            r#"set name=pkg.summary value="a \"b\" c""#,
-        ),
-        (
-            "set name=x value=b value=a value=''",
-            r#"set name=x value=b value=a value="""#,
-        ),
-        (
-            "set name=path path=//usr value=1",
-            "set name=path path=//usr value=1",
-        ),
-        (
-            "dir path=/usr mode=755 owner=root group=bin",
-            "dir group=bin mode=755 owner=root path=usr",
-        ),
-        (
-            "dir path=///usr/bin mode=0755 owner=root group=bin",
-            "dir group=bin mode=0755 owner=root path=usr/bin",
-        ),
-        (
-            "\t dir\tmode=0755 x=2 path=a owner=root group=bin x=1 a.b=c ",
-            "dir a.b=c group=bin mode=0755 owner=root path=a x=2 x=1",
-        ),
-        (
-            "file a9993e364706816aba3e25717850c26c9cd0d89d path=f mode=1 owner='' group=g",
-            r#"file a9993e364706816aba3e25717850c26c9cd0d89d group=g mode=1 owner="" path=f"#,
-        ),
-        (
-            "link path=l target='a b' payload=x",
-            r#"link path=l payload=x target="a b""#,
-        ),
-        (r"driver name='a\' b\\c\d'", r#"driver name="a' b\\c\\d""#),
-        ("signature value=x", "signature value=x"),
-    ] {
-        let once = told(alloc, line)?;
-        assert!(rt; once.as_str() == canonical, "{line}");
-        assert!(rt; told(alloc, once.as_str())?.as_str() == canonical, "{line}");
-    }
-    Ok(())
+    let table = r#"
+        set value="a \"b\" c" name=pkg.summary -> set name=pkg.summary value="a \"b\" c"
+        set name=x value=b value=a value='' -> set name=x value=b value=a value=""
+        set name=path path=//usr value=1 -> set name=path path=//usr value=1
+        dir path=/usr mode=755 owner=root group=bin -> dir group=bin mode=755 owner=root path=usr
+        dir path=///usr/bin mode=0755 owner=root group=bin -> dir group=bin mode=0755 owner=root path=usr/bin
+        {tab} dir{tab}mode=0755 x=2 path=a owner=root group=bin x=1 a.b=c{blank} -> dir a.b=c group=bin mode=0755 owner=root path=a x=2 x=1
+        file a9993e364706816aba3e25717850c26c9cd0d89d path=f mode=1 owner='' group=g -> file a9993e364706816aba3e25717850c26c9cd0d89d group=g mode=1 owner="" path=f
+        link path=l target='a b' payload=x -> link path=l payload=x target="a b"
+        driver name='a\' b\\c\d' -> driver name="a' b\\c\\d"
+        signature value=x -> signature value=x
+    "#;
+    holds(&rt, rt.alloc(), &mut Asked::Canonical, 10, table)
 }
 
 #[test]
 fn tells_the_first_fault(rt: HostRuntime) -> Result<(), Fail> {
-    let alloc = rt.alloc();
-    for (line, fault) in [
-        ("file path='x", "quote 10"),
-        ("frob path='x", "quote 10"),
-        ("frob a=b", "unknown 0"),
-        (" Dir payload a=b", "unknown 1"),
-        ("frob a=", "word 7"),
-        ("dir=x", "unknown 0"),
-        ("", "word 0"),
-        (" \t", "word 2"),
-        ("set a=b \"c\"=d", "word 8"),
-        ("dir x path=a mode=0755", "word 4"),
-        ("set \t abc name=x", "word 6"),
-        ("dir path=x mode=0755 owner=root", "missing group"),
-        ("dir path=.. mode=x", "bad path"),
-        ("dir mode=x", "missing path"),
-        ("dir path=a mode=x owner=a owner=b", "bad mode"),
-        ("dir path=a mode=1 owner=a owner=b", "bad owner"),
-        (
-            "dir path=a mode=1 owner=o group=g facet.b=x facet.a=y",
-            "bad facet.a",
-        ),
-        ("dir path=a facet.a=y", "missing mode"),
-    ] {
-        assert!(rt; told(alloc, line)?.as_str() == fault, "{line}");
-    }
-    Ok(())
-}
-
-// A directory whose path has parts of these sizes.
-fn sized(alloc: Global, sizes: &[usize]) -> Result<String, AllocError> {
-    let mut line = String::from_str(alloc, "dir mode=1 owner=o group=g path=")?;
-    for size in sizes {
-        line.push_str("/")?;
-        for _ in 0..*size {
-            line.push_str("a")?;
-        }
-    }
-    Ok(line)
+    let table = r#"
+        file path='x -> quote 10
+        frob path='x -> quote 10
+        frob a=b -> unknown 0
+        {blank}Dir payload a=b -> unknown 1
+        frob a= -> word 7
+        dir=x -> unknown 0
+        -> word 0
+        {blank}{tab} -> word 2
+        set a=b "c"=d -> word 8
+        dir x path=a mode=0755 -> word 4
+        set {tab} abc name=x -> word 6
+        dir path=x mode=0755 owner=root -> missing group
+        dir path=.. mode=x -> bad path
+        dir mode=x -> missing path
+        dir path=a mode=x owner=a owner=b -> bad mode
+        dir path=a mode=1 owner=a owner=b -> bad owner
+        dir path=a mode=1 owner=o group=g facet.b=x facet.a=y -> bad facet.a
+        dir path=a facet.a=y -> missing mode
+    "#;
+    holds(&rt, rt.alloc(), &mut Asked::Told, 18, table)
 }
 
 #[test]
 fn bounds_paths(rt: HostRuntime) -> Result<(), Fail> {
-    let alloc = rt.alloc();
-    // A path of 960 bytes has three `/` between four parts.
-    let longest = [239, 239, 239, 240];
-    let too_long = [240, 239, 239, 240];
-    assert!(rt; parse_line(alloc, sized(alloc, &longest)?.as_str()).is_ok());
-    assert!(rt; told(alloc, sized(alloc, &too_long)?.as_str())?.as_str() == "bad path");
-    assert!(rt; parse_line(alloc, sized(alloc, &[255, 240])?.as_str()).is_ok());
-    assert!(rt; told(alloc, sized(alloc, &[256, 1])?.as_str())?.as_str() == "bad path");
-    assert!(rt; told(alloc, sized(alloc, &[1, 241])?.as_str())?.as_str() == "bad path");
-    Ok(())
+    let table = "
+        # A path of 960 bytes has three `/` between four parts.
+        dir group=g mode=1 owner=o path=/{a*239}/{a*239}/{a*239}/{a*240} -> dir group=g mode=1 owner=o path={a*239}/{a*239}/{a*239}/{a*240}
+        dir group=g mode=1 owner=o path=/{a*240}/{a*239}/{a*239}/{a*240} -> bad path
+        dir group=g mode=1 owner=o path=/{a*255}/{a*240} -> dir group=g mode=1 owner=o path={a*255}/{a*240}
+        dir group=g mode=1 owner=o path=/{a*256}/a -> bad path
+        dir group=g mode=1 owner=o path=/a/{a*241} -> bad path
+    ";
+    holds(&rt, rt.alloc(), &mut Asked::Told, 5, table)
 }
 
 #[test]
 fn follows_the_target_of_a_hardlink(rt: HostRuntime) -> Result<(), Fail> {
-    let alloc = rt.alloc();
-    for (path, target, found) in [
-        ("usr/bin/b", "a", "usr/bin/a"),
-        ("usr/bin/b", "./../lib//a", "usr/lib/a"),
-        ("usr/bin/b", "../../a", "a"),
-        ("usr/bin/b", "/etc/./x/../a", "etc/a"),
-        ("b", "a/..b", "a/..b"),
-        ("usr/bin/b", "..", "usr"),
-    ] {
-        let led = leads_to(alloc, path.as_bytes(), target.as_bytes())?;
-        assert!(rt;
-            led.is_some_and(|p| p.bytes() == found.as_bytes()),
-            "{path} {target}"
-        );
-    }
-    for (path, target) in [
-        ("usr/bin/b", "../../.."),
-        ("usr/bin/b", "../../../usr/bin/a"),
-        ("usr/bin/b", "/.."),
-        ("usr/bin/b", "../.."),
-        ("b", "a\0"),
-    ] {
-        let led = leads_to(alloc, path.as_bytes(), target.as_bytes())?;
-        assert!(rt; led.is_none(), "{path} {target}");
-    }
-    Ok(())
-}
-
-// The action that a line says.
-fn action(alloc: Global, line: &str) -> Result<Action, Or<ActionFault>> {
-    parse_line(alloc, line)
+    let table = "
+        usr/bin/b | a -> usr/bin/a
+        usr/bin/b | ./../lib//a -> usr/lib/a
+        usr/bin/b | ../../a -> a
+        usr/bin/b | /etc/./x/../a -> etc/a
+        b | a/..b -> a/..b
+        usr/bin/b | .. -> usr
+        usr/bin/b | ../../.. -> none
+        usr/bin/b | ../../../usr/bin/a -> none
+        usr/bin/b | /.. -> none
+        usr/bin/b | ../.. -> none
+        b | a{0x00} -> none
+    ";
+    holds(&rt, rt.alloc(), &mut Asked::Leads, 11, table)
 }
 
 #[test]
 fn gives_the_values_of_keys(rt: HostRuntime) -> Result<(), Fail> {
-    let alloc = rt.alloc();
-    let set = action(alloc, "set value=b name=n value=a z=1 a=2")?.copy(alloc)?;
-    assert!(rt; set.get("value") == Some("b"));
-    assert!(rt; set.count("value") == 2);
-    assert!(rt; set.nth("value", 1) == Some("a"));
-    assert!(rt; set.nth("value", 2).is_none());
-    assert!(rt; set.get("z") == Some("1"));
-    assert!(rt; set.get("b").is_none() && set.count("b") == 0);
-    assert!(rt; set.attrs.list().len() == 4);
-    assert!(rt; set.key() == Some("n"));
-    for (line, key) in [
-        ("depend fmri=a fmri=b type=x", Some("a")),
-        ("hardlink path=/p target=t", Some("p")),
-        ("user username=u group=g", Some("u")),
-        ("group groupname=g", Some("g")),
-        ("driver name=d", Some("d")),
-        ("legacy pkg=l", Some("l")),
-        ("signature x=y", None),
-    ] {
-        assert!(rt; action(alloc, line)?.key() == key, "{line}");
-    }
-    Ok(())
+    let values = "
+        first value -> b
+        count value -> 2
+        second value -> a
+        third value -> none
+        first z -> 1
+        first b -> none
+        count b -> 0
+        attributes -> 4
+        key -> n
+    ";
+    let mut set = Asked::Values("set value=b name=n value=a z=1 a=2");
+    holds(&rt, rt.alloc(), &mut set, 9, values)?;
+    let keys = "
+        depend fmri=a fmri=b type=x -> a
+        hardlink path=/p target=t -> p
+        user username=u group=g -> u
+        group groupname=g -> g
+        driver name=d -> d
+        legacy pkg=l -> l
+        signature x=y -> none
+    ";
+    holds(&rt, rt.alloc(), &mut Asked::Key, 7, keys)
 }
 
 #[test]
 fn tells_how_a_file_is_kept(rt: HostRuntime) -> Result<(), Fail> {
-    let alloc = rt.alloc();
-    let empty = "da39a3ee5e6b4b0d3255bfef95601890afd80709";
-    for (word, preserve) in [
-        ("true", Preserve::True),
-        ("renameold", Preserve::RenameOld),
-        ("renamenew", Preserve::RenameNew),
-        ("legacy", Preserve::Legacy),
-        ("abandon", Preserve::Abandon),
-        ("install-only", Preserve::InstallOnly),
-    ] {
-        let line = format!(in alloc; "file {empty} path=f mode=1 owner=o group=g preserve={word}")?;
-        assert!(rt;
-            action(alloc, line.as_str())?.preserve() == preserve,
-            "{word}"
-        );
-    }
-    let plain = format!(in alloc; "file {empty} path=f mode=1 owner=o group=g")?;
-    assert!(rt; action(alloc, plain.as_str())?.preserve() == Preserve::None);
-    assert!(rt; action(alloc, "driver name=d preserve=true")?.preserve() == Preserve::None);
-    Ok(())
+    let table = "
+        file da39a3ee5e6b4b0d3255bfef95601890afd80709 path=f mode=1 owner=o group=g preserve=true -> True
+        file da39a3ee5e6b4b0d3255bfef95601890afd80709 path=f mode=1 owner=o group=g preserve=renameold -> RenameOld
+        file da39a3ee5e6b4b0d3255bfef95601890afd80709 path=f mode=1 owner=o group=g preserve=renamenew -> RenameNew
+        file da39a3ee5e6b4b0d3255bfef95601890afd80709 path=f mode=1 owner=o group=g preserve=legacy -> Legacy
+        file da39a3ee5e6b4b0d3255bfef95601890afd80709 path=f mode=1 owner=o group=g preserve=abandon -> Abandon
+        file da39a3ee5e6b4b0d3255bfef95601890afd80709 path=f mode=1 owner=o group=g preserve=install-only -> InstallOnly
+        file da39a3ee5e6b4b0d3255bfef95601890afd80709 path=f mode=1 owner=o group=g -> None
+        driver name=d preserve=true -> None
+    ";
+    holds(&rt, rt.alloc(), &mut Asked::Kept, 8, table)
 }

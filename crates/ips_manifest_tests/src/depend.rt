@@ -1,11 +1,12 @@
 ghost use Rattle.std.specs.Prelude.{◌&&◌, if◌then◌else◌, bytes_eq, codes, None};
 
+use crate::table::{Ask, columns, holds, text};
 use ips_depend::{BadDepend, Test, View, tests_of};
 use ips_filter::Settings;
 use ips_fmri::Version;
 use ips_manifest::Manifest;
 use ips_text::Or;
-use std::alloc::Global;
+use std::alloc::{AllocError, Global};
 use std::test::Fail;
 
 // Two stems, each absent or at a version, of which the first may be spared.
@@ -42,187 +43,179 @@ fn read(alloc: Global, text: &str) -> Result<Vec<Test>, Fail> {
     Ok(tests_of(alloc, &manifest, &Settings::new(alloc))?)
 }
 
-// The version that is spelled so, none where nothing is spelled.
-fn version(alloc: Global, text: &str) -> Result<Option<Version>, Fail> {
-    if text.is_empty() {
-        return Ok(None);
+// What the words say is chosen, as `a=1.9 b=2 spared`.
+fn view_of(alloc: Global, words: &str) -> Result<Chosen, Fail> {
+    let mut chosen = Chosen {
+        a: None,
+        b: None,
+        spared: false,
+    };
+    for word in words.split_whitespace() {
+        let (stem, version) = word.split_once('=').unwrap_or((word, "0"));
+        let version = Version::parse(alloc, version)?;
+        match stem {
+            "a" => chosen.a = Some(version),
+            "b" => chosen.b = Some(version),
+            _ => chosen.spared = true,
+        }
     }
-    Ok(Some(Version::parse(alloc, text)?))
+    Ok(chosen)
 }
 
-// Whether the one dependency of these attributes holds.
-fn judge(
-    alloc: Global,
-    attributes: &str,
-    a: &str,
-    b: &str,
-    spared: bool,
-) -> Result<Option<bool>, Fail> {
-    let line = format!(in alloc; "depend {attributes}")?;
-    let view = Chosen {
-        a: version(alloc, a)?,
-        b: version(alloc, b)?,
-        spared,
-    };
-    match read(alloc, line.as_str())?.as_slice() {
-        [test] => Ok(Some(test.holds(&view))),
-        _ => Ok(None),
+// What a table asks of dependencies.
+#[derive(Drop)]
+enum Asked {
+    // Whether the one dependency of these attributes holds where so much is chosen.
+    Holds,
+    // The line of the first bad dependency of a manifest, where `variant.arch` is `i386`.
+    Bad,
+    // What the dependencies of a manifest mention and want.
+    Told,
+}
+
+impl Ask for Asked {
+    fn answer(&mut self, alloc: Global, question: &str) -> Result<String, Fail> {
+        let question = text(alloc, question)?;
+        let question = question.as_str();
+        match self {
+            Asked::Holds => judged(alloc, question),
+            Asked::Bad => bad_line(alloc, question),
+            Asked::Told => told(alloc, question),
+        }
     }
 }
+
+fn judged(alloc: Global, question: &str) -> Result<String, Fail> {
+    let (attributes, words) = columns(question);
+    let line = format!(in alloc; "depend {attributes}")?;
+    let view = view_of(alloc, words)?;
+    let answer = match read(alloc, line.as_str())?.as_slice() {
+        [test] => if test.holds(&view) { "holds" } else { "fails" },
+        _ => "not one",
+    };
+    Ok(String::from_str(alloc, answer)?)
+}
+
+// The attributes of a dependency, what is chosen, and whether it holds.
+const SENTENCES: &str = "
+type=require fmri=a | b=1 -> fails
+type=require fmri=a | a=1 -> holds
+type=require fmri=pkg:/a@2 | a=1.9 -> fails
+type=require fmri=pkg://other/a@2 | a=2 -> holds
+type=require fmri=a@2 | a=2.1 -> holds
+# Being spared is no matter but for a group dependency.
+type=require fmri=a | spared -> fails
+type=optional fmri=a | -> holds
+type=optional fmri=a | a=1 -> holds
+type=optional fmri=a@2 | -> holds
+type=optional fmri=a@2 | a=1 -> fails
+type=optional fmri=a@2 | a=3 -> holds
+type=incorporate fmri=a | -> holds
+type=incorporate fmri=a | a=7 -> holds
+type=incorporate fmri=a@2 | -> holds
+type=incorporate fmri=a@2 | a=2.5-1 -> holds
+type=incorporate fmri=a@2 | a=1 -> fails
+# A greater version isn't a refinement.
+type=incorporate fmri=a@2 | a=3 -> fails
+type=exclude fmri=a | b=1 -> holds
+type=exclude fmri=a | a=1 -> fails
+type=exclude fmri=a@2 | a=1 -> holds
+type=exclude fmri=a@2 | a=2 -> fails
+type=conditional predicate=b fmri=a | -> holds
+type=conditional predicate=b fmri=a | b=1 -> fails
+type=conditional predicate=b fmri=a | a=1 b=1 -> holds
+type=conditional predicate=b@2 fmri=a@3 | b=1 -> holds
+type=conditional predicate=b@2 fmri=a@3 | a=2 b=2 -> fails
+type=conditional predicate=b@2 fmri=a@3 | a=3 b=2 -> holds
+type=require-any fmri=a@2 fmri=b | a=1 -> fails
+type=require-any fmri=a@2 fmri=b | a=2 -> holds
+type=require-any fmri=a@2 fmri=b | b=1 -> holds
+type=require-any fmri=a | b=1 -> fails
+# A group takes any version.
+type=group fmri=a@9 | a=1 -> holds
+type=group fmri=a | b=1 -> fails
+type=group fmri=a | spared -> holds
+# The second stem isn't spared.
+type=group fmri=b | a=1 spared -> fails
+type=parent fmri=a@9 | -> holds
+type=parent fmri=a fmri=b | a=1 -> holds
+";
 
 #[test]
 fn each_type_holds_by_its_sentence(rt: HostRuntime) -> Result<(), Fail> {
-    let alloc = rt.alloc();
-    for (attributes, a, b, spared, holds) in [
-        ("type=require fmri=a", "", "1", false, false),
-        ("type=require fmri=a", "1", "", false, true),
-        ("type=require fmri=pkg:/a@2", "1.9", "", false, false),
-        ("type=require fmri=pkg://other/a@2", "2", "", false, true),
-        ("type=require fmri=a@2", "2.1", "", false, true),
-        // Being spared is no matter but for a group dependency.
-        ("type=require fmri=a", "", "", true, false),
-        ("type=optional fmri=a", "", "", false, true),
-        ("type=optional fmri=a", "1", "", false, true),
-        ("type=optional fmri=a@2", "", "", false, true),
-        ("type=optional fmri=a@2", "1", "", false, false),
-        ("type=optional fmri=a@2", "3", "", false, true),
-        ("type=incorporate fmri=a", "", "", false, true),
-        ("type=incorporate fmri=a", "7", "", false, true),
-        ("type=incorporate fmri=a@2", "", "", false, true),
-        ("type=incorporate fmri=a@2", "2.5-1", "", false, true),
-        ("type=incorporate fmri=a@2", "1", "", false, false),
-        // A greater version isn't a refinement.
-        ("type=incorporate fmri=a@2", "3", "", false, false),
-        ("type=exclude fmri=a", "", "1", false, true),
-        ("type=exclude fmri=a", "1", "", false, false),
-        ("type=exclude fmri=a@2", "1", "", false, true),
-        ("type=exclude fmri=a@2", "2", "", false, false),
-        ("type=conditional predicate=b fmri=a", "", "", false, true),
-        ("type=conditional predicate=b fmri=a", "", "1", false, false),
-        ("type=conditional predicate=b fmri=a", "1", "1", false, true),
-        (
-            "type=conditional predicate=b@2 fmri=a@3",
-            "",
-            "1",
-            false,
-            true,
-        ),
-        (
-            "type=conditional predicate=b@2 fmri=a@3",
-            "2",
-            "2",
-            false,
-            false,
-        ),
-        (
-            "type=conditional predicate=b@2 fmri=a@3",
-            "3",
-            "2",
-            false,
-            true,
-        ),
-        ("type=require-any fmri=a@2 fmri=b", "1", "", false, false),
-        ("type=require-any fmri=a@2 fmri=b", "2", "", false, true),
-        ("type=require-any fmri=a@2 fmri=b", "", "1", false, true),
-        ("type=require-any fmri=a", "", "1", false, false),
-        // A group takes any version.
-        ("type=group fmri=a@9", "1", "", false, true),
-        ("type=group fmri=a", "", "1", false, false),
-        ("type=group fmri=a", "", "", true, true),
-        // The second stem isn't spared.
-        ("type=group fmri=b", "1", "", true, false),
-        ("type=parent fmri=a@9", "", "", false, true),
-        ("type=parent fmri=a fmri=b", "1", "", false, true),
-    ] {
-        assert!(rt; judge(alloc, attributes, a, b, spared)? == Some(holds));
-    }
-    Ok(())
+    holds(&rt, rt.alloc(), &mut Asked::Holds, 37, SENTENCES)
 }
 
-// The line of the manifest's first bad dependency, where `variant.arch` is `i386`.
-fn bad_line(alloc: Global, text: &str) -> Result<Option<u64>, Fail> {
+fn bad_line(alloc: Global, text: &str) -> Result<String, Fail> {
     let manifest = Manifest::read(alloc, text.as_bytes())?;
     let mut settings = Settings::new(alloc);
     settings.set_variant(alloc, "variant.arch", "i386")?;
     match tests_of(alloc, &manifest, &settings) {
-        Err(Or::Bad(BadDepend { line })) => Ok(Some(line)),
-        _ => Ok(None),
+        Err(Or::Bad(BadDepend { line })) => Ok(format!(in alloc; "{line}")?),
+        Err(Or::OutOfMemory) => Err(AllocError.into()),
+        Ok(_) => Ok(String::from_str(alloc, "none")?),
     }
 }
 
 #[test]
 fn the_first_action_that_is_no_dependency_is_told(rt: HostRuntime) -> Result<(), Fail> {
-    let alloc = rt.alloc();
-    for (text, line) in [
-        ("depend type=origin fmri=a", 1),
-        ("set name=a\ndepend type=group-any fmri=a fmri=b", 2),
-        ("depend type=Require fmri=a", 1),
-        // More than one FMRI.
-        ("depend type=require fmri=a fmri=b", 1),
-        ("depend type=group fmri=a fmri=a", 1),
-        ("depend type=conditional predicate=b fmri=a fmri=c", 1),
-        // No predicate, or one too many.
-        ("depend type=conditional fmri=a", 1),
-        ("depend type=require predicate=b fmri=a", 1),
-        ("depend type=require-any predicate=b fmri=a", 1),
-        // What is no FMRI.
-        ("depend type=require fmri=a@1.x", 1),
-        ("depend type=conditional predicate=a@ fmri=a", 1),
-        ("depend type=require-any fmri=a fmri=*", 1),
-        ("depend type=parent fmri=/a", 1),
-        // The first such line, by its first physical line.
-        (
-            "depend type=require fmri=a\n# c\n\ndepend \\\ntype=no fmri=a\ndepend type=no fmri=a\n",
-            4,
-        ),
-        // A line that isn't taken isn't judged.
-        (
-            "depend type=origin fmri=a variant.arch=sparc\ndepend type=no fmri=b variant.arch=i386",
-            2,
-        ),
-    ] {
-        assert!(rt; bad_line(alloc, text)? == Some(line));
-    }
-    let skipped = "depend type=origin fmri=a variant.arch=sparc\nset name=depend type=origin\n";
-    assert!(rt; bad_line(alloc, skipped)?.is_none());
-    Ok(())
+    let table = r"
+        depend type=origin fmri=a -> 1
+        set name=a¶depend type=group-any fmri=a fmri=b -> 2
+        depend type=Require fmri=a -> 1
+        # More than one FMRI.
+        depend type=require fmri=a fmri=b -> 1
+        depend type=group fmri=a fmri=a -> 1
+        depend type=conditional predicate=b fmri=a fmri=c -> 1
+        # No predicate, or one too many.
+        depend type=conditional fmri=a -> 1
+        depend type=require predicate=b fmri=a -> 1
+        depend type=require-any predicate=b fmri=a -> 1
+        # What is no FMRI.
+        depend type=require fmri=a@1.x -> 1
+        depend type=conditional predicate=a@ fmri=a -> 1
+        depend type=require-any fmri=a fmri=* -> 1
+        depend type=parent fmri=/a -> 1
+        # The first such line, by its first physical line.
+        depend type=require fmri=a¶# c¶¶depend \¶type=no fmri=a¶depend type=no fmri=a¶ -> 4
+        # A line that isn't taken isn't judged.
+        depend type=origin fmri=a variant.arch=sparc¶depend type=no fmri=b variant.arch=i386 -> 2
+        depend type=origin fmri=a variant.arch=sparc¶set name=depend type=origin¶ -> none
+    ";
+    holds(&rt, rt.alloc(), &mut Asked::Bad, 16, table)
 }
 
-// The stems that it mentions, each behind a blank, how many it wants, and the stem of a group dependency.
-fn told(alloc: Global, test: &Test) -> Result<String, Fail> {
+// Of each dependency the stems that it mentions, how many it wants, and the stem of a group dependency.
+fn told(alloc: Global, text: &str) -> Result<String, Fail> {
     let mut out = String::new(alloc);
-    for fmri in test.mentions() {
-        out.push_str(" ")?;
-        out.push_str(fmri.stem.as_str())?;
+    for test in &read(alloc, text)? {
+        for fmri in test.mentions() {
+            out.push_str(fmri.stem.as_str())?;
+            out.push_str(" ")?;
+        }
+        let group = match test.group() {
+            Some(fmri) => fmri.stem.as_str(),
+            None => "-",
+        };
+        let wants = test.wants();
+        write!(out, "{wants} {group};")?;
     }
-    let group = match test.group() {
-        Some(fmri) => fmri.stem.as_str(),
-        None => "-",
-    };
-    let mentions = out.as_str();
-    let wants = test.wants();
-    Ok(format!(in alloc; "{mentions} {wants} {group}")?)
+    Ok(out)
 }
 
 #[test]
 fn tests_mention_and_want_stems(rt: HostRuntime) -> Result<(), Fail> {
-    let alloc = rt.alloc();
-    let text =
-        "depend type=require fmri=a\ndepend type=optional fmri=a\ndepend type=incorporate fmri=a@1\ndepend type=exclude fmri=a\ndepend fmri=a predicate=b type=conditional\ndepend type=require-any fmri=a fmri=c fmri=b\ndepend type=group fmri=g/h\ndepend type=parent fmri=a fmri=b\n";
-    let tests = read(alloc, text)?;
-    let expected = [
-        " a 1 -",
-        " a 0 -",
-        " a 0 -",
-        " a 0 -",
-        " b a 1 -",
-        " a c b 3 -",
-        " g/h 1 g/h",
-        " a b 0 -",
-    ];
-    assert!(rt; tests.len() == expected.len());
-    for (test, words) in tests.iter().zip(expected.iter()) {
-        assert!(rt; told(alloc, test)?.as_str() == *words);
-    }
-    Ok(())
+    let table = "
+        depend type=require fmri=a -> a 1 -;
+        depend type=optional fmri=a -> a 0 -;
+        depend type=incorporate fmri=a@1 -> a 0 -;
+        depend type=exclude fmri=a -> a 0 -;
+        depend fmri=a predicate=b type=conditional -> b a 1 -;
+        depend type=require-any fmri=a fmri=c fmri=b -> a c b 3 -;
+        depend type=group fmri=g/h -> g/h 1 g/h;
+        depend type=parent fmri=a fmri=b -> a b 0 -;
+        # They stand in the order of their lines.
+        depend type=optional fmri=a¶depend type=require fmri=b¶depend type=group fmri=c¶ -> a 0 -;b 1 -;c 1 c;
+    ";
+    holds(&rt, rt.alloc(), &mut Asked::Told, 9, table)
 }

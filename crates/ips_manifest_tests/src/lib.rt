@@ -19,3 +19,5 @@ mod resolve;
 mod rows;
 #[cfg(test)]
 mod state;
+#[cfg(test)]
+mod table;

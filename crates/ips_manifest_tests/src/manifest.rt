@@ -1,86 +1,106 @@
+use crate::table::{Ask, holds, spelled};
 use ips_fmri::Version;
 use ips_manifest::{LineFault, Manifest, Package};
 use ips_text::{Or, Text};
-use std::alloc::Global;
+use std::alloc::{AllocError, Global};
 use std::test::Fail;
+
+// What a table asks of manifests.
+#[derive(Drop)]
+enum Asked {
+    // The number of the first line and the manifest as it is printed, or the line of the fault.
+    Lines,
+    // Whether a package of this manifest, which is printed as it is read, is obsolete.
+    Obsolete,
+}
+
+impl Ask for Asked {
+    fn answer(&mut self, alloc: Global, question: &str) -> Result<String, Fail> {
+        let bytes = spelled(alloc, question)?;
+        match self {
+            Asked::Lines => lines(alloc, bytes.as_slice()),
+            Asked::Obsolete => obsolete(alloc, bytes.as_slice()),
+        }
+    }
+}
+
+fn lines(alloc: Global, bytes: &[u8]) -> Result<String, Fail> {
+    let manifest = match Manifest::read(alloc, bytes) {
+        Ok(manifest) => manifest,
+        Err(Or::Bad(fault)) => {
+            let line = fault.line;
+            let is_text = !matches!(&fault.fault, LineFault::NotText);
+            let what = if is_text { "no action" } else { "not text" };
+            return Ok(format!(in alloc; "{what} at {line}")?);
+        }
+        Err(Or::OutOfMemory) => return Err(AllocError.into()),
+    };
+    let printed = manifest.print(alloc)?;
+    match manifest.lines.first() {
+        Some(line) => {
+            let (number, printed) = (line.number, printed.as_str());
+            Ok(format!(in alloc; "{number}: {printed}")?)
+        }
+        None => Ok(String::from_str(alloc, "no line")?),
+    }
+}
+
+fn obsolete(alloc: Global, bytes: &[u8]) -> Result<String, Fail> {
+    let package = Package {
+        stem: Text::new(alloc, "web/server")?,
+        version: Version::parse(alloc, "1.2")?,
+        manifest: Manifest::read(alloc, bytes)?,
+    };
+    let copy = package.copy(alloc)?;
+    let printed = copy.manifest.print(alloc)?;
+    let is_same = copy.stem.as_str() == "web/server" && printed.as_str().as_bytes() == bytes;
+    let version = copy.version.print(alloc)?;
+    let is_obsolete = copy.manifest.is_obsolete();
+    let answer = match (is_same && version.as_str() == "1.2", is_obsolete) {
+        (false, _) => "not the same",
+        (true, true) => "obsolete",
+        (true, false) => "not obsolete",
+    };
+    Ok(String::from_str(alloc, answer)?)
+}
 
 #[test]
 fn lines_are_joined_skipped_and_numbered(rt: HostRuntime) -> Result<(), Fail> {
-    let alloc = rt.alloc();
-    for (text, number, printed) in [
-        ("set name=a value=b\n", 1, "set name=a value=b\n"),
-        (
-            "\n \t\n# c\n \t# d \\\nset name=a\nset name=e",
-            6,
-            "set name=e\n",
-        ),
-        (
-            "# c\nset \\\n  name=a \\\nvalue=b\nset name=e\n",
-            2,
-            "set name=a value=b\nset name=e\n",
-        ),
-        ("set name=a value=b\\", 1, "set name=a value=b\n"),
-        ("set name=a value=b\\\n", 1, "set name=a value=b\n"),
-        ("set na\\\nme=a", 1, "set name=a\n"),
-    ] {
-        let manifest = Manifest::read(alloc, text.as_bytes())?;
-        assert!(rt; !manifest.lines.is_empty(), "{text}");
-        assert!(rt; manifest.lines[0].number == number, "{text}");
-        assert!(rt; manifest.print(alloc)?.as_str() == printed, "{text}");
-    }
-    assert!(rt; Manifest::read(alloc, b"")?.lines.is_empty());
-    Ok(())
-}
-
-// The line of a text's fault, and whether the line isn't UTF-8.
-fn fault_of(alloc: Global, text: &[u8]) -> Option<(u64, bool)> {
-    match Manifest::read(alloc, text) {
-        Err(Or::Bad(fault)) => Some((fault.line, matches!(&fault.fault, LineFault::NotText))),
-        _ => None,
-    }
+    let table = r"
+        set name=a value=b¶ -> 1: set name=a value=b¶
+        ¶ {tab}¶# c¶ {tab}# d \¶set name=a¶set name=e -> 6: set name=e¶
+        {hash} c¶set \¶  name=a \¶value=b¶set name=e¶ -> 2: set name=a value=b¶set name=e¶
+        set name=a value=b\ -> 1: set name=a value=b¶
+        set name=a value=b\¶ -> 1: set name=a value=b¶
+        set na\¶me=a -> 1: set name=a¶
+        -> no line
+    ";
+    holds(&rt, rt.alloc(), &mut Asked::Lines, 7, table)
 }
 
 #[test]
-fn the_first_fault_is_told_with_its_line(rt: HostRuntime) {
-    let alloc = rt.alloc();
-    for (text, line, not_text) in [
-        (b"set name=a\n\xff\n".as_slice(), 2, true),
-        (
-            b"set \\\nname=a \\\nvalue=\xc3\\\n\xa9\n".as_slice(),
-            3,
-            true,
-        ),
-        (b"# \xff\nbad".as_slice(), 1, true),
-        (b"bad\n\xff\n".as_slice(), 1, false),
-        (b"# c\n\nset \\\n name=a b\n\xff\n".as_slice(), 3, false),
-        (b"set name=a\nset name=\"b\n".as_slice(), 2, false),
-        (b"set name=a\n\\\nset\n".as_slice(), 2, false),
-        (b"set name=a\n\nbad x\n".as_slice(), 3, false),
-    ] {
-        assert!(rt; fault_of(alloc, text) == Some((line, not_text)));
-    }
+fn the_first_fault_is_told_with_its_line(rt: HostRuntime) -> Result<(), Fail> {
+    let table = r#"
+        set name=a¶{0xff}¶ -> not text at 2
+        set \¶name=a \¶value={0xc3}\¶{0xa9}¶ -> not text at 3
+        {hash} {0xff}¶bad -> not text at 1
+        bad¶{0xff}¶ -> no action at 1
+        {hash} c¶¶set \¶ name=a b¶{0xff}¶ -> no action at 3
+        set name=a¶set name="b¶ -> no action at 2
+        set name=a¶\¶set¶ -> no action at 2
+        set name=a¶¶bad x¶ -> no action at 3
+    "#;
+    holds(&rt, rt.alloc(), &mut Asked::Lines, 8, table)
 }
 
 #[test]
 fn packages_are_copied_and_may_be_obsolete(rt: HostRuntime) -> Result<(), Fail> {
-    let alloc = rt.alloc();
-    for (text, obsolete) in [
-        ("set name=pkg.obsolete value=true\n", true),
-        ("set name=pkg.obsolete value=false value=true\n", true),
-        ("set name=pkg.obsolete value=false\n", false),
-        ("set name=pkg.renamed value=true\n", false),
-        ("set name=pkg.obsolete\n", false),
-    ] {
-        let package = Package {
-            stem: Text::new(alloc, "web/server")?,
-            version: Version::parse(alloc, "1.2")?,
-            manifest: Manifest::read(alloc, text.as_bytes())?,
-        };
-        let copy = package.copy(alloc)?;
-        assert!(rt; copy.stem.as_str() == "web/server");
-        assert!(rt; copy.version.print(alloc)?.as_str() == "1.2");
-        assert!(rt; copy.manifest.print(alloc)?.as_str() == text);
-        assert!(rt; copy.manifest.is_obsolete() == obsolete);
-    }
-    Ok(())
+    let table = "
+        set name=pkg.obsolete value=true¶ -> obsolete
+        set name=pkg.obsolete value=false value=true¶ -> obsolete
+        set name=pkg.obsolete value=false¶ -> not obsolete
+        set name=pkg.renamed value=true¶ -> not obsolete
+        set name=pkg.obsolete¶ -> not obsolete
+    ";
+    holds(&rt, rt.alloc(), &mut Asked::Obsolete, 5, table)
 }

@@ -1,26 +1,27 @@
+use crate::table::{Ask, columns, holds};
 use ips_action::{Action, parse_line};
 use ips_fmri::Version;
 use ips_mediate::{SetMediator, choose, same_mediation};
-use ips_text::{Or, Text};
+use ips_text::Text;
 use std::alloc::{AllocError, Global};
 use std::test::Fail;
 
-// A link of the mediator `python` with this path, and what else the words say.
-fn link(alloc: Global, path: &str, more: &str) -> Result<Option<Action>, AllocError> {
-    let line = format!(in alloc; "link path={path} target=t mediator=python {more}")?;
-    match parse_line(alloc, &line) {
-        Ok(action) => Ok(Some(action)),
-        Err(Or::Bad(_)) => Ok(None),
-        Err(Or::OutOfMemory) => Err(AllocError),
+// A link of the mediator `python` with this path, and what else the words say: each is behind `mediator-`.
+fn link(alloc: Global, path: &str, words: &str) -> Result<Action, Fail> {
+    let mut line = format!(in alloc; "link path={path} target=t mediator=python")?;
+    for word in words.split_whitespace() {
+        write!(line, " mediator-{word}")?;
     }
+    Ok(parse_line(alloc, line.as_str())?)
 }
 
-// The links that these words say, one after the other.
-fn links(alloc: Global, lines: &[&str]) -> Result<Vec<Action>, AllocError> {
+// The links that these words say, one after the other; a link whose words are `-` says no more.
+fn links(alloc: Global, lines: &str) -> Result<Vec<Action>, Fail> {
     let mut links = Vec::new(alloc);
-    for words in lines {
-        if let Some(action) = link(alloc, "a", words)? {
-            links.push(action)?;
+    if !lines.is_empty() {
+        for words in lines.split(';') {
+            let words = words.trim();
+            links.push(link(alloc, "a", if words == "-" { "" } else { words })?)?;
         }
     }
     Ok(links)
@@ -44,86 +45,87 @@ fn set(alloc: Global, version: &str, implementation: &str) -> Result<SetMediator
     })
 }
 
-const OLD: &str = "mediator-version=2.7 mediator-priority=vendor";
+// What a table asks of mediations.
+#[derive(Drop)]
+enum Asked {
+    // Which of these links is chosen.
+    Best,
+    // Which of the links `FIVE` is chosen where a version and an implementation are set.
+    Set,
+    // Whether two links have the same mediation.
+    Same,
+}
 
-const NEW: &str = "mediator-version=3.9";
+const FIVE: &str =
+    "version=2.7 priority=vendor; version=3.9; version=3.10 implementation=pypy; version=3.10 implementation=cpy; -";
 
-const NEWER: &str = "mediator-version=3.10";
+impl Ask for Asked {
+    fn answer(&mut self, alloc: Global, question: &str) -> Result<String, Fail> {
+        let (one, two) = columns(question);
+        match self {
+            Asked::Best => best(alloc, one, None),
+            Asked::Set => best(alloc, FIVE, Some(&set(alloc, one, two)?.copy(alloc)?)),
+            Asked::Same => {
+                let one = link(alloc, "a", one)?;
+                let two = link(alloc, "b", two)?;
+                let same = same_mediation(&one, &two);
+                Ok(String::from_str(alloc, if same { "yes" } else { "no" })?)
+            }
+        }
+    }
+}
 
-const PYPY: &str = "mediator-version=3.10 mediator-implementation=pypy";
-
-const CPY: &str = "mediator-version=3.10 mediator-implementation=cpy";
-
-const PLAIN: &str = "";
+fn best(alloc: Global, lines: &str, set: Option<&SetMediator>) -> Result<String, Fail> {
+    let links = links(alloc, lines)?;
+    match choose(&links, set) {
+        Some(number) => Ok(format!(in alloc; "{number}")?),
+        None => Ok(String::from_str(alloc, "none")?),
+    }
+}
 
 #[test]
 fn the_best_mediation_is_chosen(rt: HostRuntime) -> Result<(), Fail> {
-    let alloc = rt.alloc();
-    for (lines, best) in [
-        // the vendor's comes before a greater version, the site's before both
-        ([OLD, NEW, NEWER, PLAIN].as_slice(), Some(0)),
-        (
-            &[OLD, NEW, "mediator-version=1 mediator-priority=site"],
-            Some(2),
-        ),
-        // the priority is the greatest of a mediation's links
-        (
-            &[
-                NEW,
-                OLD,
-                NEWER,
-                "mediator-version=3.9 mediator-priority=site",
-            ],
-            Some(3),
-        ),
-        // versions by number, and none is least
-        (&[NEW, NEWER, PLAIN], Some(1)),
-        // no implementation first, then the least
-        (&[PYPY, CPY], Some(1)),
-        (&[PYPY, NEWER, CPY], Some(1)),
-        (&[], None),
-    ] {
-        let links = links(alloc, lines)?;
-        assert_eq!(rt; choose(&links, None), best);
-    }
-    Ok(())
+    let table = "
+        # The vendor's comes before a greater version, the site's before both.
+        version=2.7 priority=vendor; version=3.9; version=3.10; - -> 0
+        version=2.7 priority=vendor; version=3.9; version=1 priority=site -> 2
+        # The priority is the greatest of a mediation's links.
+        version=3.9; version=2.7 priority=vendor; version=3.10; version=3.9 priority=site -> 3
+        # Versions by number, and none is least.
+        version=3.9; version=3.10; - -> 1
+        # No implementation first, then the least.
+        version=3.10 implementation=pypy; version=3.10 implementation=cpy -> 1
+        version=3.10 implementation=pypy; version=3.10; version=3.10 implementation=cpy -> 1
+        # No link.
+        -> none
+    ";
+    holds(&rt, rt.alloc(), &mut Asked::Best, 7, table)
 }
 
 #[test]
 fn what_is_set_leaves_those_that_fit(rt: HostRuntime) -> Result<(), Fail> {
-    let alloc = rt.alloc();
-    let links = links(alloc, &[OLD, NEW, PYPY, CPY, PLAIN])?;
-    for (version, implementation, best) in [
-        ("3.9", "", Some(1)),
-        ("3.10", "", Some(3)),
-        ("3.10", "pypy", Some(2)),
-        ("", "pypy", Some(2)),
-        ("", "", Some(0)),
-        ("4.0", "", None),
-        ("3.9", "pypy", None),
-        ("3.9-1", "", None),
-    ] {
-        let set = set(alloc, version, implementation)?;
-        let set = set.copy(alloc)?;
-        assert_eq!(rt; choose(&links, Some(&set)), best);
-    }
-    Ok(())
+    let table = "
+        3.9 | -> 1
+        3.10 | -> 3
+        3.10 | pypy -> 2
+        | pypy -> 2
+        | -> 0
+        4.0 | -> none
+        3.9 | pypy -> none
+        3.9-1 | -> none
+    ";
+    holds(&rt, rt.alloc(), &mut Asked::Set, 8, table)
 }
 
 #[test]
 fn links_of_one_mediation(rt: HostRuntime) -> Result<(), Fail> {
-    let alloc = rt.alloc();
-    for (a, b, same) in [
-        (OLD, "mediator-version=2.7", true),
-        (NEW, NEWER, false),
-        (NEWER, PYPY, false),
-        (PYPY, CPY, false),
-        (PLAIN, PLAIN, true),
-        (PLAIN, NEW, false),
-    ] {
-        let a = link(alloc, "a", a)?.ok_or("a line")?;
-        let b = link(alloc, "b", b)?.ok_or("a line")?;
-        assert_eq!(rt; same_mediation(&a, &b), same);
-    }
-    Ok(())
+    let table = "
+        version=2.7 priority=vendor | version=2.7 -> yes
+        version=3.9 | version=3.10 -> no
+        version=3.10 | version=3.10 implementation=pypy -> no
+        version=3.10 implementation=pypy | version=3.10 implementation=cpy -> no
+        | -> yes
+        | version=3.9 -> no
+    ";
+    holds(&rt, rt.alloc(), &mut Asked::Same, 6, table)
 }

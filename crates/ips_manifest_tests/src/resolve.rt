@@ -1,3 +1,4 @@
+use crate::table::{Ask, holds, text};
 use ips_filter::Settings;
 use ips_fmri::Version;
 use ips_manifest::{Line, Manifest, Package};
@@ -15,11 +16,14 @@ fn package(alloc: Global, stem: &str, text: &str) -> Result<Package, Fail> {
     })
 }
 
-// A line by its package's stem and its number; `-` and 0 where there is none.
-fn told<'a>(found: Option<(&'a Package, &'a Line)>) -> (&'a str, u64) {
+// A line by its package's stem and its number; `none` where there is none.
+fn told(alloc: Global, found: Option<(&Package, &Line)>) -> Result<String, Fail> {
     match found {
-        Some((own, line)) => (own.stem.as_str(), line.number),
-        None => ("-", 0),
+        Some((own, line)) => {
+            let (stem, number) = (own.stem.as_str(), line.number);
+            Ok(format!(in alloc; "{stem} {number}")?)
+        }
+        None => Ok(String::from_str(alloc, "none")?),
     }
 }
 
@@ -32,60 +36,66 @@ hardlink path=usr/lib/g target=f
 license da39a3ee5e6b4b0d3255bfef95601890afd80709 license=l variant.arch=sparc
 ";
 
+const OTHER: &str = "dir group=bin mode=0755 owner=root path=usr
+dir group=bin mode=0755 owner=root path=var
+";
+
+// What a table asks of a package `a` that is built and a package `b` behind it.
+#[derive(Drop)]
+enum Asked {
+    // The first line that cannot be installed yet, where `b` has this manifest.
+    Unbuilt,
+    // The first line that gives this path.
+    Below,
+}
+
+impl Ask for Asked {
+    fn answer(&mut self, alloc: Global, question: &str) -> Result<String, Fail> {
+        let question = text(alloc, question)?;
+        let question = question.as_str();
+        let settings = Settings::new(alloc);
+        let other = match self {
+            Asked::Unbuilt => question,
+            Asked::Below => OTHER,
+        };
+        let mut packages = Vec::new(alloc);
+        packages.push(package(alloc, "a", BUILT)?)?;
+        packages.push(package(alloc, "b", other)?)?;
+        match self {
+            Asked::Unbuilt => told(alloc, first_unbuilt(packages.as_slice(), &settings)),
+            Asked::Below => {
+                let path = RelPath::parse(alloc, question.as_bytes())?;
+                told(alloc, first_below(packages.as_slice(), &settings, &path))
+            }
+        }
+    }
+}
+
 #[test]
 fn finds_what_cannot_be_installed_yet(rt: HostRuntime) -> Result<(), Fail> {
-    let alloc = rt.alloc();
-    for (text, stem, number) in [
-        ("", "-", 0),
-        (
-            "depend fmri=x type=require\nuser group=g uid=1 username=u\n",
-            "b",
-            2,
-        ),
-        ("group gid=1 groupname=g\n", "b", 1),
-        ("driver name=d\n", "b", 1),
-        (
-            "license da39a3ee5e6b4b0d3255bfef95601890afd80709 license=l\n",
-            "b",
-            1,
-        ),
-        ("legacy pkg=SUNWx\n", "b", 1),
-        (
-            "file da39a3ee5e6b4b0d3255bfef95601890afd80709 group=bin mode=0644 owner=root path=p preserve=true\n",
-            "b",
-            1,
-        ),
-        (
-            "\nfile da39a3ee5e6b4b0d3255bfef95601890afd80709 group=bin mode=0644 overlay=true owner=root path=p\n",
-            "b",
-            2,
-        ),
-    ] {
-        let packages = vec![in alloc; package(alloc, "a", BUILT)?, package(alloc, "b", text)?]?;
-        let found = first_unbuilt(packages.as_slice(), &Settings::new(alloc));
-        assert!(rt; told(found) == (stem, number));
-    }
-    Ok(())
+    let table = "
+        -> none
+        depend fmri=x type=require¶user group=g uid=1 username=u¶ -> b 2
+        group gid=1 groupname=g¶ -> b 1
+        driver name=d¶ -> b 1
+        license da39a3ee5e6b4b0d3255bfef95601890afd80709 license=l¶ -> b 1
+        legacy pkg=SUNWx¶ -> b 1
+        file da39a3ee5e6b4b0d3255bfef95601890afd80709 group=bin mode=0644 owner=root path=p preserve=true¶ -> b 1
+        ¶file da39a3ee5e6b4b0d3255bfef95601890afd80709 group=bin mode=0644 overlay=true owner=root path=p¶ -> b 2
+    ";
+    holds(&rt, rt.alloc(), &mut Asked::Unbuilt, 8, table)
 }
 
 #[test]
 fn finds_what_gives_a_path(rt: HostRuntime) -> Result<(), Fail> {
-    let alloc = rt.alloc();
-    let other =
-        "dir group=bin mode=0755 owner=root path=usr\ndir group=bin mode=0755 owner=root path=var\n";
-    let packages = vec![in alloc; package(alloc, "a", BUILT)?, package(alloc, "b", other)?]?;
-    for (path, stem, number) in [
-        ("usr", "a", 2),
-        // what is below a path that no line gives itself, and not what only begins with its bytes
-        ("usr/lib", "a", 3),
-        ("usr/lib/g", "a", 5),
-        ("us", "-", 0),
-        ("var", "b", 2),
-        ("var/pkg", "-", 0),
-    ] {
-        let path = RelPath::parse(alloc, path.as_bytes())?;
-        let found = first_below(packages.as_slice(), &Settings::new(alloc), &path);
-        assert!(rt; told(found) == (stem, number));
-    }
-    Ok(())
+    let table = "
+        usr -> a 2
+        # What is below a path that no line gives itself, and not what only begins with its bytes.
+        usr/lib -> a 3
+        usr/lib/g -> a 5
+        us -> none
+        var -> b 2
+        var/pkg -> none
+    ";
+    holds(&rt, rt.alloc(), &mut Asked::Below, 6, table)
 }

@@ -2,6 +2,10 @@
 #![tactic(auto)]
 
 #[cfg(test)]
+mod puzzle;
+#[cfg(test)]
 mod refute;
 #[cfg(test)]
 mod search;
+#[cfg(test)]
+mod table;

@@ -1,41 +1,9 @@
-use ips_refute::{Pair, Rule, Table, check};
+use crate::puzzle::{Case, case_of, table_of};
+use crate::table::{Ask, columns, holds};
+use ips_refute::{Table, check};
 use ips_search::{Found, backtrack, solve};
 use std::alloc::{AllocError, Global};
 use std::test::Fail;
-
-// A rule by pairs of stem and candidate, the last of the greatest stem.
-fn rule(alloc: Global, pairs: &[(u32, u32)]) -> Result<Option<Rule>, AllocError> {
-    let Some(((stem, candidate), front)) = pairs.split_last() else {
-        return Ok(None);
-    };
-    let mut others = Vec::new(alloc);
-    for (stem, candidate) in front {
-        others.push(Pair {
-            stem: *stem,
-            candidate: *candidate,
-        })?;
-    }
-    let last = Pair {
-        stem: *stem,
-        candidate: *candidate,
-    };
-    Ok(Some(Rule { others, last }))
-}
-
-fn table(
-    alloc: Global,
-    counts: &[u32],
-    sets: &[&[(u32, u32)]],
-) -> Result<Option<Table>, AllocError> {
-    let counts = Vec::from_slice(alloc, counts)?;
-    let mut rules = Vec::new(alloc);
-    for set in sets {
-        if let Some(rule) = rule(alloc, set)? {
-            rules.push(rule)?;
-        }
-    }
-    Ok(Table::new(counts, rules))
-}
 
 // What is found, as a text: the candidates, the refutation where `check` accepts it, or that the limit was spent.
 fn shown(alloc: Global, puzzle: &Table, found: Found) -> Result<String, AllocError> {
@@ -58,49 +26,42 @@ fn shown(alloc: Global, puzzle: &Table, found: Found) -> Result<String, AllocErr
     Ok(out)
 }
 
+// What the two searches find in a puzzle within a limit: the one that learns, and the plain one.
+#[derive(Drop)]
+struct Searches {}
+
+impl Ask for Searches {
+    fn answer(&self, alloc: Global, question: &str) -> Result<String, Fail> {
+        let (puzzle, limit) = columns(question);
+        let puzzle = table_of(alloc, &case_of(alloc, puzzle)?)?;
+        let limit = limit.parse::<u64>()?;
+        let learning = shown(alloc, &puzzle, solve(alloc, &puzzle, limit)?)?;
+        let plain = shown(alloc, &puzzle, backtrack(alloc, &puzzle, limit)?)?;
+        Ok(format!(in alloc; "{learning} / {plain}")?)
+    }
+}
+
 #[test]
 fn both_searches_find_the_best_choice_or_a_refutation(rt: HostRuntime) -> Result<(), Fail> {
-    let alloc = rt.alloc();
-    // Two stems of one candidate each that exclude one another.
-    let excluding = table(alloc, &[1, 1], &[&[(0, 0), (1, 0)], &[(0, 0), (1, 0)]])?;
-    // A package that requires one of two others; candidate 0 of these is absence.
-    let either = table(alloc, &[1, 2, 2], &[&[(0, 0), (1, 0), (2, 0)]])?;
-    // `x` at 2 excludes `z`; between them `y` has nine versions.
-    let between = table(alloc, &[2, 9, 1], &[&[(0, 0), (2, 0)]])?;
-    let empty = table(alloc, &[], &[])?;
-    // A stem without candidates behind two others.
-    let without = table(alloc, &[2, 2, 0], &[])?;
-    let rows = [
-        (
-            &excluding,
-            1,
-            "refutation 1\n0.0 | 1 | t1\n- | 0 | n0\n",
-            "refutation 1\n0.0 | 1 | t0\n- | 0 | n0\n",
-        ),
-        (&excluding, 0, "spent", "spent"),
-        (&either, 2, "spent", "spent"),
-        (&either, 3, "chosen 0 0 1", "chosen 0 0 1"),
-        (&between, 4, "spent", "spent"),
-        (&between, 5, "chosen 1 0 0", "spent"),
-        (&between, 12, "chosen 1 0 0", "spent"),
-        (&between, 13, "chosen 1 0 0", "chosen 1 0 0"),
-        (&empty, 0, "chosen", "chosen"),
-        (&without, 1, "spent", "spent"),
-        (&without, 2, "refutation 1\n- | 2 | -\n", "spent"),
-    ];
-    for (puzzle, limit, learning, plain) in rows {
-        let Some(puzzle) = puzzle else {
-            assert!(rt; false, "the table is well formed");
-            return Ok(());
-        };
-        let found = solve(alloc, puzzle, limit)?;
-        let text = shown(alloc, puzzle, found)?;
-        assert!(rt; text.as_str() == learning, "{limit}: {text}");
-        let found = backtrack(alloc, puzzle, limit)?;
-        let text = shown(alloc, puzzle, found)?;
-        assert!(rt; text.as_str() == plain, "{limit}: {text}");
-    }
-    Ok(())
+    let table = "
+        # Two stems of one candidate each that exclude one another.
+        1 1; 0.0 1.0; 0.0 1.0 | 1 -> refutation 1¶0.0 | 1 | t1¶- | 0 | n0¶ / refutation 1¶0.0 | 1 | t0¶- | 0 | n0¶
+        1 1; 0.0 1.0; 0.0 1.0 | 0 -> spent / spent
+        # A package that requires one of two others; candidate 0 of these is absence.
+        1 2 2; 0.0 1.0 2.0 | 2 -> spent / spent
+        1 2 2; 0.0 1.0 2.0 | 3 -> chosen 0 0 1 / chosen 0 0 1
+        # `x` at 2 excludes `z`; between them `y` has nine versions.
+        2 9 1; 0.0 2.0 | 4 -> spent / spent
+        2 9 1; 0.0 2.0 | 5 -> chosen 1 0 0 / spent
+        2 9 1; 0.0 2.0 | 12 -> chosen 1 0 0 / spent
+        2 9 1; 0.0 2.0 | 13 -> chosen 1 0 0 / chosen 1 0 0
+        # No stem at all.
+        | 0 -> chosen / chosen
+        # A stem without candidates behind two others.
+        2 2 0 | 1 -> spent / spent
+        2 2 0 | 2 -> refutation 1¶- | 2 | -¶ / spent
+    ";
+    holds(&rt, rt.alloc(), &Searches {}, 11, table)
 }
 
 // Numbers that look like chance (xorshift).
@@ -124,13 +85,6 @@ impl Numbers {
     }
 }
 
-// The numbers of candidates, and the sets of pairs that may not stand together.
-#[derive(Drop)]
-struct Case {
-    counts: Vec<u32>,
-    sets: Vec<Vec<(u32, u32)>>,
-}
-
 // Up to five stems, most of them with one to three candidates and a few with none, and up to ten sets of up to three pairs.
 fn made(alloc: Global, numbers: &mut Numbers) -> Result<Case, AllocError> {
     let stems = numbers.below(5).saturating_add(1);
@@ -150,17 +104,6 @@ fn made(alloc: Global, numbers: &mut Numbers) -> Result<Case, AllocError> {
         sets.push(set)?;
     }
     Ok(Case { counts, sets })
-}
-
-fn table_of(alloc: Global, case: &Case) -> Result<Option<Table>, AllocError> {
-    let counts = Vec::from_slice(alloc, &case.counts)?;
-    let mut rules = Vec::new(alloc);
-    for set in &case.sets {
-        if let Some(rule) = rule(alloc, set)? {
-            rules.push(rule)?;
-        }
-    }
-    Ok(Table::new(counts, rules))
 }
 
 // The choice of this number in lexicographic order.
@@ -233,10 +176,7 @@ fn both_searches_agree_with_an_enumeration(rt: HostRuntime) -> Result<(), Fail> 
     let mut refuted = 0_u32;
     for round in 0..100 {
         let case = made(alloc, &mut numbers)?;
-        let Some(puzzle) = table_of(alloc, &case)? else {
-            assert!(rt; false, "the table is well formed");
-            return Ok(());
-        };
+        let puzzle = table_of(alloc, &case)?;
         let wanted = by_enumeration(alloc, &case)?;
         if wanted.as_str() == "refuted" {
             refuted = refuted.saturating_add(1);

@@ -1,53 +1,161 @@
+use crate::table::{Ask, columns, holds, text, told};
 use ips_fmri::{Fmri, FmriFault, Pattern, Version, matches_stars};
 use ips_text::Or;
 use std::alloc::{AllocError, Global};
 use std::cmp::Ordering;
 use std::test::Fail;
 
-// The front, and behind it the piece so many times.
-fn repeated(alloc: Global, front: &str, piece: &str, times: usize) -> Result<String, AllocError> {
-    let mut text = String::from_str(alloc, front)?;
-    for _ in 0..times {
-        text.push_str(piece)?;
-    }
-    Ok(text)
+// What a table asks of versions, FMRIs and patterns.
+#[derive(Drop)]
+enum Asked {
+    Version,
+    VersionParts,
+    Incorporates,
+    Fmri,
+    FmriParts,
+    Pattern,
+    Matches,
+    Equals,
+    Admits,
+    Stars,
 }
+
+impl Ask for Asked {
+    fn answer(&self, alloc: Global, question: &str) -> Result<String, Fail> {
+        let (one, two) = columns(question);
+        let one = text(alloc, one)?;
+        let two = text(alloc, two)?;
+        let (one, two) = (one.as_str(), two.as_str());
+        match self {
+            Asked::Version => version(alloc, one),
+            Asked::VersionParts => version_parts(alloc, one),
+            Asked::Incorporates => told(alloc, incorporates(alloc, one, two)?),
+            Asked::Fmri => fmri(alloc, one),
+            Asked::FmriParts => fmri_parts(alloc, one),
+            Asked::Pattern => pattern(alloc, one),
+            Asked::Matches => told(alloc, a_pattern(alloc, one)?.matches(two)),
+            Asked::Equals => told(alloc, a_pattern(alloc, one)?.equals(two)),
+            Asked::Admits => told(alloc, admits(alloc, one, two)?),
+            Asked::Stars => told(alloc, matches_stars(one, two)),
+        }
+    }
+}
+
+fn a_version(alloc: Global, text: &str) -> Result<Version, Fail> {
+    Ok(Version::parse(alloc, text)?)
+}
+
+fn a_pattern(alloc: Global, text: &str) -> Result<Pattern, Fail> {
+    Ok(Pattern::parse(alloc, text)?)
+}
+
+// The part in which a text goes wrong, and the place.
+fn fault(alloc: Global, fault: Or<FmriFault>) -> Result<String, Fail> {
+    let (part, place) = match fault {
+        Or::Bad(FmriFault::BadStem { place }) => ("stem", place),
+        Or::Bad(FmriFault::BadPublisher { place }) => ("publisher", place),
+        Or::Bad(FmriFault::BadNumber { place }) => ("number", place),
+        Or::Bad(FmriFault::BadTimestamp { place }) => ("timestamp", place),
+        Or::Bad(FmriFault::Trailing { place }) => ("trailing", place),
+        Or::OutOfMemory => return Err(AllocError.into()),
+    };
+    Ok(format!(in alloc; "bad {part} {place}")?)
+}
+
+// How the version is printed, or its fault.
+fn version(alloc: Global, text: &str) -> Result<String, Fail> {
+    match Version::parse(alloc, text) {
+        Ok(version) => Ok(String::from_str(alloc, version.print(alloc)?.as_str())?),
+        Err(found) => fault(alloc, found),
+    }
+}
+
+// The release, the build, the branch and the timestamp.
+fn version_parts(alloc: Global, text: &str) -> Result<String, Fail> {
+    let version = a_version(alloc, text)?;
+    let (release, build) = (version.release(), version.build());
+    let (branch, stamp) = (version.branch(), version.stamp());
+    Ok(format!(in alloc; "{release:?} {build:?} {branch:?} {stamp:?}")?)
+}
+
+fn incorporates(alloc: Global, version: &str, limit: &str) -> Result<bool, Fail> {
+    let limit = a_version(alloc, limit)?;
+    Ok(a_version(alloc, version)?.incorporates(&limit))
+}
+
+// How a copy of the FMRI is printed, or its fault.
+fn fmri(alloc: Global, text: &str) -> Result<String, Fail> {
+    match Fmri::parse(alloc, text) {
+        Ok(fmri) => {
+            let printed = fmri.copy(alloc)?.print(alloc)?;
+            Ok(String::from_str(alloc, printed.as_str())?)
+        }
+        Err(found) => fault(alloc, found),
+    }
+}
+
+// The publisher, the stem and the version's release.
+fn fmri_parts(alloc: Global, text: &str) -> Result<String, Fail> {
+    let fmri = Fmri::parse(alloc, text)?;
+    let publisher = fmri.publisher.ok_or("no publisher")?;
+    let version = fmri.version.ok_or("no version")?;
+    let (publisher, stem) = (publisher.as_str(), fmri.stem.as_str());
+    let release = version.release();
+    Ok(format!(in alloc; "{publisher} {stem} {release:?}")?)
+}
+
+// Whether the pattern is anchored and wild, and how a copy of it is printed; or its fault.
+fn pattern(alloc: Global, text: &str) -> Result<String, Fail> {
+    match Pattern::parse(alloc, text) {
+        Ok(pattern) => {
+            let anchored = if pattern.anchored { "anchored" } else { "free" };
+            let wild = if pattern.is_wild() { "wild" } else { "plain" };
+            let printed = pattern.copy(alloc)?.print(alloc)?;
+            let printed = printed.as_str();
+            Ok(format!(in alloc; "{anchored} {wild} {printed}")?)
+        }
+        Err(found) => fault(alloc, found),
+    }
+}
+
+fn admits(alloc: Global, pattern: &str, version: &str) -> Result<bool, Fail> {
+    let version = a_version(alloc, version)?;
+    Ok(a_pattern(alloc, pattern)?.admits(&version))
+}
+
+// How two versions stand to one another, and whether the first is at least the second.
+fn compared(alloc: Global, one: &Version, two: &Version) -> Result<(Ordering, bool), Fail> {
+    Ok((one.order(two), one.copy(alloc)?.at_least(two)))
+}
+
+// Each is less than the next one.
+const ASCENDING: &str = "0
+1
+1,6
+1-2
+1,5-2:20240102T030405Z
+1,6-2:20240102T030405Z
+1-2:20240102T030406Z
+1,5-2.0
+1-3
+1.2
+1.2.0
+1.9
+1.10";
 
 #[test]
 fn orders_versions_by_release_branch_timestamp_and_build(rt: HostRuntime) -> Result<(), Fail> {
     let alloc = rt.alloc();
-    // Each is less than the next one.
-    let ascending = [
-        "0",
-        "1",
-        "1,6",
-        "1-2",
-        "1,5-2:20240102T030405Z",
-        "1,6-2:20240102T030405Z",
-        "1-2:20240102T030406Z",
-        "1,5-2.0",
-        "1-3",
-        "1.2",
-        "1.2.0",
-        "1.9",
-        "1.10",
-    ];
-    for (i, low) in ascending.iter().enumerate() {
-        let low_version = Version::parse(alloc, low)?;
-        assert!(rt; low_version.order(&low_version) == Ordering::Equal);
-        assert!(rt; low_version.copy(alloc)?.at_least(&low_version));
-        for high in &ascending[i + 1..] {
-            let high_version = Version::parse(alloc, high)?;
+    let mut versions = Vec::new(alloc);
+    for line in ASCENDING.lines() {
+        versions.push(a_version(alloc, line)?)?;
+    }
+    assert!(rt; versions.len() == 13);
+    for (i, one) in versions.iter().enumerate() {
+        for (j, two) in versions.iter().enumerate() {
             assert!(rt;
-                low_version.order(&high_version) == Ordering::Less,
-                "{low} {high}"
-            );
-            assert!(rt;
-                high_version.order(&low_version) == Ordering::Greater,
-                "{low} {high}"
-            );
-            assert!(rt;
-                high_version.at_least(&low_version) && !low_version.at_least(&high_version)
+                compared(alloc, one, two)? == (i.cmp(&j), i >= j),
+                "{i} {j}"
             );
         }
     }
@@ -56,339 +164,231 @@ fn orders_versions_by_release_branch_timestamp_and_build(rt: HostRuntime) -> Res
 
 #[test]
 fn incorporates_by_beginnings(rt: HostRuntime) -> Result<(), Fail> {
-    let alloc = rt.alloc();
-    for (version, limit, answer) in [
-        ("1.2.3", "1.2", true),
-        ("1.2", "1.2.3", false),
-        ("1.20", "1.2", false),
-        ("1.3", "1.2", false),
-        ("1.2-3.4", "1.2-3", true),
-        ("1.2-4", "1.2-3", false),
-        ("1.2", "1.2-3", false),
-        ("1.2,5-3", "1.2,6-3", true),
-        ("1-2:20240102T030405Z", "1-2", true),
-        ("1-2:20240102T030405Z", "1-2:20240102T030405Z", true),
-        ("1-2", "1-2:20240102T030405Z", false),
-        ("1.1-2:20240102T030405Z", "1-2:20240102T030405Z", false),
-    ] {
-        let version_read = Version::parse(alloc, version)?;
-        let limit_read = Version::parse(alloc, limit)?;
-        assert!(rt;
-            version_read.incorporates(&limit_read) == answer,
-            "{version} {limit}"
-        );
-    }
-    Ok(())
+    let table = "
+        1.2.3 | 1.2 -> yes
+        1.2 | 1.2.3 -> no
+        1.20 | 1.2 -> no
+        1.3 | 1.2 -> no
+        1.2-3.4 | 1.2-3 -> yes
+        1.2-4 | 1.2-3 -> no
+        1.2 | 1.2-3 -> no
+        1.2,5-3 | 1.2,6-3 -> yes
+        1-2:20240102T030405Z | 1-2 -> yes
+        1-2:20240102T030405Z | 1-2:20240102T030405Z -> yes
+        1-2 | 1-2:20240102T030405Z -> no
+        1.1-2:20240102T030405Z | 1-2:20240102T030405Z -> no
+    ";
+    holds(&rt, rt.alloc(), &Asked::Incorporates, 12, table)
 }
 
 #[test]
 fn reads_and_prints_versions(rt: HostRuntime) -> Result<(), Fail> {
-    let alloc = rt.alloc();
-    for text in [
-        "0",
-        "1-2",
-        "1,2",
-        "1:20240131T235959Z",
-        "0.5.11,5.11-0.175.3:00001201T000000Z",
-        "18446744073709551615",
-    ] {
-        assert_eq!(rt; Version::parse(alloc, text)?.print(alloc)?.as_str(), text);
-    }
-    let version = Version::parse(alloc, "1.2,3.4-5.6:20240102T030405Z")?;
-    assert!(rt; version.release() == [1, 2].as_slice());
-    assert!(rt; version.build() == [3, 4].as_slice());
-    assert!(rt; version.branch() == [5, 6].as_slice());
-    assert!(rt; version.stamp() == Some(20_240_102_030_405));
-    Ok(())
+    let parts = "1.2,3.4-5.6:20240102T030405Z -> [1, 2] [3, 4] [5, 6] Some(20240102030405)";
+    holds(&rt, rt.alloc(), &Asked::VersionParts, 1, parts)?;
+    let table = "
+        0 -> 0
+        1-2 -> 1-2
+        1,2 -> 1,2
+        1:20240131T235959Z -> 1:20240131T235959Z
+        0.5.11,5.11-0.175.3:00001201T000000Z -> 0.5.11,5.11-0.175.3:00001201T000000Z
+        18446744073709551615 -> 18446744073709551615
+    ";
+    holds(&rt, rt.alloc(), &Asked::Version, 6, table)
 }
 
 #[test]
-fn tells_where_a_version_goes_wrong(rt: HostRuntime) {
-    let alloc = rt.alloc();
-    for (text, fault) in [
-        ("", FmriFault::BadNumber { place: 0 }),
-        (".1", FmriFault::BadNumber { place: 0 }),
-        ("1.02", FmriFault::BadNumber { place: 3 }),
-        ("00", FmriFault::BadNumber { place: 1 }),
-        ("1.", FmriFault::BadNumber { place: 2 }),
-        ("1..2", FmriFault::BadNumber { place: 2 }),
-        ("1-", FmriFault::BadNumber { place: 2 }),
-        ("1,-2", FmriFault::BadNumber { place: 2 }),
-        ("1-1,2", FmriFault::BadNumber { place: 3 }),
-        ("1,02", FmriFault::BadNumber { place: 3 }),
-        ("1-18446744073709551616", FmriFault::BadNumber { place: 21 }),
-        ("1:20242002T030405Z", FmriFault::BadTimestamp { place: 6 }),
-        ("1x", FmriFault::BadNumber { place: 1 }),
-        ("18446744073709551616", FmriFault::BadNumber { place: 19 }),
-        ("1:", FmriFault::BadTimestamp { place: 2 }),
-        ("1:2024010", FmriFault::BadTimestamp { place: 9 }),
-        ("1:20240002T030405Z", FmriFault::BadTimestamp { place: 7 }),
-        ("1:20241302T030405Z", FmriFault::BadTimestamp { place: 7 }),
-        ("1:20240100T030405Z", FmriFault::BadTimestamp { place: 9 }),
-        ("1:20240132T030405Z", FmriFault::BadTimestamp { place: 9 }),
-        ("1:20240102t030405Z", FmriFault::BadTimestamp { place: 10 }),
-        ("1:20240102T240405Z", FmriFault::BadTimestamp { place: 12 }),
-        ("1:20240102T036005Z", FmriFault::BadTimestamp { place: 13 }),
-        ("1:20240102T030460Z", FmriFault::BadTimestamp { place: 15 }),
-        ("1:20240102T030405", FmriFault::BadTimestamp { place: 17 }),
-        ("1:20240102T030405Zx", FmriFault::Trailing { place: 18 }),
-    ] {
-        assert!(rt;
-            matches!(Version::parse(alloc, text), Err(Or::Bad(found)) if found == fault),
-            "{text}"
-        );
-    }
+fn tells_where_a_version_goes_wrong(rt: HostRuntime) -> Result<(), Fail> {
+    let table = "
+        -> bad number 0
+        .1 -> bad number 0
+        1.02 -> bad number 3
+        00 -> bad number 1
+        1. -> bad number 2
+        1..2 -> bad number 2
+        1- -> bad number 2
+        1,-2 -> bad number 2
+        1-1,2 -> bad number 3
+        1,02 -> bad number 3
+        1-18446744073709551616 -> bad number 21
+        1:20242002T030405Z -> bad timestamp 6
+        1x -> bad number 1
+        18446744073709551616 -> bad number 19
+        1: -> bad timestamp 2
+        1:2024010 -> bad timestamp 9
+        1:20240002T030405Z -> bad timestamp 7
+        1:20241302T030405Z -> bad timestamp 7
+        1:20240100T030405Z -> bad timestamp 9
+        1:20240132T030405Z -> bad timestamp 9
+        1:20240102t030405Z -> bad timestamp 10
+        1:20240102T240405Z -> bad timestamp 12
+        1:20240102T036005Z -> bad timestamp 13
+        1:20240102T030460Z -> bad timestamp 15
+        1:20240102T030405 -> bad timestamp 17
+        1:20240102T030405Zx -> bad trailing 18
+    ";
+    holds(&rt, rt.alloc(), &Asked::Version, 26, table)
 }
 
 #[test]
 fn reads_and_prints_fmris(rt: HostRuntime) -> Result<(), Fail> {
-    let alloc = rt.alloc();
-    for (text, canonical) in [
-        ("web/nginx@1.2", "web/nginx@1.2"),
-        ("pkg:/web/nginx@1.2", "web/nginx@1.2"),
-        (
-            "pkg://solaris/web/nginx@1.2,5-3",
-            "pkg://solaris/web/nginx@1.2,5-3",
-        ),
-        ("pkg://solaris/web/nginx", "pkg://solaris/web/nginx"),
-        ("pkg", "pkg"),
-        ("pkg@1", "pkg@1"),
-        ("pkg:/pkg", "pkg"),
-        ("0a.b_c-d+e/F", "0a.b_c-d+e/F"),
-    ] {
-        assert_eq!(rt;
-            Fmri::parse(alloc, text)?
-                .copy(alloc)?
-                .print(alloc)?
-                .as_str(),
-            canonical
-        );
-    }
-    let fmri = Fmri::parse(alloc, "pkg://solaris/web/nginx@1.2")?;
-    assert!(rt;
-        fmri.publisher
-            .is_some_and(|publisher| publisher.as_str() == "solaris")
-    );
-    assert!(rt; fmri.stem.as_str() == "web/nginx");
-    assert!(rt;
-        fmri.version
-            .is_some_and(|version| version.release() == [1, 2].as_slice())
-    );
-    Ok(())
+    let parts = "pkg://solaris/web/nginx@1.2 -> solaris web/nginx [1, 2]";
+    holds(&rt, rt.alloc(), &Asked::FmriParts, 1, parts)?;
+    let table = "
+        web/nginx@1.2 -> web/nginx@1.2
+        pkg:/web/nginx@1.2 -> web/nginx@1.2
+        pkg://solaris/web/nginx@1.2,5-3 -> pkg://solaris/web/nginx@1.2,5-3
+        pkg://solaris/web/nginx -> pkg://solaris/web/nginx
+        pkg -> pkg
+        pkg@1 -> pkg@1
+        pkg:/pkg -> pkg
+        0a.b_c-d+e/F -> 0a.b_c-d+e/F
+    ";
+    holds(&rt, rt.alloc(), &Asked::Fmri, 8, table)
 }
 
 #[test]
-fn tells_where_an_fmri_goes_wrong(rt: HostRuntime) {
-    let alloc = rt.alloc();
-    for (text, fault) in [
-        ("", FmriFault::BadStem { place: 0 }),
-        ("/a", FmriFault::BadStem { place: 0 }),
-        ("_a", FmriFault::BadStem { place: 0 }),
-        ("a/", FmriFault::BadStem { place: 2 }),
-        ("a//b", FmriFault::BadStem { place: 2 }),
-        ("a b", FmriFault::BadStem { place: 1 }),
-        ("a*", FmriFault::BadStem { place: 1 }),
-        ("a\u{fc}", FmriFault::BadStem { place: 1 }),
-        ("pkg:", FmriFault::BadStem { place: 4 }),
-        ("pkg:a", FmriFault::BadStem { place: 4 }),
-        ("pkg:/", FmriFault::BadStem { place: 5 }),
-        ("pkg:/@1", FmriFault::BadStem { place: 5 }),
-        ("pkgs:/a", FmriFault::BadStem { place: 4 }),
-        ("pkg://", FmriFault::BadPublisher { place: 6 }),
-        ("pkg:///a", FmriFault::BadPublisher { place: 6 }),
-        ("pkg://p", FmriFault::BadPublisher { place: 7 }),
-        ("pkg://p@1", FmriFault::BadPublisher { place: 7 }),
-        ("pkg://p/", FmriFault::BadStem { place: 8 }),
-        ("a@", FmriFault::BadNumber { place: 2 }),
-        ("a@1.02", FmriFault::BadNumber { place: 5 }),
-        ("a@1@2", FmriFault::BadNumber { place: 3 }),
-        ("a@1:2024", FmriFault::BadTimestamp { place: 8 }),
-        ("a@1:20240102T030405Z@", FmriFault::Trailing { place: 20 }),
-    ] {
-        assert!(rt;
-            matches!(Fmri::parse(alloc, text), Err(Or::Bad(found)) if found == fault),
-            "{text}"
-        );
-    }
+fn tells_where_an_fmri_goes_wrong(rt: HostRuntime) -> Result<(), Fail> {
+    let table = "
+        -> bad stem 0
+        /a -> bad stem 0
+        _a -> bad stem 0
+        a/ -> bad stem 2
+        a//b -> bad stem 2
+        a b -> bad stem 1
+        a* -> bad stem 1
+        aü -> bad stem 1
+        pkg: -> bad stem 4
+        pkg:a -> bad stem 4
+        pkg:/ -> bad stem 5
+        pkg:/@1 -> bad stem 5
+        pkgs:/a -> bad stem 4
+        pkg:// -> bad publisher 6
+        pkg:///a -> bad publisher 6
+        pkg://p -> bad publisher 7
+        pkg://p@1 -> bad publisher 7
+        pkg://p/ -> bad stem 8
+        a@ -> bad number 2
+        a@1.02 -> bad number 5
+        a@1@2 -> bad number 3
+        a@1:2024 -> bad timestamp 8
+        a@1:20240102T030405Z@ -> bad trailing 20
+    ";
+    holds(&rt, rt.alloc(), &Asked::Fmri, 23, table)
 }
 
 #[test]
 fn bounds_the_quoted_forms(rt: HostRuntime) -> Result<(), Fail> {
-    let alloc = rt.alloc();
-    // How the text begins, how often a piece follows, and the fault, if there is one, with what stands behind.
-    for (front, piece, times, behind, fault) in [
-        ("", "a", 255, "", None),
-        ("", "a", 256, "", Some(FmriFault::BadStem { place: 256 })),
-        ("", "a", 256, "@1x", Some(FmriFault::BadStem { place: 256 })),
-        ("", "a", 256, "!", Some(FmriFault::BadStem { place: 256 })),
-        ("b/", "a", 251, "@1", None),
-        (
-            "b/",
-            "a",
-            252,
-            "@1",
-            Some(FmriFault::BadStem { place: 254 }),
-        ),
-        ("b/", "a", 252, "/", Some(FmriFault::BadStem { place: 255 })),
-        ("pkg://", "a", 255, "/b", None),
-        (
-            "pkg://",
-            "a",
-            256,
-            "/b",
-            Some(FmriFault::BadPublisher { place: 262 }),
-        ),
-        ("a@1", ".1", 127, "", None),
-        (
-            "a@11",
-            ".1",
-            127,
-            "",
-            Some(FmriFault::Trailing { place: 258 }),
-        ),
-        ("a@1,1", ".1", 125, "", None),
-        (
-            "a@1,11",
-            ".1",
-            125,
-            "",
-            Some(FmriFault::Trailing { place: 256 }),
-        ),
-        (
-            "a@11",
-            ".1",
-            127,
-            "x",
-            Some(FmriFault::BadNumber { place: 258 }),
-        ),
-    ] {
-        let mut text = repeated(alloc, front, piece, times)?;
-        text.push_str(behind)?;
-        match Fmri::parse(alloc, text.as_str()) {
-            Ok(_) => assert!(rt; fault.is_none(), "{text}"),
-            Err(Or::Bad(found)) => assert!(rt; fault == Some(found), "{text}"),
-            Err(Or::OutOfMemory) => assert!(rt; false, "{text}"),
-        }
-    }
-    assert!(rt; Pattern::parse(alloc, repeated(alloc, "", "*", 85)?.as_str()).is_ok());
-    assert!(rt;
-        matches!(
-            Pattern::parse(alloc, repeated(alloc, "", "*", 86)?.as_str()),
-            Err(Or::Bad(FmriFault::BadStem { place: 86 }))
-        )
-    );
-    Ok(())
+    let table = "
+        {a*255} -> {a*255}
+        {a*256} -> bad stem 256
+        {a*256}@1x -> bad stem 256
+        {a*256}! -> bad stem 256
+        b/{a*251}@1 -> b/{a*251}@1
+        b/{a*252}@1 -> bad stem 254
+        b/{a*252}/ -> bad stem 255
+        pkg://{a*255}/b -> pkg://{a*255}/b
+        pkg://{a*256}/b -> bad publisher 262
+        a@1{.1*127} -> a@1{.1*127}
+        a@11{.1*127} -> bad trailing 258
+        a@1,1{.1*125} -> a@1,1{.1*125}
+        a@1,11{.1*125} -> bad trailing 256
+        a@11{.1*127}x -> bad number 258
+    ";
+    holds(&rt, rt.alloc(), &Asked::Fmri, 14, table)?;
+    let patterns = "
+        {**85} -> free wild {**85}
+        {**86} -> bad stem 86
+    ";
+    holds(&rt, rt.alloc(), &Asked::Pattern, 2, patterns)
 }
 
 #[test]
 fn reads_and_prints_patterns(rt: HostRuntime) -> Result<(), Fail> {
-    let alloc = rt.alloc();
-    for (text, anchored, wild, canonical) in [
-        ("nginx", false, false, "nginx"),
-        ("/web/nginx", true, false, "pkg:/web/nginx"),
-        ("pkg:/web/nginx", true, false, "pkg:/web/nginx"),
-        (
-            "pkg://solaris/web/ngin?@1",
-            true,
-            true,
-            "pkg://solaris/web/ngin?@1",
-        ),
-        ("*/x*@1.2", false, true, "*/x*@1.2"),
-    ] {
-        let pattern = Pattern::parse(alloc, text)?;
-        assert!(rt;
-            pattern.anchored == anchored && pattern.is_wild() == wild,
-            "{text}"
-        );
-        assert_eq!(rt; pattern.copy(alloc)?.print(alloc)?.as_str(), canonical);
-    }
-    for (text, fault) in [
-        ("/", FmriFault::BadStem { place: 1 }),
-        ("//a", FmriFault::BadStem { place: 1 }),
-        ("a/+", FmriFault::BadStem { place: 2 }),
-        ("pkg://*/a", FmriFault::BadPublisher { place: 6 }),
-        ("*@*", FmriFault::BadNumber { place: 2 }),
-    ] {
-        assert!(rt;
-            matches!(Pattern::parse(alloc, text), Err(Or::Bad(found)) if found == fault),
-            "{text}"
-        );
-    }
-    Ok(())
+    let table = "
+        nginx -> free plain nginx
+        /web/nginx -> anchored plain pkg:/web/nginx
+        pkg:/web/nginx -> anchored plain pkg:/web/nginx
+        pkg://solaris/web/ngin?@1 -> anchored wild pkg://solaris/web/ngin?@1
+        */x*@1.2 -> free wild */x*@1.2
+        / -> bad stem 1
+        //a -> bad stem 1
+        a/+ -> bad stem 2
+        pkg://*/a -> bad publisher 6
+        *@* -> bad number 2
+    ";
+    holds(&rt, rt.alloc(), &Asked::Pattern, 10, table)
 }
 
 #[test]
 fn matches_stems(rt: HostRuntime) -> Result<(), Fail> {
-    let alloc = rt.alloc();
-    for (pattern, stem, answer) in [
-        ("nginx", "web/nginx", true),
-        ("nginx", "web/server/nginx", true),
-        ("server/nginx", "web/server/nginx", true),
-        ("/nginx", "web/nginx", false),
-        ("/web/nginx", "web/nginx", true),
-        ("pkg:/nginx", "web/nginx", false),
-        ("pkg://p/nginx", "web/nginx", false),
-        ("ginx", "web/nginx", false),
-        ("web", "web/nginx", false),
-        ("*", "web/nginx", true),
-        ("web*x", "web/nginx", true),
-        ("/w*/*x", "web/nginx", true),
-        ("w?b/nginx", "web/nginx", true),
-        ("nginx?", "web/nginx", false),
-        ("nginx*", "web/nginx", true),
-        ("?nginx", "web/nginx", false),
-        ("/a*b*c", "abbcbc", true),
-        ("/a*bc*d", "abbcbcd", true),
-        ("/a*bd*c", "abbcbc", false),
-        ("/a**c", "ac", true),
-        ("/a*a", "a", false),
-        ("/?", "\u{fc}", true),
-        ("/??", "\u{fc}", false),
-        ("/*?", "", false),
-        ("/*", "", true),
-    ] {
-        assert!(rt;
-            Pattern::parse(alloc, pattern)?.matches(stem) == answer,
-            "{pattern} {stem}"
-        );
-    }
-    let pattern = Pattern::parse(alloc, "nginx@1.2")?;
-    assert!(rt; pattern.equals("nginx") && !pattern.equals("web/nginx"));
-    assert!(rt; pattern.admits(&Version::parse(alloc, "1.2.3")?));
-    assert!(rt; !pattern.admits(&Version::parse(alloc, "1.3")?));
-    assert!(rt; Pattern::parse(alloc, "nginx")?.admits(&Version::parse(alloc, "1")?));
-    Ok(())
+    let table = "
+        nginx | web/nginx -> yes
+        nginx | web/server/nginx -> yes
+        server/nginx | web/server/nginx -> yes
+        /nginx | web/nginx -> no
+        /web/nginx | web/nginx -> yes
+        pkg:/nginx | web/nginx -> no
+        pkg://p/nginx | web/nginx -> no
+        ginx | web/nginx -> no
+        web | web/nginx -> no
+        * | web/nginx -> yes
+        web*x | web/nginx -> yes
+        /w*/*x | web/nginx -> yes
+        w?b/nginx | web/nginx -> yes
+        nginx? | web/nginx -> no
+        nginx* | web/nginx -> yes
+        ?nginx | web/nginx -> no
+        /a*b*c | abbcbc -> yes
+        /a*bc*d | abbcbcd -> yes
+        /a*bd*c | abbcbc -> no
+        /a**c | ac -> yes
+        /a*a | a -> no
+        /? | ü -> yes
+        /?? | ü -> no
+        /*? | -> no
+        /* | -> yes
+    ";
+    holds(&rt, rt.alloc(), &Asked::Matches, 25, table)
 }
 
 // A search that tries each way to share the text among the stars would take longer than any test has.
 #[test]
-fn matches_by_stars_alone(rt: HostRuntime) {
-    for (pattern, text, answer) in [
-        ("facet.doc", "facet.doc", true),
-        ("facet.doc", "facet.docs", false),
-        ("facet.locale.*", "facet.locale.de", true),
-        ("facet.locale.*", "facet.locale.", true),
-        ("facet.locale.*", "facet.locale", false),
-        ("facet.*.de", "facet.locale.de", true),
-        ("*", "", true),
-        ("facet.loc?le.de", "facet.locale.de", false),
-        ("facet.loc?le.*", "facet.loc?le.de", true),
-        ("*a*b", "\u{fc}ab", true),
-    ] {
-        assert!(rt; matches_stars(pattern, text) == answer, "{pattern} {text}");
-    }
+fn matches_hostile_patterns(rt: HostRuntime) -> Result<(), Fail> {
+    let table = "
+        {*a*63} | {a*2000} -> yes
+        {*a*62}*b | {a/*1000} -> no
+    ";
+    holds(&rt, rt.alloc(), &Asked::Matches, 2, table)
 }
 
 #[test]
-fn matches_hostile_patterns(rt: HostRuntime) -> Result<(), Fail> {
-    let alloc = rt.alloc();
-    let stars = repeated(alloc, "", "*a", 63)?;
-    let mut with_end = repeated(alloc, "", "*a", 62)?;
-    with_end.push_str("*b")?;
-    let stem = repeated(alloc, "", "a/", 1000)?;
-    assert!(rt;
-        Pattern::parse(alloc, stars.as_str())?.matches(repeated(alloc, "", "a", 2000)?.as_str())
-    );
-    assert!(rt; !Pattern::parse(alloc, with_end.as_str())?.matches(stem.as_str()));
-    Ok(())
+fn equals_stems_and_admits_versions(rt: HostRuntime) -> Result<(), Fail> {
+    let stems = "
+        nginx@1.2 | nginx -> yes
+        nginx@1.2 | web/nginx -> no
+    ";
+    holds(&rt, rt.alloc(), &Asked::Equals, 2, stems)?;
+    let versions = "
+        nginx@1.2 | 1.2.3 -> yes
+        nginx@1.2 | 1.3 -> no
+        nginx | 1 -> yes
+    ";
+    holds(&rt, rt.alloc(), &Asked::Admits, 3, versions)
+}
+
+#[test]
+fn matches_by_stars_alone(rt: HostRuntime) -> Result<(), Fail> {
+    let table = "
+        facet.doc | facet.doc -> yes
+        facet.doc | facet.docs -> no
+        facet.locale.* | facet.locale.de -> yes
+        facet.locale.* | facet.locale. -> yes
+        facet.locale.* | facet.locale -> no
+        facet.*.de | facet.locale.de -> yes
+        * | -> yes
+        facet.loc?le.de | facet.locale.de -> no
+        facet.loc?le.* | facet.loc?le.de -> yes
+        *a*b | üab -> yes
+    ";
+    holds(&rt, rt.alloc(), &Asked::Stars, 10, table)
 }

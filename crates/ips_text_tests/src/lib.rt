@@ -10,4 +10,6 @@ mod fmri;
 #[cfg(test)]
 mod line;
 #[cfg(test)]
+mod table;
+#[cfg(test)]
 mod text;

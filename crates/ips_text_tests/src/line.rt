@@ -1,13 +1,45 @@
-use ips_line::{WordFault, Words, push_words, read_words};
+use crate::table::{Ask, holds, text};
+use ips_line::{WordFault, push_words, read_words};
 use ips_text::Or;
-use std::alloc::Global;
+use std::alloc::{AllocError, Global};
 use std::test::Fail;
 
-// The fault of a text that is no line.
-fn fault_of(alloc: Global, line: &str) -> Option<WordFault> {
-    match read_words(alloc, line) {
-        Err(Or::Bad(fault)) => Some(fault),
-        _ => None,
+// What a table asks of lines.
+#[derive(Drop)]
+enum Asked {
+    // The name and the payload with their places, and how many pairs there are; or the fault.
+    Words,
+    // The value of the second of two pairs as it is, and spelled canonically.
+    Value,
+}
+
+impl Ask for Asked {
+    fn answer(&self, alloc: Global, question: &str) -> Result<String, Fail> {
+        let question = text(alloc, question)?;
+        match self {
+            Asked::Words => words(alloc, question.as_str()),
+            Asked::Value => value(alloc, question.as_str()),
+        }
+    }
+}
+
+fn words(alloc: Global, line: &str) -> Result<String, Fail> {
+    let words = match read_words(alloc, line) {
+        Ok(words) => words,
+        Err(Or::Bad(WordFault::BadWord { place })) => return Ok(format!(in alloc; "word {place}")?),
+        Err(Or::Bad(WordFault::OpenQuote { place })) => {
+            return Ok(format!(in alloc; "quote {place}")?);
+        }
+        Err(Or::OutOfMemory) => return Err(AllocError.into()),
+    };
+    let (name, name_place) = (words.name.text, words.name.place);
+    let pairs = words.pairs.len();
+    match words.payload {
+        Some(word) => {
+            let (payload, place) = (word.text, word.place);
+            Ok(format!(in alloc; "{name} at {name_place}, {payload} at {place}, {pairs}")?)
+        }
+        None => Ok(format!(in alloc; "{name} at {name_place}, {pairs}")?),
     }
 }
 
@@ -23,104 +55,85 @@ fn canonical(alloc: Global, line: &str) -> Result<String, Fail> {
     Ok(out)
 }
 
+// The value behind `value=`, in brackets, and how the canonical line spells it, where that line is its own canonical line.
+fn value(alloc: Global, written: &str) -> Result<String, Fail> {
+    let line = format!(in alloc; "set name=n  value={written} ")?;
+    let words = read_words(alloc, line.as_str())?;
+    let Some(pair) = words.pairs.get(1) else {
+        return Ok(String::from_str(alloc, "no second pair")?);
+    };
+    let (count, key, value) = (words.pairs.len(), pair.key.as_str(), pair.value.as_str());
+    let once = canonical(alloc, line.as_str())?;
+    let again = canonical(alloc, once.as_str())?;
+    if count != 2 || key != "value" || again.as_str() != once.as_str() {
+        return Ok(format!(in alloc; "{count} {key} {once} {again}")?);
+    }
+    let spelled = once
+        .as_str()
+        .strip_prefix("set name=n value=")
+        .unwrap_or("another line");
+    Ok(format!(in alloc; "[{value}] {spelled}")?)
+}
+
 #[test]
 fn reads_names_payloads_and_pairs(rt: HostRuntime) -> Result<(), Fail> {
-    let alloc = rt.alloc();
-    for (line, name, place, payload, payload_place, pairs) in [
-        ("set", "set", 0, "", 0, 0),
-        (" \t set\t ", "set", 3, "", 0, 0),
-        ("file abc path=a", "file", 0, "abc", 5, 1),
-        ("file  \t a\"b path=a ", "file", 0, "a\"b", 8, 1),
-        ("dir path=a mode=0755", "dir", 0, "", 0, 2),
-        ("a=b c=d", "a=b", 0, "", 0, 1),
-        ("\"x y=z", "\"x", 0, "", 0, 1),
-        ("é ü=ö", "é", 0, "", 0, 1),
-    ] {
-        let words = read_words(alloc, line)?;
-        assert!(rt; words.name.text == name, "{line}");
-        assert!(rt; words.name.place == place, "{line}");
-        match words.payload {
-            Some(word) => {
-                assert!(rt; word.text == payload, "{line}");
-                assert!(rt; word.place == payload_place, "{line}");
-            }
-            None => assert!(rt; payload.is_empty(), "{line}"),
-        }
-        assert!(rt; words.pairs.len() == pairs, "{line}");
-    }
-    Ok(())
+    let table = r#"
+        set -> set at 0, 0
+        {blank}{tab} set{tab}{blank} -> set at 3, 0
+        file abc path=a -> file at 0, abc at 5, 1
+        file  {tab} a"b path=a{blank} -> file at 0, a"b at 8, 1
+        dir path=a mode=0755 -> dir at 0, 2
+        a=b c=d -> a=b at 0, 1
+        "x y=z -> "x at 0, 1
+        é ü=ö -> é at 0, 1
+    "#;
+    holds(&rt, rt.alloc(), &Asked::Words, 8, table)
 }
 
 #[test]
 fn reads_values_and_spells_them_canonically(rt: HostRuntime) -> Result<(), Fail> {
-    let alloc = rt.alloc();
-    for (written, value, spelled) in [
-        ("x", "x", "x"),
-        ("x=y\"z'", "x=y\"z'", "\"x=y\\\"z'\""),
-        ("\\", "\\", "\"\\\\\""),
-        ("\"\"", "", "\"\""),
-        ("''", "", "\"\""),
-        ("\"a b\"", "a b", "\"a b\""),
-        ("'a\tb'", "a\tb", "\"a\tb\""),
-        ("'it\\'s'", "it's", "\"it's\""),
-        ("'\\\"'", "\\\"", "\"\\\\\\\"\""),
-        ("\"a\\\"b\\\\c\\d\"", "a\"b\\c\\d", "\"a\\\"b\\\\c\\\\d\""),
-        ("\"it's\"", "it's", "\"it's\""),
-        ("\"plain\"", "plain", "plain"),
-        ("a\nb", "a\nb", "a\nb"),
-        ("\"é ü\"", "é ü", "\"é ü\""),
-    ] {
-        let line = format!(in alloc; "set name=n  value={written} ")?;
-        let words = read_words(alloc, line.as_str())?;
-        let Words { pairs, .. } = words;
-        assert!(rt; pairs.len() == 2, "{written}");
-        assert!(rt; pairs[1].key.as_str() == "value", "{written}");
-        assert!(rt; pairs[1].value.as_str() == value, "{written}");
-        let expected = format!(in alloc; "set name=n value={spelled}")?;
-        let spelled = canonical(alloc, line.as_str())?;
-        assert!(rt; spelled.as_str() == expected.as_str(), "{written}");
-        let again = canonical(alloc, spelled.as_str())?;
-        assert!(rt; again.as_str() == expected.as_str(), "{written}");
-    }
-    Ok(())
+    let table = r#"
+        x -> [x] x
+        x=y"z' -> [x=y"z'] "x=y\"z'"
+        \ -> [\] "\\"
+        "" -> [] ""
+        '' -> [] ""
+        "a b" -> [a b] "a b"
+        'a{tab}b' -> [a{tab}b] "a{tab}b"
+        'it\'s' -> [it's] "it's"
+        '\"' -> [\"] "\\\""
+        "a\"b\\c\d" -> [a"b\c\d] "a\"b\\c\\d"
+        "it's" -> [it's] "it's"
+        "plain" -> [plain] plain
+        a¶b -> [a¶b] a¶b
+        "é ü" -> [é ü] "é ü"
+    "#;
+    holds(&rt, rt.alloc(), &Asked::Value, 14, table)
 }
 
 #[test]
 fn a_fault_is_at_the_first_place_that_no_line_continues(rt: HostRuntime) -> Result<(), Fail> {
-    let alloc = rt.alloc();
-    for (line, place) in [
-        ("", 0),
-        (" \t", 2),
-        ("set =x", 4),
-        ("set a\"b=c", 7),
-        ("set x=y a\"b=c", 9),
-        ("set x=y a", 9),
-        ("set x=y a b=c", 9),
-        ("file p q", 8),
-        ("file p q r=s", 8),
-        ("set a=", 6),
-        ("set a= b=c", 6),
-        ("set a=\"b\"c", 9),
-        ("set a='b'\"c\"", 9),
-        ("set a=b ='", 8),
-        ("é ü=", 6),
-    ] {
-        assert!(rt;
-            fault_of(alloc, line) == Some(WordFault::BadWord { place }),
-            "{line}"
-        );
-    }
-    for (line, place) in [
-        ("set a=\"", 6),
-        ("set a='b\"", 6),
-        ("set a=\"b\\\"", 6),
-        ("set a=b  c='d\\", 11),
-        ("file p a=\"b\" c=\"d e", 15),
-    ] {
-        assert!(rt;
-            fault_of(alloc, line) == Some(WordFault::OpenQuote { place }),
-            "{line}"
-        );
-    }
-    Ok(())
+    let table = r#"
+        -> word 0
+        {blank}{tab} -> word 2
+        set =x -> word 4
+        set a"b=c -> word 7
+        set x=y a"b=c -> word 9
+        set x=y a -> word 9
+        set x=y a b=c -> word 9
+        file p q -> word 8
+        file p q r=s -> word 8
+        set a= -> word 6
+        set a= b=c -> word 6
+        set a="b"c -> word 9
+        set a='b'"c" -> word 9
+        set a=b =' -> word 8
+        é ü= -> word 6
+        set a=" -> quote 6
+        set a='b" -> quote 6
+        set a="b\" -> quote 6
+        set a=b  c='d\ -> quote 11
+        file p a="b" c="d e -> quote 15
+    "#;
+    holds(&rt, rt.alloc(), &Asked::Words, 20, table)
 }

@@ -1,76 +1,188 @@
+use crate::table::{Ask, columns, holds, spelled, told};
 use ips_text::{
     Or, PathFault, RelPath, Text, covers, decimal, fits_name, number, octal, parent, quote,
     show_path, unquote,
 };
-use std::alloc::{AllocError, Global};
+use std::alloc::Global;
 use std::cmp::Ordering;
 use std::test::Fail;
 
-// Parts of one byte each, `count` of them, behind the first part.
-fn many_parts(alloc: Global, first: &[u8], count: usize) -> Result<Vec<u8>, AllocError> {
-    let mut bytes = Vec::from_slice(alloc, first)?;
-    for _ in 0..count {
-        bytes.extend_from_slice(b"/a")?;
+// What a table asks of bytes.
+#[derive(Drop)]
+enum Asked {
+    Path,
+    Covers,
+    Parent,
+    Decimal,
+    Number,
+    Octal,
+    Quoted,
+    Unquoted,
+    FitsName,
+    Shown,
+    Order,
+}
+
+impl Ask for Asked {
+    fn answer(&self, alloc: Global, question: &str) -> Result<String, Fail> {
+        let (one, two) = columns(question);
+        let bytes = spelled(alloc, one)?;
+        let bytes = bytes.as_slice();
+        match self {
+            Asked::Path => path(alloc, bytes),
+            Asked::Covers => told(alloc, covers(bytes, two.as_bytes())),
+            Asked::Parent => parent_of(alloc, bytes),
+            Asked::Decimal => decimal_of(alloc, bytes),
+            Asked::Number => number_of(alloc, bytes),
+            Asked::Octal => octal_of(alloc, bytes),
+            Asked::Quoted => quoted(alloc, bytes),
+            Asked::Unquoted => unquoted(alloc, bytes),
+            Asked::FitsName => told(alloc, fits_name(bytes)),
+            Asked::Shown => shown(alloc, bytes),
+            Asked::Order => order(alloc, one, two),
+        }
     }
-    Ok(bytes)
+}
+
+fn string(alloc: Global, text: &str) -> Result<String, Fail> {
+    Ok(String::from_str(alloc, text)?)
+}
+
+fn fault(fault: PathFault) -> &'static str {
+    match fault {
+        PathFault::Empty => "empty",
+        PathFault::Absolute => "absolute",
+        PathFault::DotPart => "dot part",
+        PathFault::EmptyPart => "empty part",
+        PathFault::NulByte => "nul byte",
+        PathFault::NotText => "not text",
+        PathFault::TooLong => "too long",
+    }
+}
+
+// Whether the bytes are a path, and has those bytes; or their first fault.
+fn path(alloc: Global, bytes: &[u8]) -> Result<String, Fail> {
+    match RelPath::parse(alloc, bytes) {
+        Ok(path) => string(
+            alloc,
+            if path.bytes() == bytes {
+                "path"
+            } else {
+                "another path"
+            },
+        ),
+        Err(Or::Bad(found)) => string(alloc, fault(found)),
+        Err(Or::OutOfMemory) => string(alloc, "out of memory"),
+    }
+}
+
+fn parent_of(alloc: Global, bytes: &[u8]) -> Result<String, Fail> {
+    match parent(bytes) {
+        Some(above) => string(alloc, str::from_utf8(above)?),
+        None => string(alloc, "none"),
+    }
+}
+
+fn decimal_of(alloc: Global, bytes: &[u8]) -> Result<String, Fail> {
+    match decimal(bytes) {
+        Some(value) => Ok(format!(in alloc; "{value}")?),
+        None => string(alloc, "none"),
+    }
+}
+
+// The number in front and what is behind it, or how much is left where it stops.
+fn number_of(alloc: Global, bytes: &[u8]) -> Result<String, Fail> {
+    match number((), bytes) {
+        Ok((value, rest)) => {
+            let rest = str::from_utf8(rest)?;
+            Ok(format!(in alloc; "{value} and {rest}")?)
+        }
+        Err(stop) => {
+            let left = stop.left;
+            Ok(format!(in alloc; "stops with {left} left")?)
+        }
+    }
+}
+
+fn octal_of(alloc: Global, bytes: &[u8]) -> Result<String, Fail> {
+    match octal(bytes) {
+        Some(mode) => Ok(format!(in alloc; "{mode:o}")?),
+        None => string(alloc, "none"),
+    }
+}
+
+// The bytes quoted, where that is unquoted to the bytes.
+fn quoted(alloc: Global, bytes: &[u8]) -> Result<String, Fail> {
+    let quoted = quote(alloc, bytes)?;
+    let back = unquote(alloc, quoted.as_str().as_bytes())?;
+    let is_back = back.as_slice() == bytes;
+    string(alloc, if is_back { quoted.as_str() } else { "not back" })
+}
+
+fn unquoted(alloc: Global, bytes: &[u8]) -> Result<String, Fail> {
+    let found = unquote(alloc, bytes);
+    string(
+        alloc,
+        if matches!(found, Err(Or::Bad(_))) {
+            "bad"
+        } else {
+            "good"
+        },
+    )
+}
+
+fn shown(alloc: Global, bytes: &[u8]) -> Result<String, Fail> {
+    let path = RelPath::parse(alloc, bytes)?;
+    string(alloc, show_path(alloc, &path)?.as_str())
+}
+
+// How a copy of one text stands to another one.
+fn order(alloc: Global, one: &str, two: &str) -> Result<String, Fail> {
+    let one = Text::new(alloc, one)?;
+    let one = one.copy(alloc)?;
+    let order = match one.cmp(&Text::new(alloc, two)?) {
+        Ordering::Less => "less",
+        Ordering::Equal => "equal",
+        Ordering::Greater => "greater",
+    };
+    string(alloc, order)
 }
 
 #[test]
 fn reads_paths_and_tells_the_first_fault(rt: HostRuntime) -> Result<(), Fail> {
-    let alloc = rt.alloc();
-    for bytes in [
-        "usr/share/hello",
-        "a",
-        "...",
-        ".hidden/..x",
-        "a b",
-        "\u{fc}",
-    ] {
-        assert!(rt;
-            RelPath::parse(alloc, bytes.as_bytes())?.bytes() == bytes.as_bytes(),
-            "{bytes}"
-        );
-    }
-    for (bytes, fault) in [
-        (b"".as_slice(), PathFault::Empty),
-        (b"/".as_slice(), PathFault::Absolute),
-        (b"/..".as_slice(), PathFault::Absolute),
-        (b".".as_slice(), PathFault::DotPart),
-        (b"a//..".as_slice(), PathFault::DotPart),
-        (b"a/./\0".as_slice(), PathFault::DotPart),
-        (b"a/".as_slice(), PathFault::EmptyPart),
-        (b"a//\0".as_slice(), PathFault::EmptyPart),
-        (b"a\0\xff".as_slice(), PathFault::NulByte),
-        (b"a\xff".as_slice(), PathFault::NotText),
-        (b"\xc0\xaf".as_slice(), PathFault::NotText),
-    ] {
-        assert!(rt; matches!(RelPath::parse(alloc, bytes), Err(Or::Bad(found)) if found == fault));
-    }
-    Ok(())
+    let table = "
+        usr/share/hello -> path
+        a -> path
+        ... -> path
+        .hidden/..x -> path
+        a b -> path
+        ü -> path
+        -> empty
+        / -> absolute
+        /.. -> absolute
+        . -> dot part
+        a//.. -> dot part
+        a/./{0x00} -> dot part
+        a/ -> empty part
+        a//{0x00} -> empty part
+        a{0x00}{0xff} -> nul byte
+        a{0xff} -> not text
+        {0xc0}{0xaf} -> not text
+    ";
+    holds(&rt, rt.alloc(), &Asked::Path, 17, table)
 }
 
 #[test]
 fn bounds_paths(rt: HostRuntime) -> Result<(), Fail> {
-    let alloc = rt.alloc();
-    for (first, parts, is_path) in [
-        ([b'a'; 256].as_slice(), 0, false),
-        ([b'a'; 255].as_slice(), 0, true),
-        ([b'a'; 255].as_slice(), 384, true),
-        ([b'a'; 254].as_slice(), 385, false),
-        ([b'a'; 1].as_slice(), 511, true),
-        ([b'a'; 2].as_slice(), 511, false),
-    ] {
-        let bytes = many_parts(alloc, first, parts)?;
-        assert_eq!(rt; RelPath::parse(alloc, &bytes).is_ok(), is_path);
-        assert_eq!(rt;
-            matches!(
-                RelPath::parse(alloc, &bytes),
-                Err(Or::Bad(PathFault::TooLong))
-            ),
-            !is_path
-        );
-    }
-    Ok(())
+    let table = "
+        {a*256} -> too long
+        {a*255} -> path
+        {a*255}{/a*384} -> path
+        {a*254}{/a*385} -> too long
+        a{/a*511} -> path
+        aa{/a*511} -> too long
+    ";
+    holds(&rt, rt.alloc(), &Asked::Path, 6, table)
 }
 
 #[test]
@@ -78,7 +190,7 @@ fn sets_a_path_that_keeps_room(rt: HostRuntime) -> Result<(), Fail> {
     let alloc = rt.alloc();
     let mut path = RelPath::with_room(alloc, b"a")?;
     assert!(rt; path.bytes() == b"a".as_slice());
-    let longest = many_parts(alloc, b"b", 511)?;
+    let longest = spelled(alloc, "b{/a*511}")?;
     assert!(rt; path.set(&longest).is_ok());
     assert!(rt; path.bytes() == longest.as_slice());
     assert!(rt; path.set(b"c/d").is_ok());
@@ -91,136 +203,118 @@ fn sets_a_path_that_keeps_room(rt: HostRuntime) -> Result<(), Fail> {
 }
 
 #[test]
-fn places_paths_to_one_another(rt: HostRuntime) {
-    for (above, path, answer) in [
-        ("usr", "usr", true),
-        ("usr", "usr/bin/ls", true),
-        ("usr", "usr2", false),
-        ("usr/bin", "usr", false),
-        ("usr/b", "usr/bin", false),
-    ] {
-        assert_eq!(rt;
-            covers(above.as_bytes(), path.as_bytes()),
-            answer,
-            "{above} {path}"
-        );
-    }
-    assert!(rt; parent(b"usr/bin/ls") == Some(b"usr/bin".as_slice()));
-    assert!(rt; parent(b"usr/bin") == Some(b"usr".as_slice()));
-    assert!(rt; parent(b"usr").is_none());
+fn places_paths_to_one_another(rt: HostRuntime) -> Result<(), Fail> {
+    let covering = "
+        usr | usr -> yes
+        usr | usr/bin/ls -> yes
+        usr | usr2 -> no
+        usr/bin | usr -> no
+        usr/b | usr/bin -> no
+    ";
+    holds(&rt, rt.alloc(), &Asked::Covers, 5, covering)?;
+    let parents = "
+        usr/bin/ls -> usr/bin
+        usr/bin -> usr
+        usr -> none
+    ";
+    holds(&rt, rt.alloc(), &Asked::Parent, 3, parents)
 }
 
 #[test]
-fn reads_numbers(rt: HostRuntime) {
-    for (text, value) in [
-        ("0", Some(0)),
-        ("10", Some(10)),
-        ("18446744073709551615", Some(u64::MAX)),
-        ("18446744073709551616", None),
-        ("007", None),
-        ("00", None),
-        ("", None),
-        ("+1", None),
-        ("1x", None),
-    ] {
-        assert!(rt; decimal(text.as_bytes()) == value, "{text}");
-    }
-    assert!(rt; matches!(number((), b"12.5"), Ok((12, rest)) if rest == b".5".as_slice()));
-    assert!(rt; matches!(number((), b"012"), Err(stop) if stop.left == 2));
+fn reads_numbers(rt: HostRuntime) -> Result<(), Fail> {
+    let whole = "
+        0 -> 0
+        10 -> 10
+        18446744073709551615 -> 18446744073709551615
+        18446744073709551616 -> none
+        007 -> none
+        00 -> none
+        -> none
+        +1 -> none
+        1x -> none
+    ";
+    holds(&rt, rt.alloc(), &Asked::Decimal, 9, whole)?;
+    let fronts = "
+        12.5 -> 12 and .5
+        012 -> stops with 2 left
+    ";
+    holds(&rt, rt.alloc(), &Asked::Number, 2, fronts)
 }
 
 #[test]
-fn reads_modes(rt: HostRuntime) {
-    for (text, mode) in [
-        ("0", Some(0)),
-        ("0755", Some(0o755)),
-        ("755", Some(0o755)),
-        ("7777", Some(0o7777)),
-        ("07777", Some(0o7777)),
-        ("04755", Some(0o4755)),
-        ("14755", None),
-        ("004755", None),
-        ("", None),
-        ("8", None),
-        ("07a5", None),
-    ] {
-        assert!(rt; octal(text.as_bytes()) == mode, "{text}");
-    }
+fn reads_modes(rt: HostRuntime) -> Result<(), Fail> {
+    let table = "
+        0 -> 0
+        0755 -> 755
+        755 -> 755
+        7777 -> 7777
+        07777 -> 7777
+        04755 -> 4755
+        14755 -> none
+        004755 -> none
+        -> none
+        8 -> none
+        07a5 -> none
+    ";
+    holds(&rt, rt.alloc(), &Asked::Octal, 11, table)
 }
 
 #[test]
 fn quotes_and_unquotes(rt: HostRuntime) -> Result<(), Fail> {
-    let alloc = rt.alloc();
     // The last two rows are examples of RFC 3986, section 2.5.
-    for (bytes, quoted) in [
-        (b"".as_slice(), ""),
-        (b"aZ09_.-".as_slice(), "aZ09_.-"),
-        (b"web/nginx".as_slice(), "web%2Fnginx"),
-        (
-            b"1.0,5.11-1:20240101T000000Z".as_slice(),
-            "1.0%2C5.11-1%3A20240101T000000Z",
-        ),
-        (b"a%+~ \x00\xff".as_slice(), "a%25%2B%7E%20%00%FF"),
-        ("\u{c0}".as_bytes(), "%C3%80"),
-        ("\u{30a2}".as_bytes(), "%E3%82%A2"),
-    ] {
-        assert_eq!(rt; quote(alloc, bytes)?.as_str(), quoted);
-        assert!(rt;
-            unquote(alloc, quoted.as_bytes())?.as_slice() == bytes,
-            "{quoted}"
-        );
-    }
-    for text in ["a%2cb", "a,b", "%", "%4", "%41", "%GG", "\u{fc}", "a/b"] {
-        assert!(rt;
-            matches!(unquote(alloc, text.as_bytes()), Err(Or::Bad(_))),
-            "{text}"
-        );
-    }
-    Ok(())
+    let table = "
+        ->
+        aZ09_.- -> aZ09_.-
+        web/nginx -> web%2Fnginx
+        1.0,5.11-1:20240101T000000Z -> 1.0%2C5.11-1%3A20240101T000000Z
+        a%+~ {0x00}{0xff} -> a%25%2B%7E%20%00%FF
+        À -> %C3%80
+        ア -> %E3%82%A2
+    ";
+    holds(&rt, rt.alloc(), &Asked::Quoted, 7, table)?;
+    let bad = "
+        a%2cb -> bad
+        a,b -> bad
+        % -> bad
+        %4 -> bad
+        %41 -> bad
+        %GG -> bad
+        ü -> bad
+        a/b -> bad
+    ";
+    holds(&rt, rt.alloc(), &Asked::Unquoted, 8, bad)
 }
 
 #[test]
-fn bounds_quoted_names(rt: HostRuntime) {
-    for (bytes, fits) in [
-        ([b'a'; 255].as_slice(), true),
-        ([b'a'; 256].as_slice(), false),
-        ([b','; 85].as_slice(), true),
-        ([b','; 86].as_slice(), false),
-        (b"".as_slice(), true),
-    ] {
-        assert_eq!(rt; fits_name(bytes), fits);
-    }
+fn bounds_quoted_names(rt: HostRuntime) -> Result<(), Fail> {
+    let table = "
+        {a*255} -> yes
+        {a*256} -> no
+        {,*85} -> yes
+        {,*86} -> no
+        -> yes
+    ";
+    holds(&rt, rt.alloc(), &Asked::FitsName, 5, table)
 }
 
 #[test]
 fn shows_paths(rt: HostRuntime) -> Result<(), Fail> {
-    let alloc = rt.alloc();
-    for (path, shown) in [
-        ("usr/bin/ls", "usr/bin/ls"),
-        ("a b/c%2F", "a%20b/c%252F"),
-        ("\u{c0}/x\ny", "%C3%80/x%0Ay"),
-    ] {
-        assert_eq!(rt;
-            show_path(alloc, &RelPath::parse(alloc, path.as_bytes())?)?.as_str(),
-            shown
-        );
-    }
-    Ok(())
+    let table = "
+        usr/bin/ls -> usr/bin/ls
+        a b/c%2F -> a%20b/c%252F
+        À/x¶y -> %C3%80/x%0Ay
+    ";
+    holds(&rt, rt.alloc(), &Asked::Shown, 3, table)
 }
 
 #[test]
 fn texts_stand_in_order_of_bytes(rt: HostRuntime) -> Result<(), Fail> {
-    let alloc = rt.alloc();
-    let text = Text::new(alloc, "b/c")?;
-    assert!(rt; text.copy(alloc)? == text);
-    for (other, order) in [
-        ("b", Ordering::Greater),
-        ("b.c", Ordering::Greater),
-        ("b/c", Ordering::Equal),
-        ("b/c0", Ordering::Less),
-        ("\u{fc}", Ordering::Less),
-    ] {
-        assert!(rt; text.cmp(&Text::new(alloc, other)?) == order, "{other}");
-    }
-    Ok(())
+    let table = "
+        b/c | b -> greater
+        b/c | b.c -> greater
+        b/c | b/c -> equal
+        b/c | b/c0 -> less
+        b/c | ü -> less
+    ";
+    holds(&rt, rt.alloc(), &Asked::Order, 5, table)
 }
