@@ -1,5 +1,9 @@
+//! Plans of what is wanted.
+
 ghost use Rattle.ips_meaning.specs.Together.{AreProper, HangTogether};
 
+use crate::asked::{Asked, rows_told};
+use crate::rows::{lines_of, text_named};
 use ips_filter::Settings;
 use ips_fmri::Version;
 use ips_manifest::{Manifest, Package};
@@ -30,17 +34,25 @@ fn tree(alloc: Global, words: &str) -> Result<Tree, Fail> {
     Ok(tree)
 }
 
-// A package of this manifest.
+// What the rows call a manifest: a file, two files of one content, and a file with names before and behind it, and one
+// between.
+const MANIFESTS: &str = "
+file = file da39a3ee5e6b4b0d3255bfef95601890afd80709 path=m mode=0644 owner=root group=bin
+twins = file da39a3ee5e6b4b0d3255bfef95601890afd80709 path=n mode=0600 owner=root group=bin; file da39a3ee5e6b4b0d3255bfef95601890afd80709 path=m mode=0644 owner=root group=bin
+names = hardlink path=a target=m; hardlink path=z/z target=../m; file da39a3ee5e6b4b0d3255bfef95601890afd80709 path=m mode=0644 owner=root group=bin; link path=l target=m; file a9993e364706816aba3e25717850c26c9cd0d89d path=b mode=4755 owner=root group=bin";
+
+// A package of this manifest, or of the one of this name.
 fn package(alloc: Global, manifest: &str) -> Result<Package, Fail> {
+    let lines = lines_of(alloc, text_named(MANIFESTS, manifest).unwrap_or(manifest))?;
     Ok(Package {
         stem: Text::new(alloc, "a")?,
         version: Version::parse(alloc, "1")?,
-        manifest: Manifest::read(alloc, manifest.as_bytes())?,
+        manifest: Manifest::read(alloc, lines.as_bytes())?,
     })
 }
 
 // What is told of a package on such a tree, where the look of this number fails: one step after the other, or the fault.
-fn told(alloc: Global, words: &str, manifest: &str, fails: u64) -> Result<String, Fail> {
+pub fn plan_told(alloc: Global, words: &str, manifest: &str, fails: u64) -> Result<String, Fail> {
     let mut image = MemSource::new(tree(alloc, words)?, vec![in alloc; fails]?);
     let packages = vec![in alloc; package(alloc, manifest)?]?;
     match want(alloc, &packages, &Settings::new(alloc), &[]) {
@@ -75,108 +87,68 @@ fn shown(alloc: Global, steps: &[Step], contents: usize) -> Result<String, Fail>
 
 fn show(alloc: Global, text: &mut String, step: &Step) -> Result<(), Fail> {
     let path = show_path(alloc, step.path())?;
-    text.push_str(path.as_str())?;
-    match step {
-        Step::Gone { .. } => text.push_str(" goes, ")?,
-        Step::Fresh { mode, .. } => write!(text, " new {mode:o}, ")?,
-        Step::Mode { mode, .. } => write!(text, " mode {mode:o}, ")?,
-        Step::Put { mode, stage, .. } => write!(text, " file {stage} {mode:o}, ")?,
-        Step::Link { target, .. } => write!(text, " link of {}, ", target.bytes().len())?,
-        Step::Hard { to, .. } => {
-            let to = show_path(alloc, to)?;
-            write!(text, " as {}, ", to.as_str())?;
-        }
-    }
+    let deed = deed_told(alloc, step)?;
+    write!(text, "{} {}, ", path.as_str(), deed.as_str())?;
     Ok(())
 }
 
-const FILE: &str =
-    "file da39a3ee5e6b4b0d3255bfef95601890afd80709 path=m mode=0644 owner=root group=bin";
+fn deed_told(alloc: Global, step: &Step) -> Result<String, Fail> {
+    Ok(match step {
+        Step::Gone { .. } => String::from_str(alloc, "goes")?,
+        Step::Fresh { mode, .. } => format!(in alloc; "new {mode:o}")?,
+        Step::Mode { mode, .. } => format!(in alloc; "mode {mode:o}")?,
+        Step::Put { mode, stage, .. } => format!(in alloc; "file {stage} {mode:o}")?,
+        Step::Link { target, .. } => format!(in alloc; "link of {}", target.bytes().len())?,
+        Step::Hard { to, .. } => format!(in alloc; "as {}", show_path(alloc, to)?.as_str())?,
+    })
+}
 
-const TWINS: &str =
-    "file da39a3ee5e6b4b0d3255bfef95601890afd80709 path=n mode=0600 owner=root group=bin
-file da39a3ee5e6b4b0d3255bfef95601890afd80709 path=m mode=0644 owner=root group=bin";
-
-// A file with names before and behind it, and one between.
-const NAMES: &str = "hardlink path=a target=m
-hardlink path=z/z target=../m
-file da39a3ee5e6b4b0d3255bfef95601890afd80709 path=m mode=0644 owner=root group=bin
-link path=l target=m
-file a9993e364706816aba3e25717850c26c9cd0d89d path=b mode=4755 owner=root group=bin";
+// What stands in the image, the manifest, the look that fails, and the plan.
+const PLANS: &str = "
+# an image needs the directories of its records; what stands already gets no step
+| | 0 -> var new 755, var/pkg new 755, 0
+dvar | | 0 -> var/pkg new 755, 0
+Dvar dvar/pkg fother | | 0 -> 0
+# a mode that is stated is set, where it is another one
+Dvar dvar/pkg | dir path=var mode=0755 owner=root group=bin | 0 -> var mode 755, 0
+Dvar dvar/pkg | dir path=var mode=0700 owner=root group=bin | 0 -> 0
+| dir path=var mode=1777 owner=root group=bin | 0 -> var new 1777, var/pkg new 755, 0
+# files and symbolic links by their paths, then hard links
+dvar dvar/pkg | names | 0 -> b file 0 4755, l link of 1, m file 1 644, z new 755, a as m, z/z as m, 2
+# two files of one content are two files
+dvar dvar/pkg | twins | 0 -> m file 0 644, n file 1 600, 2
+# something stands that can't become a directory, a file, a link or one more name
+fvar | | 0 -> in the way: var
+lb dvar dvar/pkg | dir path=b mode=0755 owner=root group=bin | 0 -> in the way: b
+ob dvar dvar/pkg | dir path=b mode=0755 owner=root group=bin | 0 -> in the way: b
+dm | file | 0 -> in the way: m
+fm | file | 0 -> in the way: m
+dl | names | 0 -> in the way: l
+ll | names | 0 -> in the way: l
+Dz fz/z | names | 0 -> in the way: z/z
+# no link is followed, not even one that holds a wanted path
+lz dvar dvar/pkg | names | 0 -> in the way: z
+da | names | 0 -> in the way: a
+# the first of them by its bytes, whatever the order of the lines
+fm lb Dl | names | 0 -> in the way: b";
 
 #[test]
 fn plans_what_is_wanted(rt: HostRuntime) -> Result<(), Fail> {
-    let alloc = rt.alloc();
-    for (words, manifest, expected) in [
-        // an image needs the directories of its records; what stands already gets no step
-        ("", "", "var new 755, var/pkg new 755, 0"),
-        ("dvar", "", "var/pkg new 755, 0"),
-        ("Dvar dvar/pkg fother", "", "0"),
-        // a mode that is stated is set, where it is another one
-        (
-            "Dvar dvar/pkg",
-            "dir path=var mode=0755 owner=root group=bin",
-            "var mode 755, 0",
-        ),
-        (
-            "Dvar dvar/pkg",
-            "dir path=var mode=0700 owner=root group=bin",
-            "0",
-        ),
-        (
-            "",
-            "dir path=var mode=1777 owner=root group=bin",
-            "var new 1777, var/pkg new 755, 0",
-        ),
-        // files and symbolic links by their paths, then hard links
-        (
-            "dvar dvar/pkg",
-            NAMES,
-            "b file 0 4755, l link of 1, m file 1 644, z new 755, a as m, z/z as m, 2",
-        ),
-        // two files of one content are two files
-        ("dvar dvar/pkg", TWINS, "m file 0 644, n file 1 600, 2"),
-        // something stands that can't become a directory, a file, a link or one more name
-        ("fvar", "", "in the way: var"),
-        (
-            "lb dvar dvar/pkg",
-            "dir path=b mode=0755 owner=root group=bin",
-            "in the way: b",
-        ),
-        (
-            "ob dvar dvar/pkg",
-            "dir path=b mode=0755 owner=root group=bin",
-            "in the way: b",
-        ),
-        ("dm", FILE, "in the way: m"),
-        ("fm", FILE, "in the way: m"),
-        ("dl", NAMES, "in the way: l"),
-        ("ll", NAMES, "in the way: l"),
-        ("Dz fz/z", NAMES, "in the way: z/z"),
-        // no link is followed, not even one that holds a wanted path
-        ("lz dvar dvar/pkg", NAMES, "in the way: z"),
-        ("da", NAMES, "in the way: a"),
-        // the first of them by its bytes, whatever the order of the lines
-        ("fm lb Dl", NAMES, "in the way: b"),
-    ] {
-        let told = told(alloc, words, manifest, 0)?;
-        assert!(rt; told.as_str() == expected, "{told}");
-    }
+    let rows = rows_told(rt.alloc(), Asked::Plan, PLANS)?;
+    assert_eq!(rt; rows, 19);
     Ok(())
 }
 
+const FAULTS: &str = "
+| | 1 -> fault
+| | 2 -> fault
+# no look is made behind the last entry, nor behind what is in the way
+| | 3 -> var new 755, var/pkg new 755, 0
+fvar | | 2 -> in the way: var";
+
 #[test]
 fn tells_a_look_that_fails(rt: HostRuntime) -> Result<(), Fail> {
-    let alloc = rt.alloc();
-    for (words, fails, expected) in [
-        ("", 1, "fault"),
-        ("", 2, "fault"),
-        // no look is made behind the last entry, nor behind what is in the way
-        ("", 3, "var new 755, var/pkg new 755, 0"),
-        ("fvar", 2, "in the way: var"),
-    ] {
-        let told = told(alloc, words, "", fails)?;
-        assert!(rt; told.as_str() == expected, "{told}");
-    }
+    let rows = rows_told(rt.alloc(), Asked::Plan, FAULTS)?;
+    assert_eq!(rt; rows, 4);
     Ok(())
 }

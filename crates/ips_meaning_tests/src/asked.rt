@@ -1,0 +1,48 @@
+//! What a table asks of its rows.
+
+use crate::conflict::clash_told;
+use crate::meaning::{entry_told, want_told};
+use crate::plan::plan_told;
+use crate::rows::{column, number, row_of};
+use std::alloc::Global;
+use std::test::Fail;
+
+// What a table asks of its rows, whose columns are named behind each.
+#[derive(Clone, Copy)]
+pub enum Asked {
+    // The first clash: the names of the actions' lines.
+    Clash,
+    // What two packages mean: their manifests, and the version that the mediator `p` is set to.
+    Want,
+    // What two packages want at a path: the path.
+    Entry,
+    // A plan: what stands in the image, the manifest, and the look that fails.
+    Plan,
+}
+
+fn told(alloc: Global, asked: Asked, row: &str) -> Result<String, Fail> {
+    let first = column(row, 0);
+    let second = column(row, 1);
+    let third = column(row, 2);
+    match asked {
+        Asked::Clash => clash_told(alloc, first),
+        Asked::Want => want_told(alloc, first, second, third),
+        Asked::Entry => entry_told(alloc, first),
+        Asked::Plan => plan_told(alloc, first, second, number(third)?),
+    }
+}
+
+// How many rows a table has, each of which is told as it says.
+pub fn rows_told(alloc: Global, asked: Asked, table: &str) -> Result<u32, Fail> {
+    let mut rows = 0u32;
+    for line in table.lines() {
+        if let Some((row, want)) = row_of(line) {
+            let told = told(alloc, asked, row)?;
+            if told.as_str() != want {
+                return Err(Fail::new(format_args!("{row}: {told}, and not {want}")));
+            }
+            rows = rows.saturating_add(1);
+        }
+    }
+    Ok(rows)
+}
