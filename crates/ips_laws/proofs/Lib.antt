@@ -1,0 +1,5 @@
+pub mod InOrder
+pub mod Pairs
+pub mod OneEntry
+pub mod OneMeaning
+pub mod OneImage
