@@ -3,3 +3,4 @@ pub mod Pairs
 pub mod OneEntry
 pub mod OneMeaning
 pub mod OneImage
+pub mod OneDone

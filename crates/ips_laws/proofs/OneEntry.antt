@@ -45,13 +45,13 @@ one_preserve p q e = sym (read_back p) ∙ ap preserve_of e ∙ read_back q
 
 -- ---- of which kind what means an entry is
 
-abbrev pub place_of : Entry → ℕ
+abbrev place_of : Entry → ℕ
 place_of (Dir mode) = 0
 place_of (File payload mode preserve) = 1
 place_of (Link target) = 2
 place_of (Hard to) = 3
 
-pub means_place : (a : Fields) (entry : Entry) → Means a entry → kind_place a.kind ≡ place_of entry
+means_place : (a : Fields) (entry : Entry) → Means a entry → kind_place a.kind ≡ place_of entry
 means_place a (Dir mode) m = ap kind_place m.0
 means_place a (File payload mode preserve) m = ap kind_place m.0
 means_place a (Link target) m = ap kind_place m.0
@@ -71,7 +71,7 @@ module _ (kept : List Placed) (free : IsFreeOfClashes kept) (path : List ℕ) wh
   gives_like a b e x y = absurd (omega (arith, e))
 
   -- what is given at the path is of one kind
-  pub one_place : (a b : Entry) → Gives kept path a → Gives kept path b → place_of a ≡ place_of b
+  one_place : (a b : Entry) → Gives kept path a → Gives kept path b → place_of a ≡ place_of b
   one_place a b x y = sym (means_place x.p.action a x.means) ∙ one_kind kept free (path_key path) x.i y.i x.p y.p x.at y.at ∙ means_place y.p.action b y.means
 
   pub wanted_like : (a b : Entry) → IsWanted kept path a → IsWanted kept path b → IsLike a b

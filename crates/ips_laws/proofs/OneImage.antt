@@ -109,21 +109,20 @@ module _ (publisher : List ℕ) (repository : Image) (kept : List Placed) (free 
         | inr implicit ↦ let e : Hard other ≡ Dir None = implicit.1 in absurd cc
       ]
 
-  pub look_alike : (q : List ℕ) → a.look q ≡ b.look q
+  look_alike : (q : List ℕ) → a.look q ≡ b.look q
   look_alike q =
       alike_but q (λ to other here there l.
       let led : a.look to.bytes ≡ b.look to.bytes = alike_but to.bytes (λ one two at under e. absurd (no_chain q to one here at)) in
       (shows x a first q (Hard to) here).0 ∙ led ∙ ap b.look l ∙ sym (shows y b second q (Hard other) there).0)
 
-  pub share_alike : (p q : List ℕ) → a.same p q ≡ b.same p q
+  share_alike : (p q : List ℕ) → a.same p q ≡ b.same p q
   share_alike p q = first.sharing p q ∙ one_sharing x y old like p q ∙ sym (second.sharing p q)
 
 -- packages that show the same mean one image
 pub one_image : (publisher : List ℕ) (repository : Image) (s : Set) (mediators : List SetMediator) (ps qs : List Package) (x y : List (List ℕ × Entry)) (old a b : Image) → map installed ps ≡ map installed qs
-    → PackagesMean s mediators ps x → PackagesMean s mediators qs y → IsMeant (IsContent true publisher repository) x old a → IsMeant (IsContent true publisher repository) y old b
-    → ((q : List ℕ) → a.look q ≡ b.look q) × ((p q : List ℕ) → a.same p q ≡ b.same p q)
+    → PackagesMean s mediators ps x → PackagesMean s mediators qs y → IsMeant (IsContent true publisher repository) x old a → IsMeant (IsContent true publisher repository) y old b → a ≡ b
 one_image publisher repository s mediators ps qs x y old a b same m n first second =
-    let like = meaning_like s mediators ps qs x y same m n in (
-      look_alike publisher repository m.taken.kept m.no_clash x y like m.want old a b first second,
-      share_alike publisher repository m.taken.kept m.no_clash x y like m.want old a b first second,
-    )
+    let like = meaning_like s mediators ps qs x y same m n in
+    let look = look_alike publisher repository m.taken.kept m.no_clash x y like m.want old a b first second in
+    let share = share_alike publisher repository m.taken.kept m.no_clash x y like m.want old a b first second in
+    λ i. record { look = λ q. look q i; same = λ p q. share p q i }
