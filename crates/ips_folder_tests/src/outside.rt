@@ -336,7 +336,7 @@ fn trees_answer_as_they_are_to(rt: HostRuntime) -> Result<(), Fail> {
 #[test]
 fn appends(rt: HostRuntime) -> Result<(), Fail> {
     let alloc = rt.alloc();
-    let path = path(alloc, "log")?;
+    let path = RelPath::parse(alloc, b"log")?;
     let mut tree = Tree::new(alloc);
     tree.file(alloc, &path, 0o600, b"one ")?;
     tree.append(&path, b"two")?;
