@@ -249,7 +249,8 @@ fn stop_of(call: &str, choice: &str) -> Result<Option<Stop>, Fail> {
         "after" => Choice::After,
         "gone" => Choice::Gone,
         "junk" => Choice::Junk,
-        _ => Choice::Torn,
+        "torn" => Choice::Torn,
+        _ => return Err(Fail::new("no such choice")),
     };
     Ok(if call == 0 {
         None
@@ -281,7 +282,7 @@ fn holding(alloc: Global, tree: Tree, stop: Option<Stop>) -> Result<MemFolder, F
     Ok(MemFolder::new(alloc, tree, Vec::new(alloc), stop)?)
 }
 
-// A call, what stands, and what a crash leaves of it, by each choice.
+// The choice, the call at which the folder stops, and what a crash then leaves.
 const FIVE_CHOICES: &str = "
 before make_dir usr/n 750 -> usr/a 644=abcd usr/d 700/ usr/d/x 640=xyz
 after make_dir usr/n 750 -> usr/a 644=abcd usr/d 700/ usr/d/x 640=xyz usr/n 750/

@@ -1,4 +1,4 @@
-//! Tests of images in memory, steps, and the folder with its stops and faults.
+//! Tests of trees, sources and sinks in memory, of steps, their kinds and journals, and of the folder with its stops and faults.
 #![tactic(auto)]
 
 #[cfg(test)]

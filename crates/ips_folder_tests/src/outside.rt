@@ -136,7 +136,7 @@ pub fn tree_of(alloc: Global, calls: &str) -> Result<Tree, Fail> {
     Ok(tree)
 }
 
-// Plays a script of so many calls on an empty tree. After `copy` the calls are on the copy, after `back` on the first tree.
+// Plays a script of so many calls on an empty tree. After `copy` the calls are on the copy, after `back` on the other of the two.
 fn play(rt: &impl Abort, alloc: Global, script: &str, count: u64) -> Result<(), Fail> {
     let mut tree = Tree::new(alloc);
     let mut other = Tree::new(alloc);

@@ -28,7 +28,8 @@ fn change(
         "make_link" => folder.make_link(at, rest.as_bytes()),
         "make_hard" => folder.make_hard(at, &path(alloc, rest)?),
         "remove" => folder.remove(at),
-        _ => folder.sync(),
+        "sync" => folder.sync(),
+        _ => return Err(Fail::new("no such call")),
     };
     Ok(if answer.is_ok() { "ok" } else { "failed" })
 }

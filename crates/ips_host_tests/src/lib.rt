@@ -1,4 +1,4 @@
-//! Tests of the adapters over real files.
+//! Tests of the adapters over real files and standard output.
 #![tactic(auto)]
 
 #[cfg(test)]

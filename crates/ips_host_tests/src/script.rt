@@ -1,5 +1,5 @@
 //! Scripts that the tests play, and the files that they begin with. A line is a call and what it answers, as
-//! `look d -> dir 755`; one that begins with `#` tells what the lines behind it are for.
+//! `remove d -> ok`; one that begins with `#` tells what the lines behind it are for.
 
 use ips_outside::Look;
 use ips_text::RelPath;
@@ -60,9 +60,13 @@ pub fn set_up(rt: &HostRuntime, root: &str, script: &str) -> Result<(), Fail> {
                 Permissions::from_mode(u32::from_str_radix(rest, 8)?),
             )?,
             "link" => symlink(rt, rest, at)?,
-            _ => {
-                Command::new(rt.alloc(), "mkfifo")?.arg(at)?.status(rt)?;
+            "pipe" => {
+                let made = Command::new(rt.alloc(), "mkfifo")?.arg(at)?.status(rt)?;
+                if !made.success() {
+                    return Err(Fail::new("no pipe was made"));
+                }
             }
+            _ => return Err(Fail::new("no such file")),
         }
     }
     Ok(())

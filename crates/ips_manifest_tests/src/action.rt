@@ -92,6 +92,10 @@ fn kept(alloc: Global, action: &Action) -> Result<String, Fail> {
     Ok(format!(in alloc; "{preserve:?}")?)
 }
 
+fn counted(alloc: Global, count: usize) -> Result<String, Fail> {
+    Ok(format!(in alloc; "{count}")?)
+}
+
 fn values(alloc: Global, action: &Action, question: &str) -> Result<String, Fail> {
     let (what, name) = question.split_once(' ').unwrap_or((question, ""));
     match what {
@@ -99,14 +103,9 @@ fn values(alloc: Global, action: &Action, question: &str) -> Result<String, Fail
         "second" => or_none(alloc, action.nth(name, 1)),
         "third" => or_none(alloc, action.nth(name, 2)),
         "key" => or_none(alloc, action.key()),
-        _ => {
-            let count = if name.is_empty() {
-                action.attrs.list().len()
-            } else {
-                action.count(name)
-            };
-            Ok(format!(in alloc; "{count}")?)
-        }
+        "count" => counted(alloc, action.count(name)),
+        "attributes" => counted(alloc, action.attrs.list().len()),
+        _ => Err(Fail::new("no such question")),
     }
 }
 

@@ -50,7 +50,8 @@ fn listed(alloc: Global, catalog: &Catalog, question: &str) -> Result<String, Fa
             let stem = catalog.stem(of.parse::<usize>()?);
             Ok(String::from_str(alloc, stem.unwrap_or("none"))?)
         }
-        _ => versions(alloc, catalog, of),
+        "versions" => versions(alloc, catalog, of),
+        _ => Err(Fail::new("no such question")),
     }
 }
 

@@ -56,7 +56,8 @@ fn view_of(alloc: Global, words: &str) -> Result<Chosen, Fail> {
         match stem {
             "a" => chosen.a = Some(version),
             "b" => chosen.b = Some(version),
-            _ => chosen.spared = true,
+            "spared" => chosen.spared = true,
+            _ => return Err(Fail::new("no such word")),
         }
     }
     Ok(chosen)
@@ -215,7 +216,8 @@ fn tests_mention_and_want_stems(rt: HostRuntime) -> Result<(), Fail> {
         depend type=group fmri=g/h -> g/h 1 g/h;
         depend type=parent fmri=a fmri=b -> a b 0 -;
         # They stand in the order of their lines.
+        depend type=require fmri=a¶depend type=optional fmri=a¶depend type=incorporate fmri=a@1¶depend type=exclude fmri=a¶depend fmri=a predicate=b type=conditional¶depend type=require-any fmri=a fmri=c fmri=b¶depend type=group fmri=g/h¶depend type=parent fmri=a fmri=b -> a 1 -;a 0 -;a 0 -;a 0 -;b a 1 -;a c b 3 -;g/h 1 g/h;a b 0 -;
         depend type=optional fmri=a¶depend type=require fmri=b¶depend type=group fmri=c¶ -> a 0 -;b 1 -;c 1 c;
     ";
-    holds(&rt, rt.alloc(), &mut Asked::Told, 9, table)
+    holds(&rt, rt.alloc(), &mut Asked::Told, 10, table)
 }

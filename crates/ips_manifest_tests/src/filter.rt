@@ -46,7 +46,8 @@ impl Ask for Script {
                 let line = format!(in alloc; "dir path=usr mode=0755 owner=root group=sys {rest}")?;
                 self.admits(alloc, line.as_str())
             }
-            _ => self.admits(alloc, rest),
+            "admits" => self.admits(alloc, rest),
+            _ => Err(Fail::new("no such call")),
         }
     }
 }
@@ -71,7 +72,8 @@ impl Script {
         let on = match word {
             "on" => Some(true),
             "off" => Some(false),
-            _ => None,
+            "away" => None,
+            _ => return Err(Fail::new("no such word")),
         };
         self.settings.set_facet(alloc, pattern, on)?;
         told(alloc, "done")

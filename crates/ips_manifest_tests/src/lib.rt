@@ -1,4 +1,5 @@
-//! Tests of what is said of packages: actions and manifests, catalogs, variants and facets, dependencies, mediators and the state of an image.
+//! Tests of what is said of packages: actions and manifests, catalogs, variants and facets, dependencies, mediators, the state of
+//! an image, and which line can't be installed yet or is at or below a path. `table` reads the cases.
 #![tactic(auto)]
 
 #[cfg(test)]

@@ -8,7 +8,7 @@ use std::test::Fail;
 // What a table asks of manifests.
 #[derive(Drop)]
 enum Asked {
-    // The number of the first line and the manifest as it is printed, or the line of the fault.
+    // The number of the first line and the manifest as it is printed; `no line`; or the line of the fault, and whether it is of the text or an action.
     Lines,
     // Whether a package of this manifest, which is printed as it is read, is obsolete.
     Obsolete,

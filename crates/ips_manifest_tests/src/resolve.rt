@@ -45,7 +45,7 @@ dir group=bin mode=0755 owner=root path=var
 enum Asked {
     // The first line that cannot be installed yet, where `b` has this manifest.
     Unbuilt,
-    // The first line that gives this path.
+    // The first line that gives this path or one below it.
     Below,
 }
 

@@ -14,9 +14,9 @@ fn one<T: Drop>(alloc: Global, item: T) -> Result<Vec<T>, AllocError> {
     Ok(list)
 }
 
-// A copy has what the state has, in every record.
+// A copy has the same publisher, and as many records of each sort.
 #[test]
-fn copies_have_the_same_records(rt: HostRuntime) -> Result<(), Fail> {
+fn copies_have_as_many_records(rt: HostRuntime) -> Result<(), Fail> {
     let alloc = rt.alloc();
     let package = Package {
         stem: Text::new(alloc, "a")?,

@@ -43,12 +43,13 @@ pub fn holds<Q: Ask>(
 /// The bytes that a column spells.
 pub fn spelled(alloc: Global, column: &str) -> Result<Vec<u8>, Fail> {
     let mut bytes = Vec::new(alloc);
-    for piece in column.split('{') {
+    for (i, piece) in column.split('{').enumerate() {
         match piece.split_once('}') {
             Some((name, behind)) => {
                 push_named(&mut bytes, name)?;
                 push_lines(&mut bytes, behind)?;
             }
+            None if i > 0 => return Err(Fail::new("an open brace")),
             None => push_lines(&mut bytes, piece)?,
         }
     }

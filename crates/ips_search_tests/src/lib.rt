@@ -1,4 +1,4 @@
-//! Tests of puzzles: the checker of refutations and the search.
+//! Tests of puzzles: the checker of refutations and the search. `table` reads the cases, `puzzle` the puzzles that they spell.
 #![tactic(auto)]
 
 #[cfg(test)]

@@ -18,7 +18,7 @@ enum Asked {
     Of(&'static str),
     // Whether it takes this set, of a puzzle whose stem 2 has no candidate.
     Set,
-    // What is read.
+    // The first bad line of a text, or that it is a refutation.
     Reading,
 }
 

@@ -123,9 +123,10 @@ fn admits(alloc: Global, pattern: &str, version: &str) -> Result<bool, Fail> {
     Ok(a_pattern(alloc, pattern)?.admits(&version))
 }
 
-// How two versions stand to one another, and whether the first is at least the second.
-fn compared(alloc: Global, one: &Version, two: &Version) -> Result<(Ordering, bool), Fail> {
-    Ok((one.order(two), one.copy(alloc)?.at_least(two)))
+// How two versions stand to one another, whether the first is at least the second, and whether it is the second.
+fn compared(alloc: Global, one: &Version, two: &Version) -> Result<(Ordering, bool, bool), Fail> {
+    let copy = one.copy(alloc)?;
+    Ok((one.order(two), copy.at_least(two), copy == *two))
 }
 
 // Each is less than the next one.
@@ -154,7 +155,7 @@ fn orders_versions_by_release_branch_timestamp_and_build(rt: HostRuntime) -> Res
     for (i, one) in versions.iter().enumerate() {
         for (j, two) in versions.iter().enumerate() {
             assert!(rt;
-                compared(alloc, one, two)? == (i.cmp(&j), i >= j),
+                compared(alloc, one, two)? == (i.cmp(&j), i >= j, i == j),
                 "{i} {j}"
             );
         }

@@ -1,4 +1,5 @@
-//! Tests of the crates of words: paths and texts, words of a line, versions and names, payload names, and tables of cases.
+//! Tests of the crates of words: paths and texts, words of a line, versions, FMRIs
+//! and patterns, payload names, and the tables of `ips_cases`. `table` reads the cases.
 #![tactic(auto)]
 
 #[cfg(test)]

@@ -60,7 +60,7 @@ fn fault(fault: PathFault) -> &'static str {
     }
 }
 
-// Whether the bytes are a path, and has those bytes; or their first fault.
+// Whether the bytes are a path, and one that has those bytes; or their first fault.
 fn path(alloc: Global, bytes: &[u8]) -> Result<String, Fail> {
     match RelPath::parse(alloc, bytes) {
         Ok(path) => string(
@@ -140,10 +140,12 @@ fn shown(alloc: Global, bytes: &[u8]) -> Result<String, Fail> {
 fn order(alloc: Global, one: &str, two: &str) -> Result<String, Fail> {
     let one = Text::new(alloc, one)?;
     let one = one.copy(alloc)?;
-    let order = match one.cmp(&Text::new(alloc, two)?) {
-        Ordering::Less => "less",
-        Ordering::Equal => "equal",
-        Ordering::Greater => "greater",
+    let two = Text::new(alloc, two)?;
+    let order = match (one.cmp(&two), one == two) {
+        (Ordering::Less, false) => "less",
+        (Ordering::Equal, true) => "equal",
+        (Ordering::Greater, false) => "greater",
+        _ => "at odds",
     };
     string(alloc, order)
 }
