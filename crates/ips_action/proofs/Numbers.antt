@@ -19,15 +19,15 @@ id_is value n false spelled fits e =
     (λ h. absurd cc, λ w. let same : w.0 ≡ n = decimal_injective w.0 n (omega (arith, w.1)) fits (sym w.2 ∙ spelled) in absurd (omega (arith, w.1)))
 
 -- a digit is no dot
-no_dot : (b : ℕ) (t : Bool) → eqb b 46 ≡ t → digit_value b < 10 → t ≡ false
+pub no_dot : (b : ℕ) (t : Bool) → eqb b 46 ≡ t → digit_value b < 10 → t ≡ false
 no_dot b true e lt = let P : ℕ → Type 0 = λ x. digit_value x < 10 in absurd (omega (arith, subst P (eqb-true b 46 e) lt))
 no_dot b false e lt = refl
 
-digits_dotless : (ds : List ℕ) → AllDigits 10 ds → AllByRecursion (λ b. eqb b 46 ≡ false) ds
+pub digits_dotless : (ds : List ℕ) → AllDigits 10 ds → AllByRecursion (λ b. eqb b 46 ≡ false) ds
 digits_dotless [] h = tt
 digits_dotless (d ∷ ds) h = (no_dot d (eqb d 46) refl h.0, digits_dotless ds h.1)
 
-dotless : (n : ℕ) → n < 2 ^ 64 → All (λ b. eqb b 46 ≡ false) (decimal n)
+pub dotless : (n : ℕ) → n < 2 ^ 64 → All (λ b. eqb b 46 ≡ false) (decimal n)
 dotless n fits = All-from_recursion (λ b. eqb b 46 ≡ false) (decimal n) (digits_dotless (decimal n) (decimal_is_IsNumeral n fits).0.1)
 
 split_numerals : (n : ℕ) (ns : List ℕ) → AreNumbers (n ∷ ns) → slice_split (λ b. eqb b 46) (numerals (n ∷ ns)) ≡ map decimal (n ∷ ns)

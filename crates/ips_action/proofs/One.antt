@@ -58,7 +58,7 @@ pub later_none : (attrs : List Attr) (key : List ℕ) → AllByRecursion (λ (a 
 later_none [] key h = refl
 later_none (a ∷ attrs) key h = rw (after_other key a.key h.0) (later_none attrs key h.1)
 
-all_later : (attrs : List Attr) (a b : List ℕ) → IsBefore a b → AllByRecursion (λ (x : Attr). IsBefore b x.key) attrs → AllByRecursion (λ (x : Attr). IsBefore a x.key) attrs
+pub all_later : (attrs : List Attr) (a b : List ℕ) → IsBefore a b → AllByRecursion (λ (x : Attr). IsBefore b x.key) attrs → AllByRecursion (λ (x : Attr). IsBefore a x.key) attrs
 all_later [] a b h g = tt
 all_later (x ∷ attrs) a b h g = (before_trans a b x.key h g.0, all_later attrs a b h g.1)
 

@@ -28,6 +28,7 @@ use Rattle.ips_action.proofs.Found.{found_at}
 use Rattle.ips_action.proofs.Slashes.{bare_already}
 use Rattle.ips_action.proofs.Spelled.{name_runs}
 use Rattle.ips_action.proofs.One.{one_kind, one_payload, one_list, later_none}
+use Rattle.ips_text.proofs.Lists.{all_append}
 
 -- ---- the words of a canonical line
 
@@ -49,17 +50,13 @@ word_runs : (payload : Option PayloadName) → IfName payload → IfPayload (pay
 word_runs None h = tt
 word_runs (Some name) h = name_runs name h
 
-all_joined : {X : Type 0} (P : X → Type 0) (xs ys : List X) → AllByRecursion P xs → AllByRecursion P ys → AllByRecursion P (xs ++ ys)
-all_joined P [] ys h g = g
-all_joined P (x ∷ xs) ys h g = (h.0, all_joined P xs ys h.1 g)
-
 keys_of_one : (key : List ℕ) (values : List (List ℕ)) → IsRun in_key key → AllByRecursion (λ (p : Pair). IsRun in_key p.key) (map (λ value. record { key = key; value = value }) values)
 keys_of_one key [] h = tt
 keys_of_one key (value ∷ values) h = (h, keys_of_one key values h)
 
 keys_of : (attrs : List Attr) → AllByRecursion (λ (a : Attr). IsRun in_key a.key) attrs → AllByRecursion (λ (p : Pair). IsRun in_key p.key) (pairs_of attrs)
 keys_of [] h = tt
-keys_of (attr ∷ attrs) h = all_joined (λ (p : Pair). IsRun in_key p.key) (pairs_of_one attr) (pairs_of attrs) (keys_of_one attr.key attr.values h.0) (keys_of attrs h.1)
+keys_of (attr ∷ attrs) h = all_append (λ (p : Pair). IsRun in_key p.key) (pairs_of_one attr) (pairs_of attrs) (keys_of_one attr.key attr.values h.0) (keys_of attrs h.1)
 
 pub are_words : (a : Fields) → IsAction a → AreWords (kind_name a.kind) (payload_word a.payload) (pairs_of a.attrs)
 are_words a h = record { is_name = name_run a.kind; is_payload = word_runs a.payload h.named; are_keys = keys_of a.attrs h.keys }

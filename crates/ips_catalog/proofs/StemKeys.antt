@@ -16,14 +16,11 @@ use Rattle.ips_fmri.specs.declared.fmri.Fmri.{Fmri}
 use Rattle.ips_fmri.specs.Name.{may_begin, may_go_on, IsComponent, IsStem}
 use Rattle.ips_fmri.specs.Fmri.{IsFmri, WritesFmri}
 use Rattle.ips_catalog.specs.Stem.{is_component, is_stem}
-
-both : (a b : Bool) → a ≡ true → b ≡ true → (a && b) ≡ true
-both true b ea eb = eb
-both false b ea eb = absurd (true≢false (sym ea))
+use Rattle.ips_text.proofs.Truths.{both_true}
 
 component_tested : (bytes : List ℕ) → IsComponent false bytes → is_component bytes ≡ true
 component_tested [] h = absurd h
-component_tested (b ∷ bytes) h = both (may_begin false b) (list_all (may_go_on false) bytes) h.0 h.1
+component_tested (b ∷ bytes) h = both_true (may_begin false b) (list_all (may_go_on false) bytes) h.0 h.1
 
 component_is : (bytes : List ℕ) → is_component bytes ≡ true → IsComponent false bytes
 component_is [] e = absurd (true≢false (sym e))
@@ -31,8 +28,8 @@ component_is (b ∷ bytes) e = and_parts (may_begin false b) (list_all (may_go_o
 
 parts_tested : (xs : List (List ℕ)) → AllFit (IsComponent false) xs → list_all is_component xs ≡ true
 parts_tested [] h = absurd h
-parts_tested (x ∷ []) h = both (is_component x) true (component_tested x h) refl
-parts_tested (x ∷ y ∷ xs) h = both (is_component x) (list_all is_component (y ∷ xs)) (component_tested x h.0) (parts_tested (y ∷ xs) h.1)
+parts_tested (x ∷ []) h = both_true (is_component x) true (component_tested x h) refl
+parts_tested (x ∷ y ∷ xs) h = both_true (is_component x) (list_all is_component (y ∷ xs)) (component_tested x h.0) (parts_tested (y ∷ xs) h.1)
 
 parts_are : (xs : List (List ℕ)) → (xs ≡ [] → ⊥) → list_all is_component xs ≡ true → AllFit (IsComponent false) xs
 parts_are [] some e = some refl
@@ -46,7 +43,7 @@ some_part key none = omega (arith, ap length none, length-slice_split (λ (b : �
 
 pub stem_tested : (key : List ℕ) → IsStem false key → is_stem key ≡ true
 unfolding is_stem
-stem_tested key h = both (list_all is_component (parts key)) (fits_name key) (parts_tested (parts key) h.form) h.short
+stem_tested key h = both_true (list_all is_component (parts key)) (fits_name key) (parts_tested (parts key) h.form) h.short
 
 pub stem_is : (key : List ℕ) → is_stem key ≡ true → IsStem false key
 unfolding is_stem

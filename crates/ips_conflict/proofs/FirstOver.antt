@@ -27,10 +27,12 @@ use Rattle.ips_conflict.specs.Clash.{HasKey, Conflict, IsConflict, IsConflictBy,
 use Rattle.ips_conflict.specs.Index.{Groups, IsGroup, AreGroups, places_at}
 use Rattle.ips_conflict.specs.Search.{NoneBelow, IsFirstBy, IsFirstOver, IsFirstOfText, conflict}
 use Rattle.ips_conflict.proofs.Places.{below_or_last}
-use Rattle.ips_conflict.proofs.Kept.{same_is, tied}
+use Rattle.ips_conflict.proofs.Kept.{tied}
 use Rattle.ips_conflict.proofs.Ordered.{less_or}
 use Rattle.ips_conflict.proofs.Grouped.{key_text}
-use Rattle.ips_conflict.proofs.FirstPair.{then_le, last_tie}
+use Rattle.ips_conflict.proofs.FirstPair.{then_le}
+use Rattle.ips_text.proofs.Orders.{less_not_greater, last_tie, number_tie}
+use Rattle.ips_action.proofs.KeyOrder.{same_true}
 
 -- ---- ranks
 
@@ -77,9 +79,6 @@ same_sort r s e = sym (sort_is r) ∙ ap sort_at e ∙ sort_is s
 rank_le : (r s : ℕ) → (s < r → ⊥) → nat_cmp r s ≢ Greater
 rank_le r s above e = above (subst (λ (o : Ordering). MatchOrdering o (r < s) (r ≡ s) (s < r)) e (ranks r s))
 
-rank_tie : (r s : ℕ) → nat_cmp r s ≡ Equal → r ≡ s
-rank_tie r s e = subst (λ (o : Ordering). MatchOrdering o (r < s) (r ≡ s) (s < r)) e (ranks r s)
-
 key_total : IsTotalOrder key_cmp
 key_total = then_total (on_total (λ (k : Key). k.text) nat_list_cmp_total) (on_total (λ (k : Key). sort_rank k.sort) nat_cmp_total)
 
@@ -88,9 +87,6 @@ key_tie k l e = subst (λ (x : Key). key_cmp k x ≡ Equal) (sym e) (tied_itself
 
 tie_le : (o : Ordering) → o ≡ Equal → o ≢ Greater
 tie_le o e f = let no : Equal ≡ Greater = sym e ∙ f in absurd cc
-
-less_le : (o : Ordering) → o ≡ Less → o ≢ Greater
-less_le o e f = let no : Less ≡ Greater = sym e ∙ f in absurd cc
 
 -- what comes first decides
 less_then : (o p : Ordering) → o ≡ Less → ordering_then o p ≡ Less
@@ -113,7 +109,7 @@ module _ (placed : List Placed) (key : Key) where
         let rule : Ordering = nat_cmp (rule_rank found.rule) (rule_rank d.rule) in
         then_le (ordering_then (key_cmp key d.key) rule) (pair_cmp placed (conflict key found.rule found.first found.second) d)
         (then_le (key_cmp key d.key) rule (tie_le (key_cmp key d.key) keys) (λ tie. rank_le (rule_rank found.rule) (rule_rank d.rule) (before d h ek)))
-        (λ tie. by.1 d h ek (same_rule d.rule found.rule (sym (rank_tie (rule_rank found.rule) (rule_rank d.rule) (last_tie (key_cmp key d.key) rule tie))))),
+        (λ tie. by.1 d h ek (same_rule d.rule found.rule (sym (number_tie (rule_rank found.rule) (rule_rank d.rule) (last_tie (key_cmp key d.key) rule tie))))),
   )
 
 -- where the key is that of a path
@@ -156,8 +152,8 @@ module _ (placed : List Placed) (text : List ℕ) where
             let sorts : Ordering = nat_cmp (sort_rank s) (sort_rank d.key.sort) in
             let le : key_cmp key d.key ≢ Greater = then_le (slice_cmp nat_cmp text d.key.text) sorts (tie_le _ texts) (λ tie. rank_le (sort_rank s) (sort_rank d.key.sort) (λ lt. before d h et (omega (arith, lt, is)))) in
             elim (less_or (key_cmp key d.key) le) [
-              | inl less ↦ less_le (conflict_cmp placed c d) (less_then (ordering_then (key_cmp key d.key) (nat_cmp (rule_rank found.rule) (rule_rank d.rule))) (pair_cmp placed c d) (less_then (key_cmp key d.key) (nat_cmp (rule_rank found.rule) (rule_rank d.rule)) less))
-              | inr tie ↦ over.1 d h (key_of_parts d.key s text (same_sort d.key.sort s (sym (rank_tie (sort_rank s) (sort_rank d.key.sort) (last_tie (slice_cmp nat_cmp text d.key.text) sorts tie)))) et)
+              | inl less ↦ less_not_greater (conflict_cmp placed c d) (less_then (ordering_then (key_cmp key d.key) (nat_cmp (rule_rank found.rule) (rule_rank d.rule))) (pair_cmp placed c d) (less_then (key_cmp key d.key) (nat_cmp (rule_rank found.rule) (rule_rank d.rule)) less))
+              | inr tie ↦ over.1 d h (key_of_parts d.key s text (same_sort d.key.sort s (sym (number_tie (sort_rank s) (sort_rank d.key.sort) (last_tie (slice_cmp nat_cmp text d.key.text) sorts tie)))) et)
             ],
         tells key refl,
       )
@@ -215,7 +211,7 @@ all_among placed groups are d h =
 
 -- a text of the entries behind the first
 text_tie : (p q : List ℕ) → is_eq (slice_cmp nat_cmp p q) ≡ true → p ≡ q
-text_tie p q e = same_is p q (sym (tied p q) ∙ e)
+text_tie p q e = same_true p q (sym (tied p q) ∙ e)
 
 module _ (placed : List Placed) (text : String Global) (members : Vec ℕ Global) (rest : Entries) where
   among_rest : AllAmong placed ((text, members) ∷ rest) → IsFirstOfText placed (string_bytes text) None → AllAmong placed rest
@@ -251,7 +247,7 @@ module _ (placed : List Placed) (text : String Global) (members : Vec ℕ Global
           let less : slice_cmp nat_cmp c.key.text d.key.text ≡ Less = subst (λ (t : List ℕ). slice_cmp nat_cmp t d.key.text ≡ Less) (sym f.1) after in
           let sorts = nat_cmp (sort_rank c.key.sort) (sort_rank d.key.sort) in
           let rules = nat_cmp (rule_rank c.rule) (rule_rank d.rule) in
-          less_le (conflict_cmp placed c d) (less_then (ordering_then (key_cmp c.key d.key) rules) (pair_cmp placed c d) (less_then (key_cmp c.key d.key) rules (less_then (slice_cmp nat_cmp c.key.text d.key.text) sorts less)))
+          less_not_greater (conflict_cmp placed c d) (less_then (ordering_then (key_cmp c.key d.key) rules) (pair_cmp placed c d) (less_then (key_cmp c.key d.key) rules (less_then (slice_cmp nat_cmp c.key.text d.key.text) sorts less)))
 
 -- ---- what is left to be looked through
 

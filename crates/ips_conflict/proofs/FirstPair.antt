@@ -20,6 +20,7 @@ use Rattle.ips_conflict.proofs.Places.{one_there}
 use Rattle.ips_conflict.proofs.Ordered.{place_total, le_cases}
 use Rattle.ips_conflict.proofs.Grouped.{Keyed, key_sort}
 use Rattle.ips_conflict.proofs.Likeness.{links_told, same_mediators, kinds_told, not_kinds, unlike_told, like_told, files_told, overlay_told, alike_both, no_three}
+use Rattle.ips_text.proofs.Orders.{last_tie}
 
 -- ---- two actions of a key that break a rule
 
@@ -89,11 +90,6 @@ pair_from placed key rule i j a at k =
     record { a = a; b = k.p; a_key = at; b_key = k.at; earlier = w.behind; broken = subst (λ (y : Placed). breaks rule a.action y.action ≡ true) other (subst (λ (x : Placed). breaks rule x.action w.b.action ≡ true) one w.broken) }
 
 -- ---- the order of pairs
-
-pub last_tie : (o p : Ordering) → ordering_then o p ≡ Equal → p ≡ Equal
-last_tie Less p e = absurd cc
-last_tie Equal p e = e
-last_tie Greater p e = absurd cc
 
 pub place_tie : (placed : List Placed) (i j : ℕ) → place_cmp placed i j ≡ Equal → i ≡ j
 place_tie placed i j e = subst (λ (o : Ordering). MatchOrdering o (i < j) (i ≡ j) (j < i)) (last_tie _ (nat_cmp i j) e) (ranks i j)

@@ -26,7 +26,8 @@ use Rattle.ips_conflict.specs.declared.earliest.Test.{Test}
 use Rattle.ips_conflict.specs.Clash.{Counts, HasSureFile, LeadsToFile, file_cmp, may_be_missing}
 use Rattle.ips_conflict.specs.Search.{IsEarliest, Meets, Passes, earlier_of}
 use Rattle.ips_conflict.proofs.Places.{one_there}
-use Rattle.ips_conflict.proofs.Ordered.{place_total, file_total, le_trans, le_of_less, le_self, le_unless, less_is, less_le, le_cases}
+use Rattle.ips_conflict.proofs.Ordered.{place_total, file_total, le_trans, le_of_less, le_self, le_unless, less_le, le_cases}
+use Rattle.ips_text.proofs.Orders.{less_is, last_tie, number_tie}
 
 -- ---- of the first members
 
@@ -106,18 +107,10 @@ keyed_place Signature sort e = absurd cc
 
 -- ---- one file counts
 
-last_tie : (o p : Ordering) → ordering_then o p ≡ Equal → p ≡ Equal
-last_tie Less p e = absurd cc
-last_tie Equal p e = e
-last_tie Greater p e = absurd cc
-
-same_number : (i j : ℕ) → nat_cmp i j ≡ Equal → i ≡ j
-same_number i j e = subst (λ (o : Ordering). MatchOrdering o (i < j) (i ≡ j) (j < i)) e (ranks i j)
-
 file_tie : (placed : List Placed) (i j : ℕ) → file_cmp placed i j ≡ Equal → i ≡ j
-file_tie placed i j e = same_number i j (last_tie _ (nat_cmp i j) (last_tie _ (place_cmp placed i j) e))
+file_tie placed i j e = number_tie i j (last_tie _ (nat_cmp i j) (last_tie _ (place_cmp placed i j) e))
 
-one_counts : (placed : List Placed) (path : List ℕ) (i j : ℕ) (p q : Placed) → Counts placed path i p → Counts placed path j q → i ≡ j
+pub one_counts : (placed : List Placed) (path : List ℕ) (i j : ℕ) (p q : Placed) → Counts placed path i p → Counts placed path j q → i ≡ j
 one_counts placed path i j p q a b =
     elim (le_cases (file_cmp placed) (file_total placed) i j (a.first j q b.at)) [
       | inl less ↦ absurd (b.first i p a.at (less_le (file_cmp placed) (file_total placed) i j less))

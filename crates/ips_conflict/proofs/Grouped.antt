@@ -15,8 +15,9 @@ use Rattle.ips_conflict.specs.Verdict.{HasPlace}
 use Rattle.ips_conflict.specs.Index.{IsGroup, has_text}
 use Rattle.ips_conflict.specs.Search.{IsEarliest, Meets, Passes}
 use Rattle.ips_conflict.proofs.Places.{one_there}
-use Rattle.ips_conflict.proofs.Kept.{same_is, is_same_self}
+use Rattle.ips_conflict.proofs.Kept.{is_same_self}
 use Rattle.ips_conflict.proofs.Found.{has_place_there}
+use Rattle.ips_action.proofs.KeyOrder.{same_true}
 
 sort_by : (o : Option Sort) (p : Placed) (key : Key) → option_map (λ sort. let k : Key = record { sort = sort; text = text_of sort p } in k) o ≡ Some key → (o ≡ Some key.sort) × (text_of key.sort p ≡ key.text)
 sort_by None p key e = absurd (none-some key e)
@@ -42,7 +43,7 @@ key_text p key e = ap (λ (o : Option Key). option_eq is_same (option_map (λ k.
 pub key_from : (p : Placed) (sort : Sort) (text : List ℕ) → sort_of p.action.kind ≡ Some sort → has_text p text ≡ true → key_of p ≡ Some (record { sort = sort; text = text })
 key_from p sort text is has =
     let key = key_at p sort is in
-    let same : text_of sort p ≡ text = same_is (text_of sort p) text (sym (ap (λ (o : Option Key). option_eq is_same (option_map (λ k. k.text) o) (Some text)) key) ∙ has) in
+    let same : text_of sort p ≡ text = same_true (text_of sort p) text (sym (ap (λ (o : Option Key). option_eq is_same (option_map (λ k. k.text) o) (Some text)) key) ∙ has) in
     key ∙ ap (λ (t : List ℕ). let o : Option Key = Some (record { sort = sort; text = t }) in o) same
 
 -- ---- tests among the actions of a key

@@ -30,8 +30,10 @@ use Rattle.ips_conflict.specs.Alike.{takes_place}
 use Rattle.ips_conflict.specs.Clash.{HasKey, path_key, has_path_key, IsFileAt, Counts, file_rank, file_cmp}
 use Rattle.ips_conflict.specs.Index.{Groups, AreGroups, AreAbove, AreFiles, places_at, has_text, has_path, place_of, counted, first_counted}
 use Rattle.ips_conflict.proofs.Places.{one_there, below_or_last}
-use Rattle.ips_conflict.proofs.Kept.{same_is, is_same_self}
-use Rattle.ips_conflict.proofs.Ordered.{less_is, le_trans, le_of_less, le_self, le_unless, file_total}
+use Rattle.ips_conflict.proofs.Kept.{is_same_self}
+use Rattle.ips_conflict.proofs.Ordered.{le_trans, le_of_less, le_self, le_unless, file_total}
+use Rattle.ips_text.proofs.Orders.{less_is}
+use Rattle.ips_action.proofs.KeyOrder.{same_true}
 
 -- ---- groups
 
@@ -79,7 +81,7 @@ groups_done placed k groups le all text i = (λ w. ((all text i).0 w).1, λ w. (
 
 -- ---- keys of paths
 
-path_by : (o : Option Sort) (p : Placed) → option_map_or (λ sort. sort_rank sort == 0) o false ≡ true → option_map (λ sort. let k : Key = record { sort = sort; text = text_of sort p } in k) o ≡ Some (path_key (value_of (codes "path") p.action))
+pub path_by : (o : Option Sort) (p : Placed) → option_map_or (λ sort. sort_rank sort == 0) o false ≡ true → option_map (λ sort. let k : Key = record { sort = sort; text = text_of sort p } in k) o ≡ Some (path_key (value_of (codes "path") p.action))
 path_by None p h = absurd (true≢false (sym h))
 path_by (Some Path) p h = refl
 path_by (Some User) p h = absurd (true≢false (sym h))
@@ -92,7 +94,7 @@ path_by (Some License) p h = absurd (true≢false (sym h))
 pub path_is : (p : Placed) → has_path_key p ≡ true → key_of p ≡ Some (path_key (value_of (codes "path") p.action))
 path_is p h = path_by (sort_of p.action.kind) p h
 
-path_of : (o : Option Sort) (p : Placed) (path : List ℕ) → option_map (λ sort. let k : Key = record { sort = sort; text = text_of sort p } in k) o ≡ Some (path_key path) → option_map_or (λ sort. sort_rank sort == 0) o false ≡ true
+pub path_of : (o : Option Sort) (p : Placed) (path : List ℕ) → option_map (λ sort. let k : Key = record { sort = sort; text = text_of sort p } in k) o ≡ Some (path_key path) → option_map_or (λ sort. sort_rank sort == 0) o false ≡ true
 path_of None p path h = absurd (none-some (path_key path) h)
 path_of (Some sort) p path h = eq-eqb (sort_rank sort) 0 (ap (λ (o : Option Key). option_map_or (λ k. sort_rank k.sort) o 0) h)
 
@@ -218,7 +220,7 @@ file_path p is = let P : _ → Type 0 = λ k. option_map_or (λ sort. sort_rank 
 counted_by : (placed : List Placed) (k : ℕ) (p : Placed) (path : List ℕ) (before : Option ℕ) (t : Bool) → is_same path (value_of (codes "path") p.action) ≡ t → slice_get placed k ≡ Some p → p.action.kind ≡ File → FileTo placed k path before
     → FileTo placed (k + 1) path (cond t (Some (first_counted placed before k)) before)
 counted_by placed k p path before true same here file h =
-    let at : path ≡ value_of (codes "path") p.action = same_is path (value_of (codes "path") p.action) same in
+    let at : path ≡ value_of (codes "path") p.action = same_true path (value_of (codes "path") p.action) same in
     let key : key_of p ≡ Some (path_key path) = path_is p (file_path p file) ∙ ap (λ (x : List ℕ). Some (path_key x)) (sym at) in
     chosen placed k path p before (record { at = record { here = here; key_is = key }; file = file }) h
 counted_by placed k p path before false same here file h =
@@ -298,7 +300,7 @@ pub put_is : (old mid new : Groups) (text : List ℕ) (i : ℕ) (before : List �
 put_is old mid new text i before pushed taken others items inserted q = go (is_same text q) refl (inserted q)
   where
     go : (t : Bool) → is_same text q ≡ t → get_by_text new q ≡ cond t (Some pushed) (get_by_text mid q) → places_at new q ≡ cond t (places_at old q ++ i ∷ []) (places_at old q)
-    go true same e = ap (λ (o : _). option_map_or (λ g. g.items) o []) e ∙ items ∙ ap (λ (l : List ℕ). l ++ i ∷ []) (taken ∙ ap (places_at old) (same_is text q same))
+    go true same e = ap (λ (o : _). option_map_or (λ g. g.items) o []) e ∙ items ∙ ap (λ (l : List ℕ). l ++ i ∷ []) (taken ∙ ap (places_at old) (same_true text q same))
     go false same e = ap (λ (o : _). option_map_or (λ g. g.items) o []) e ∙ others q same
 
 -- what is found at a path once a file is counted
@@ -307,7 +309,7 @@ pub counts_as : (placed : List Placed) (files : BTreeMap (Vec ℕ Global) ℕ) (
 counts_as placed files q path item i first at is = ap (λ (p : List ℕ). cond (is_same q p) (Some first) (place_of files q)) at ∙ go (is_same q (value_of (codes "path") item.action)) refl
   where
     go : (t : Bool) → is_same q (value_of (codes "path") item.action) ≡ t → cond t (Some first) (place_of files q) ≡ cond t (Some (first_counted placed (place_of files q) i)) (place_of files q)
-    go true same = ap (λ (n : ℕ). Some n) (is ∙ ap (λ (p : List ℕ). first_counted placed (place_of files p) i) (at ∙ sym (same_is q (value_of (codes "path") item.action) same)))
+    go true same = ap (λ (n : ℕ). Some n) (is ∙ ap (λ (p : List ℕ). first_counted placed (place_of files p) i) (at ∙ sym (same_true q (value_of (codes "path") item.action) same)))
     go false same = refl
 
 -- the path that is marked, under its name

@@ -9,9 +9,8 @@ use Rattle.std.proofs.lemmas.Bool.{true≢false}
 use Rattle.std.proofs.lemmas.Map.Text.{is_eq-slice_cmp}
 use Rattle.std.proofs.lemmas.Slice.Eq.{bytes_eq-Decides}
 use Rattle.ips_action.specs.Attrs.{is_same}
-
-pub same_is : (p q : List ℕ) → is_same p q ≡ true → p ≡ q
-same_is p q e = (bytes_eq-Decides p q).0 e
+use Rattle.ips_text.proofs.Truths.{or_swapped, or_twice}
+use Rattle.ips_action.proofs.KeyOrder.{same_true}
 
 pub is_same_self : (p : List ℕ) → is_same p p ≡ true
 is_same_self p = (bytes_eq-Decides p p).1 refl
@@ -28,16 +27,6 @@ pub found_at : {X : Type 0} (q : List ℕ) (es : List (Vec ℕ Global × X)) →
 found_at q [] = refl
 found_at {X} q (e ∷ es) = (λ i. cond (tied q e.0.items i) (Some e.1) (found_at q es i))
 
-either_twice : (a b : Bool) → (a || b) ≡ (a || (a || b))
-either_twice true b = refl
-either_twice false b = refl
-
-either_way : (a b c : Bool) → (a || (b || c)) ≡ (b || (a || c))
-either_way true true c = refl
-either_way true false c = refl
-either_way false true c = refl
-either_way false false c = refl
-
 -- what a set has after one more path is kept
 pub any_insert : (key : Vec ℕ Global) (q : List ℕ) (ks : List (Vec ℕ Global)) → list_any (λ k. is_same q k.items) (insert_key (λ a b. slice_cmp nat_cmp a.items b.items) ks key) ≡ (is_same q key.items || list_any (λ k. is_same q k.items) ks)
 any_insert key q [] = refl
@@ -48,9 +37,9 @@ any_insert key q (k ∷ ks) = go (slice_cmp nat_cmp key.items k.items) refl (any
         → list_any (λ x. is_same q x.items) (insert_key (λ a b. slice_cmp nat_cmp a.items b.items) (k ∷ ks) key) ≡ (is_same q key.items || (is_same q k.items || list_any (λ x. is_same q x.items) ks))
     go Less is rest = rw is refl
     go Equal is rest =
-        let one : key.items ≡ k.items = same_is key.items k.items (sym (tied key.items k.items) ∙ ap is_eq is) in
-        rw is (rw one (either_twice (is_same q k.items) (list_any (λ x. is_same q x.items) ks)))
-    go Greater is rest = rw is (ap (λ (b : Bool). is_same q k.items || b) rest ∙ either_way (is_same q k.items) (is_same q key.items) (list_any (λ x. is_same q x.items) ks))
+        let one : key.items ≡ k.items = same_true key.items k.items (sym (tied key.items k.items) ∙ ap is_eq is) in
+        rw is (rw one (or_twice (is_same q k.items) (list_any (λ x. is_same q x.items) ks)))
+    go Greater is rest = rw is (ap (λ (b : Bool). is_same q k.items || b) rest ∙ or_swapped (is_same q k.items) (is_same q key.items) (list_any (λ x. is_same q x.items) ks))
 
 both_found : {A : Type 0} (s r : Bool) (a b c : A) → (s ≡ true → r ≡ true → ⊥) → cond s a (cond r b c) ≡ cond r b (cond s a c)
 both_found true true a b c apart = absurd (apart refl refl)
@@ -73,11 +62,11 @@ found_insert {X} key v q (e ∷ es) = go (slice_cmp nat_cmp key.items e.0.items)
         → lookup (λ k. is_same q k.items) (insert_entry (λ a b. slice_cmp nat_cmp a.items b.items) (e ∷ es) key v) ≡ cond (is_same q key.items) (Some v) (cond (is_same q e.0.items) (Some e.1) (lookup (λ k. is_same q k.items) es))
     go Less is rest = rw is refl
     go Equal is rest =
-        let one : key.items ≡ e.0.items = same_is key.items e.0.items (sym (tied key.items e.0.items) ∙ ap is_eq is) in
+        let one : key.items ≡ e.0.items = same_true key.items e.0.items (sym (tied key.items e.0.items) ∙ ap is_eq is) in
         rw is (rw one (once (is_same q e.0.items) (Some v) (Some e.1) (lookup (λ k. is_same q k.items) es)))
     go Greater is rest =
         let apart : is_same key.items e.0.items ≡ false = sym (tied key.items e.0.items) ∙ ap is_eq is in
         rw is (ap (λ (o : Option X). cond (is_same q e.0.items) (Some e.1) o) rest ∙ both_found (is_same q e.0.items) (is_same q key.items) (Some e.1) (Some v) (lookup (λ k. is_same q k.items) es)
         (λ at_entry at_key.
-        let one : key.items ≡ e.0.items = sym (same_is q key.items at_key) ∙ same_is q e.0.items at_entry in
+        let one : key.items ≡ e.0.items = sym (same_true q key.items at_key) ∙ same_true q e.0.items at_entry in
         true≢false (sym (is_same_self key.items) ∙ ap (is_same key.items) one ∙ apart)))

@@ -12,14 +12,14 @@ use Rattle.ips_conflict.specs.declared.placed.Sort.{Sort}
 use Rattle.ips_conflict.specs.Key.{first_value, value_of, sort_of, is_link}
 use Rattle.ips_conflict.specs.Alike.{kind_place, same_kind, mode_of, same_access, led_to, untagged, same_attr, alike_as, alike, has, takes_place, gives_place, takes_over, are_files, overlaid}
 use Rattle.ips_conflict.specs.Verdict.{decision, differ_in_mediator}
-use Rattle.ips_conflict.proofs.Kept.{same_is}
+use Rattle.ips_action.proofs.KeyOrder.{same_true}
 
 -- what is the same as one thing is the same as one another
 abbrev Euclid : {A : Type 0} → (A → A → Bool) → Type 0
 Euclid {A} E = (x y z : A) → E x y ≡ true → E x z ≡ true → E y z ≡ true
 
 texts : Euclid is_same
-texts x y z a b = subst (λ (t : List ℕ). is_same t z ≡ true) (same_is x y a) b
+texts x y z a b = subst (λ (t : List ℕ). is_same t z ≡ true) (same_true x y a) b
 
 options : {A : Type 0} (E : A → A → Bool) → Euclid E → Euclid (option_eq E)
 options E h None None None a b = refl

@@ -3,22 +3,10 @@ use Rattle.std.proofs.Common.{◌≡◌, ℕ, suc, ◌<◌, ◌⊎◌, Bool, tru
 use Rattle.std.specs.Prelude.{◌↔◌, IfNone, IfSome}
 use Rattle.std.proofs.lemmas.Bool.{and_parts, and_from, or_cases, or_left, or_right, eq-eqb, false_from_ne_true, cases_Bool, not-true, not_from_false}
 use Rattle.ips_text.specs.Ancestry.{same_path, covers, is_below, parent, behind}
-use Rattle.ips_text.proofs.Ancestry.{same_path-true, covers_trans, covers_length, parent_length, at_parent_of}
+use Rattle.ips_text.proofs.Ancestry.{same_path-true, covers_trans, covers_length, parent_length, at_parent_of, parent_covers}
 use Rattle.ips_action.specs.Attrs.{is_same}
-use Rattle.ips_conflict.proofs.Kept.{same_is, is_same_self}
-
--- a directory covers what it holds
-parent_covers : (p q : List ℕ) → parent p ≡ Some q → covers q p ≡ true
-parent_covers [] q e = cc
-parent_covers (a ∷ p) q e = go (parent p) (parent_covers p) e
-  where
-    last : (b : Bool) → (a == 47) ≡ b → cond b (Some []) None ≡ Some q → covers q (a ∷ p) ≡ true
-    last true is e = let none : q ≡ [] = cc in rw none is
-    last false is e = cc
-
-    go : (o : Option (List ℕ)) → ((r : List ℕ) → o ≡ Some r → covers r p ≡ true) → behind a o ≡ Some q → covers q (a ∷ p) ≡ true
-    go (Some r) up s = let shape : q ≡ a ∷ r = cc in rw shape (and_from (a == a) (covers r p) (eq-eqb a a refl) (up r refl))
-    go None up s = last (a == 47) refl s
+use Rattle.ips_conflict.proofs.Kept.{is_same_self}
+use Rattle.ips_action.proofs.KeyOrder.{same_true}
 
 -- covered by something shorter is below it
 below_from : (p q : List ℕ) → covers p q ≡ true → length p < length q → is_below p q ≡ true
@@ -85,7 +73,7 @@ marks_more before now next path d at so_far h adds p = (
   λ w.
       (so_far p).0
       (elim w [
-        | inl marked ↦ elim (or_cases (is_same p d.now) (now p) (sym (adds p) ∙ marked)) [ inl here ↦ inr (inl (same_is p d.now here)) | inr had ↦ inl had ]
+        | inl marked ↦ elim (or_cases (is_same p d.now) (now p) (sym (adds p) ∙ marked)) [ inl here ↦ inr (inl (same_true p d.now here)) | inr had ↦ inl had ]
         | inr left ↦ inr (inr (left_down p d.now at h left))
       ]),
   λ w.

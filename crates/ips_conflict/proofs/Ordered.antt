@@ -19,11 +19,6 @@ low Greater h = absurd (h refl)
 not_high : (o : Ordering) → is_gt o ≡ false → o ≢ Greater
 not_high o h e = true≢false (sym (ap is_gt e) ∙ h)
 
-pub less_is : (o : Ordering) → is_lt o ≡ true → o ≡ Less
-less_is Less e = refl
-less_is Equal e = absurd (true≢false (sym e))
-less_is Greater e = absurd (true≢false (sym e))
-
 turned_low : (o : Ordering) → (o ≡ Less → ⊥) → is_gt (ordering_reverse o) ≡ false
 turned_low Less h = absurd (h refl)
 turned_low Equal h = refl

@@ -16,6 +16,7 @@ use Rattle.std.proofs.lemmas.Bool.{cases_Bool, cases_lt, false_from_ne_true}
 use Rattle.std.proofs.lemmas.Cmp.{tied_itself, nat_list_cmp_total}
 use Rattle.ips_filter.specs.Settings.{Set, value_at, AreByName}
 use Rattle.ips_filter.specs.Facet.{Outranks, IsMet, IsLongerMatch, Decides, IsFree, HasFacet}
+use Rattle.ips_text.proofs.Orders.{less_not_greater}
 
 abbrev pub Facets : Type 0
 Facets = List (List ℕ × Bool)
@@ -40,9 +41,6 @@ all_end P (x ∷ xs) y all p = (all.0, all_end P xs y all.1 p)
 pub all_weaker : {X : Type 0} (P Q : X → Type 0) (xs : List X) → ((x : X) → P x → Q x) → AllByRecursion P xs → AllByRecursion Q xs
 all_weaker P Q [] weaker all = tt
 all_weaker P Q (x ∷ xs) weaker all = (weaker x all.0, all_weaker P Q xs weaker all.1)
-
-less_not_greater : (o : Ordering) → o ≡ Less → o ≢ Greater
-less_not_greater o less greater = let same : Less ≡ Greater = sym less ∙ greater in absurd cc
 
 -- a name before another one is less
 rises_at : (after rest : Facets) (p : List ℕ) (e : List ℕ × Bool) → AllByRecursion (λ y. slice_cmp nat_cmp p y ≡ Less) (keys_of (after ++ e ∷ rest)) → slice_cmp nat_cmp p e.0 ≡ Less
@@ -130,7 +128,7 @@ at_itself (b ∷ before) after p on sorted =
     ap (λ (t : Bool). cond t (Some b.1) (value_at (before ++ (p, on) ∷ after) p)) (apart b.0 p (rises_at before after b.0 (p, on) sorted.0)) ∙ at_itself before after p on sorted.1
 
 -- what holds of all names holds of one at which something is set
-all_at : (P : List ℕ → Type 0) (es : Facets) (q : List ℕ) (v : Bool) → AllByRecursion (λ e. P e.0) es → value_at es q ≡ Some v → P q
+pub all_at : (P : List ℕ → Type 0) (es : Facets) (q : List ℕ) (v : Bool) → AllByRecursion (λ e. P e.0) es → value_at es q ≡ Some v → P q
 all_at P [] q v all at = absurd cc
 all_at P (e ∷ es) q v all at = elim (cases_Bool (bytes_eq q e.0)) [
   | inl same ↦ subst P (sym ((bytes_eq-Decides q e.0).0 same)) all.0

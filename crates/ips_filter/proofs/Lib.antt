@@ -1,3 +1,3 @@
 mod Views
-mod Facets
+pub mod Facets
 mod Tags

@@ -17,6 +17,8 @@ use Rattle.ips_filter.specs.Settings.{Set, variant_value}
 use Rattle.ips_filter.specs.Facet.{HasFacet}
 use Rattle.ips_filter.specs.Admitted.{is_variant, has_value, is_tag, MeetsVariant, MeetsAll, HasTag, MeetsVariants, MeetsAllFacets, IsTrueTag, MeetsSomeFacet}
 use Rattle.ips_filter.proofs.Facets.{facet_once, all_weaker, all_end}
+use Rattle.ips_text.proofs.Truths.{or_true, both_true}
+use Rattle.ips_action.proofs.KeyOrder.{before_other}
 
 and_first : (a b : Bool) → (a && b) ≡ true → a ≡ true
 and_first true b h = refl
@@ -26,19 +28,7 @@ and_second : (a b : Bool) → (a && b) ≡ true → b ≡ true
 and_second true b h = h
 and_second false b h = absurd (true≢false (sym h))
 
-and_both : (a b : Bool) → a ≡ true → b ≡ true → (a && b) ≡ true
-and_both true b x y = y
-and_both false b x y = x
-
-or_true : (a : Bool) → (a || true) ≡ true
-or_true true = refl
-or_true false = refl
-
 -- ---- an attribute at its place
-
-before_not_same : (a b : List ℕ) → IsBefore a b → is_same a b ≡ false
-before_not_same a b before = false_from_ne_true (is_same a b) (λ same.
-    let tied : Less ≡ Equal = sym before ∙ ap (slice_cmp nat_cmp a) (sym ((bytes_eq-Decides a b).0 same)) ∙ tied_itself nat_list_cmp_total a in absurd cc)
 
 later_at : (front back : List Attr) (attr : Attr) (P : Attr → Type 0) → AllByRecursion P (front ++ attr ∷ back) → P attr
 later_at [] back attr P all = all.0
@@ -48,7 +38,7 @@ later_at (f ∷ front) back attr P all = later_at front back attr P all.1
 pub values_at : (front back : List Attr) (attr : Attr) → AreAttrs (front ++ attr ∷ back) → values_of attr.key (front ++ attr ∷ back) ≡ attr.values
 values_at [] back attr are = ap (λ (b : Bool). if b then attr.values else values_of attr.key back) ((bytes_eq-Decides attr.key attr.key).1 refl)
 values_at (f ∷ front) back attr are =
-    ap (λ (b : Bool). if b then f.values else values_of attr.key (front ++ attr ∷ back)) (before_not_same f.key attr.key (later_at front back attr (λ (later : Attr). IsBefore f.key later.key) are.1)) ∙ values_at front back attr are.2
+    ap (λ (b : Bool). if b then f.values else values_of attr.key (front ++ attr ∷ back)) (before_other f.key attr.key (later_at front back attr (λ (later : Attr). IsBefore f.key later.key) are.1)) ∙ values_at front back attr are.2
 
 -- so a value that it has is a tag
 pub tag_at : (front back : List Attr) (attr : Attr) (value : List ℕ) → AreAttrs (front ++ attr ∷ back) → has_value attr.values value ≡ true → HasTag (front ++ attr ∷ back) attr.key value
@@ -103,7 +93,7 @@ value_of_all wanted (v ∷ values) value all has = elim (cases_Bool (bytes_eq va
 all_of_value : (wanted : List ℕ) (values : List (List ℕ)) → ((value : List ℕ) → has_value values value ≡ true → wanted ≡ value) → list_all (bytes_eq wanted) values ≡ true
 all_of_value wanted [] each = refl
 all_of_value wanted (v ∷ values) each =
-    and_both (bytes_eq wanted v) (list_all (bytes_eq wanted) values) ((bytes_eq-Decides wanted v).1 (each v (ap (λ (b : Bool). b || has_value values v) ((bytes_eq-Decides v v).1 refl))))
+    both_true (bytes_eq wanted v) (list_all (bytes_eq wanted) values) ((bytes_eq-Decides wanted v).1 (each v (ap (λ (b : Bool). b || has_value values v) ((bytes_eq-Decides v v).1 refl))))
     (all_of_value wanted values (λ value has. each value (ap (λ (b : Bool). bytes_eq value v || b) has ∙ or_true (bytes_eq value v))))
 
 pub variants_met : (s : Set) (attrs : List Attr) → AllByRecursion (MeetsVariant s) attrs → MeetsVariants s attrs
@@ -117,7 +107,7 @@ variant_met s front back attr are met is = all_of_value (variant_value s attr.ke
 
 pub all_met : (s : Set) (attrs : List Attr) → AllByRecursion (MeetsAll s) attrs → MeetsAllFacets s attrs
 all_met s attrs met key is has =
-    tags_all (λ k v. v ≡ codes "all" → is_facet k ≡ true → HasFacet s k true) attrs (all_weaker (MeetsAll s) _ attrs (λ (attr : Attr) m v h all tag. m (and_both (is_facet attr.key) (has_value attr.values (codes "all")) tag (subst (λ (w : List ℕ). has_value attr.values w ≡ true) all h))) met) key (codes "all") has refl is
+    tags_all (λ k v. v ≡ codes "all" → is_facet k ≡ true → HasFacet s k true) attrs (all_weaker (MeetsAll s) _ attrs (λ (attr : Attr) m v h all tag. m (both_true (is_facet attr.key) (has_value attr.values (codes "all")) tag (subst (λ (w : List ℕ). has_value attr.values w ≡ true) all h))) met) key (codes "all") has refl is
 
 pub facet_met : (s : Set) (front back : List Attr) (attr : Attr) → AreAttrs (front ++ attr ∷ back) → MeetsAllFacets s (front ++ attr ∷ back) → MeetsAll s attr
 facet_met s front back attr are met is =
@@ -151,13 +141,13 @@ pub some_met : (s : Set) (front back : List Attr) (attr : Attr) → AreAttrs (fr
 some_met s front back attr are is on = inr (attr.key, true_tag front back attr are is, on)
 
 pub none_wanted : (s : Set) (attrs : List Attr) → HasSeen attrs false → MeetsSomeFacet s attrs
-none_wanted s attrs none = inl (λ key tag. tags_all (λ k v. v ≡ codes "true" → is_facet k ≡ true → ⊥) attrs (all_weaker (λ (attr : Attr). is_tag attr (codes "true") ≡ true → ⊥) _ attrs (λ (attr : Attr) n v h same is. n (and_both (is_facet attr.key) (has_value attr.values (codes "true")) is (subst (λ (w : List ℕ). has_value attr.values w ≡ true) same h))) none) key (codes "true") tag.1 refl tag.0)
+none_wanted s attrs none = inl (λ key tag. tags_all (λ k v. v ≡ codes "true" → is_facet k ≡ true → ⊥) attrs (all_weaker (λ (attr : Attr). is_tag attr (codes "true") ≡ true → ⊥) _ attrs (λ (attr : Attr) n v h same is. n (both_true (is_facet attr.key) (has_value attr.values (codes "true")) is (subst (λ (w : List ℕ). has_value attr.values w ≡ true) same h))) none) key (codes "true") tag.1 refl tag.0)
 
 -- all tags `true` are of facets that are off, and there is one
 pub some_unmet : (s : Set) (attrs : List Attr) → AreAttrs attrs → AllByRecursion (TrueIsOff s) attrs → HasSeen attrs true → MeetsSomeFacet s attrs → ⊥
 some_unmet s attrs are off seen met = elim met [
   | inl none ↦ none seen.1.key (subst (λ (l : List Attr). IsTrueTag l seen.1.key) (sym seen.3) (true_tag seen.0 seen.2 seen.1 (subst AreAttrs seen.3 are) seen.4))
-  | inr some ↦ true≢false (facet_once s some.0 true false some.2 (tags_all (λ k v. v ≡ codes "true" → is_facet k ≡ true → HasFacet s k false) attrs (all_weaker (TrueIsOff s) _ attrs (λ (attr : Attr) o v h same is. o (and_both (is_facet attr.key) (has_value attr.values (codes "true")) is (subst (λ (w : List ℕ). has_value attr.values w ≡ true) same h))) off) some.0 (codes "true") some.1.1 refl some.1.0))
+  | inr some ↦ true≢false (facet_once s some.0 true false some.2 (tags_all (λ k v. v ≡ codes "true" → is_facet k ≡ true → HasFacet s k false) attrs (all_weaker (TrueIsOff s) _ attrs (λ (attr : Attr) o v h same is. o (both_true (is_facet attr.key) (has_value attr.values (codes "true")) is (subst (λ (w : List ℕ). has_value attr.values w ≡ true) same h))) off) some.0 (codes "true") some.1.1 refl some.1.0))
 ]
 
 -- at the end: met where no tag `true` was seen

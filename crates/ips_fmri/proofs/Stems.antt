@@ -11,55 +11,15 @@ use Rattle.std.proofs.lemmas.Str.Ascii.{IsAscii-nil, IsAscii-cons}
 use Rattle.std.proofs.lemmas.List.Splits.{join_with_byte-slice_split, slice_split_none, slice_split_at}
 use Rattle.std.proofs.lemmas.List.Elements.{All-from_recursion}
 use Rattle.ips_text.specs.declared.refusal.Stop.{Stop}
-use Rattle.ips_text.specs.Reading.{◌>>=◌, Sees, next_is, AllFit, one_or_more}
+use Rattle.ips_text.specs.Reading.{◌>>=◌, Sees, next_is, AllFit, one_or_more, run}
 use Rattle.ips_text.specs.Path.{parts}
 use Rattle.ips_text.proofs.Readers.{Stops, Reads, SameBefore, AllFollow, Reads-one_or_more, Reads-via, chosen, ok_is, ok_not_err, err_same}
 use Rattle.ips_text.proofs.Loops.{with_front, reads_on, reads_stop, reads_end}
 use Rattle.ips_fmri.specs.declared.fault.Part.{Part}
 use Rattle.ips_fmri.specs.declared.fault.Part.TheVariants as part
 use Rattle.ips_fmri.specs.Name.{may_begin, may_go_on, IsComponent, HasStemForm}
-use Rattle.ips_fmri.specs.Reading.{run, component_at, stem_at}
-
--- ---- the longest run
-
--- the next byte doesn't pass
-abbrev pub Ends : (ℕ → Bool) → List ℕ → Type 0
-Ends passes [] = Unit {0}
-Ends passes (c ∷ rest) = passes c ≡ false
-
-both_true : (x y : Bool) → x ≡ true → y ≡ true → (x && y) ≡ true
-both_true x y e f = rw (e, f) refl
-
-record RunIs (passes : ℕ → Bool) (bytes : List ℕ) : Type 0 where
-  parts : bytes ≡ (run passes bytes).0 ++ (run passes bytes).1
-  all : list_all passes (run passes bytes).0 ≡ true
-  ends : Ends passes (run passes bytes).1
-
-run_is : (passes : ℕ → Bool) (bytes : List ℕ) → RunIs passes bytes
-run_is passes [] = record { parts = refl; all = refl; ends = tt }
-run_is passes (b ∷ bytes) = go (passes b) refl (run_is passes bytes)
-  where
-    go : (t : Bool) → passes b ≡ t → RunIs passes bytes → RunIs passes (b ∷ bytes)
-    go true e h = record { parts = rw e (ap (λ (l : List ℕ). b ∷ l) h.parts); all = rw e (rw e h.all); ends = rw e h.ends }
-    go false e h = record { parts = rw e refl; all = rw e refl; ends = rw e e }
-
-run_again : (passes : ℕ → Bool) (x rest : List ℕ) → list_all passes x ≡ true → Ends passes rest → run passes (x ++ rest) ≡ (x, rest)
-run_again passes [] [] all ends = refl
-run_again passes [] (c ∷ rest) all ends = rw ends refl
-run_again passes (b ∷ x) rest all ends =
-    let h = and_parts (passes b) (list_all passes x) all in
-    let more = run_again passes x rest h.1 ends in
-    rw (h.0, more) refl
-
--- the run up to a place
-pub run_at : (passes : ℕ → Bool) (bytes : List ℕ) (i : ℕ) → i ≤ length bytes → list_all passes (take i bytes) ≡ true → (i ≡ length bytes) ⊎ (passes (get_or bytes i 0) ≡ false) → run passes bytes ≡ (take i bytes, drop i bytes)
-run_at passes [] zero le all end = refl
-run_at passes [] (suc i) le all end = absurd (omega arith)
-run_at passes (b ∷ bytes) zero le all end = elim end [ inl w ↦ absurd (omega arith) | inr w ↦ rw w refl ]
-run_at passes (b ∷ bytes) (suc i) le all end =
-    let h = and_parts (passes b) (list_all passes (take i bytes)) all in
-    let more = run_at passes bytes i (omega arith) h.1 (elim end [ inl w ↦ inl (omega arith) | inr w ↦ inr w ]) in
-    rw (h.0, more) refl
+use Rattle.ips_fmri.specs.Reading.{component_at, stem_at}
+use Rattle.ips_text.proofs.Runs.{run_is, run_again, Ends}
 
 -- ---- a component
 
@@ -309,7 +269,3 @@ pub stem_text : (wild : Bool) (bytes s rest : List ℕ) → stem_at wild bytes �
 stem_text wild bytes s rest e =
     let h = ((Reads-stem wild).takes bytes (s, rest) e).1 in
     IsUtf8-from_ascii s (subst IsAscii (join_with_byte-slice_split 47 s) (joined_ascii wild (parts s) h))
-
--- what a call saw, at its answer
-pub seen_ok : {X Y E : Type 0} (view : X → Y) (r : Result X E) (read : Result Y E) (x : X) → r ≡ Ok x → Sees view r read → read ≡ Ok (view x)
-seen_ok {X} {Y} {E} view r read x e s = subst (λ (q : Result X E). Sees view q read) e s

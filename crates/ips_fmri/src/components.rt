@@ -3,7 +3,7 @@
 ghost use Rattle.std.specs.Prelude.{◌≡◌, ◌≤◌, length, take, drop};
 ghost use Rattle.ips_text.specs.Reading.{Sees};
 ghost use Rattle.ips_fmri.specs.Name as name;
-ghost use Rattle.ips_fmri.specs.Reading as reading;
+ghost use Rattle.ips_text.specs.Reading as texts;
 ghost use Rattle.ips_fmri.specs.Reading.{component_at, stem_at};
 
 use crate::fault::Part;
@@ -47,7 +47,7 @@ pub fn component(kind: Part, wild: bool, bytes: &[u8]) -> Result<(&[u8], &[u8]),
 // The length of the longest run of bytes with which a component may go on.
 fn run(wild: bool, bytes: &[u8]) -> usize
     ensures within { result ≤ length bytes.now }
-    ensures run { reading.run (name.may_go_on wild) bytes.now ≡ (take result bytes.now, drop result bytes.now) }
+    ensures run { texts.run (name.may_go_on wild) bytes.now ≡ (take result bytes.now, drop result bytes.now) }
 {
     for (i, byte) in bytes.iter().enumerate() {
         if !may_go_on(wild, *byte) {

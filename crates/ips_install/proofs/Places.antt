@@ -24,7 +24,7 @@ module _ {A B : Type 0} (f : A → B) where
   map_more [] x = refl
   map_more (y ∷ xs) x = ap (λ (l : List B). f y ∷ l) (map_more xs x)
 
-front_suc : {X : Type 0} (xs : List X) (n : ℕ) (x : X) → slice_get xs n ≡ Some x → take (suc n) xs ≡ take n xs ++ x ∷ []
+pub front_suc : {X : Type 0} (xs : List X) (n : ℕ) (x : X) → slice_get xs n ≡ Some x → take (suc n) xs ≡ take n xs ++ x ∷ []
 front_suc [] n x is = cc
 front_suc (y ∷ xs) zero x is = let one : y ≡ x = cc in ap (λ (z : _). z ∷ []) one
 front_suc (y ∷ xs) (suc n) x is = ap (λ (l : List _). y ∷ l) (front_suc xs n x is)

@@ -22,6 +22,7 @@ use Rattle.ips_install.specs.Checking.{IsPrepared, names_of}
 use Rattle.ips_install.specs.Laying.{CanLay, HasNext, LaysFile, LaysFirst, LaysStep}
 use Rattle.ips_install.proofs.Places.{map_at, all_at}
 use Rattle.ips_install.proofs.Numbers.{puts, number_at, front_same}
+use Rattle.ips_text.proofs.Lists.{element}
 
 -- ---- a step of a list
 
@@ -110,15 +111,10 @@ module _ (t : Image) (formed : IsImage t) (q : List ℕ) (dir : is_dir (t.look q
 
 -- ---- what is there at a place of a list
 
-some_at : {X : Type 0} (xs : List X) (k : ℕ) → k < length xs → (x : X) × (slice_get xs k ≡ Some x)
-some_at [] k lt = absurd (omega arith)
-some_at (x ∷ xs) zero lt = (x, refl)
-some_at (x ∷ xs) (suc k) lt = some_at xs k (omega arith)
-
 -- each content has bytes
-has_each : (P : PayloadName → List ℕ → Type 0) (names : List PayloadName) (stage : Stage) → AreContents P names stage → HasEach (length names) stage
+pub has_each : (P : PayloadName → List ℕ → Type 0) (names : List PayloadName) (stage : Stage) → AreContents P names stage → HasEach (length names) stage
 has_each P names stage contents = λ n lt.
-    let here = some_at names n lt in
+    let here = element names n lt in
     let bytes = contents n here.0 here.1 in
     ap is_some bytes.1
 

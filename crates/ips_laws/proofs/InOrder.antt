@@ -9,12 +9,10 @@ use Rattle.std.proofs.lemmas.List.Elements.{All-contains, All-from_recursion}
 use Rattle.std.proofs.lemmas.Map.Keys.{sorted_head, sorted_tail}
 use Rattle.ips_meaning.specs.declared.entry.Entry.{Entry}
 use Rattle.ips_plan.proofs.Elements.{here_or_later, first_of, later_of}
+use Rattle.ips_text.proofs.Orders.{one_way}
 
 abbrev Ascend : List (List ℕ) → Type 0
 Ascend paths = IsStrictlySortedBy (slice_cmp nat_cmp) paths
-
-one_way : (x y : List ℕ) → slice_cmp nat_cmp x y ≡ Less → slice_cmp nat_cmp y x ≡ Less → ⊥
-one_way x y h g = let back = nat_list_cmp_total.antisymm x y in let turned = ap ordering_reverse g in cc
 
 -- the first path stands before each other one
 before : (x : List ℕ) (xs : List (List ℕ)) → Ascend (x ∷ xs) → (z : List ℕ) → Contains xs z → slice_cmp nat_cmp x z ≡ Less
@@ -48,11 +46,3 @@ same_paths (x ∷ xs) (y ∷ ys) up rising to from =
     let first = same_head x y xs ys up rising (to x (first_of x xs x refl)) (from y (first_of y ys y refl)) in
     let rest = same_paths xs ys (sorted_tail (slice_cmp nat_cmp) x xs up) (sorted_tail (slice_cmp nat_cmp) y ys rising) (behind x y xs ys up first to) (behind y x ys xs rising (sym first) from) in
     λ i. first i ∷ rest i
-
--- a path that entries have has one of them
-pub entry_there : (entries : List (List ℕ × Entry)) (path : List ℕ) → Contains (map (λ e. e.0) entries) path → (entry : Entry) × Contains entries (path, entry)
-entry_there [] path one = absurd (omega (arith, one.1))
-entry_there (e ∷ rest) path one = elim (here_or_later e.0 (map (λ (x : List ℕ × Entry). x.0) rest) path one) [
-  | inl same ↦ (e.1, first_of e rest (path, e.1) (λ i. (same i, e.1)))
-  | inr later ↦ let found = entry_there rest path later in (found.0, later_of e rest (path, found.0) found.1)
-]

@@ -12,26 +12,17 @@ use Rattle.ips_meaning.specs.declared.entry.Entry.{Entry}
 use Rattle.ips_meaning.specs.Taken.{Leaves, Stays, Taken, all_placed, placed_of}
 use Rattle.ips_meaning.specs.Want.{IsWanted, IsWantOf, IsFreeOfClashes, PackagesMean}
 use Rattle.ips_laws.specs.Alike.{AreLike}
-use Rattle.ips_laws.proofs.InOrder.{same_paths, entry_there}
+use Rattle.ips_laws.proofs.InOrder.{same_paths}
 use Rattle.ips_laws.proofs.OneEntry.{wanted_like}
+use Rattle.ips_top.proofs.OneMeaning.{all_seen}
+use Rattle.ips_plan.proofs.Apart.{one_left}
+use Rattle.ips_meaning.proofs.Together.{entry_there}
 
 -- ---- what an image takes
 
 -- the actions of a package, as it is seen, in their places
 abbrev seen_placed : Installed → List Placed
 seen_placed q = map (λ line. record { stem = q.stem; line = line.number; action = line.action }) q.lines
-
-all_seen : (ps : List Package) → all_placed ps ≡ flat_map seen_placed (map installed ps)
-all_seen [] = refl
-all_seen (p ∷ ps) = ap (λ (l : List Placed). placed_of p ++ l) (all_seen ps)
-
--- what is left of a list is one list
-one_left : {A : Type 0} (P : A → Type 0) (xs a b : List A) → Leaves P xs a → Leaves P xs b → a ≡ b
-one_left P [] a b x y = x ∙ sym y
-one_left {A} P (x ∷ xs) a b (inl p) (inl q) = p.1.2 ∙ ap (λ (l : List A). x ∷ l) (one_left P xs p.1.0 q.1.0 p.1.1 q.1.1) ∙ sym q.1.2
-one_left P (x ∷ xs) a b (inl p) (inr q) = absurd (q.0 p.0)
-one_left P (x ∷ xs) a b (inr p) (inl q) = absurd (p.0 q.0)
-one_left P (x ∷ xs) a b (inr p) (inr q) = one_left P xs a b p.1 q.1
 
 -- an image takes the same kept actions of packages that show the same
 one_kept : (s : Set) (mediators : List SetMediator) (a b : List Package) → map installed a ≡ map installed b → (x : Taken s mediators a) (y : Taken s mediators b) → x.kept ≡ y.kept

@@ -20,9 +20,10 @@ use Rattle.ips_conflict.specs.Verdict.{breaks, rule_rank}
 use Rattle.ips_conflict.specs.Clash.{HasKey, Counts, file_rank, file_cmp}
 use Rattle.ips_conflict.proofs.Places.{one_there}
 use Rattle.ips_conflict.proofs.Ordered.{place_total, file_total, le_cases, less_le}
-use Rattle.ips_conflict.proofs.FirstPair.{last_tie, place_tie, conflict_of}
-use Rattle.ips_conflict.proofs.Kept.{same_is}
+use Rattle.ips_conflict.proofs.FirstPair.{place_tie, conflict_of}
 use Rattle.ips_meaning.specs.Want.{IsFreeOfClashes}
+use Rattle.ips_action.proofs.KeyOrder.{same_true}
+use Rattle.ips_text.proofs.Orders.{last_tie}
 
 -- ---- what is said of two actions
 
@@ -62,13 +63,13 @@ same_mode a b is h =
     eqb-true (mode_of a) (mode_of b) (and_parts (mode_of a == mode_of b) (is_same (value_of (codes "owner") a) (value_of (codes "owner") b)) owned.0).0
 
 same_target : (a b : Fields) → a.kind ≡ kind.Link → alike a b ≡ true → value_of (codes "target") a ≡ value_of (codes "target") b
-same_target a b is h = same_is (value_of (codes "target") a) (value_of (codes "target") b) (alike_of kind.Link a b is h)
+same_target a b is h = same_true (value_of (codes "target") a) (value_of (codes "target") b) (alike_of kind.Link a b is h)
 
 same_path : (x y : Option (List ℕ)) → option_eq is_same x y ≡ true → x ≡ y
 same_path None None e = refl
 same_path None (Some y) e = absurd (true≢false (sym e))
 same_path (Some x) None e = absurd (true≢false (sym e))
-same_path (Some x) (Some y) e = ap (λ (z : List ℕ). Some z) (same_is x y e)
+same_path (Some x) (Some y) e = ap (λ (z : List ℕ). Some z) (same_true x y e)
 
 same_end : (a b : Fields) → a.kind ≡ kind.Hardlink → alike a b ≡ true → led_to a ≡ led_to b
 same_end a b is h = same_path (led_to a) (led_to b) (alike_of kind.Hardlink a b is h)

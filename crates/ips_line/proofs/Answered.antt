@@ -5,12 +5,14 @@ use Rattle.ips_text.specs.declared.refusal.Stop.{Stop}
 use Rattle.ips_text.proofs.Readers.{ok_is, ok_not_err, err_same}
 use Rattle.ips_line.specs.declared.fault.Part.{Part}
 use Rattle.ips_line.specs.Line.{is_blank, in_word, Payload, payload_written, Line, line_written, IsWrittenLine, Said, words_of, Says}
-use Rattle.ips_line.specs.Reading.{run, some_at, payload_at, read_line, said_line, placed, fault_of, read_words}
+use Rattle.ips_line.specs.Reading.{some_at, payload_at, read_line, said_line, placed, fault_of, read_words}
 use Rattle.ips_line.specs.Seen.{FitsBehind}
-use Rattle.ips_line.proofs.Runs.{run_is, Reads-some}
+use Rattle.ips_line.proofs.Runs.{Reads-some}
 use Rattle.ips_line.proofs.Heads.{PayloadRead, payload_seen}
 use Rattle.ips_line.proofs.Whole.{line_found, line_only}
 use Rattle.ips_line.proofs.Opened.{payload_takes}
+use Rattle.ips_text.proofs.Runs.{run_is}
+use Rattle.ips_text.specs.Reading.{run}
 
 -- the line that was read
 abbrev ReadLine : List ℕ → Said → Type 0

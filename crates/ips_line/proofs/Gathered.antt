@@ -6,11 +6,11 @@ use Rattle.std.proofs.lemmas.List.{append-nil}
 use Rattle.ips_text.specs.declared.refusal.Stop.{Stop}
 use Rattle.ips_text.specs.declared.refusal.Or.{Or}
 use Rattle.ips_text.specs.declared.refusal.Or.TheVariants.{Bad, OutOfMemory}
-use Rattle.ips_text.specs.Reading.{◌>>=◌, Sees, Fails}
+use Rattle.ips_text.specs.Reading.{◌>>=◌, Sees, Fails, run}
 use Rattle.ips_line.specs.declared.fault.Part.{Part}
 use Rattle.ips_line.specs.declared.words.Pair.{Pair}
 use Rattle.ips_line.specs.Line.{is_blank, Attribute, pair_of}
-use Rattle.ips_line.specs.Reading.{run, is_none, attribute_at, attributes_at, said_pairs}
+use Rattle.ips_line.specs.Reading.{is_none, attribute_at, attributes_at, said_pairs}
 use Rattle.ips_line.proofs.Runs.{run_rest, empty_told}
 use Rattle.ips_line.proofs.Listed.{Rest, AttributeRead, rest_blank, rest_next, rest_stop}
 
@@ -45,9 +45,6 @@ pub gather_stop : (front : List Pair) (text : List ℕ) (s : Stop Part) (total :
 gather_stop front text s total some e so_far = sym so_far ∙ ap (λ (r : Result Rest (Stop Part)). with_pairs front (said_pairs r)) (rest_stop text s some e)
 
 -- ---- what a call saw
-
-pub seen_ok : {X Y E : Type 0} (view : X → Y) (r : Result X E) (read : Result Y E) (x : X) → r ≡ Ok x → Sees view r read → read ≡ Ok (view x)
-seen_ok {X} {Y} {E} view r read x e s = subst (λ (q : Result X E). Sees view q read) e s
 
 pub seen_fails : {X Y E : Type 0} (view : X → Y) (r : Result X E) (read : Result Y E) (e : Or E) → Fails e r → Sees view r read → Fails e read
 seen_fails {X} {Y} {E} view r read (Bad d) h s = subst (λ (q : Result X E). Sees view q read) h s

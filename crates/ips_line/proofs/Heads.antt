@@ -5,14 +5,14 @@ use Rattle.std.proofs.lemmas.Bool.{and_parts, true≢false}
 use Rattle.std.proofs.lemmas.List.{append-nil}
 use Rattle.std.proofs.lemmas.List.Folds.{list_all-append}
 use Rattle.ips_text.specs.declared.refusal.Stop.{Stop}
-use Rattle.ips_text.specs.Reading.{◌>>=◌, Reader, next_is}
+use Rattle.ips_text.specs.Reading.{◌>>=◌, Reader, next_is, run}
 use Rattle.ips_text.proofs.Readers.{Stops, Reads, SameBefore, bind_ok, bind_err, ok_is, ok_not_err, err_same, next_parts}
 use Rattle.ips_line.specs.declared.fault.Part.{Part}
 use Rattle.ips_line.specs.Line.{is_blank, in_word, in_payload, in_key, IsRun, Plain, written_text, Payload, payload_written, IsPayload, Attribute, attribute_written, IsAttribute}
-use Rattle.ips_line.specs.Reading.{run, is_none, is_key, wrong_at, attributes_at, payload_from, payload_at}
-use Rattle.ips_line.proofs.Runs.{Ends, run_is, run_again}
+use Rattle.ips_line.specs.Reading.{is_none, is_key, wrong_at, attributes_at, payload_from, payload_at}
 use Rattle.ips_line.proofs.Keyed.{key_first}
 use Rattle.ips_line.proofs.Listed.{Rest, rest_text, RestFits, rest_takes, rest_again, Same, rest_stops, rest_blank, rest_ends}
+use Rattle.ips_text.proofs.Runs.{run_is, run_again, Ends}
 
 -- ---- bytes and runs
 

@@ -4,14 +4,15 @@ use Rattle.std.specs.List.{list_all}
 use Rattle.std.proofs.lemmas.Bool.{and_parts}
 use Rattle.std.proofs.lemmas.List.{append-nil}
 use Rattle.ips_text.specs.declared.refusal.Stop.{Stop}
-use Rattle.ips_text.specs.Reading.{◌>>=◌, both}
+use Rattle.ips_text.specs.Reading.{◌>>=◌, both, run}
 use Rattle.ips_text.proofs.Readers.{Stops, Reads, SameBefore, in_turn, Reads-via, chosen, bind_ok, bind_err, ok_is, ok_not_err, err_same}
 use Rattle.ips_line.specs.declared.fault.Part.{Part}
 use Rattle.ips_line.specs.declared.fault.Part.TheVariants as part
 use Rattle.ips_line.specs.Line.{is_blank, is_quote, in_word, in_key, IsRun, Written, Plain, Quoted, written_text, IsPlain, IsWritten, Attribute, attribute_written, IsAttribute}
-use Rattle.ips_line.specs.Reading.{run, wrong_at, some_at, equals_at, closing, closed, plain_at, written_at, made, attribute_at}
-use Rattle.ips_line.proofs.Runs.{Ends, equals_text, Reads-some, Reads-equals}
+use Rattle.ips_line.specs.Reading.{wrong_at, some_at, equals_at, closing, closed, plain_at, written_at, made, attribute_at}
+use Rattle.ips_line.proofs.Runs.{equals_text, Reads-some, Reads-equals}
 use Rattle.ips_line.proofs.Quotes.{closing_takes, closing_again, closing_open, extra}
+use Rattle.ips_text.proofs.Runs.{Ends}
 
 -- ---- a written value
 

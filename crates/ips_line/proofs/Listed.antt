@@ -10,8 +10,9 @@ use Rattle.ips_text.proofs.Readers.{Stops, SameBefore, chosen, bind_ok, bind_err
 use Rattle.ips_line.specs.declared.fault.Part.{Part}
 use Rattle.ips_line.specs.Line.{is_blank, in_word, in_key, IsRun, Written, Plain, Quoted, written_text, Attribute, attribute_written, IsAttribute}
 use Rattle.ips_line.specs.Reading.{attribute_at, attributes_within, attributes_at}
-use Rattle.ips_line.proofs.Runs.{Ends}
 use Rattle.ips_line.proofs.Keyed.{WrittenFollows, AttributeFollows, Reads-attribute, attribute_follows, no_blank}
+use Rattle.ips_text.proofs.Loops.{bind_same}
+use Rattle.ips_text.proofs.Runs.{Ends}
 
 -- what was read of a line's end, and the blanks that are left
 abbrev pub Rest : Type 0
@@ -64,7 +65,7 @@ attribute_not_blank a rest h =
 ends_blank : (b : ℕ) → is_blank b ≡ true → in_word b ≡ false
 ends_blank b h = rw h refl
 
-run_ends : (gap rest : List ℕ) → IsRun is_blank gap → Ends in_word (gap ++ rest)
+pub run_ends : (gap rest : List ℕ) → IsRun is_blank gap → Ends in_word (gap ++ rest)
 run_ends [] rest h = absurd h
 run_ends (b ∷ gap) rest h = ends_blank b (and_parts (is_blank b) (list_all is_blank gap) h).0
 
@@ -247,10 +248,6 @@ pub rest_stops : (bytes : List ℕ) (s : Stop Part) → attributes_at bytes ≡ 
 rest_stops bytes s e =
     let t = within_stops (suc (length bytes)) bytes s (omega arith) e in
     record { front = t.front; tail = t.tail; parts = t.parts; left = t.left; value = t.value; more = t.more; fits = t.fits; begins = t.begins; local = same_along t.front t.tail s.kind t.local }
-
-bind_same : {A B E : Type 0} (v : Result A E) (f g : A → Result B E) → ((x : A) → v ≡ Ok x → f x ≡ g x) → (v >>= f) ≡ (v >>= g)
-bind_same (Ok x) f g h = h x refl
-bind_same (Err d) f g h = refl
 
 cond_same : {A : Type 0} (b : Bool) (x y z : A) → y ≡ z → cond b x y ≡ cond b x z
 cond_same true x y z e = refl

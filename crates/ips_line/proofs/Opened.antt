@@ -4,18 +4,19 @@ use Rattle.std.specs.List.{list_all, flat_map, AllByRecursion}
 use Rattle.std.proofs.lemmas.Bool.{and_parts}
 use Rattle.std.proofs.lemmas.List.{append-nil, length-append, take_all}
 use Rattle.ips_text.specs.declared.refusal.Stop.{Stop}
-use Rattle.ips_text.specs.Reading.{◌>>=◌, both, Begins}
+use Rattle.ips_text.specs.Reading.{◌>>=◌, both, Begins, run}
 use Rattle.ips_text.proofs.Readers.{chosen, bind_err, ok_is, ok_not_err, err_same}
 use Rattle.ips_line.specs.declared.fault.Part.{Part}
 use Rattle.ips_line.specs.declared.fault.Part.TheVariants as part
 use Rattle.ips_line.specs.Line.{is_blank, is_quote, in_word, in_key, IsRun, stays_inside, Written, Plain, Quoted, Payload, payload_written, IsPayload, Attribute, attribute_written, IsAttribute, Line, line_written, IsLine, EndsInQuote, IsFault}
-use Rattle.ips_line.specs.Reading.{run, wrong_at, some_at, equals_at, closing, closed, plain_at, written_at, attribute_at, attributes_within, attributes_at, payload_at, read_line, opened, fault_of}
-use Rattle.ips_line.proofs.Runs.{Ends, run_is, run_again, Reads-some, Reads-equals}
+use Rattle.ips_line.specs.Reading.{wrong_at, some_at, equals_at, closing, closed, plain_at, written_at, attribute_at, attributes_within, attributes_at, payload_at, read_line, opened, fault_of}
+use Rattle.ips_line.proofs.Runs.{Reads-some, Reads-equals}
 use Rattle.ips_line.proofs.Quotes.{closing_takes, closing_again}
 use Rattle.ips_line.proofs.Keyed.{key_first, Reads-attribute}
-use Rattle.ips_line.proofs.Listed.{Rest, AttributeRead, rest_next, rest_stop, attribute_again, attribute_ends, attribute_not_blank, key_not_blank}
+use Rattle.ips_line.proofs.Listed.{Rest, AttributeRead, rest_next, rest_stop, attribute_again, attribute_ends, attribute_not_blank, key_not_blank, run_ends}
 use Rattle.ips_line.proofs.Heads.{payload_key, payload_none, payload_written_again, payload_seen, Seen, Unspaced, Keyed, Wrong, Blank, Found, PayloadRead}
 use Rattle.ips_line.proofs.Whole.{line_of, rest_line, name_line, word_first, payload_starts, line_first, no_line}
+use Rattle.ips_text.proofs.Runs.{run_is, run_again, Ends}
 
 -- ---- what stops at a quote
 
@@ -279,10 +280,6 @@ line_open text s left e kind =
 
 -- ---- and it is always told
 
-pub gap_ends : (gap rest : List ℕ) → IsRun is_blank gap → Ends in_word (gap ++ rest)
-gap_ends [] rest h = absurd h
-gap_ends (b ∷ gap) rest h = let blank = (and_parts (is_blank b) (list_all is_blank gap) h).0 in rw blank refl
-
 gap_not_blank : (gap key rest : List ℕ) → IsRun in_key key → list_all is_blank (gap ++ (key ++ rest)) ≡ false
 gap_not_blank [] key rest h = key_not_blank key rest h
 gap_not_blank (b ∷ gap) key rest h = go (is_blank b) refl (gap_not_blank gap key rest h)
@@ -347,7 +344,7 @@ open_told text place h =
     let size : length text ≡ length front + length (h.quote ∷ h.inside) = ap length h.written ∙ length-append front (h.quote ∷ h.inside) in
     let left : length text - place ≡ length (h.quote ∷ h.inside) = omega (arith, size, h.at) in
     let value : attribute_at last ≡ Err (stopped h.quote h.inside) = attribute_fails h.gap h.key h.inside h.quote h.is_gap h.is_key h.quotes (not_closing h.quote h.inside h.open_end) in
-    let ends = gap_ends h.gap (h.key ++ (61 ∷ h.quote ∷ h.inside)) h.is_gap in
+    let ends = run_ends h.gap (h.key ++ (61 ∷ h.quote ∷ h.inside)) h.is_gap in
     let some = gap_not_blank h.gap h.key (61 ∷ h.quote ∷ h.inside) h.is_key in
     let none = payload_key h.gap h.key (h.quote ∷ h.inside) h.is_gap h.is_key in
     ap read_line spelled

@@ -5,6 +5,7 @@ use Rattle.std.specs.List.{list_all, list_any, position, prefix_len}
 use Rattle.std.proofs.lemmas.Bool.{ltb-true, ltb-false, true≢false}
 use Rattle.std.proofs.lemmas.List.{take_all}
 use Rattle.ips_text.proofs.Readers.{chosen}
+use Rattle.ips_text.proofs.Truths.{some_same}
 
 -- the bytes at the front pass, and the next doesn't
 record Fronts (test : ℕ → Bool) (xs : List ℕ) (n : ℕ) : Type 0 where
@@ -34,9 +35,6 @@ not_false : (x : Bool) → not x ≡ false → x ≡ true
 not_false true e = refl
 not_false false e = absurd (true≢false e)
 
-some_place : (i j : ℕ) → (let a : Option ℕ = Some i in a) ≡ Some j → i ≡ j
-some_place i j e = cc
-
 pub first_passes : (test : ℕ → Bool) (xs : List ℕ) (i : ℕ) → position test xs ≡ Some i → FirstAt test xs i
 first_passes test xs i e =
     let n = prefix_len (λ (b : ℕ). not (test b)) xs in
@@ -46,7 +44,7 @@ first_passes test xs i e =
           let f = front_is (λ (b : ℕ). not (test b)) xs in
           elim f.rest [
             | inl v ↦ absurd (omega arith)
-            | inr v ↦ subst (FirstAt test xs) (some_place n i w.1) (record { before = f.all; byte = v.0; after = v.1; rest = v.2; passes = not_false (test v.0) v.3; within = within })
+            | inr v ↦ subst (FirstAt test xs) (some_same n i w.1) (record { before = f.all; byte = v.0; after = v.1; rest = v.2; passes = not_false (test v.0) v.3; within = within })
           ]
       | inr w ↦ absurd cc
     ]

@@ -11,6 +11,7 @@ use Rattle.ips_text.proofs.Readers.{chosen, next_same}
 use Rattle.ips_line.specs.Line.{is_quote, is_escape, meant, stays_inside}
 use Rattle.ips_line.specs.Reading.{into_front, begins_escape, begins_quote, closing, closed, plain_at, written_at}
 use Rattle.ips_line.proofs.Places.{first_passes, none_passes}
+use Rattle.ips_text.proofs.Truths.{not_true}
 
 abbrev Cut : Type 0
 Cut = List ℕ × List ℕ
@@ -79,10 +80,6 @@ closing_takes q (b ∷ c ∷ bytes) z e =
 pub not_backslash : (q : ℕ) → is_quote q ≡ true → eqb q 92 ≡ false
 not_backslash q e = grind arith
 
-not_parts : (x : Bool) → not x ≡ true → x ≡ false
-not_parts false e = refl
-not_parts true e = absurd (true≢false (sym e))
-
 closes_here : (q : ℕ) (rest : List ℕ) → is_quote q ≡ true → closing q (q ∷ rest) ≡ Some ([], rest)
 unfolding closing
 closes_here q [] h = let same = next_same q in rw same refl
@@ -92,7 +89,7 @@ pub closing_again : (q : ℕ) (raw rest : List ℕ) → is_quote q ≡ true → 
 unfolding closing
 closing_again q [] rest h stays = closes_here q rest h
 closing_again q (b ∷ []) rest h stays =
-    let n = or_false (eqb b q) (eqb b 92) (not_parts (eqb b q || eqb b 92) stays) in
+    let n = or_false (eqb b q) (eqb b 92) (not_true (eqb b q || eqb b 92) stays) in
     let more = closes_here q rest h in
     rw (n.1, n.0, more) refl
 closing_again q (b ∷ c ∷ raw) rest h stays =
@@ -100,7 +97,7 @@ closing_again q (b ∷ c ∷ raw) rest h stays =
       | inl w ↦ let more = closing_again q raw rest h w.1 in rw (w.0, more) refl
       | inr w ↦
           let p = and_parts (not (eqb b q)) (stays_inside q (c ∷ raw)) w.1 in
-          let ne = not_parts (eqb b q) p.0 in
+          let ne = not_true (eqb b q) p.0 in
           let more = closing_again q (c ∷ raw) rest h p.1 in
           rw (w.0, ne, more) refl
     ]
@@ -270,7 +267,7 @@ abbrev pub HasNoBackslash : List ℕ → Type 0
 HasNoBackslash bytes = list_all plain_byte bytes ≡ true
 
 no_escape : (q b c : ℕ) → plain_byte b ≡ true → is_escape q b c ≡ false
-no_escape q b c h = rw (not_parts (eqb b 92) h) refl
+no_escape q b c h = rw (not_true (eqb b 92) h) refl
 
 -- bytes without a backslash mean themselves
 pub meant_front : (q : ℕ) (front text : List ℕ) → HasNoBackslash front → meant q (front ++ text) ≡ front ++ meant q text

@@ -4,15 +4,16 @@ use Rattle.std.specs.List.{list_all, flat_map}
 use Rattle.std.proofs.lemmas.Bool.{and_parts}
 use Rattle.std.proofs.lemmas.List.{append-nil}
 use Rattle.ips_text.specs.declared.refusal.Stop.{Stop}
-use Rattle.ips_text.specs.Reading.{◌>>=◌, Reader, both, via, whole, IsFirstBad}
+use Rattle.ips_text.specs.Reading.{◌>>=◌, Reader, both, via, whole, IsFirstBad, run}
 use Rattle.ips_text.proofs.Readers.{Reads, in_turn, Reads-via, ok_is, ok_not_err, whole_found, whole_only, whole_first}
 use Rattle.ips_line.specs.declared.fault.Part.{Part}
 use Rattle.ips_line.specs.declared.fault.Part.TheVariants as part
 use Rattle.ips_line.specs.Line.{is_blank, in_word, IsRun, Payload, payload_written, IsPayload, attribute_written, Line, line_written, IsWrittenLine, IsLine}
-use Rattle.ips_line.specs.Reading.{run, some_at, attributes_at, payload_at, read_line}
-use Rattle.ips_line.proofs.Runs.{Ends, run_is, run_again, itself, Reads-some}
+use Rattle.ips_line.specs.Reading.{some_at, attributes_at, payload_at, read_line}
+use Rattle.ips_line.proofs.Runs.{itself, Reads-some}
 use Rattle.ips_line.proofs.Listed.{Rest, rest_ends}
 use Rattle.ips_line.proofs.Heads.{PayloadRead, Tail, tail_text, TailFits, tail_behind, tail_at, TailFollows, Reads-tail}
+use Rattle.ips_text.proofs.Runs.{run_is, run_again, Ends}
 
 -- ---- a line of its parts
 

@@ -2,18 +2,13 @@
 use Rattle.std.specs.Prelude.{ℕ, zero, suc, ◌-◌, Bool, true, false, not, ◌&&◌, ◌==◌, if◌then◌else◌, List, [], ◌∷◌, ◌++◌, length, map, Option, Some, None, Result, Ok, Err}
 use Rattle.std.specs.List.{list_all}
 use Rattle.ips_text.specs.declared.refusal.Stop.{Stop}
-use Rattle.ips_text.specs.Reading.{◌>>=◌, Reader, next_is, both, via}
+use Rattle.ips_text.specs.Reading.{◌>>=◌, Reader, next_is, both, via, run}
 use Rattle.ips_line.specs.declared.words.Pair.{Pair}
 use Rattle.ips_line.specs.declared.fault.Part.{Part}
 use Rattle.ips_line.specs.declared.fault.Part.TheVariants as part
 use Rattle.ips_line.specs.declared.fault.WordFault.{WordFault}
 use Rattle.ips_line.specs.declared.fault.WordFault.TheVariants.{BadWord, OpenQuote}
 use Rattle.ips_line.specs.Line.{is_blank, is_quote, in_word, in_payload, in_key, is_escape, Written, Plain, Quoted, Payload, Attribute, Line, Said, pair_of, words_of}
-
--- the longest run of bytes that pass, and the bytes behind it
-abbrev pub run : (ℕ → Bool) → List ℕ → List ℕ × List ℕ
-run passes [] = ([], [])
-run passes (b ∷ bytes) = if passes b then (b ∷ (run passes bytes).0, (run passes bytes).1) else ([], b ∷ bytes)
 
 -- there are no bytes
 abbrev pub is_none : List ℕ → Bool

@@ -6,6 +6,7 @@ ghost use Rattle.ips_text.specs.Reading.{next_is, Sees};
 ghost use Rattle.ips_line.specs.Line as line;
 ghost use Rattle.ips_line.specs.Classes.{passes};
 ghost use Rattle.ips_line.specs.Reading as reading;
+ghost use Rattle.ips_text.specs.Reading as texts;
 ghost use Rattle.ips_line.specs.Reading.{some_at};
 
 use crate::fault::Part;
@@ -54,7 +55,7 @@ pub fn is_quote(byte: u8) -> bool
 
 /// The longest run of the class at the front of the text, and what stands behind it.
 pub fn run(class: Class, text: &str) -> (&str, &str)
-    ensures { reading.run (passes class) text.now ≡ (result.0.now, result.1.now) }
+    ensures { texts.run (passes class) text.now ≡ (result.0.now, result.1.now) }
 {
     text.split_at(run_length(class, text.as_bytes()))
 }
@@ -62,7 +63,7 @@ pub fn run(class: Class, text: &str) -> (&str, &str)
 // The length of the longest run.
 fn run_length(class: Class, bytes: &[u8]) -> usize
     ensures within { result ≤ length bytes.now }
-    ensures run { reading.run (passes class) bytes.now ≡ (take result bytes.now, drop result bytes.now) }
+    ensures run { texts.run (passes class) bytes.now ≡ (take result bytes.now, drop result bytes.now) }
     ensures cut { IsUtf8 bytes.now → IsCharBoundary bytes.now result }
 {
     for (i, byte) in bytes.iter().enumerate() {

@@ -15,13 +15,10 @@ use Rattle.ips_action.specs.declared.kind.ActionKind.TheVariants as kind
 use Rattle.ips_action.specs.Kind.{kind_name}
 use Rattle.ips_action.specs.Action.{Fields, payload_word, pairs_of, line_text}
 use Rattle.ips_manifest.specs.Logical.{continues, is_blank, is_skipped}
+use Rattle.ips_text.proofs.Truths.{not_true}
 
 abbrev plain : ℕ → Bool
 plain b = not (eqb b 92)
-
-not_true : (x : Bool) → not x ≡ true → x ≡ false
-not_true false e = refl
-not_true true e = absurd (true≢false (sym e))
 
 -- bytes without a backslash end with none
 plain_ends : (xs : List ℕ) → list_all plain xs ≡ true → continues xs ≡ false

@@ -11,13 +11,10 @@ use Rattle.ips_manifest.specs.Manifest.{TextMeans, LineMeans, LinesMean, IsManif
 use Rattle.ips_manifest.proofs.Joins.{read_none}
 use Rattle.ips_manifest.proofs.Gone.{action_means}
 use Rattle.ips_manifest.proofs.Endings.{line_ends, line_kept}
+use Rattle.ips_text.proofs.Truths.{not_true}
 
 abbrev other : ℕ → Bool
 other b = not (eqb b 10)
-
-not_true : (x : Bool) → not x ≡ true → x ≡ false
-not_true false e = refl
-not_true true e = absurd (true≢false (sym e))
 
 -- a line without a newline, up to the newline behind it
 split_line : (line rest : List ℕ) → list_all other line ≡ true → physical_lines (line ++ (10 ∷ rest)) ≡ line ∷ physical_lines rest

@@ -13,7 +13,8 @@ use Rattle.ips_conflict.proofs.Places.{one_there, below_or_last}
 use Rattle.ips_meaning.specs.Want.{is_needed}
 use Rattle.ips_meaning.specs.Places.{given_path, PathSet, has_path, AreWanted}
 use Rattle.ips_meaning.proofs.Given.{given_is, given_from}
-use Rattle.ips_meaning.proofs.Fronts.{covered, covers_path, records_path, legacy_path}
+use Rattle.ips_meaning.proofs.Fronts.{covered, covers_path, legacy_path}
+use Rattle.ips_text.proofs.Fronts.{records_path}
 
 -- a path is added with what stands above it
 pub added : (path p : List ℕ) (old mid new : Bool) → mid ≡ (is_same p path || old) → (new ≡ true) ↔ ((mid ≡ true) ⊎ (is_below p path ≡ true)) → (new ≡ true) ↔ ((old ≡ true) ⊎ (covers p path ≡ true))

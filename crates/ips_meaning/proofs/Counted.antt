@@ -13,11 +13,13 @@ use Rattle.ips_conflict.specs.declared.placed.Placed.{Placed}
 use Rattle.ips_conflict.specs.Key.{key_of}
 use Rattle.ips_conflict.specs.Clash.{HasKey, path_key}
 use Rattle.ips_conflict.proofs.Places.{one_there, below_or_last}
-use Rattle.ips_conflict.proofs.Kept.{same_is, is_same_self}
-use Rattle.ips_conflict.proofs.Ordered.{less_is, le_trans, le_of_less, le_self, le_unless, place_total}
+use Rattle.ips_conflict.proofs.Kept.{is_same_self}
+use Rattle.ips_conflict.proofs.Ordered.{le_trans, le_of_less, le_self, le_unless, place_total}
 use Rattle.ips_meaning.specs.Want.{IsGiven}
 use Rattle.ips_meaning.specs.Places.{given_path, rank_at, count_cmp, Leads, PlaceMap, place_of, AreLeading, first_of}
 use Rattle.ips_meaning.proofs.Given.{given_is, given_from}
+use Rattle.ips_text.proofs.Orders.{less_is}
+use Rattle.ips_action.proofs.KeyOrder.{same_true}
 
 pub count_total : (kept : List Placed) → IsTotalOrder (count_cmp kept)
 count_total kept = then_total (on_total (rank_at kept) nat_cmp_total) (place_total kept)
@@ -88,7 +90,7 @@ led kept k path p (Some j) at h = go (is_lt (count_cmp kept k j)) refl
 counted_by : (kept : List Placed) (k : ℕ) (p : Placed) (at path : List ℕ) (before : Option ℕ) (t : Bool) → is_same path at ≡ t → slice_get kept k ≡ Some p → given_path p ≡ Some at → PathTo kept k path before
     → PathTo kept (k + 1) path (cond t (Some (first_of kept before k)) before)
 counted_by kept k p at path before true same here gives h =
-    let key : key_of p ≡ Some (path_key path) = given_is p path (gives ∙ ap (λ (x : List ℕ). Some x) (sym (same_is path at same))) in
+    let key : key_of p ≡ Some (path_key path) = given_is p path (gives ∙ ap (λ (x : List ℕ). Some x) (sym (same_true path at same))) in
     led kept k path p before (record { here = here; key_is = key }) h
 counted_by kept k p at path before false same here gives h =
     same_path kept k path before (λ q there.
@@ -135,5 +137,5 @@ pub counts_as : (kept : List Placed) (old : PlaceMap) (q path key : List ℕ) (i
 counts_as kept old q path key i first at is = ap (λ (p : List ℕ). cond (is_same q p) (Some first) (place_of old q)) at ∙ go (is_same q path) refl
   where
     go : (t : Bool) → is_same q path ≡ t → cond t (Some first) (place_of old q) ≡ cond t (Some (first_of kept (place_of old q) i)) (place_of old q)
-    go true same = ap (λ (n : ℕ). Some n) (is ∙ ap (λ (p : List ℕ). first_of kept (place_of old p) i) (sym (same_is q path same)))
+    go true same = ap (λ (n : ℕ). Some n) (is ∙ ap (λ (p : List ℕ). first_of kept (place_of old p) i) (sym (same_true q path same)))
     go false same = refl

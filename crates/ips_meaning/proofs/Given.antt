@@ -10,19 +10,7 @@ use Rattle.ips_conflict.specs.declared.placed.Sort.TheVariants.{Path, User, Grou
 use Rattle.ips_conflict.specs.Key.{Key, key_of, sort_of, sort_rank, text_of, value_of}
 use Rattle.ips_conflict.specs.Clash.{path_key, has_path_key}
 use Rattle.ips_meaning.specs.Places.{given_path}
-
-path_by : (o : Option Sort) (p : Placed) → option_map_or (λ sort. sort_rank sort == 0) o false ≡ true → option_map (λ sort. let k : Key = record { sort = sort; text = text_of sort p } in k) o ≡ Some (path_key (value_of (codes "path") p.action))
-path_by None p h = absurd (true≢false (sym h))
-path_by (Some Path) p h = refl
-path_by (Some User) p h = absurd (true≢false (sym h))
-path_by (Some Group) p h = absurd (true≢false (sym h))
-path_by (Some Driver) p h = absurd (true≢false (sym h))
-path_by (Some Legacy) p h = absurd (true≢false (sym h))
-path_by (Some License) p h = absurd (true≢false (sym h))
-
-path_of : (o : Option Sort) (p : Placed) (path : List ℕ) → option_map (λ sort. let k : Key = record { sort = sort; text = text_of sort p } in k) o ≡ Some (path_key path) → option_map_or (λ sort. sort_rank sort == 0) o false ≡ true
-path_of None p path h = absurd (none-some (path_key path) h)
-path_of (Some sort) p path h = eq-eqb (sort_rank sort) 0 (ap (λ (o : Option Key). option_map_or (λ k. sort_rank k.sort) o 0) h)
+use Rattle.ips_conflict.proofs.Indexed.{path_by, path_of}
 
 -- what an action gives is its key
 pub given_is : (p : Placed) (path : List ℕ) → given_path p ≡ Some path → key_of p ≡ Some (path_key path)

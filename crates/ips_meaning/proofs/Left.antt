@@ -6,16 +6,7 @@ use Rattle.ips_manifest.specs.declared.line.Line.{Line}
 use Rattle.ips_conflict.specs.declared.placed.Placed.{Placed}
 use Rattle.ips_meaning.specs.Taken.{Leaves}
 use Rattle.ips_meaning.specs.Leaving.{LeavesMore}
-
--- one more item of a list
-pub take_item : {A : Type 0} (xs : List A) (i : ℕ) (x : A) → i < length xs → x ≡ get_or xs i x → take (i + 1) xs ≡ take i xs ++ x ∷ []
-take_item xs i x lt e = take_more xs i x lt ∙ ap (λ (y : _). take i xs ++ y ∷ []) (sym e)
-
-pub map_item : {A B : Type 0} (f : A → B) (xs : List A) (i : ℕ) (x : A) → i < length xs → x ≡ get_or xs i x → map f (take (i + 1) xs) ≡ map f (take i xs) ++ f x ∷ []
-map_item f xs i x lt e = ap (map f) (take_item xs i x lt e) ∙ map-append f (take i xs) (x ∷ [])
-
-pub flat_item : {A B : Type 0} (f : A → List B) (xs : List A) (i : ℕ) (x : A) → i < length xs → x ≡ get_or xs i x → flat_map f (take (i + 1) xs) ≡ flat_map f (take i xs) ++ f x
-flat_item f xs i x lt e = ap (flat_map f) (take_item xs i x lt e) ∙ sym (flat_map_more f [] (take i xs) x)
+use Rattle.ips_text.proofs.Lists.{take_item}
 
 module _ {A : Type 0} (P : A → Type 0) where
   pub leaves_append : (xs ys a b : List A) → Leaves P xs a → Leaves P ys b → Leaves P (xs ++ ys) (a ++ b)

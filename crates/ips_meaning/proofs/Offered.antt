@@ -18,10 +18,11 @@ use Rattle.ips_mediate.specs.Mediation.{link_value, mediation_of}
 use Rattle.ips_mediate.specs.Best.{Fits, IsBest}
 use Rattle.ips_mediate.proofs.Ranked.{best_is_one}
 use Rattle.ips_conflict.specs.declared.placed.Placed.{Placed}
-use Rattle.ips_conflict.proofs.Kept.{same_is, is_same_self}
+use Rattle.ips_conflict.proofs.Kept.{is_same_self}
 use Rattle.ips_meaning.specs.Taken.{links_of, set_for, Stays}
 use Rattle.ips_meaning.specs.Offers.{Links, Choices, links_at, offers, AreLinks, IsChoice, AreChoices, GoesWith, IsOfBest, IsThere}
-use Rattle.ips_meaning.proofs.Left.{map_item}
+use Rattle.ips_text.proofs.Lists.{map_item}
+use Rattle.ips_action.proofs.KeyOrder.{same_true}
 
 -- ---- one more link
 
@@ -36,7 +37,7 @@ pub put_is : (old mid new : Links) (name : List ℕ) (link : Fields) (before : L
 put_is old mid new name link before pushed taken others items inserted q = go (is_same name q) refl (inserted q)
   where
     go : (t : Bool) → is_same name q ≡ t → get_by_text new q ≡ cond t (Some pushed) (get_by_text mid q) → links_at new q ≡ cond t (links_at old q ++ link ∷ []) (links_at old q)
-    go true same e = ap (λ (o : Option (Vec Fields Global)). option_map_or (λ g. g.items) o []) e ∙ items ∙ ap (λ (l : List Fields). l ++ link ∷ []) (taken ∙ ap (links_at old) (same_is name q same))
+    go true same e = ap (λ (o : Option (Vec Fields Global)). option_map_or (λ g. g.items) o []) e ∙ items ∙ ap (λ (l : List Fields). l ++ link ∷ []) (taken ∙ ap (links_at old) (same_true name q same))
     go false same e = ap (λ (o : Option (Vec Fields Global)). option_map_or (λ g. g.items) o []) e ∙ others q same
 
 -- ---- all links
@@ -102,7 +103,7 @@ choices_more mediators links old new name choice so_far chosen inserted q =
     subst (λ (o : Option (Option Fields)). IfSome o (λ c. IsChoice (links_at links q) (set_for mediators q) c)) (sym (inserted q)) (go (is_same name q) refl)
   where
     go : (t : Bool) → is_same name q ≡ t → IfSome (cond t (Some choice) (get_by_text old q)) (λ c. IsChoice (links_at links q) (set_for mediators q) c)
-    go true same = subst (λ (x : List ℕ). IsChoice (links_at links x) (set_for mediators x) choice) (same_is name q same) chosen
+    go true same = subst (λ (x : List ℕ). IsChoice (links_at links x) (set_for mediators x) choice) (same_true name q same) chosen
     go false same = so_far q
 
 -- what stays by what is looked up is what stays

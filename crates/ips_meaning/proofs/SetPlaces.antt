@@ -11,11 +11,11 @@ use Rattle.std.proofs.lemmas.Option.{none-some, slice_get_within}
 use Rattle.std.proofs.lemmas.List.{take_all}
 use Rattle.ips_action.specs.Attrs.{is_same}
 use Rattle.ips_mediate.specs.declared.set.SetMediator.{SetMediator}
-use Rattle.ips_conflict.proofs.Kept.{same_is}
 use Rattle.ips_conflict.proofs.Places.{at_index}
 use Rattle.ips_meaning.specs.Taken.{set_for}
 use Rattle.ips_meaning.specs.Offers.{SetPlaces, IsSetAt, AreSetPlaces, first_place}
-use Rattle.ips_meaning.proofs.Left.{take_item}
+use Rattle.ips_text.proofs.Lists.{take_item}
+use Rattle.ips_action.proofs.KeyOrder.{same_true}
 
 -- ---- what is put
 
@@ -25,7 +25,7 @@ first_kept places name i has is found q = go (get_by_text places q) refl (is_sam
     go : (o : Option ℕ) → get_by_text places q ≡ o → (t : Bool) → is_same name q ≡ t → o ≡ first_place o t i
     go (Some j) at t same = refl
     go None at false same = refl
-    go None at true same = absurd (true≢false (sym found ∙ is ∙ ap (λ (n : List ℕ). is_some (get_by_text places n)) (same_is name q same) ∙ ap is_some at))
+    go None at true same = absurd (true≢false (sym found ∙ is ∙ ap (λ (n : List ℕ). is_some (get_by_text places n)) (same_true name q same) ∙ ap is_some at))
 
 pub first_put : (old new : SetPlaces) (name : List ℕ) (i : ℕ) (has : Bool) → has ≡ is_some (get_by_text old name) → has ≡ false → ((q : List ℕ) → get_by_text new q ≡ cond (is_same name q) (Some i) (get_by_text old q))
     → (q : List ℕ) → get_by_text new q ≡ first_place (get_by_text old q) (is_same name q) i
@@ -34,7 +34,7 @@ first_put old new name i has is none put q = put q ∙ go (get_by_text old q) re
     go : (o : Option ℕ) → get_by_text old q ≡ o → (t : Bool) → is_same name q ≡ t → cond t (Some i) o ≡ first_place o t i
     go None at t same = refl
     go (Some j) at false same = refl
-    go (Some j) at true same = absurd (true≢false (sym (is ∙ ap (λ (n : List ℕ). is_some (get_by_text old n)) (same_is name q same) ∙ ap is_some at) ∙ none))
+    go (Some j) at true same = absurd (true≢false (sym (is ∙ ap (λ (n : List ℕ). is_some (get_by_text old n)) (same_true name q same) ∙ ap is_some at) ∙ none))
 
 -- ---- all places
 

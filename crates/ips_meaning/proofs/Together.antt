@@ -26,15 +26,17 @@ use Rattle.ips_conflict.specs.Verdict.{breaks, decision}
 use Rattle.ips_conflict.specs.Clash.{HasKey, Counts, HasSureFile, path_key, has_legacy, is_held, is_held_by, file_rank, file_cmp, may_be_missing}
 use Rattle.ips_conflict.proofs.Places.{one_there}
 use Rattle.ips_conflict.proofs.Ordered.{place_total, file_total, le_cases, less_le}
-use Rattle.ips_conflict.proofs.FirstPair.{last_tie, place_tie}
+use Rattle.ips_conflict.proofs.FirstPair.{place_tie}
 use Rattle.ips_conflict.proofs.Marked.{up_one, down_one, no_parent}
-use Rattle.ips_conflict.proofs.Kept.{same_is}
 use Rattle.ips_meaning.specs.declared.entry.Entry.{Entry}
 use Rattle.ips_meaning.specs.declared.entry.Entry.TheVariants.{Dir, File, Link, Hard}
 use Rattle.ips_meaning.specs.Want.{Means, Gives, IsWanted, IsWantOf, IsFreeOfClashes, is_needed}
 use Rattle.ips_meaning.specs.Places.{IsWantedPath}
 use Rattle.ips_meaning.specs.Together.{IsDirWanted, IsFileWanted, LeadsToWanted, HangTogether, is_sure}
 use Rattle.ips_meaning.proofs.Wants.{wanted_path}
+use Rattle.ips_action.proofs.KeyOrder.{same_true}
+use Rattle.ips_conflict.proofs.Found.{one_counts}
+use Rattle.ips_text.proofs.Orders.{last_tie}
 
 -- ---- what stands above a path
 
@@ -87,7 +89,7 @@ above_wanted kept d p below w =
 
 -- ---- entries and their paths
 
-entry_there : (entries : List (List ℕ × Entry)) (path : List ℕ) → Contains (map (λ e. e.0) entries) path → (entry : Entry) × Contains entries (path, entry)
+pub entry_there : (entries : List (List ℕ × Entry)) (path : List ℕ) → Contains (map (λ e. e.0) entries) path → (entry : Entry) × Contains entries (path, entry)
 entry_there entries path there = go entries there.0 there.1 there.2
   where
     go : (es : List (List ℕ × Entry)) (k : ℕ) → k < length (map (λ (e : List ℕ × Entry). e.0) es) → get_or (map (λ (e : List ℕ × Entry). e.0) es) k path ≡ path → (entry : Entry) × Contains es (path, entry)
@@ -102,13 +104,6 @@ by_apart k l x o apart = subst (λ (t : Bool). (cond t (cond (k == 1) (cond o 0 
 
 kinds_broken : (a b : Fields) → (kind_place a.kind ≡ kind_place b.kind → ⊥) → breaks rule.Kinds a b ≡ true
 kinds_broken a b apart = by_apart (kind_place a.kind) (kind_place b.kind) (alike a b) (overlaid a b) apart
-
--- one file counts at a path
-one_counts : (kept : List Placed) (path : List ℕ) (i j : ℕ) (p q : Placed) → Counts kept path i p → Counts kept path j q → i ≡ j
-one_counts kept path i j p q a b = elim (le_cases (file_cmp kept) (file_total kept) i j (a.first j q b.at)) [
-  | inl less ↦ absurd (b.first i p a.at (less_le (file_cmp kept) (file_total kept) i j less))
-  | inr tie ↦ place_tie kept i j (last_tie (nat_cmp (file_rank kept i) (file_rank kept j)) (place_cmp kept i j) tie)
-]
 
 -- the values of `preserve` are those of a file that may be missing
 abbrev missing_in : List (List ℕ) → Bool
@@ -220,7 +215,7 @@ module _ (kept : List Placed) (free : IsFreeOfClashes kept) where
       file_there : IsFileWanted entries end
       file_there = elim (cases_Bool (list_any (is_same end) (map (λ (e : List ℕ × Entry). e.0) entries))) [
         | inl some ↦
-            let found = entry_there entries end (Contains-from_any {eq = is_same} same_is end (map (λ (e : List ℕ × Entry). e.0) entries) some) in
+            let found = entry_there entries end (Contains-from_any {eq = is_same} same_true end (map (λ (e : List ℕ × Entry). e.0) entries) some) in
             file_at found.0 found.1 (wanted_there end found.0 found.1)
         | inr none ↦ absurd (sure (λ s.
             let path : IsWantedPath kept end = inr (end, (s.i, s.p, s.counts.at.at), covers-self end) in

@@ -23,7 +23,7 @@ use Rattle.ips_conflict.specs.Order.{place_cmp}
 use Rattle.ips_conflict.specs.Alike.{kind_place, takes_place}
 use Rattle.ips_conflict.specs.Clash.{HasKey, path_key, file_rank, file_cmp}
 use Rattle.ips_conflict.proofs.Places.{one_there}
-use Rattle.ips_conflict.proofs.Kept.{same_is, found_any}
+use Rattle.ips_conflict.proofs.Kept.{found_any}
 use Rattle.ips_meaning.specs.declared.entry.Entry.{Entry}
 use Rattle.ips_meaning.specs.declared.wanted.Wanted.{Wanted}
 use Rattle.ips_meaning.specs.Want.{Means, Gives, IsGiven, IsImplicit, IsWanted, IsWantOf}
@@ -32,6 +32,7 @@ use Rattle.ips_meaning.specs.Together.{HasProperParts, AreProper}
 use Rattle.ips_meaning.specs.Places.{PlaceMap, place_of, rank_of, rank_at, count_cmp, Leads, AreLeading, IsWantedPath, PathSet, AreWanted}
 use Rattle.ips_meaning.proofs.Given.{sort_is}
 use Rattle.ips_meaning.proofs.Fronts.{covered}
+use Rattle.ips_action.proofs.KeyOrder.{same_true}
 
 -- ---- the action that counts
 
@@ -86,7 +87,7 @@ implied kept path none w = record {
       below.0,
       below.1,
       elim ((covered path below.0).0 below.2) [
-        | inl same ↦ absurd (none (subst (IsGiven kept) (sym (same_is path below.0 same)) below.1))
+        | inl same ↦ absurd (none (subst (IsGiven kept) (sym (same_true path below.0 same)) below.1))
         | inr lower ↦ lower
       ],
     )
@@ -165,7 +166,7 @@ sorted_bytes (k ∷ keys) sorted = (below_all k keys sorted.0, sorted_bytes keys
 has_contains : (path : List ℕ) (keys : List (Vec ℕ Global)) → list_any (λ k. is_same path k.items) keys ≡ true → Contains (bytes_of keys) path
 has_contains path [] h = absurd (false≢true h)
 has_contains path (k ∷ keys) h = elim (or_cases (is_same path k.items) (list_any (λ x. is_same path x.items) keys) h) [
-  | inl here ↦ (0, omega arith, sym (same_is path k.items here))
+  | inl here ↦ (0, omega arith, sym (same_true path k.items here))
   | inr more ↦ Contains-append_right (k.items ∷ []) (bytes_of keys) path (has_contains path keys more)
 ]
 

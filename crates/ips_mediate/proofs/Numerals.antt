@@ -19,19 +19,9 @@ use Rattle.std.proofs.lemmas.List.Splits.{slice_split_at, slice_split_none, slic
 use Rattle.ips_fmri.specs.Version.{AreNumbers, numerals}
 use Rattle.ips_action.specs.Check.{IsNumber, IsNumerals}
 use Rattle.ips_mediate.specs.Mediation.{dotted, numbers_of}
+use Rattle.ips_action.proofs.Numbers.{no_dot, digits_dotless, dotless}
 
 -- ---- the parts of numbers joined by dots are numbers
-
-no_dot : (b : ℕ) (t : Bool) → eqb b 46 ≡ t → digit_value b < 10 → t ≡ false
-no_dot b true e lt = let P : ℕ → Type 0 = λ x. digit_value x < 10 in absurd (omega (arith, subst P (eqb-true b 46 e) lt))
-no_dot b false e lt = refl
-
-digits_dotless : (ds : List ℕ) → AllDigits 10 ds → AllByRecursion (λ b. eqb b 46 ≡ false) ds
-digits_dotless [] h = tt
-digits_dotless (d ∷ ds) h = (no_dot d (eqb d 46) refl h.0, digits_dotless ds h.1)
-
-dotless : (n : ℕ) → n < 2 ^ 64 → All (λ b. eqb b 46 ≡ false) (decimal n)
-dotless n fits = All-from_recursion (λ b. eqb b 46 ≡ false) (decimal n) (digits_dotless (decimal n) (decimal_is_IsNumeral n fits).0.1)
 
 abbrev AllNumbers : List (List ℕ) → Type 0
 AllNumbers parts = AllByRecursion IsNumber parts

@@ -14,7 +14,7 @@ use Rattle.ips_meaning.specs.declared.fault.WantFault.TheVariants as fault
 use Rattle.ips_plan.proofs.InOrder.{Entries}
 
 -- what is left of a list is one list
-one_left : {A : Type 0} (P : A → Type 0) (xs a b : List A) → Leaves P xs a → Leaves P xs b → a ≡ b
+pub one_left : {A : Type 0} (P : A → Type 0) (xs a b : List A) → Leaves P xs a → Leaves P xs b → a ≡ b
 one_left P [] a b x y = x ∙ sym y
 one_left {A} P (x ∷ xs) a b (inl p) (inl q) = p.1.2 ∙ ap (λ (l : List A). x ∷ l) (one_left P xs p.1.0 q.1.0 p.1.1 q.1.1) ∙ sym q.1.2
 one_left P (x ∷ xs) a b (inl p) (inr q) = absurd (q.0 p.0)

@@ -13,6 +13,7 @@ use Rattle.ips_meaning.specs.declared.entry.Entry.TheVariants.{Dir, File, Link, 
 use Rattle.ips_plan.specs.Meant.{Shows, IsMeant}
 use Rattle.ips_plan.specs.Planned.{AreStaged, IsPlanOf}
 use Rattle.ips_plan.proofs.InOrder.{Entries}
+use Rattle.ips_install.proofs.Stepping.{has_each}
 
 shows_weaker : (P Q : PayloadName → List ℕ → Type 0) (old new : Image) → ((name : PayloadName) (bytes : List ℕ) → P name bytes → Q name bytes) → (e : List ℕ × Entry) → Shows P old new e.0 e.1 → Shows Q old new e.0 e.1
 shows_weaker P Q old new weaker (path, Dir mode) shows = shows
@@ -28,7 +29,7 @@ meant_weaker P Q entries old new weaker meant = record {
 }
 
 -- staged bytes are such contents
-staged_are : (P : PayloadName → List ℕ → Type 0) (contents : List PayloadName) (stage : Stage) → AreContents P contents stage → (name : PayloadName) (bytes : List ℕ) → AreStaged contents stage name bytes → P name bytes
+pub staged_are : (P : PayloadName → List ℕ → Type 0) (contents : List PayloadName) (stage : Stage) → AreContents P contents stage → (name : PayloadName) (bytes : List ℕ) → AreStaged contents stage name bytes → P name bytes
 staged_are P contents stage are name bytes staged =
     let there = are staged.at name staged.stands in
     let same : there.0 ≡ bytes = same_Some _ _ (sym there.1 ∙ staged.holds) in
@@ -39,16 +40,8 @@ none_past [] n is = omega arith
 none_past (x ∷ xs) zero is = cc
 none_past (x ∷ xs) (suc n) is = omega (arith, none_past xs n is)
 
--- each content has bytes
-have_each : (P : PayloadName → List ℕ → Type 0) (contents : List PayloadName) (stage : Stage) → AreContents P contents stage → HasEach (length contents) stage
-have_each P contents stage are n lt = name_at (slice_get contents n) refl
-  where
-    name_at : (o : Option PayloadName) → slice_get contents n ≡ o → is_some (stage n) ≡ true
-    name_at (Some name) is = ap is_some (are n name is).1
-    name_at None is = absurd (omega (arith, none_past contents n is))
-
 -- Where the steps of a plan are laid with such contents, the image is what was wanted.
 pub what_is_laid : (P : PayloadName → List ℕ → Type 0) (entries : Entries) (t new : Image) (steps : List Step) (contents : List PayloadName) → IsPlanOf entries t steps contents → AreLaid P contents steps t new → IsMeant P entries t new
 what_is_laid P entries t new steps contents plan laid =
-    let meant = plan.means laid.stage (have_each P contents laid.stage laid.contents) in
+    let meant = plan.means laid.stage (has_each P contents laid.stage laid.contents) in
     subst (IsMeant P entries t) (sym laid.laid) (meant_weaker (AreStaged contents laid.stage) P entries t (all_laid laid.stage steps t) (staged_are P contents laid.stage laid.contents) meant)

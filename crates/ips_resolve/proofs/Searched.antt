@@ -5,10 +5,7 @@ use Rattle.std.proofs.lemmas.List.Elements.{All-append, All-push}
 use Rattle.ips_manifest.specs.declared.line.Line.{Line}
 use Rattle.ips_manifest.specs.declared.package.Package.{Package}
 use Rattle.ips_resolve.specs.First.{NoneHas, IsFirstIn, IsFirstWith, all_lines}
-
--- one more item of a list
-pub take_item : {A : Type 0} (xs : List A) (i : ℕ) (x : A) → i < length xs → x ≡ get_or xs i x → take (i + 1) xs ≡ take i xs ++ x ∷ []
-take_item xs i x lt is = take_more xs i x lt ∙ ap (λ (y : _). take i xs ++ y ∷ []) (sym is)
+use Rattle.ips_text.proofs.Lists.{take_item}
 
 -- the items before a place, the one there, and those behind it
 split_item : {A : Type 0} (xs : List A) (i : ℕ) (x : A) → i < length xs → x ≡ get_or xs i x → xs ≡ take i xs ++ x ∷ drop (i + 1) xs

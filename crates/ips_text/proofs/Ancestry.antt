@@ -115,3 +115,17 @@ parent_here p some e = ap parent (last_apart p some) ∙ ap (λ (b : ℕ). paren
 
 pub parent_before : (p : List ℕ) → 0 < length p → (get_or p (length p - 1) 0 ≡ 47 → ⊥) → parent (take (length p - 1) p) ≡ parent p
 parent_before p some ne = sym (ap parent (last_apart p some) ∙ parent_on (take (length p - 1) p) (get_or p (length p - 1) 0) (ne_eqb (get_or p (length p - 1) 0) 47 ne))
+
+-- a path is covered by its parent
+-- a directory covers what it holds
+pub parent_covers : (p q : List ℕ) → parent p ≡ Some q → covers q p ≡ true
+parent_covers [] q e = cc
+parent_covers (a ∷ p) q e = go (parent p) (parent_covers p) e
+  where
+    last : (b : Bool) → (a == 47) ≡ b → cond b (Some []) None ≡ Some q → covers q (a ∷ p) ≡ true
+    last true is e = let none : q ≡ [] = cc in rw none is
+    last false is e = cc
+
+    go : (o : Option (List ℕ)) → ((r : List ℕ) → o ≡ Some r → covers r p ≡ true) → behind a o ≡ Some q → covers q (a ∷ p) ≡ true
+    go (Some r) up s = let shape : q ≡ a ∷ r = cc in rw shape (and_from (a == a) (covers r p) (eq-eqb a a refl) (up r refl))
+    go None up s = last (a == 47) refl s

@@ -12,6 +12,7 @@ use Rattle.ips_text.specs.declared.quoting.TheConstants.{ESCAPED_IN_PATH}
 use Rattle.ips_text.specs.Path.{parts}
 use Rattle.ips_text.specs.Quote.{is_plain, quoted_byte, quoted, shown, AreBytes}
 use Rattle.ips_text.proofs.Quotes.{high_ascii, low_ascii}
+use Rattle.ips_text.proofs.Fronts.{some_part}
 
 abbrev pub shown_byte : ℕ → List ℕ
 shown_byte b = cond (eqb b 47) (b ∷ []) (quoted_byte b)
@@ -41,16 +42,7 @@ one_byte b false false e f lt bs =
 
 -- ---- the parts of a path with one more byte in front
 
-some_part : (bs : List ℕ) → (x : List ℕ) × (xs : List (List ℕ)) × (parts bs ≡ x ∷ xs)
-some_part [] = ([], [], refl)
-some_part (b ∷ bs) = go (eqb b 47) (parts bs)
-  where
-    go : (t : Bool) (rest : List (List ℕ)) → (x : List ℕ) × (xs : List (List ℕ)) × (cond t ([] ∷ rest) (onto_first b rest) ≡ x ∷ xs)
-    go true rest = ([], rest, refl)
-    go false [] = (b ∷ [], [], refl)
-    go false (x ∷ xs) = (b ∷ x, xs, refl)
-
-behind_byte : (b : ℕ) (x : List ℕ) (xs : List (List ℕ)) → join_with_byte 47 (map quoted ((b ∷ x) ∷ xs)) ≡ quoted_byte b ++ join_with_byte 47 (map quoted (x ∷ xs))
+pub behind_byte : (b : ℕ) (x : List ℕ) (xs : List (List ℕ)) → join_with_byte 47 (map quoted ((b ∷ x) ∷ xs)) ≡ quoted_byte b ++ join_with_byte 47 (map quoted (x ∷ xs))
 unfolding quoted
 behind_byte b x [] = refl
 behind_byte b x (y ∷ ys) = append_assoc (quoted_byte b) (quoted x) (47 ∷ join_with_byte 47 (map quoted (y ∷ ys)))

@@ -24,6 +24,8 @@ use Rattle.ips_top.specs.Answer.{CouldInstall, IsDone, LacksFirst, SaysOfLines, 
 use Rattle.ips_top.specs.Offer.{IsOffer, IsUnplanned, undone}
 use Rattle.ips_top.specs.declared.wanting.Offer.{Offer}
 use Rattle.ips_top.specs.declared.outcome.Outcome.{Outcome}
+use Rattle.ips_install.proofs.Stepping.{has_each}
+use Rattle.ips_plan.proofs.Laws.{staged_are}
 
 -- ---- bytes of payloads
 
@@ -52,22 +54,6 @@ meant_by P Q more entries old new meant = record {
   elsewhere = meant.elsewhere;
   sharing = meant.sharing;
 }
-
--- bytes that are staged are those of their payload
-staged_are : (P : PayloadName → List ℕ → Type 0) (contents : List PayloadName) (stage : Stage) → AreContents P contents stage → (name : PayloadName) (bytes : List ℕ) → AreStaged contents stage name bytes → P name bytes
-staged_are P contents stage are name bytes staged =
-    let found = are staged.at name staged.stands in
-    let at = found.1 in
-    let holds = staged.holds in
-    let one : found.0 ≡ bytes = cc in
-    subst (P name) one found.2
-
--- each content has bytes
-each_has : (P : PayloadName → List ℕ → Type 0) (contents : List PayloadName) (stage : Stage) → AreContents P contents stage → HasEach (length contents) stage
-each_has P contents stage are n within =
-    let there = at_within contents n within in
-    let found = are n there.x there.stands in
-    subst (λ (o : Option (List ℕ)). IsTrue (is_some o)) (sym found.1) refl
 
 module _ (words : List (List ℕ)) (repository : Image) (r : Reading) (o : Offer) (is : IsOffer words repository r o) where
   -- what is wanted
@@ -114,7 +100,7 @@ module _ (words : List (List ℕ)) (repository : Image) (r : Reading) (o : Offer
       meant = subst (λ (b : Bool). IsMeant (IsContent b publisher repository) o.want t new) told
           (subst (IsMeant (IsContent tells publisher repository) o.want t) (sym laid.laid)
           (meant_by (AreStaged contents laid.stage) (IsContent tells publisher repository) (staged_are (IsContent tells publisher repository) contents laid.stage laid.contents) o.want t (all_laid laid.stage steps t)
-          (plan.means laid.stage (each_has (IsContent tells publisher repository) contents laid.stage laid.contents))));
+          (plan.means laid.stage (has_each (IsContent tells publisher repository) contents laid.stage laid.contents))));
     }
 
 -- ---- at every moment

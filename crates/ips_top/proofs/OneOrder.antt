@@ -15,6 +15,7 @@ use Rattle.ips_request.specs.Stems.{has}
 use Rattle.ips_request.specs.Laws.{has_first, same_as_itself}
 use Rattle.ips_request.proofs.StemLists.{same_stem}
 use Rattle.ips_problem.specs.Taken.{package_with}
+use Rattle.ips_text.proofs.Orders.{one_way}
 
 -- the first stem stands before each other one
 before_each : (x z : List ℕ) (ys : List (List ℕ)) → AllByRecursion (λ y. slice_cmp nat_cmp x y ≡ Less) ys → has z ys ≡ true → slice_cmp nat_cmp x z ≡ Less
@@ -23,9 +24,6 @@ before_each x z (y ∷ ys) all h = elim (or_cases (bytes_eq z y) (has z ys) h) [
   | inl e ↦ ap (slice_cmp nat_cmp x) (same_stem z y e) ∙ all.0
   | inr r ↦ before_each x z ys all.1 r
 ]
-
-one_way : (x y : List ℕ) → slice_cmp nat_cmp x y ≡ Less → slice_cmp nat_cmp y x ≡ Less → ⊥
-one_way x y h g = let back = nat_list_cmp_total.antisymm x y in let turned = ap ordering_reverse g in cc
 
 head_before : (x z : List ℕ) (ys : List (List ℕ)) → Ascend (x ∷ ys) → has z ys ≡ true → slice_cmp nat_cmp x z ≡ Less
 head_before x z ys up h = before_each x z ys (sorted_head (slice_cmp nat_cmp) x ys up) h

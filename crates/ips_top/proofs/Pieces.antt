@@ -3,7 +3,7 @@ use Rattle.std.proofs.Common.{◌≡◌, ℕ, ◌+◌, List, [], ◌∷◌, ◌+
 use Rattle.std.specs.List.{flat_map}
 use Rattle.std.proofs.lemmas.List.{append-nil, take-append-drop}
 use Rattle.std.proofs.lemmas.Grind.{flat_map-append}
-use Rattle.ips_top.proofs.Fronts.{front_more}
+use Rattle.ips_install.proofs.Places.{front_more}
 
 module _ {X : Type 0} (f : X → List ℕ) (xs : List X) (i : ℕ) where
   -- one piece more

@@ -3,9 +3,10 @@ use Rattle.std.proofs.Common.{◌≡◌, ℕ, zero, suc, ◌+◌, ◌<◌, List,
 use Rattle.std.proofs.lemmas.Option.{none-some, same_Some}
 use Rattle.std.proofs.lemmas.List.{append-nil, append_assoc, length-map}
 use Rattle.ips_problem.specs.Posed.{Offer, Row, count_at, version_at, version_of}
-use Rattle.ips_top.proofs.Fronts.{map_more, front_more}
+use Rattle.ips_top.proofs.Fronts.{map_more}
 use Rattle.ips_top.specs.Unsolved.{Tried, offered, offered_in, seen_tried, tried_rows, tried_text, tried_texts}
 use Rattle.ips_top.specs.declared.unsolved.Tried as declared
+use Rattle.ips_install.proofs.Places.{front_more}
 
 -- ---- stems
 

@@ -57,10 +57,6 @@ placed_reads text (Err stop) p is = cc
 pub placed_fails : (text : List ℕ) (read : Result Pattern (Stop Part)) (p : Pattern) (e : FmriFault) → placed text read ≡ Err e → read ≡ Ok p → ⊥
 placed_fails text read p e is reads = let good = sym (ap (placed text) reads) ∙ is in cc
 
-pub if_none : {X : Type 0} (o : Option X) (P : Type 0) → P → IfNone o P
-if_none None P p = p
-if_none (Some x) P p = tt
-
 -- ---- five words, and more
 
 -- a list of five or more, of which three were looked at

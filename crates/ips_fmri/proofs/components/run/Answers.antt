@@ -1,8 +1,8 @@
 use Rattle.std.proofs.Common.{◌≡◌, true, take, length, refl, sym, subst, ◌∙◌, inl, inr, arith, ℕ}
 use Rattle.std.specs.List.{list_all}
 use Rattle.ips_fmri.specs.Name as name
-use Rattle.ips_fmri.proofs.Stems.{run_at}
 use Rattle.ips_fmri.proofs.components.run.Goals as goal
+use Rattle.ips_text.proofs.Runs.{run_at}
 
 pub returns-then-not-may_go_on-clause-run : goal.returns-then-not-may_go_on-clause-run
 returns-then-not-may_go_on-clause-run c = run_at (name.may_go_on c.args.wild) c.args.bytes.now c.loop-i.i (omega arith) c.loop-i.invariant (inr (sym c.may_go_on.ensures ∙ c.if-not-may_go_on.true))

@@ -3,8 +3,9 @@ use Rattle.std.proofs.lemmas.Result.{err_from_is_err_and}
 use Rattle.ips_line.specs.Reading.{attribute_at}
 use Rattle.ips_line.specs.Seen.{seen_attribute}
 use Rattle.ips_line.proofs.Listed.{attribute_shorter}
-use Rattle.ips_line.proofs.Gathered.{is_some, gather_on, gather_end, gather_fails, seen_ok, seen_fails}
+use Rattle.ips_line.proofs.Gathered.{is_some, gather_on, gather_end, gather_fails, seen_fails}
 use Rattle.ips_line.proofs.attributes.pairs.Goals as goal
+use Rattle.ips_text.proofs.Readers.{seen_ok}
 
 pub returns-in_err-attribute : goal.returns-in_err-attribute
 returns-in_err-attribute c =

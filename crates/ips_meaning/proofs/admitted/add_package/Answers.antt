@@ -4,9 +4,10 @@ use Rattle.ips_filter.specs.Admitted.{Admits}
 use Rattle.ips_manifest.specs.declared.line.Line.{Line}
 use Rattle.ips_conflict.specs.declared.placed.Placed.{Placed}
 use Rattle.ips_meaning.specs.Leaving.{LeavesMore}
-use Rattle.ips_meaning.proofs.Left.{placed_by, map_item, more_with, more_without}
+use Rattle.ips_meaning.proofs.Left.{placed_by, more_with, more_without}
 use Rattle.ips_meaning.proofs.admitted.add_package.Goals as goal
 use Rattle.ips_meaning.proofs.admitted.add_package.Goals.{then-admits+in_ok-item+in_ok-push, else-admits}
+use Rattle.ips_text.proofs.Lists.{map_item}
 
 pub loop-line-preserved : goal.loop-line-preserved
 loop-line-preserved c =

@@ -2,8 +2,9 @@ use Rattle.std.proofs.Common.{◌<◌, List, take, length, sym, subst, arith}
 use Rattle.ips_filter.specs.Admitted.{Admits}
 use Rattle.ips_conflict.specs.declared.placed.Placed.{Placed}
 use Rattle.ips_meaning.specs.Taken.{Leaves, placed_of, all_placed}
-use Rattle.ips_meaning.proofs.Left.{flat_item, left_more}
+use Rattle.ips_meaning.proofs.Left.{left_more}
 use Rattle.ips_meaning.proofs.admitted.admitted.Goals as goal
+use Rattle.ips_text.proofs.Lists.{flat_item}
 
 pub loop-pkg-preserved : goal.loop-pkg-preserved
 loop-pkg-preserved c =

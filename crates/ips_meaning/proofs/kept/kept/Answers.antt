@@ -2,10 +2,11 @@ use Rattle.std.proofs.Common.{◌∙◌, ◌<◌, ◌∷◌, ◌++◌, [], List,
 use Rattle.std.proofs.lemmas.Bool.{true≢false}
 use Rattle.ips_conflict.specs.declared.placed.Placed.{Placed}
 use Rattle.ips_meaning.specs.Taken.{Leaves, Stays}
-use Rattle.ips_meaning.proofs.Left.{take_item, left_with, left_without}
+use Rattle.ips_meaning.proofs.Left.{left_with, left_without}
 use Rattle.ips_meaning.proofs.Offered.{is_there, stays_by}
 use Rattle.ips_meaning.proofs.kept.kept.Goals as goal
 use Rattle.ips_meaning.proofs.kept.kept.Goals.{then-branch+in_ok-copy+in_ok-push, else-branch}
+use Rattle.ips_text.proofs.Lists.{take_item}
 
 pub is_of_best-requires-clause-there : goal.is_of_best-requires-clause-there
 is_of_best-requires-clause-there c = is_there c.args.admitted.now c.in_ok-links.links c.loop-item.item-index c.item-item.result c.in_ok-links.ensures (omega arith) c.item-item.is

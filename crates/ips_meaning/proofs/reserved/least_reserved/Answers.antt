@@ -4,10 +4,10 @@ use Rattle.std.proofs.lemmas.List.{take_all}
 use Rattle.ips_text.specs.Path.{IsPath}
 use Rattle.ips_conflict.specs.declared.placed.Placed.{Placed}
 use Rattle.ips_meaning.specs.Reserved.{IsFreeOfReserved}
-use Rattle.ips_meaning.proofs.Left.{take_item}
 use Rattle.ips_meaning.proofs.Least.{LeastTo, least_more, least_same}
 use Rattle.ips_meaning.proofs.reserved.least_reserved.Goals as goal
 use Rattle.ips_meaning.proofs.reserved.least_reserved.Goals.{in-Some, in_default}
+use Rattle.ips_text.proofs.Lists.{take_item}
 
 pub loop-item-preserved : goal.loop-item-preserved
 loop-item-preserved c =

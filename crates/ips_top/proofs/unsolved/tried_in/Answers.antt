@@ -1,9 +1,10 @@
 use Rattle.std.proofs.Common.{◌≡◌, ◌∷◌, ◌++◌, [], List, map, take, take_all, slice_get, sym, ◌∙◌, ap, arith}
-use Rattle.ips_top.proofs.Fronts.{map_more, front_more}
+use Rattle.ips_top.proofs.Fronts.{map_more}
 use Rattle.ips_problem.specs.Held.{posed_of}
 use Rattle.ips_top.specs.Unsolved.{Tried, seen_tried, tried_rows}
 use Rattle.ips_top.proofs.Trying.{tried_at, tried_there, as_many_tried}
 use Rattle.ips_top.proofs.unsolved.tried_in.Goals as goal
+use Rattle.ips_install.proofs.Places.{front_more}
 
 pub loop-stem-preserved : goal.loop-stem-preserved
 loop-stem-preserved c =

@@ -1,10 +1,10 @@
 use Rattle.std.proofs.Common.{◌∷◌, ◌++◌, [], List, Option, Some, slice_get, sym, ◌∙◌, ap, arith}
 use Rattle.ips_fmri.specs.Version.{Parts}
-use Rattle.ips_top.proofs.Fronts.{front_more}
 use Rattle.ips_problem.specs.Held.{posed_of}
 use Rattle.ips_top.specs.Unsolved.{offered_in}
 use Rattle.ips_top.proofs.Trying.{candidate_there}
 use Rattle.ips_top.proofs.unsolved.tried_of.Goals as goal
+use Rattle.ips_install.proofs.Places.{front_more}
 
 pub loop-candidate-preserved : goal.loop-candidate-preserved
 loop-candidate-preserved c =

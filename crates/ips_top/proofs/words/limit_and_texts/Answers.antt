@@ -1,8 +1,9 @@
 use Rattle.std.proofs.Common.{map, string_bytes, ◌∙◌, ap}
 use Rattle.std.proofs.lemmas.List.{length-map}
 use lib.Chars.{codes}
-use Rattle.ips_top.proofs.Wording.{found_to_be, if_none, no_digits}
+use Rattle.ips_top.proofs.Wording.{found_to_be, no_digits}
 use Rattle.ips_top.proofs.words.limit_and_texts.Goals as goal
+use Rattle.ips_meaning.proofs.Halved.{if_none}
 
 pub returns-in_err-digits-clause-none : goal.returns-in_err-digits-clause-none
 returns-in_err-digits-clause-none c =

@@ -1,10 +1,11 @@
 use Rattle.std.proofs.Common.{◌≡◌, ◌+◌, ◌∷◌, ◌++◌, [], List, ℕ, length, map, option_map, slice_get, string_bytes, take, true, Some, refl, sym, ◌∙◌, ap, subst}
 use Rattle.std.proofs.lemmas.Option.{slice_get_read, slice_get-map}
 use Rattle.ips_fmri.specs.Reading.{read_name}
-use Rattle.ips_top.proofs.Fronts.{map_more, front_more}
+use Rattle.ips_top.proofs.Fronts.{map_more}
 use Rattle.ips_top.specs.Request.{AreRead}
 use Rattle.ips_top.proofs.Wording.{read_more, read_there, placed_reads, placed_fails}
 use Rattle.ips_top.proofs.words.patterns_of.Goals as goal
+use Rattle.ips_install.proofs.Places.{front_more}
 
 pub returns-in-Err-Bad : goal.returns-in-Err-Bad
 returns-in-Err-Bad c = λ patterns are.
