@@ -16,7 +16,7 @@ use std::marker::Model;
 /// An action of a package (pkg(7), "Actions"): one line of a manifest. It meets the table of actions: its attributes stand as
 /// often as the table says and have the values that it asks for. A path stands without the `/` before it. Attributes that the
 /// table doesn't know are kept.
-#[derive(Debug, Drop)]
+#[derive(Drop)]
 pub struct Action {
     /// What it is about.
     pub kind: ActionKind,

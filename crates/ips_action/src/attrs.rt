@@ -10,7 +10,7 @@ use std::alloc::{AllocError, Global};
 use std::marker::Model;
 
 /// The values of an attribute, in their order. Contracts see them as a list of texts.
-#[derive(Debug, Drop)]
+#[derive(Drop)]
 pub struct Values {
     items: Vec<Text>,
 }
@@ -65,7 +65,7 @@ fn copy_texts(alloc: Global, texts: &[Text]) -> Result<Vec<Text>, AllocError>
 }
 
 /// An attribute of an action: a key and its values.
-#[derive(Debug, Drop)]
+#[derive(Drop)]
 pub struct Attr {
     /// The key.
     pub key: Text,
@@ -87,7 +87,7 @@ impl Attr {
 
 /// The attributes of an action by the bytes of their keys: each key once, with at least one value. Contracts see them as a
 /// list.
-#[derive(Debug, Drop)]
+#[derive(Drop)]
 pub struct Attrs {
     list: Vec<Attr>,
 }

@@ -7,7 +7,7 @@ use crate::check::Check;
 use crate::kind::ActionKind;
 
 /// How often an attribute may stand in an action.
-#[derive(Clone, Copy, Debug, PartialEq, Eq, Drop)]
+#[derive(Clone, Copy, PartialEq, Eq, Drop)]
 pub enum Times {
     /// Exactly once.
     Once,
@@ -21,7 +21,7 @@ pub enum Times {
 
 /// A row of the table: an attribute, how often it may stand, and what each of its values must be. The row whose check is
 /// `Check::Payload` is about the payload of the action and no attribute.
-#[derive(Clone, Copy, Debug, Drop)]
+#[derive(Clone, Copy, Drop)]
 pub struct Row<'a> {
     /// The key of the attribute.
     pub name: &'a str,

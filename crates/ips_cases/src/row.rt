@@ -4,7 +4,7 @@ ghost use Rattle.std.specs.Prelude.{◌≡◌, ◌<◌, ℕ, slice_index};
 ghost use Rattle.ips_cases.specs.Cases.{has, meets};
 
 /// A row of a table. It meets a key where bit `key[i]` of `sets[i]` is set at each of the four places.
-#[derive(Clone, Copy, Debug, PartialEq, Eq)]
+#[derive(Clone, Copy, PartialEq, Eq)]
 pub struct Row {
     pub sets: [u32; 4],
     pub value: u8,

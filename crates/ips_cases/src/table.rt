@@ -9,7 +9,7 @@ use crate::row::Row;
 use std::marker::Model;
 
 /// A table of `N` rows in which each key below the sizes is met by just one row. It is seen as its rows and sizes.
-#[derive(Clone, Copy, Debug)]
+#[derive(Clone, Copy)]
 pub struct Cases<const N: usize> {
     rows: [Row; N],
     sizes: [u8; 4],

@@ -24,7 +24,7 @@ use std::marker::Model;
 
 /// The packages of a publisher with their versions (the `catalog.base.C` of a version 4 repository, pkgrepo(1)). Contracts see
 /// the list of its packages, by the bytes of their stems, each with its versions ascending.
-#[derive(Debug, Drop)]
+#[derive(Drop)]
 pub struct Catalog {
     packages: Vec<Listing>,
     count: usize,

@@ -17,7 +17,7 @@ use serde_json::{Map, Value};
 use std::alloc::Global;
 
 /// A package of a catalog.
-#[derive(Debug, Drop)]
+#[derive(Drop)]
 pub struct Listing {
     pub(crate) stem: Text,
     pub(crate) versions: Vec<Version>,

@@ -53,7 +53,7 @@ impl Rule {
 
 /// A clash: its key, and the names of the two actions, each a package's stem, a colon and a line, or `image:0` for what the
 /// image itself keeps.
-#[derive(Debug, Drop)]
+#[derive(Drop)]
 pub struct Clash {
     /// The key: a path, the name of what is added, or a package and the name of its license.
     pub key: Text,

@@ -11,7 +11,7 @@ use std::alloc::{AllocError, Global};
 use std::cmp::Ordering;
 
 /// An action in its place: the package that delivers it, and its line there.
-#[derive(Debug, Drop)]
+#[derive(Drop)]
 pub struct Placed {
     /// The package's stem.
     pub stem: Text,

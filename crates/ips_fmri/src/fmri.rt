@@ -17,7 +17,7 @@ use std::alloc::{AllocError, Global};
 
 /// The name of a package, a fault management resource identifier: `pkg://publisher/stem@version`, `pkg:/stem@version` or
 /// `stem@version`, where the part from `@` may be absent (pkg(7)).
-#[derive(Debug, Drop)]
+#[derive(Drop)]
 pub struct Fmri {
     /// Who publishes the package: one component.
     pub publisher: Option<Text>,

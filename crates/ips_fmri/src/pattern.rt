@@ -21,7 +21,7 @@ use ips_text::{Or, Text};
 use std::alloc::{AllocError, Global};
 
 /// A pattern: an FMRI in whose stem the wildcards `*` and `?` may stand.
-#[derive(Debug, Drop)]
+#[derive(Drop)]
 pub struct Pattern {
     /// The publisher whose packages it names.
     pub publisher: Option<Text>,

@@ -15,7 +15,7 @@ pub enum WordFault {
 }
 
 /// What is being read.
-#[derive(Clone, Copy, Debug, PartialEq, Eq, Drop)]
+#[derive(Clone, Copy, PartialEq, Eq, Drop)]
 pub enum Part {
     /// A word.
     Word,

@@ -16,7 +16,7 @@ use ips_text::{Or, Stop, Text};
 use std::alloc::Global;
 
 /// A word that is borrowed from a line.
-#[derive(Clone, Copy, Debug, PartialEq, Eq, Drop)]
+#[derive(Clone, Copy, PartialEq, Eq, Drop)]
 pub struct Word<'a> {
     /// Its text.
     pub text: &'a str,
@@ -25,7 +25,7 @@ pub struct Word<'a> {
 }
 
 /// A `key=value`.
-#[derive(Debug, PartialEq, Eq, Drop)]
+#[derive(PartialEq, Eq, Drop)]
 pub struct Pair {
     /// One or more characters other than blank, tab, `=`, `"` and `'`.
     pub key: Text,
@@ -34,7 +34,7 @@ pub struct Pair {
 }
 
 /// What a line says.
-#[derive(Debug, Drop)]
+#[derive(Drop)]
 pub struct Words<'a> {
     /// The first word: any characters up to a blank or tab.
     pub name: Word<'a>,

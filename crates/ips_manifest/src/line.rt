@@ -15,7 +15,7 @@ use ips_text::Or;
 use std::alloc::{AllocError, Global};
 
 /// An action of a manifest, and where it stands.
-#[derive(Debug, Drop)]
+#[derive(Drop)]
 pub struct Line {
     /// The number of the first physical line on which it stands, from 1.
     pub number: u64,

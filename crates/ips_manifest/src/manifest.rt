@@ -16,7 +16,7 @@ use ips_text::{Or, Text};
 use std::alloc::{AllocError, Global};
 
 /// What a package consists of (pkg(7)): its actions, in the order in which they stand.
-#[derive(Debug, Drop)]
+#[derive(Drop)]
 pub struct Manifest {
     /// The actions, each with the number of its line.
     pub lines: Vec<Line>,

@@ -9,7 +9,7 @@ use ips_text::Text;
 use std::alloc::{AllocError, Global};
 
 /// A package (pkg(7)): its name, its version, and what it consists of.
-#[derive(Debug, Drop)]
+#[derive(Drop)]
 pub struct Package {
     /// The name, a stem.
     pub stem: Text,

@@ -5,7 +5,7 @@ use ips_digest::PayloadName;
 use ips_text::{RelPath, Text};
 
 /// What an image should hold at a path (pkg(7), "Actions").
-#[derive(Debug, Drop)]
+#[derive(Drop)]
 pub enum Entry {
     /// A directory.
     Dir {

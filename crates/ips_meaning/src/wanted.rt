@@ -25,13 +25,13 @@ use std::marker::Model;
 
 /// What an image should hold: an entry for each wanted path. Contracts see it as the list of the paths' bytes and their
 /// entries.
-#[derive(Debug, Drop)]
+#[derive(Drop)]
 pub struct Want {
     entries: Vec<Wanted>,
 }
 
 /// An entry and the path at which it is wanted.
-#[derive(Debug, Drop)]
+#[derive(Drop)]
 pub(crate) struct Wanted {
     path: RelPath,
     entry: Entry,

@@ -8,7 +8,7 @@ use std::alloc::{AllocError, Global};
 
 /// What is set of a mediator (pkg(1), `set-mediator`): the version and the implementation that its links are to have. One that
 /// isn't set is free.
-#[derive(Debug, Drop)]
+#[derive(Drop)]
 pub struct SetMediator {
     /// The name of the mediator.
     pub name: Text,

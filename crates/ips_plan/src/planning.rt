@@ -24,7 +24,7 @@ use ips_text::{Or, RelPath};
 use std::alloc::{AllocError, Global};
 
 /// What is to be done to an image, and the payloads that are the contents of files, by their numbers.
-#[derive(Debug, Drop)]
+#[derive(Drop)]
 pub struct Planned {
     /// The steps: directories, files and symbolic links by the bytes of their paths, then hard links.
     pub steps: Vec<Step>,

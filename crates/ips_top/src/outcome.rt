@@ -20,7 +20,7 @@ pub enum Why {
 
 /// What a run did or why it refused. Every variant but `Done`, `SourceFault` and an unfinished `FolderFault` leaves
 /// the image as it was, as long as the repository doesn't change while it is read.
-#[derive(Debug, Drop)]
+#[derive(Drop)]
 pub enum Outcome {
     /// The words are no command; the place counts them from 0.
     Usage {
@@ -116,7 +116,7 @@ impl From<AllocError> for Outcome {
 }
 
 /// How a run ended.
-#[derive(Debug, Drop)]
+#[derive(Drop)]
 pub struct Status {
     pub outcome: Outcome,
     /// Whether the report was written whole.

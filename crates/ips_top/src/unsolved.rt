@@ -14,7 +14,7 @@ use ips_text::Text;
 use std::alloc::{AllocError, Global};
 
 /// A stem in reach, and what was tried of it.
-#[derive(Debug, Drop)]
+#[derive(Drop)]
 pub struct Tried {
     /// The stem.
     pub stem: Text,
@@ -24,7 +24,7 @@ pub struct Tried {
 
 /// What is told where no selection is admissible, with its report: the memory of a report so long is taken where the outcome is
 /// found, so that telling it takes none.
-#[derive(Debug, Drop)]
+#[derive(Drop)]
 pub struct Unsolved {
     /// The stems in reach, in order.
     pub stems: Vec<Tried>,
