@@ -22,3 +22,11 @@ InOrder m = IsOrdered string_cmp m
 -- the pattern that was found, and its value
 abbrev pub found_pattern : Option (Bor (List ℕ) × Bool) → Option (List ℕ × Bool)
 found_pattern found = option_map (λ x. (x.0.now, x.1)) found
+
+-- names and values that were lent, as they are
+abbrev pub named : List (Bor (List ℕ) × Bor (List ℕ)) → List (List ℕ × List ℕ)
+named all = map (λ x. (x.0.now, x.1.now)) all
+
+-- patterns that were lent, and their values, as they are
+abbrev pub switched : List (Bor (List ℕ) × Bool) → List (List ℕ × Bool)
+switched all = map (λ x. (x.0.now, x.1)) all

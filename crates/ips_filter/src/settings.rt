@@ -3,7 +3,7 @@
 ghost use Rattle.std.specs.Prelude.{◌≡◌, ◌↔◌, [], ◌≤◌, length, IsTrue, Some, None, IfOk, IfNone, IfSome, OnOk, OnErr, slice_get};
 ghost use Rattle.ips_filter.specs.Settings.{IsSet, Sets, AreByName, variant_value};
 ghost use Rattle.ips_filter.specs.Facet.{HasFacet, IsLongerMatch};
-ghost use Rattle.ips_filter.specs.View.{found_pattern};
+ghost use Rattle.ips_filter.specs.View.{found_pattern, named, switched};
 
 use ips_fmri::matches_stars;
 use std::alloc::{AllocError, Global};
@@ -109,6 +109,30 @@ impl Settings {
             Some((_, on)) => on,
             None => true,
         }
+    }
+
+    /// The variants that are set, by the bytes of their names, in one walk: the name and the value of each.
+    pub fn variants(&self, alloc: Global) -> Result<Vec<(&str, &str)>, AllocError>
+        ensures each { IfOk result (λ all. named all.items ≡ self.now.variants) }
+        ensures ascend { AreByName self.now.variants }
+    {
+        let mut all = Vec::new(alloc);
+        for (name, value) in self.variants.iter() {
+            all.push((name.as_str(), value.as_str()))?;
+        }
+        Ok(all)
+    }
+
+    /// The facets that are set, by the bytes of their patterns, in one walk: the pattern and the value of each.
+    pub fn facets(&self, alloc: Global) -> Result<Vec<(&str, bool)>, AllocError>
+        ensures each { IfOk result (λ all. switched all.items ≡ self.now.facets) }
+        ensures ascend { AreByName self.now.facets }
+    {
+        let mut all = Vec::new(alloc);
+        for (pattern, on) in self.facets.iter() {
+            all.push((pattern.as_str(), *on))?;
+        }
+        Ok(all)
     }
 
     /// The variants that are set, by the bytes of their names: the name and the value of the one at this place. None exactly

@@ -4,7 +4,7 @@ use ips_conflict::Clash;
 use ips_text::RelPath;
 
 /// Why packages mean no image.
-#[derive(Debug, Drop)]
+#[derive(Drop)]
 pub enum WantFault {
     /// An action gives a path where the image keeps its own records.
     Reserved {
