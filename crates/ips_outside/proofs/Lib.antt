@@ -1,4 +1,5 @@
 pub mod Faults
+pub mod Reading
 pub mod Looks
 pub mod Agree
 pub mod Images
@@ -13,3 +14,4 @@ pub mod Children
 pub mod Cuts
 pub mod Copies
 pub mod Tallies
+pub mod Spawns
