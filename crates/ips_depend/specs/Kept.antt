@@ -6,7 +6,7 @@ use Rattle.ips_depend.specs.declared.dependency_type.DependencyType.{DependencyT
 use Rattle.ips_depend.specs.declared.dependency_type.DependencyType.TheVariants as of_type
 use Rattle.ips_depend.specs.declared.dependency.Kept.{Kept}
 use Rattle.ips_depend.specs.declared.dependency.Kept.TheVariants as kept
-use Rattle.ips_depend.specs.Dependency.{Dependency, Require, Optional, Incorporate, Exclude, Conditional, RequireAny, Group, Parent}
+use Rattle.ips_depend.specs.Dependency.{Dependency, Require, Optional, Incorporate, Exclude, Conditional, RequireAny, Group, GroupAny, Parent, Origin}
 
 -- The conditional dependency of two FMRIs; no other number of them is ever kept.
 abbrev pub conditional_of : List Fmri → Dependency
@@ -24,7 +24,9 @@ dependency_of (kept.Exclude f) = Exclude f
 dependency_of (kept.Conditional fs) = conditional_of fs
 dependency_of (kept.RequireAny fs) = RequireAny fs.items
 dependency_of (kept.Group f) = Group f
+dependency_of (kept.GroupAny fs) = GroupAny fs.items
 dependency_of (kept.Parent fs) = Parent fs.items
+dependency_of (kept.Origin rooted f) = Origin rooted f
 
 -- The FMRI, where there is just one.
 abbrev pub sole_of : List Fmri → Option Fmri
@@ -41,7 +43,9 @@ is_conditional of_type.Exclude = false
 is_conditional of_type.Conditional = true
 is_conditional of_type.RequireAny = false
 is_conditional of_type.Group = false
+is_conditional of_type.GroupAny = false
 is_conditional of_type.Parent = false
+is_conditional of_type.Origin = false
 
 -- The conditional dependency of a predicate and an FMRI, where both are there.
 abbrev pub conditional_made : Option Fmri → Option Fmri → Option Dependency
@@ -49,22 +53,24 @@ conditional_made None f = None
 conditional_made (Some p) None = None
 conditional_made (Some p) (Some f) = Some (Conditional p f)
 
--- The dependency of this type without predicate that is about these FMRIs, where there is one.
-abbrev pub plain_made : DependencyType → List Fmri → Option Dependency
-plain_made of_type.Require fs = option_map Require (sole_of fs)
-plain_made of_type.Optional fs = option_map Optional (sole_of fs)
-plain_made of_type.Incorporate fs = option_map Incorporate (sole_of fs)
-plain_made of_type.Exclude fs = option_map Exclude (sole_of fs)
-plain_made of_type.Conditional fs = None
-plain_made of_type.RequireAny fs = Some (RequireAny fs)
-plain_made of_type.Group fs = option_map Group (sole_of fs)
-plain_made of_type.Parent fs = Some (Parent fs)
+-- The dependency of this type without predicate that is about these FMRIs, where there is one; one of type origin is so marked.
+abbrev pub plain_made : Bool → DependencyType → List Fmri → Option Dependency
+plain_made rooted of_type.Require fs = option_map Require (sole_of fs)
+plain_made rooted of_type.Optional fs = option_map Optional (sole_of fs)
+plain_made rooted of_type.Incorporate fs = option_map Incorporate (sole_of fs)
+plain_made rooted of_type.Exclude fs = option_map Exclude (sole_of fs)
+plain_made rooted of_type.Conditional fs = None
+plain_made rooted of_type.RequireAny fs = Some (RequireAny fs)
+plain_made rooted of_type.Group fs = option_map Group (sole_of fs)
+plain_made rooted of_type.GroupAny fs = Some (GroupAny fs)
+plain_made rooted of_type.Parent fs = Some (Parent fs)
+plain_made rooted of_type.Origin fs = option_map (Origin rooted) (sole_of fs)
 
 -- The same, of any type but `conditional`: where there is a predicate, there is none.
-abbrev pub unpredicated_made : DependencyType → List Fmri → List Fmri → Option Dependency
-unpredicated_made t [] fs = plain_made t fs
-unpredicated_made t (p ∷ ps) fs = None
+abbrev pub unpredicated_made : Bool → DependencyType → List Fmri → List Fmri → Option Dependency
+unpredicated_made rooted t [] fs = plain_made rooted t fs
+unpredicated_made rooted t (p ∷ ps) fs = None
 
--- The dependency of this type with these predicates that is about these FMRIs, where there is one.
-abbrev pub made_of : DependencyType → List Fmri → List Fmri → Option Dependency
-made_of t ps fs = if is_conditional t then conditional_made (sole_of ps) (sole_of fs) else unpredicated_made t ps fs
+-- The dependency of this type with these predicates that is about these FMRIs, where there is one; one of type origin is so marked.
+abbrev pub made_of : Bool → DependencyType → List Fmri → List Fmri → Option Dependency
+made_of rooted t ps fs = if is_conditional t then conditional_made (sole_of ps) (sole_of fs) else unpredicated_made rooted t ps fs

@@ -1,5 +1,5 @@
--- What dependencies are judged against: the selected packages, and the stems that are spared.
-use Rattle.std.specs.Prelude.{ℕ, Bool, false, List, Option, Some, None, is_some, is_none}
+-- What dependencies are judged against: the selected packages, those that were selected before, and the stems that are spared.
+use Rattle.std.specs.Prelude.{ℕ, Bool, false, List, Option, Some, None, is_some, is_none, ◌||◌}
 use Rattle.ips_fmri.specs.Version.{Parts}
 use Rattle.ips_fmri.specs.declared.fmri.Fmri.{Fmri}
 use Rattle.ips_depend.specs.Matching.{reaches, admits}
@@ -32,3 +32,7 @@ is_present s f = is_some_that (reaches f.version) (s f.stem)
 -- The FMRI's stem is selected, at a version that incorporates the FMRI's where it has one.
 abbrev pub is_within : Selection → Fmri → Bool
 is_within s f = is_some_that (admits f.version) (s f.stem)
+
+-- The old selection has no version of the FMRI's stem, or one that is at least the FMRI's where it has one.
+abbrev pub is_reached : Selection → Fmri → Bool
+is_reached old f = is_absent old f || is_present old f

@@ -19,7 +19,12 @@ pub fn copy_kept(alloc: Global, kept: &Kept) -> Result<Kept, AllocError>
         Kept::Conditional(both) => copy_conditional(alloc, both),
         Kept::RequireAny(fmris) => Ok(Kept::RequireAny(copy_fmris(alloc, fmris)?)),
         Kept::Group(fmri) => Ok(Kept::Group(fmri.copy(alloc)?)),
+        Kept::GroupAny(fmris) => Ok(Kept::GroupAny(copy_fmris(alloc, fmris)?)),
         Kept::Parent(fmris) => Ok(Kept::Parent(copy_fmris(alloc, fmris)?)),
+        Kept::Origin { rooted, fmri } => Ok(Kept::Origin {
+            rooted: *rooted,
+            fmri: fmri.copy(alloc)?,
+        }),
     }
 }
 

@@ -4,7 +4,7 @@ ghost use Rattle.std.specs.Prelude.{◌≡◌, ◌++◌, IfOk, List, length};
 ghost use Rattle.std.specs.Option.{option_map};
 ghost use Rattle.ips_fmri.specs.declared.fmri.Fmri as declared;
 ghost use Rattle.ips_depend.specs.Dependency as dependency;
-ghost use Rattle.ips_depend.specs.Dependency.{group_of, wanted};
+ghost use Rattle.ips_depend.specs.Dependency.{grouped, wanted};
 ghost use Rattle.ips_depend.specs.Holds as judged;
 ghost use Rattle.ips_depend.specs.Kept.{conditional_made, conditional_of, dependency_of, made_of, plain_made, sole_of};
 
@@ -28,7 +28,13 @@ pub enum Kept {
     Conditional([Fmri; 2]),
     RequireAny(Vec<Fmri>),
     Group(Fmri),
+    GroupAny(Vec<Fmri>),
     Parent(Vec<Fmri>),
+    Origin {
+        /// It is on the image that the system runs from.
+        rooted: bool,
+        fmri: Fmri,
+    },
 }
 
 /// A dependency of a package (pkg(7), "Depend Actions"): a test on a selection. Contracts see its type and the FMRIs that it
@@ -50,14 +56,16 @@ impl Model for Test {
 
 impl Test {
     /// The test of this type with these predicates that is about these FMRIs; None where the type doesn't take so many of them.
+    /// One of type `origin` is on the image that the system runs from, where it is `rooted`.
     pub(crate) fn new(
         of_type: DependencyType,
+        rooted: bool,
         predicates: Vec<Fmri>,
         fmris: Vec<Fmri>,
     ) -> Option<Test>
-        ensures { result ≡ made_of of_type predicates.items fmris.items }
+        ensures { result ≡ made_of rooted of_type predicates.items fmris.items }
     {
-        let kept = keep(of_type, predicates, fmris)?;
+        let kept = keep(of_type, rooted, predicates, fmris)?;
         Some(Test { kept })
     }
 
@@ -80,14 +88,18 @@ impl Test {
     /// - `conditional`: the predicate isn't present, or the FMRI is.
     /// - `require-any`: one of the FMRIs is present.
     /// - `group`: its stem is selected, at any version, or is spared.
+    /// - `group-any`: one of the FMRIs is present, or the stems of all of them are spared.
     /// - `parent`: always.
+    /// - `origin`: it is on the image that the system runs from, or the old selection has no version of its stem, or one at least
+    ///   its own where it has one.
     pub fn holds<V: View>(&self, view: &V) -> bool
-        ensures { result ≡ judged.holds (V.selection view.now) (V.spares view.now) self.now }
+        ensures { result ≡ judged.holds (V.selection view.now) (V.old_selection view.now) (V.spares view.now) self.now }
     {
         holds(&self.kept, view)
     }
 
-    /// The FMRIs that it mentions: its predicate first, where it has one, and then those that it is about.
+    /// The FMRIs that it mentions: its predicate first, where it has one, and then those that it is about. One of type `origin`
+    /// mentions none.
     pub fn mentions(&self) -> &[Fmri]
         ensures { result.now ≡ dependency.mentions self.now }
     {
@@ -103,9 +115,10 @@ impl Test {
         wants(&self.kept)
     }
 
-    /// What it names, where it is of type `group`: a stem that goes to the avoid list where it is absent.
-    pub fn group(&self) -> Option<&Fmri>
-        ensures { option_map (λ f. f.now) result ≡ group_of self.now }
+    /// The FMRIs that it names, where it is of type `group` or `group-any`: where none of them is present, those of their stems
+    /// that are absent go to the avoid list.
+    pub fn group(&self) -> &[Fmri]
+        ensures { result.now ≡ grouped self.now }
     {
         group(&self.kept)
     }
@@ -122,7 +135,9 @@ fn mentions(kept: &Kept) -> &[Fmri]
         Kept::Conditional(both) => both.as_slice(),
         Kept::RequireAny(fmris) => fmris.as_slice(),
         Kept::Group(fmri) => slice::from_ref(fmri),
+        Kept::GroupAny(fmris) => fmris.as_slice(),
         Kept::Parent(fmris) => fmris.as_slice(),
+        Kept::Origin { .. } => &[],
     }
 }
 
@@ -137,7 +152,9 @@ fn wants(kept: &Kept) -> usize
         Kept::Conditional(both) => wants_last(both),
         Kept::RequireAny(fmris) => fmris.len(),
         Kept::Group(_) => 1,
+        Kept::GroupAny(fmris) => fmris.len(),
         Kept::Parent(_) => 0,
+        Kept::Origin { .. } => 0,
     }
 }
 
@@ -148,18 +165,33 @@ fn wants_last(both: &[Fmri; 2]) -> usize
     both.len() - 1
 }
 
-fn group(kept: &Kept) -> Option<&Fmri>
-    ensures { option_map (λ f. f.now) result ≡ group_of (dependency_of kept.now) }
+fn group(kept: &Kept) -> &[Fmri]
+    ensures { result.now ≡ grouped (dependency_of kept.now) }
 {
     match kept {
-        Kept::Group(fmri) => Some(fmri),
-        _ => None,
+        Kept::Group(fmri) => slice::from_ref(fmri),
+        Kept::GroupAny(fmris) => fmris.as_slice(),
+        Kept::Conditional(both) => ungrouped(both),
+        _ => &[],
     }
 }
 
+// A conditional dependency names nothing of that kind.
+fn ungrouped(both: &[Fmri; 2]) -> &[Fmri]
+    ensures { result.now ≡ grouped (conditional_of both.now) }
+{
+    let [_, _] = both;
+    &[]
+}
+
 // The dependency of this type with these predicates that is about these FMRIs.
-fn keep(of_type: DependencyType, predicates: Vec<Fmri>, fmris: Vec<Fmri>) -> Option<Kept>
-    ensures { option_map dependency_of result ≡ made_of of_type predicates.items fmris.items }
+fn keep(
+    of_type: DependencyType,
+    rooted: bool,
+    predicates: Vec<Fmri>,
+    fmris: Vec<Fmri>,
+) -> Option<Kept>
+    ensures { option_map dependency_of result ≡ made_of rooted of_type predicates.items fmris.items }
 {
     if of_type.is_conditional() {
         return keep_conditional(predicates, fmris);
@@ -167,7 +199,7 @@ fn keep(of_type: DependencyType, predicates: Vec<Fmri>, fmris: Vec<Fmri>) -> Opt
     if !predicates.is_empty() {
         return None;
     }
-    keep_plain(of_type, fmris)
+    keep_plain(of_type, rooted, fmris)
 }
 
 // The conditional dependency of one predicate and one FMRI.
@@ -180,8 +212,8 @@ fn keep_conditional(predicates: Vec<Fmri>, fmris: Vec<Fmri>) -> Option<Kept>
 }
 
 // The dependency of this type without predicate that is about these FMRIs.
-fn keep_plain(of_type: DependencyType, fmris: Vec<Fmri>) -> Option<Kept>
-    ensures { option_map dependency_of result ≡ plain_made of_type fmris.items }
+fn keep_plain(of_type: DependencyType, rooted: bool, fmris: Vec<Fmri>) -> Option<Kept>
+    ensures { option_map dependency_of result ≡ plain_made rooted of_type fmris.items }
 {
     match of_type {
         DependencyType::Require => Some(Kept::Require(sole(fmris)?)),
@@ -191,7 +223,12 @@ fn keep_plain(of_type: DependencyType, fmris: Vec<Fmri>) -> Option<Kept>
         DependencyType::Conditional => None,
         DependencyType::RequireAny => Some(Kept::RequireAny(fmris)),
         DependencyType::Group => Some(Kept::Group(sole(fmris)?)),
+        DependencyType::GroupAny => Some(Kept::GroupAny(fmris)),
         DependencyType::Parent => Some(Kept::Parent(fmris)),
+        DependencyType::Origin => Some(Kept::Origin {
+            rooted,
+            fmri: sole(fmris)?,
+        }),
     }
 }
 

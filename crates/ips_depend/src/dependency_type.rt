@@ -22,12 +22,16 @@ pub enum DependencyType {
     RequireAny,
     /// The package has to be there, unless it is spared.
     Group,
+    /// One of the packages has to be there, unless all of them are spared.
+    GroupAny,
     /// The package has to be in the parent image, which is no matter of this one.
     Parent,
+    /// The package has to have been new enough, where it was there before.
+    Origin,
 }
 
 impl DependencyType {
-    /// The type of this word; None where it is of no type that is known here, as `origin` and `group-any`.
+    /// The type of this word; None where it is of no type.
     pub fn named(word: &str) -> Option<DependencyType>
         ensures some { IfSome result (λ t. word.now ≡ type_name t) }
         ensures none { IfNone result ((t : declared.DependencyType) → word.now ≡ type_name t → ⊥) }
@@ -40,7 +44,9 @@ impl DependencyType {
             "conditional" => Some(DependencyType::Conditional),
             "require-any" => Some(DependencyType::RequireAny),
             "group" => Some(DependencyType::Group),
+            "group-any" => Some(DependencyType::GroupAny),
             "parent" => Some(DependencyType::Parent),
+            "origin" => Some(DependencyType::Origin),
             _ => None,
         }
     }

@@ -13,15 +13,15 @@ ghost use Rattle.ips_depend.specs.Matching.{is_at_least, is_incorporated};
 ghost use Rattle.ips_depend.specs.Selection.{Selection, Spared};
 
 /// The law that a dependency looks only at what it mentions: where two selections, and what is spared, agree at the stems that
-/// it mentions, it holds in both or in neither.
+/// it mentions, and the old selections agree, it holds in both or in neither.
 pub fn judged_by_mentions()
-    ensures { (d : Dependency) (s t : Selection) (spared saved : Spared) → Agree d s t spared saved → holds s spared d ≡ holds t saved d }
+    ensures { (d : Dependency) (s t old before : Selection) (spared saved : Spared) → Agree d s t old before spared saved → holds s old spared d ≡ holds t before saved d }
 {}
 
 /// The law that only wanted stems are drawn in: where of the stems that a dependency mentions only such become absent as it
 /// doesn't want, it isn't broken by that.
 pub fn only_wanted_drawn_in()
-    ensures { (d : Dependency) (smaller s : Selection) (spared : Spared) → DropsUnwanted d smaller s → holds s spared d ≡ true → holds smaller spared d ≡ true }
+    ensures { (d : Dependency) (smaller s old : Selection) (spared : Spared) → DropsUnwanted d smaller s → holds s old spared d ≡ true → holds smaller old spared d ≡ true }
 {}
 
 /// The law that lines ask for one list of dependencies at most.

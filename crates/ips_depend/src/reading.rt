@@ -2,6 +2,7 @@
 
 ghost use Rattle.std.specs.Prelude.{◌≡◌, ◌↔◌, IsTrue, IfOk, OnOk};
 ghost use Rattle.ips_text.specs.Reading.{IfBad};
+ghost use Rattle.ips_depend.specs.Asking as asking;
 ghost use Rattle.ips_depend.specs.Asking.{LinesAsk, IsJudged, IsBad, IsFirstBad};
 ghost use Rattle.ips_depend.specs.Read.{AreRead, HasAdded, IsAskedFor, IsTyped, Reads};
 
@@ -14,9 +15,9 @@ use ips_manifest::{Line, Manifest};
 use ips_text::{Or, Text};
 use std::alloc::{AllocError, Global};
 
-/// A `depend` action that the image takes is no dependency: its type is unknown, as `origin` and `group-any` are; it has more than
-/// one FMRI, and is neither `require-any` nor `parent`; it has no predicate and is `conditional`, or has one and isn't; or one of
-/// its texts is no FMRI.
+/// A `depend` action that the image takes is no dependency: its type is unknown; it has more than one FMRI, and is none of
+/// `require-any`, `group-any` and `parent`; it has no predicate and is `conditional`, or has one and isn't; or one of its texts is
+/// no FMRI.
 #[derive(Clone, Copy, Debug, PartialEq, Eq, Drop)]
 pub struct BadDepend {
     /// The number of the line of the manifest.
@@ -91,7 +92,8 @@ fn test_of(alloc: Global, attrs: &Attrs) -> Result<Option<Test>, AllocError>
     let Some(fmris) = read_fmris(alloc, attrs.values("fmri"))? else {
         return Ok(None);
     };
-    Ok(Test::new(of_type, predicates, fmris))
+    let rooted = marks_root(attrs.values("root-image"));
+    Ok(Test::new(of_type, rooted, predicates, fmris))
 }
 
 // The type that is the one value; None where there is no such value or type.
@@ -102,6 +104,13 @@ fn type_of(values: &[Text]) -> Option<DependencyType>
         [word] => DependencyType::named(word.as_str()),
         _ => None,
     }
+}
+
+// Whether the values mark a dependency as one on the image that the system runs from.
+fn marks_root(values: &[Text]) -> bool
+    ensures { result ≡ asking.marks_root values.now }
+{
+    values.iter().any(|value| value.as_str() == "true")
 }
 
 // The FMRIs that the texts are; None where one of them is none.

@@ -16,11 +16,11 @@ use Rattle.ips_action.proofs.One.{one_kind}
 use Rattle.ips_manifest.specs.declared.line.Line.{Line}
 use Rattle.ips_filter.specs.Settings.{Set}
 use Rattle.ips_depend.specs.declared.dependency_type.DependencyType.{DependencyType}
-use Rattle.ips_depend.specs.declared.dependency_type.DependencyType.TheVariants.{Require, Optional, Incorporate, Exclude, Conditional, RequireAny, Group, Parent}
+use Rattle.ips_depend.specs.declared.dependency_type.DependencyType.TheVariants.{Require, Optional, Incorporate, Exclude, Conditional, RequireAny, Group, GroupAny, Parent, Origin}
 use Rattle.ips_depend.specs.Dependency.{Dependency, type_name}
 use Rattle.ips_depend.specs.Kept.{made_of}
 use Rattle.ips_depend.specs.Read.{IsAskedFor}
-use Rattle.ips_depend.specs.Asking.{AreWritten, Asks, IsJudged, LineAsks, LinesAsk}
+use Rattle.ips_depend.specs.Asking.{AreWritten, Asks, IsJudged, LineAsks, LinesAsk, marks_root}
 use Rattle.ips_depend.proofs.Made.{asked_made, asked_untyped, asked_unpredicated, asked_unread}
 use Rattle.ips_grammar.proofs.Decided.{Decided, with_it, both, same_bytes, one_of}
 use Rattle.ips_grammar.proofs.Tags.{admits}
@@ -52,7 +52,7 @@ all_written (text ∷ texts) =
 -- ---- types
 
 abbrev types : List DependencyType
-types = Require ∷ Optional ∷ Incorporate ∷ Exclude ∷ Conditional ∷ RequireAny ∷ Group ∷ Parent ∷ []
+types = Require ∷ Optional ∷ Incorporate ∷ Exclude ∷ Conditional ∷ RequireAny ∷ Group ∷ GroupAny ∷ Parent ∷ Origin ∷ []
 
 type_stands : (P : DependencyType → Type 0) → AllByRecursion P types → (t : DependencyType) → P t
 type_stands P h Require = h.0
@@ -62,7 +62,9 @@ type_stands P h Exclude = h.1.1.1.0
 type_stands P h Conditional = h.1.1.1.1.0
 type_stands P h RequireAny = h.1.1.1.1.1.0
 type_stands P h Group = h.1.1.1.1.1.1.0
-type_stands P h Parent = h.1.1.1.1.1.1.1.0
+type_stands P h GroupAny = h.1.1.1.1.1.1.1.0
+type_stands P h Parent = h.1.1.1.1.1.1.1.1.0
+type_stands P h Origin = h.1.1.1.1.1.1.1.1.1.0
 
 same_word : (values : List (List ℕ)) (word : List ℕ) → Decided (values ≡ word ∷ [])
 same_word [] word = inr (λ e. absurd cc)
@@ -95,7 +97,9 @@ asked attrs = go (typed (values_of (codes "type") attrs)) (all_written (values_o
     go (inr none) ps os = asked_for attrs None (asked_untyped attrs (λ t e. none (t, e)))
     go (inl t) (inr none) os = asked_for attrs None (asked_unpredicated attrs (λ fs w. none (fs, w)))
     go (inl t) (inl ps) (inr none) = asked_for attrs None (asked_unread attrs (λ fs w. none (fs, w)))
-    go (inl t) (inl ps) (inl os) = asked_for attrs (made_of t.0 ps.0 os.0) (asked_made attrs t.0 ps.0 os.0 (made_of t.0 ps.0 os.0) t.1 ps.1 os.1 refl)
+    go (inl t) (inl ps) (inl os) =
+        let rooted = marks_root (values_of (codes "root-image") attrs) in
+        asked_for attrs (made_of rooted t.0 ps.0 os.0) (asked_made attrs rooted t.0 ps.0 os.0 (made_of rooted t.0 ps.0 os.0) refl t.1 ps.1 os.1 refl)
 
 -- ---- lines
 

@@ -9,7 +9,7 @@ use Rattle.ips_problem.specs.declared.problem.Problem.{Problem}
 use Rattle.ips_problem.specs.declared.rows.Numbered.{Numbered}
 use Rattle.ips_problem.specs.declared.rows.Numbers.{Numbers}
 use Rattle.ips_problem.specs.declared.rows.Row.{Row}
-use Rattle.ips_problem.specs.Posed.{candidate_of, is_number, decides, picked, spared, version_at, greatest_of, stems_of_test, last_at, breaks_at}
+use Rattle.ips_problem.specs.Posed.{candidate_of, is_number, decides, picked, before, spared, version_at, greatest_of, stems_of_test, last_at, breaks_at}
 use Rattle.ips_problem.specs.Seen.{puzzle_of, seen_numbers, seen_row, seen_test}
 use Rattle.ips_problem.specs.Held.{posed_of}
 
@@ -47,18 +47,18 @@ last_told p t m known f =
 
 -- a test is broken where its candidate is chosen, its stems are decided and its dependency fails
 pub broken_told : (p : Problem) (t : ℕ) (n : Numbered) (m : Numbers) (set : List Pair) (b : Bool) → t < length (map seen_test p.tests.items) → n ≡ get_or p.tests.items t n → m ≡ get_or p.numbers.items t m
-    → is_number (candidate_of set n.stem) n.candidate ≡ true → decides set m.stems.items ≡ true → b ≡ not (holds (picked (posed_of p) set) (spared (posed_of p)) n.test)
+    → is_number (candidate_of set n.stem) n.candidate ≡ true → decides set m.stems.items ≡ true → b ≡ not (holds (picked (posed_of p) set) (before (posed_of p)) (spared (posed_of p)) n.test)
     → b ≡ breaks_at (posed_of p) set (slice_get (map seen_test p.tests.items) t)
 broken_told p t n m set b known e f chosen decided told =
     let all : decides set (stems_of_test (posed_of p) (seen_test n)) ≡ true = ap (decides set) (sym (numbers_at p t n m (within p t known) e f)) ∙ decided in
-    told ∙ (λ i. sym chosen i && sym all i && not (holds (picked (posed_of p) set) (spared (posed_of p)) n.test))
+    told ∙ (λ i. sym chosen i && sym all i && not (holds (picked (posed_of p) set) (before (posed_of p)) (spared (posed_of p)) n.test))
     ∙ ap (breaks_at (posed_of p) set) (sym (test_at p t n known e))
 
 -- it isn't where its candidate isn't chosen
 pub unbroken_unchosen : (p : Problem) (t : ℕ) (n : Numbered) (set : List Pair) → t < length (map seen_test p.tests.items) → n ≡ get_or p.tests.items t n
     → is_number (candidate_of set n.stem) n.candidate ≡ false → false ≡ breaks_at (posed_of p) set (slice_get (map seen_test p.tests.items) t)
 unbroken_unchosen p t n set known e chosen =
-    (λ i. sym chosen i && decides set (stems_of_test (posed_of p) (seen_test n)) && not (holds (picked (posed_of p) set) (spared (posed_of p)) n.test))
+    (λ i. sym chosen i && decides set (stems_of_test (posed_of p) (seen_test n)) && not (holds (picked (posed_of p) set) (before (posed_of p)) (spared (posed_of p)) n.test))
     ∙ ap (breaks_at (posed_of p) set) (sym (test_at p t n known e))
 
 -- nor where a stem isn't decided
@@ -67,7 +67,7 @@ pub unbroken_undecided : (p : Problem) (t : ℕ) (n : Numbered) (m : Numbers) (s
 unbroken_undecided p t n m set known e f decided =
     let all : decides set (stems_of_test (posed_of p) (seen_test n)) ≡ false = ap (decides set) (sym (numbers_at p t n m (within p t known) e f)) ∙ decided in
     let own = is_number (candidate_of set n.stem) n.candidate in
-    sym (and_left (own && decides set (stems_of_test (posed_of p) (seen_test n))) (not (holds (picked (posed_of p) set) (spared (posed_of p)) n.test)) (and_right own (decides set (stems_of_test (posed_of p) (seen_test n))) all))
+    sym (and_left (own && decides set (stems_of_test (posed_of p) (seen_test n))) (not (holds (picked (posed_of p) set) (before (posed_of p)) (spared (posed_of p)) n.test)) (and_right own (decides set (stems_of_test (posed_of p) (seen_test n))) all))
     ∙ ap (breaks_at (posed_of p) set) (sym (test_at p t n known e))
 
 -- the version of a candidate of a row as it is read

@@ -7,7 +7,7 @@ use Rattle.ips_refute.specs.Meaning.{OnePerStem}
 use Rattle.ips_fmri.specs.Version.{Parts}
 use Rattle.ips_request.specs.Stems.{stems_of}
 use Rattle.ips_problem.specs.declared.rows.Row.{Row}
-use Rattle.ips_problem.specs.Posed.{candidate_of, version_at, picked, tells_spared, spared_at, spared}
+use Rattle.ips_problem.specs.Posed.{candidate_of, version_at, picked, before, version_before, tells_spared, spared_at, spared}
 use Rattle.ips_problem.specs.Seen.{seen_row, puzzle_of}
 use Rattle.ips_problem.specs.Laws.{contained_candidate}
 
@@ -26,6 +26,14 @@ pub picked_with : (keys : List (String Global)) (rows : List Row) (set : List Pa
 picked_with keys rows set stem i o number e =
     e ∙ ap (λ r. version_at r (candidate_of set i)) (sym (slice_get-map seen_row rows i))
     ∙ ap (option_and_then (λ j. version_at (slice_get (map seen_row rows) j) (candidate_of set j))) number
+
+pub before_without : (keys : List (String Global)) (rows : List Row) (stem : List ℕ) → None ≡ position (bytes_eq stem) (stems_of keys) → None ≡ before (puzzle_of keys rows) stem
+before_without keys rows stem e = ap (option_and_then (λ j. version_before (slice_get (map seen_row rows) j))) e
+
+pub before_with : (keys : List (String Global)) (rows : List Row) (stem : List ℕ) (i : ℕ) (o : Option Parts) → Some i ≡ position (bytes_eq stem) (stems_of keys)
+    → o ≡ version_before (option_map seen_row (slice_get rows i)) → o ≡ before (puzzle_of keys rows) stem
+before_with keys rows stem i o number e =
+    e ∙ ap version_before (sym (slice_get-map seen_row rows i)) ∙ ap (option_and_then (λ j. version_before (slice_get (map seen_row rows) j))) number
 
 pub spared_without : (keys : List (String Global)) (rows : List Row) (stem : List ℕ) → None ≡ position (bytes_eq stem) (stems_of keys) → false ≡ spared (puzzle_of keys rows) stem
 spared_without keys rows stem e = ap (spared_at (puzzle_of keys rows)) e

@@ -52,6 +52,13 @@ at_contained [] i x e = absurd (none-some x e)
 at_contained (y ∷ xs) zero x e = (0, omega arith, same_Some y x e)
 at_contained (y ∷ xs) (suc i) x e = let (k, l, f) = at_contained xs i x e in (suc k, omega arith, f)
 
+-- an element is contained, and what is contained is an element
+pub among_contained : {X : Type 0} (x : X) (xs : List X) → Among x xs → Contains xs x
+among_contained x xs a = let (i, e) = place_among x xs a in at_contained xs i x e
+
+pub contained_among : {X : Type 0} (x : X) (xs : List X) → Contains xs x → Among x xs
+contained_among x xs c = let (i, e) = contained_at xs x c in among_at xs i x e
+
 pub all_from_among : {X : Type 0} (P : X → Type 0) (xs : List X) → ((x : X) → Among x xs → P x) → AllByRecursion P xs
 all_from_among P [] w = tt
 all_from_among P (x ∷ xs) w = (w x (inl refl), all_from_among P xs (λ y a. w y (inr a)))

@@ -1,137 +1,136 @@
 -- The stems that a choice misses.
-use Rattle.std.proofs.Common.{◌≡◌, ◌↔◌, ℕ, ◌+◌, ◌<◌, Bool, true, false, cond, List, [], ◌∷◌, ◌++◌, map, filter_map, take, length, position, slice_get, get_or, Contains, Option, Some, None, is_none, option_map, option_to_list, refl, sym, ap, subst, ◌∙◌, inl, inr, ◌⊎◌, bytes_eq, String, Global, eq-eqb, eqb-true, append_assoc, arith}
-use Rattle.std.specs.List.{cons_option}
+use Rattle.std.proofs.Common.{◌≡◌, ◌↔◌, ℕ, ◌+◌, ◌<◌, Bool, true, false, cond, List, [], ◌∷◌, ◌++◌, map, flat_map, take, length, position, slice_get, get_or, Contains, Option, Some, None, is_none, option_map, refl, sym, ap, subst, ◌∙◌, inl, inr, ◌⊎◌, bytes_eq, String, Global, eq-eqb, append_assoc, arith}
+use Rattle.std.specs.List.{list_any}
 use Rattle.std.proofs.lemmas.Bool.{both_ways}
-use Rattle.std.proofs.lemmas.List.{take_more}
-use Rattle.std.proofs.lemmas.List.Elements.{filter_map-append}
-use Rattle.std.proofs.lemmas.Option.{none-some, same_Some, slice_get-get_or, slice_get_read}
+use Rattle.std.proofs.lemmas.Option.{slice_get-get_or, slice_get_read}
 use Rattle.ips_fmri.specs.Version.{Parts}
+use Rattle.ips_fmri.specs.declared.fmri.Fmri.{Fmri}
 use Rattle.ips_refute.specs.Meaning.{pairs}
-use Rattle.ips_problem.specs.declared.rows.Row.{Row}
+use Rattle.ips_depend.specs.Selection.{Selection, is_present}
+use Rattle.ips_depend.specs.Dependency.{grouped, stems}
 use Rattle.ips_state.specs.State.{Ascend}
 use Rattle.ips_request.specs.Stems.{stems_of}
-use Rattle.ips_problem.specs.Avoided.{AreAvoided, IsMissed, group_stem, if_absent, missed_by}
+use Rattle.ips_request.proofs.Lookups.{flat_next}
+use Rattle.ips_problem.specs.declared.rows.Row.{Row}
+use Rattle.ips_problem.specs.Avoided.{AreAvoided, IsMissed, absent_stem, missed_among, missed_by}
 use Rattle.ips_problem.specs.Posed.{Numbered, Posed, is_number, version_at, picked}
 use Rattle.ips_problem.specs.Seen.{puzzle_of, seen_row}
-use Rattle.ips_problem.proofs.Members.{Among, among_left, among_right, among_cases, among_at, among_map, among_mapped, place_among, contained_at, at_contained}
+use Rattle.ips_problem.proofs.Members.{Among, among_left, among_right, among_cases, among_map, among_mapped, among_contained, contained_among}
 use Rattle.ips_problem.proofs.Looking.{picked_with}
-use Rattle.ips_problem.proofs.Picking.{chosen_at}
-
-none_map : {X Y : Type 0} (f : X → Y) (o : Option X) → is_none o ≡ is_none (option_map f o)
-none_map f None = refl
-none_map f (Some x) = refl
+use Rattle.ips_problem.proofs.Picking.{chosen_at, is_number_true}
 
 -- what a choice picks of the stem with a number is the version of the candidate that it has for the number
-pub absence_told : {X : Type 0} (version : X → Parts) (keys : List (String Global)) (rows : List Row) (choice : List ℕ) (stem : List ℕ) (i : ℕ) (row : Row) (o : Option X)
+pub version_told : {X : Type 0} (version : X → Parts) (keys : List (String Global)) (rows : List Row) (choice : List ℕ) (stem : List ℕ) (i : ℕ) (row : Row) (o : Option X)
     → length rows ≡ length keys → length choice ≡ length keys → i < length keys
     → Some i ≡ position (bytes_eq stem) (stems_of keys) → row ≡ get_or rows i row → option_map version o ≡ version_at (Some (seen_row row)) (Some (get_or choice i 0))
-    → is_none o ≡ is_none (picked (puzzle_of keys rows) (pairs choice) stem)
-absence_told version keys rows choice stem i row o known chosen l number read e =
+    → option_map version o ≡ picked (puzzle_of keys rows) (pairs choice) stem
+version_told version keys rows choice stem i row o known chosen l number read e =
     let within : i < length rows = omega arith in
     let offered : i < length choice = omega arith in
     let own = sym (ap (option_map seen_row) (slice_get_read rows (length rows) i row refl within read)) in
     let candidate = sym (chosen_at choice i ∙ slice_get-get_or choice i 0 offered) in
-    none_map version o ∙ ap is_none (picked_with keys rows (pairs choice) stem i (option_map version o) number
-    (e ∙ ap (λ r. version_at r (Some (get_or choice i 0))) own ∙ ap (version_at (option_map seen_row (slice_get rows i))) candidate))
+    picked_with keys rows (pairs choice) stem i (option_map version o) number
+    (e ∙ ap (λ r. version_at r (Some (get_or choice i 0))) own ∙ ap (version_at (option_map seen_row (slice_get rows i))) candidate)
 
--- ---- one test more
+-- ---- one more
 
-as_list : {Y : Type 0} (o : Option Y) → option_to_list o ≡ cons_option o []
-as_list None = refl
-as_list (Some y) = refl
-
-pub gathered_more : {X Y : Type 0} (h : X → Option Y) (before : List Y) (xs : List X) (i : ℕ) (x : X) (old new : List Y) (o : Option Y) → i < length xs → x ≡ get_or xs i x
-    → old ≡ before ++ filter_map h (take i xs) → o ≡ h x → new ≡ old ++ option_to_list o → new ≡ before ++ filter_map h (take (i + 1) xs)
-gathered_more {Y = Y} h before xs i x old new o l at is told added =
-    added ∙ ap (λ (a : List Y). a ++ option_to_list o) is ∙ append_assoc before (filter_map h (take i xs)) (option_to_list o)
-    ∙ ap (λ (p : Option Y). before ++ (filter_map h (take i xs) ++ option_to_list p)) told
-    ∙ ap (λ (a : List Y). before ++ (filter_map h (take i xs) ++ a)) (as_list (h x))
-    ∙ ap (λ (a : List Y). before ++ a) (sym (filter_map-append h (take i xs) (x ∷ [])))
-    ∙ ap (λ ys. before ++ filter_map h ys) (sym (take_more xs i x l ∙ ap (λ y. take i xs ++ y ∷ []) (sym at)))
+pub gathered_more : {X Y : Type 0} (h : X → List Y) (before : List Y) (xs : List X) (i : ℕ) (x : X) (old new : List Y) → i < length xs → x ≡ get_or xs i x
+    → old ≡ before ++ flat_map h (take i xs) → new ≡ old ++ h x → new ≡ before ++ flat_map h (take (i + 1) xs)
+gathered_more {Y = Y} h before xs i x old new l at is added =
+    added ∙ ap (λ (a : List Y). a ++ h x) is ∙ append_assoc before (flat_map h (take i xs)) (h x)
+    ∙ ap (λ (a : List Y). before ++ a) (sym (flat_next h xs i x l at))
 
 -- ---- which stems are missed
 
-among_gathered : {X Y : Type 0} (h : X → Option Y) (y : Y) (xs : List X) → Among y (filter_map h xs) → (x : X) × Among x xs × (h x ≡ Some y)
+among_gathered : {X Y : Type 0} (h : X → List Y) (y : Y) (xs : List X) → Among y (flat_map h xs) → (x : X) × Among x xs × Among y (h x)
 among_gathered h y [] a = absurd a
-among_gathered {X = X} {Y = Y} h y (x ∷ xs) a = go (among_gathered h y xs) (h x) refl a
-  where
-    go : (Among y (filter_map h xs) → (z : X) × Among z xs × (h z ≡ Some y)) → (o : Option Y) → h x ≡ o → Among y (cons_option o (filter_map h xs)) → (z : X) × Among z (x ∷ xs) × (h z ≡ Some y)
-    go rest None e b = let (z, c, f) = rest b in (z, inr c, f)
-    go rest (Some w) e (inl same) = (x, inl refl, e ∙ ap (λ v. Some v) same)
-    go rest (Some w) e (inr b) = let (z, c, f) = rest b in (z, inr c, f)
+among_gathered h y (x ∷ xs) a = elim (among_cases y (h x) (flat_map h xs) a) [
+  | inl here ↦ (x, inl refl, here)
+  | inr b ↦ let (z, c, f) = among_gathered h y xs b in (z, inr c, f)
+]
 
-gathered_among : {X Y : Type 0} (h : X → Option Y) (x : X) (y : Y) (xs : List X) → Among x xs → h x ≡ Some y → Among y (filter_map h xs)
+gathered_among : {X Y : Type 0} (h : X → List Y) (x : X) (y : Y) (xs : List X) → Among x xs → Among y (h x) → Among y (flat_map h xs)
 gathered_among h x y [] a e = absurd a
-gathered_among h x y (z ∷ xs) (inl same) e = subst (λ o. Among y (cons_option o (filter_map h xs))) (sym (ap h same ∙ e)) (inl refl)
-gathered_among {Y = Y} h x y (z ∷ xs) (inr a) e = go (h z) (gathered_among h x y xs a e)
+gathered_among h x y (z ∷ xs) (inl same) e = among_left y (h z) (flat_map h xs) (subst (λ w. Among y (h w)) (sym same) e)
+gathered_among h x y (z ∷ xs) (inr a) e = among_right y (h z) (flat_map h xs) (gathered_among h x y xs a e)
+
+none_there : {X : Type 0} (o : Option X) → is_none o ≡ true → o ≡ None
+none_there None e = refl
+none_there (Some x) e = absurd (both_ways false refl e)
+
+absent_told : (s : Selection) (stem : List ℕ) (fs : List Fmri) → Among stem (flat_map (absent_stem s) fs) → Among stem (stems fs) × (s stem ≡ None)
+absent_told s stem [] a = absurd a
+absent_told s stem (f ∷ fs) a = go (is_none (s f.stem)) refl (absent_told s stem fs) a
   where
-    go : (o : Option Y) → Among y (filter_map h xs) → Among y (cons_option o (filter_map h xs))
-    go None b = b
-    go (Some w) b = inr b
+    go : (b : Bool) → is_none (s f.stem) ≡ b → (Among stem (flat_map (absent_stem s) fs) → Among stem (stems fs) × (s stem ≡ None)) → Among stem (cond b (f.stem ∷ []) [] ++ flat_map (absent_stem s) fs)
+        → Among stem (stems (f ∷ fs)) × (s stem ≡ None)
+    go true e rest (inl same) = (inl same, ap s (sym same) ∙ none_there (s f.stem) e)
+    go true e rest (inr h) = let (a, g) = rest h in (inr a, g)
+    go false e rest h = let (a, g) = rest h in (inr a, g)
 
-is_the_number : (o : Option ℕ) (k : ℕ) → is_number o k ≡ true → o ≡ Some k
-is_the_number None k e = absurd (both_ways false refl e)
-is_the_number (Some j) k e = ap (λ i. Some i) (eqb-true j k e)
+told_absent : (s : Selection) (stem : List ℕ) (fs : List Fmri) → Among stem (stems fs) → s stem ≡ None → Among stem (flat_map (absent_stem s) fs)
+told_absent s stem [] a e = absurd a
+told_absent s stem (f ∷ fs) (inl same) e =
+    subst (λ b. Among stem (cond b (f.stem ∷ []) [] ++ flat_map (absent_stem s) fs)) (sym (ap is_none (ap s same ∙ e))) (inl same)
+told_absent s stem (f ∷ fs) (inr a) e = among_right stem (absent_stem s f) (flat_map (absent_stem s) fs) (told_absent s stem fs a e)
 
-is_absent : {X : Type 0} (o : Option X) → is_none o ≡ true → o ≡ None
-is_absent None e = refl
-is_absent (Some x) e = absurd (both_ways false refl e)
+-- a test of the choice misses the stem
+abbrev Misses : Posed → List ℕ → Numbered → List ℕ → Type 0
+Misses p choice n stem =
+    (slice_get choice n.stem ≡ Some n.candidate) × Contains (stems (grouped n.dependency)) stem
+    × (list_any (is_present (picked p (pairs choice))) (grouped n.dependency) ≡ false) × (picked p (pairs choice) stem ≡ None)
 
--- what a test misses
-missed_told : (p : Posed) (choice : List ℕ) (n : Numbered) (stem : List ℕ) → missed_by p choice n ≡ Some stem
-    → (slice_get choice n.stem ≡ Some n.candidate) × (group_stem n.dependency ≡ Some stem) × (picked p (pairs choice) stem ≡ None)
-missed_told p choice n stem e = go (is_number (slice_get choice n.stem) n.candidate) refl e
+missed_told : (p : Posed) (choice : List ℕ) (n : Numbered) (stem : List ℕ) → Among stem (missed_by p choice n) → Misses p choice n stem
+missed_told p choice n stem a = go (is_number (slice_get choice n.stem) n.candidate) refl (list_any (is_present s) fs) refl a
   where
-    absent : (g : List ℕ) (b : Bool) → is_none (picked p (pairs choice) g) ≡ b → cond b (Some g) None ≡ Some stem → (g ≡ stem) × (picked p (pairs choice) stem ≡ None)
-    absent g true is e = let same = same_Some g stem e in (same, ap (picked p (pairs choice)) (sym same) ∙ is_absent (picked p (pairs choice) g) is)
-    absent g false is e = absurd (none-some stem e)
+    s : Selection
+    s = picked p (pairs choice)
 
-    named : (o : Option (List ℕ)) → if_absent p choice o ≡ Some stem → (o ≡ Some stem) × (picked p (pairs choice) stem ≡ None)
-    named None e = absurd (none-some stem e)
-    named (Some g) e = let (same, gone) = absent g (is_none (picked p (pairs choice) g)) refl e in (ap (λ s. Some s) same, gone)
+    fs : List Fmri
+    fs = grouped n.dependency
 
-    go : (b : Bool) → is_number (slice_get choice n.stem) n.candidate ≡ b → cond b (if_absent p choice (group_stem n.dependency)) None ≡ Some stem
-        → (slice_get choice n.stem ≡ Some n.candidate) × (group_stem n.dependency ≡ Some stem) × (picked p (pairs choice) stem ≡ None)
-    go true is e = let (name, gone) = named (group_stem n.dependency) e in (is_the_number (slice_get choice n.stem) n.candidate is, name, gone)
-    go false is e = absurd (none-some stem e)
+    go : (b : Bool) → is_number (slice_get choice n.stem) n.candidate ≡ b → (any : Bool) → list_any (is_present s) fs ≡ any
+        → Among stem (cond b (cond any [] (flat_map (absent_stem s) fs)) []) → Misses p choice n stem
+    go false e any f h = absurd h
+    go true e true f h = absurd h
+    go true e false f h =
+        let (there, gone) = absent_told s stem fs h in
+        (is_number_true (slice_get choice n.stem) n.candidate e, among_contained stem (stems fs) there, f, gone)
 
-told_missed : (p : Posed) (choice : List ℕ) (n : Numbered) (stem : List ℕ) → slice_get choice n.stem ≡ Some n.candidate → group_stem n.dependency ≡ Some stem → picked p (pairs choice) stem ≡ None
-    → missed_by p choice n ≡ Some stem
-told_missed p choice n stem chosen named absent =
-    (λ j. cond (is_number (chosen j) n.candidate) (if_absent p choice (named j)) None)
-    ∙ ap (λ b. cond b (if_absent p choice (Some stem)) None) (eq-eqb n.candidate n.candidate refl)
-    ∙ ap (λ (o : Option Parts). cond (is_none o) (Some stem) None) absent
+told_missed : (p : Posed) (choice : List ℕ) (n : Numbered) (stem : List ℕ) → Misses p choice n stem → Among stem (missed_by p choice n)
+told_missed p choice n stem (chosen, named, none, absent) =
+    let s = picked p (pairs choice) in
+    let fs = grouped n.dependency in
+    let own : is_number (slice_get choice n.stem) n.candidate ≡ true = ap (λ o. is_number o n.candidate) chosen ∙ eq-eqb n.candidate n.candidate refl in
+    subst (λ b. Among stem (cond b (missed_among s fs) [])) (sym own)
+    (subst (λ b. Among stem (cond b [] (flat_map (absent_stem s) fs))) (sym none) (told_absent s stem fs (contained_among stem (stems fs) named) absent))
 
 -- ---- all stems
 
 -- the stems that stay avoided with those that are missed, once they stand by their bytes
 pub avoided : {X : Type 0} (p : Posed) (choice : List ℕ) (seen : X → Numbered) (tests : List X) (all stems : List (List ℕ)) → p.tests ≡ map seen tests
-    → all ≡ p.avoid ++ filter_map (λ t. missed_by p choice (seen t)) tests → Ascend stems → ((stem : List ℕ) → Contains stems stem ↔ Contains all stem) → AreAvoided p choice stems
+    → all ≡ p.avoid ++ flat_map (λ t. missed_by p choice (seen t)) tests → Ascend stems → ((stem : List ℕ) → Contains stems stem ↔ Contains all stem) → AreAvoided p choice stems
 avoided p choice seen tests all stems known is order same = record {
   order = order;
   each = λ stem. (λ h. there stem ((same stem).0 h), λ h. (same stem).1 (back stem h));
 }
   where
+    missed : List (List ℕ)
+    missed = flat_map (λ t. missed_by p choice (seen t)) tests
+
     there : (stem : List ℕ) → Contains all stem → Contains p.avoid stem ⊎ IsMissed p choice stem
-    there stem h =
-        let (k, at) = contained_at all stem h in
-        elim (among_cases stem p.avoid (filter_map (λ t. missed_by p choice (seen t)) tests) (among_at (p.avoid ++ filter_map (λ t. missed_by p choice (seen t)) tests) k stem (ap (λ l. slice_get l k) (sym is) ∙ at))) [
-          | inl a ↦ let (i, e) = place_among stem p.avoid a in inl (at_contained p.avoid i stem e)
-          | inr b ↦
-              let (t, c, e) = among_gathered (λ t. missed_by p choice (seen t)) stem tests b in
-              let (i, f) = place_among (seen t) (map seen tests) (among_map seen t tests c) in
-              let (chosen, named, absent) = missed_told p choice (seen t) stem e in
-              inr (record { test = seen t; asked = at_contained p.tests i (seen t) (ap (λ l. slice_get l i) known ∙ f); chosen = chosen; named = named; absent = absent })
-        ]
+    there stem h = elim (among_cases stem p.avoid missed (subst (Among stem) is (contained_among stem all h))) [
+      | inl a ↦ inl (among_contained stem p.avoid a)
+      | inr b ↦
+          let (t, c, e) = among_gathered (λ t. missed_by p choice (seen t)) stem tests b in
+          let (chosen, named, none, absent) = missed_told p choice (seen t) stem e in
+          let asked = among_contained (seen t) p.tests (subst (Among (seen t)) (sym known) (among_map seen t tests c)) in
+          inr (record { test = seen t; asked = asked; chosen = chosen; named = named; none = none; absent = absent })
+    ]
 
     back : (stem : List ℕ) → Contains p.avoid stem ⊎ IsMissed p choice stem → Contains all stem
-    back stem (inl h) =
-        let (i, e) = contained_at p.avoid stem h in
-        let (k, at) = place_among stem (p.avoid ++ filter_map (λ t. missed_by p choice (seen t)) tests) (among_left stem p.avoid (filter_map (λ t. missed_by p choice (seen t)) tests) (among_at p.avoid i stem e)) in
-        at_contained all k stem (ap (λ l. slice_get l k) is ∙ at)
+    back stem (inl h) = among_contained stem all (subst (Among stem) (sym is) (among_left stem p.avoid missed (contained_among stem p.avoid h)))
     back stem (inr m) =
-        let (i, e) = contained_at p.tests m.test m.asked in
-        let (t, c, f) = among_mapped seen m.test tests (among_at (map seen tests) i m.test (ap (λ l. slice_get l i) (sym known) ∙ e)) in
-        let by = ap (missed_by p choice) f ∙ told_missed p choice m.test stem m.chosen m.named m.absent in
-        let (k, at) = place_among stem (p.avoid ++ filter_map (λ t. missed_by p choice (seen t)) tests) (among_right stem p.avoid (filter_map (λ t. missed_by p choice (seen t)) tests) (gathered_among (λ t. missed_by p choice (seen t)) t stem tests c by)) in
-        at_contained all k stem (ap (λ l. slice_get l k) is ∙ at)
+        let (t, c, f) = among_mapped seen m.test tests (subst (Among m.test) known (contained_among m.test p.tests m.asked)) in
+        let by = subst (λ n. Among stem (missed_by p choice n)) (sym f) (told_missed p choice m.test stem (m.chosen, m.named, m.none, m.absent)) in
+        among_contained stem all (subst (Among stem) (sym is) (among_right stem p.avoid missed (gathered_among (λ t. missed_by p choice (seen t)) t stem tests c by)))

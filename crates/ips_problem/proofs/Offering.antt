@@ -348,14 +348,14 @@ newest_gone c stem reads h = elim (some_or_none (greatest c stem)) [
 
 -- what is known of a stem is what the case says of it
 pub row_known : (c : Case) (stem : List ℕ) (row : declared.Row) (reads : List Read) → AllZip (IsReadOf c stem) (needed c stem) reads → row.reads.items ≡ reads
-    → row.candidates.items ≡ candidates_in (role c stem) c.kind (is_gone_at reads) (stands_at reads) (coming_from 0 reads) → row.spared ≡ is_spared c stem → IsRowOf c stem row
-row_known c stem row reads h same those spared =
+    → row.candidates.items ≡ candidates_in (role c stem) c.kind (is_gone_at reads) (stands_at reads) (coming_from 0 reads) → row.before ≡ installed_version c stem → row.spared ≡ is_spared c stem → IsRowOf c stem row
+row_known c stem row reads h same those before spared =
     let os = candidates_in (role c stem) c.kind (is_gone_at reads) (stands_at reads) (coming_from 0 reads) in
     let alike = offered_alike c stem reads h in
     let offers : map (seen_candidate row.reads.items) row.candidates.items ≡ map (offer_of c stem) (candidates c stem) = (λ i. map (seen_candidate (same i)) (those i)) ∙ offers_alike c stem reads os (candidates c stem) alike in
     let asks = all_asked c stem reads os (candidates c stem) alike in
     record {
-      seen = λ i. record { spared = spared i; candidates = offers i };
+      seen = λ i. record { before = before i; spared = spared i; candidates = offers i };
       asks = subst (λ os. AllZip (λ o p. asked_at row.reads.items o ≡ dependencies_of c stem p) os (candidates c stem)) (sym those)
           (subst (λ rs. AllZip (λ o p. asked_at rs o ≡ dependencies_of c stem p) os (candidates c stem)) (sym same) asks);
     }

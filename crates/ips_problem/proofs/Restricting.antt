@@ -1,18 +1,17 @@
 -- A selection with the stems out of reach left out.
-use Rattle.std.proofs.Common.{◌≡◌, ℕ, true, false, not, ◌||◌, List, [], Contains, None, is_some, refl, sym, ap, subst, ◌∙◌, inl, inr, ◌⊎◌}
+use Rattle.std.proofs.Common.{◌≡◌, ℕ, true, false, List, Contains, None, sym, subst, inl, inr}
 use Rattle.std.specs.List.{AllByRecursion}
-use Rattle.std.proofs.lemmas.Bool.{cases_Bool, cond-true, cond-false}
-use Rattle.ips_depend.specs.Selection.{Selection, Spared, is_present, is_some_that}
-use Rattle.ips_depend.specs.Matching.{reaches, admits}
-use Rattle.ips_depend.specs.Dependency.{Dependency, Require, Optional, Incorporate, Exclude, Conditional, RequireAny, Group, Parent, wanted, stems}
+use Rattle.std.proofs.lemmas.Bool.{both_ways, cases_Bool, cond-true, cond-false}
+use Rattle.ips_depend.specs.Selection.{Selection, Spared}
+use Rattle.ips_depend.specs.Dependency.{Dependency, wanted, stems}
 use Rattle.ips_depend.specs.Holds.{holds}
+use Rattle.ips_depend.proofs.Absence.{holds_without}
 use Rattle.ips_request.specs.Stems.{has}
-use Rattle.ips_request.specs.Case.{Case}
+use Rattle.ips_request.specs.Case.{Case, installed_version}
 use Rattle.ips_request.specs.Candidates.{candidates, is_spared}
-use Rattle.ips_request.specs.Laws.{has_first}
 use Rattle.ips_problem.specs.Reach.{dependencies_of, IsReach}
 use Rattle.ips_problem.specs.Selecting.{IsAdmissible, restricted, IsWithin}
-use Rattle.ips_problem.specs.Laws.{any_alike}
+use Rattle.ips_problem.specs.Laws.{has_contained}
 use Rattle.ips_problem.proofs.Members.{Among, contained_at, among_at, all_from_among, all_at_among}
 use Rattle.ips_problem.proofs.Reached.{absence_offered, wanted_in_reach}
 
@@ -23,38 +22,16 @@ left_in reach s x e = cond-true (has x reach) (s x) None e
 left_out : (reach : List (List ℕ)) (s : Selection) (x : List ℕ) → has x reach ≡ false → restricted reach s x ≡ None
 left_out reach s x e = cond-false (has x reach) (s x) None e
 
--- each stem keeps its version or becomes absent
-left : (reach : List (List ℕ)) (s : Selection) (x : List ℕ) → (restricted reach s x ≡ s x) ⊎ (restricted reach s x ≡ None)
-left reach s x = elim (cases_Bool (has x reach)) [ inl e ↦ inl (left_in reach s x e) | inr e ↦ inr (left_out reach s x e) ]
-
 -- what a dependency wants is left in
 abbrev LeavesWanted : List (List ℕ) → Dependency → Type 0
 LeavesWanted reach d = (y : List ℕ) → has y (stems (wanted d)) ≡ true → has y reach ≡ true
 
 -- a dependency isn't broken where what it wants is left in
-still_holds : (reach : List (List ℕ)) (s : Selection) (sp : Spared) (d : Dependency) → LeavesWanted reach d → holds s sp d ≡ true → holds (restricted reach s) sp d ≡ true
-still_holds reach s sp (Require f) w h = ap (is_some_that (reaches f.version)) (left_in reach s f.stem (w f.stem (has_first f.stem []))) ∙ h
-still_holds reach s sp (Optional f) w h = elim (left reach s f.stem) [
-  | inl e ↦ ap (λ o. not (is_some o) || is_some_that (reaches f.version) o) e ∙ h
-  | inr e ↦ ap (λ o. not (is_some o) || is_some_that (reaches f.version) o) e
-]
-still_holds reach s sp (Incorporate f) w h = elim (left reach s f.stem) [
-  | inl e ↦ ap (λ o. not (is_some o) || is_some_that (admits f.version) o) e ∙ h
-  | inr e ↦ ap (λ o. not (is_some o) || is_some_that (admits f.version) o) e
-]
-still_holds reach s sp (Exclude f) w h = elim (left reach s f.stem) [
-  | inl e ↦ ap (λ o. not (is_some_that (reaches f.version) o)) e ∙ h
-  | inr e ↦ ap (λ o. not (is_some_that (reaches f.version) o)) e
-]
-still_holds reach s sp (Conditional p f) w h =
-    let same = ap (is_some_that (reaches f.version)) (left_in reach s f.stem (w f.stem (has_first f.stem []))) in
-    elim (left reach s p.stem) [
-      | inl e ↦ ap (λ o. not (is_some_that (reaches p.version) o) || is_present (restricted reach s) f) e ∙ ap (λ b. not (is_present s p) || b) same ∙ h
-      | inr e ↦ ap (λ o. not (is_some_that (reaches p.version) o) || is_present (restricted reach s) f) e
-    ]
-still_holds reach s sp (RequireAny fs) w h = any_alike (restricted reach s) s fs (λ y e. left_in reach s y (w y e)) ∙ h
-still_holds reach s sp (Group f) w h = ap (λ o. is_some o || sp f.stem) (left_in reach s f.stem (w f.stem (has_first f.stem []))) ∙ h
-still_holds reach s sp (Parent fs) w h = refl
+still_holds : (reach : List (List ℕ)) (s old : Selection) (sp : Spared) (d : Dependency) → LeavesWanted reach d → holds s old sp d ≡ true → holds (restricted reach s) old sp d ≡ true
+still_holds reach s old sp d w = holds_without d (restricted reach s) s old sp (λ y mentioned. elim (cases_Bool (has y reach)) [
+  | inl e ↦ inl (left_in reach s y e)
+  | inr e ↦ inr (left_out reach s y e, λ wants. both_ways (has y reach) e (w y (has_contained (stems (wanted d)) y wants)))
+])
 
 -- an admissible selection stays admissible without the stems that are out of reach
 pub restricted_admissible : (c : Case) (reach : List (List ℕ)) (s : Selection) → IsReach c reach → IsAdmissible c s → IsAdmissible c (restricted reach s)
@@ -67,11 +44,11 @@ restricted_admissible c reach s r a = record {
     | inl e ↦
         let (k, at) = contained_at (candidates c x) (s x) (a.offered x) in
         let still = λ (d : Dependency) (b : Among d (dependencies_of c x (s x))).
-        still_holds reach s (is_spared c) d (λ y w. wanted_in_reach c reach x y (s x) d r e (among_at (candidates c x) k (s x) at) b w)
-        (all_at_among (λ d. holds s (is_spared c) d ≡ true) d (dependencies_of c x (s x)) (a.holds x) b) in
-        subst (λ o. AllByRecursion (λ d. holds (restricted reach s) (is_spared c) d ≡ true) (dependencies_of c x o)) (sym (left_in reach s x e))
-        (all_from_among (λ d. holds (restricted reach s) (is_spared c) d ≡ true) (dependencies_of c x (s x)) still)
-    | inr e ↦ subst (λ o. AllByRecursion (λ d. holds (restricted reach s) (is_spared c) d ≡ true) (dependencies_of c x o)) (sym (left_out reach s x e)) tt
+        still_holds reach s (installed_version c) (is_spared c) d (λ y w. wanted_in_reach c reach x y (s x) d r e (among_at (candidates c x) k (s x) at) b w)
+        (all_at_among (λ d. holds s (installed_version c) (is_spared c) d ≡ true) d (dependencies_of c x (s x)) (a.holds x) b) in
+        subst (λ o. AllByRecursion (λ d. holds (restricted reach s) (installed_version c) (is_spared c) d ≡ true) (dependencies_of c x o)) (sym (left_in reach s x e))
+        (all_from_among (λ d. holds (restricted reach s) (installed_version c) (is_spared c) d ≡ true) (dependencies_of c x (s x)) still)
+    | inr e ↦ subst (λ o. AllByRecursion (λ d. holds (restricted reach s) (installed_version c) (is_spared c) d ≡ true) (dependencies_of c x o)) (sym (left_out reach s x e)) tt
   ];
 }
 

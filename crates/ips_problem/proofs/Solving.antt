@@ -1,5 +1,5 @@
 -- Choices that break no test, and admissible selections.
-use Rattle.std.proofs.Common.{◌≡◌, ℕ, zero, suc, ◌+◌, ◌<◌, Bool, true, false, not, ◌&&◌, List, [], ◌∷◌, ◌++◌, filter_map, flat_map, take, length, slice_get, slice_index, get_or, Contains, Option, Some, None, is_some, refl, sym, ap, subst, ◌∙◌, inl, inr, arith, eq-eqb, eqb-true}
+use Rattle.std.proofs.Common.{◌≡◌, ℕ, zero, suc, ◌+◌, ◌<◌, Bool, true, false, not, ◌&&◌, List, [], ◌∷◌, ◌++◌, filter_map, flat_map, take, length, slice_get, slice_index, get_or, Contains, Option, Some, None, is_some, option_map, refl, sym, ap, subst, ◌∙◌, inl, inr, arith, eq-eqb}
 use Rattle.std.specs.List.{cons_option, AllByRecursion}
 use Rattle.std.proofs.lemmas.List.{length-map}
 use Rattle.std.proofs.lemmas.Bool.{both_ways, cases_Bool, and_parts, and_from, false_from_ne_true}
@@ -13,17 +13,18 @@ use Rattle.ips_depend.specs.Selection.{Selection}
 use Rattle.ips_depend.specs.Dependency.{Dependency, mentions, wanted, stems}
 use Rattle.ips_depend.specs.Holds.{holds}
 use Rattle.ips_request.specs.Stems.{has}
-use Rattle.ips_request.specs.Case.{Case}
+use Rattle.ips_state.specs.State.{Installed}
+use Rattle.ips_request.specs.Case.{Case, installed_at, installed_version, is_installed}
 use Rattle.ips_request.specs.Candidates.{candidates, is_spared}
 use Rattle.ips_request.proofs.StemLists.{AreDistinct, distinct_firsts, number_found, number_within, standing_has, own_number}
 use Rattle.ips_problem.specs.Reach.{dependencies_of, seeds, drawn_in, IsReach}
 use Rattle.ips_problem.specs.Selecting.{IsAdmissible, restricted, IsWithin, AreNumbers, IsBestSelection}
-use Rattle.ips_problem.specs.Posed.{Numbered, offer_of, posed, candidate_of, count_at, number_of, picked, spared, stems_of_test, is_number, decides, breaks, breaks_at, meaning_of}
+use Rattle.ips_problem.specs.Posed.{Numbered, offer_of, posed, candidate_of, count_at, number_of, picked, before, spared, stems_of_test, is_number, decides, breaks, breaks_at, meaning_of}
 use Rattle.ips_problem.proofs.Members.{Among, contained_at, at_contained, among_at, place_among, all_from_among, all_at_among}
-use Rattle.ips_problem.proofs.Reached.{absence_offered, wanted_in_reach}
+use Rattle.ips_problem.proofs.Reached.{absence_offered, installed_in_reach, wanted_in_reach}
 use Rattle.ips_problem.proofs.Restricting.{restricted_admissible, restricted_within}
 use Rattle.ips_problem.proofs.CaseTests.{test, test_of, tested}
-use Rattle.ips_problem.proofs.Picking.{chosen_at, row_at, picked_at, picked_apart, spared_in_reach, judged_by_wanted}
+use Rattle.ips_problem.proofs.Picking.{chosen_at, row_at, picked_at, picked_apart, before_in_reach, before_apart, spared_in_reach, judged_by_wanted, is_number_true}
 
 -- ---- numbers of a selection
 
@@ -62,16 +63,25 @@ picks_it c reach s numbers w a y = elim (cases_Bool (has y reach)) [
   | inr h ↦ picked_apart c reach (pairs numbers) y h ∙ sym (w y h)
 ]
 
-is_number_true : (o : Option ℕ) (k : ℕ) → is_number o k ≡ true → o ≡ Some k
-is_number_true None k e = absurd (both_ways false refl e)
-is_number_true (Some j) k e = ap (λ n. Some n) (eqb-true j k e)
+none_version : (o : Option Installed) → is_some o ≡ false → option_map (λ (p : Installed). p.version) o ≡ None
+none_version None e = refl
+none_version (Some p) e = absurd (both_ways true e refl)
+
+-- the puzzle's old selection is what is installed
+before_all : (c : Case) (reach : List (List ℕ)) → IsReach c reach → (y : List ℕ) → before (posed c reach) y ≡ installed_version c y
+before_all c reach r y = elim (cases_Bool (has y reach)) [
+  | inl h ↦ before_in_reach c reach y h
+  | inr h ↦
+      let apart = false_from_ne_true (is_installed c y) (λ e. both_ways (has y reach) h (installed_in_reach c reach y r e)) in
+      before_apart c reach y h ∙ sym (none_version (installed_at c y) apart)
+]
 
 -- a test of an admissible selection isn't broken
 unbroken : (c : Case) (reach : List (List ℕ)) (s : Selection) (numbers : List ℕ) (n : Numbered) → IsReach c reach → IsAdmissible c s → IsWithin reach s → AreNumbers c s reach numbers
     → Among n (posed c reach).tests → breaks (posed c reach) (pairs numbers) n ≡ true → ⊥
 unbroken c reach s numbers n r a w are among e =
     let p = posed c reach in
-    let outer = and_parts (is_number (candidate_of (pairs numbers) n.stem) n.candidate && decides (pairs numbers) (stems_of_test p n)) (not (holds (picked p (pairs numbers)) (spared p) n.dependency)) e in
+    let outer = and_parts (is_number (candidate_of (pairs numbers) n.stem) n.candidate && decides (pairs numbers) (stems_of_test p n)) (not (holds (picked p (pairs numbers)) (before p) (spared p) n.dependency)) e in
     let inner = and_parts (is_number (candidate_of (pairs numbers) n.stem) n.candidate) (decides (pairs numbers) (stems_of_test p n)) outer.0 in
     let t = test_of c 0 reach n among in
     let place : n.stem ≡ t.place = t.number ∙ omega arith in
@@ -80,12 +90,12 @@ unbroken c reach s numbers n r a w are among e =
     let same : n.candidate ≡ k = same_Some n.candidate k (sym chosen ∙ own) in
     let it = same_Some t.candidate (s t.stem) (sym t.offered ∙ ap (slice_get (candidates c t.stem)) same ∙ offered) in
     let asked = subst (λ o. Among n.dependency (dependencies_of c t.stem o)) it t.asked in
-    let holding = all_at_among (λ d. holds s (is_spared c) d ≡ true) n.dependency (dependencies_of c t.stem (s t.stem)) (a.holds t.stem) asked in
+    let holding = all_at_among (λ d. holds s (installed_version c) (is_spared c) d ≡ true) n.dependency (dependencies_of c t.stem (s t.stem)) (a.holds t.stem) asked in
     let here = standing_has t.stem reach t.place t.at in
     let saved = λ (y : List ℕ) (h : has y (stems (wanted n.dependency)) ≡ true).
     spared_in_reach c reach y (wanted_in_reach c reach t.stem y t.candidate n.dependency r here (among_at (candidates c t.stem) n.candidate t.candidate t.offered) t.asked h) in
-    let judged = judged_by_wanted (picked p (pairs numbers)) s (spared p) (is_spared c) n.dependency (picks_it c reach s numbers w are) saved in
-    both_ways (not (holds (picked p (pairs numbers)) (spared p) n.dependency)) (ap not (judged ∙ holding)) outer.1
+    let judged = judged_by_wanted (picked p (pairs numbers)) s (before p) (installed_version c) (spared p) (is_spared c) n.dependency (picks_it c reach s numbers w are) (before_all c reach r) saved in
+    both_ways (not (holds (picked p (pairs numbers)) (before p) (spared p) n.dependency)) (ap not (judged ∙ holding)) outer.1
 
 unbroken_at : (c : Case) (reach : List (List ℕ)) (s : Selection) (numbers : List ℕ) (o : Option Numbered) → IsReach c reach → IsAdmissible c s → IsWithin reach s → AreNumbers c s reach numbers
     → ((n : Numbered) → o ≡ Some n → Among n (posed c reach).tests) → breaks_at (posed c reach) (pairs numbers) o ≡ false
@@ -157,7 +167,7 @@ holding x y false a b e = absurd (both_ways (x && y && true) e (and_from (x && y
 -- the dependencies of what is picked hold
 picked_holds : (c : Case) (reach : List (List ℕ)) (choice : List ℕ) (stem : List ℕ) (i k : ℕ) (o : Option Parts) (d : Dependency) → IsReach c reach → Solves (meaning_of (posed c reach)) choice
     → slice_get reach i ≡ Some stem → slice_get choice i ≡ Some k → slice_get (candidates c stem) k ≡ Some o → Among d (dependencies_of c stem o)
-    → holds (picked (posed c reach) (pairs choice)) (is_spared c) d ≡ true
+    → holds (picked (posed c reach) (pairs choice)) (installed_version c) (is_spared c) d ≡ true
 picked_holds c reach choice stem i k o d r solves at chosen offered asked =
     let p = posed c reach in
     let there = tested c 0 reach i stem k o d at offered asked in
@@ -168,10 +178,10 @@ picked_holds c reach choice stem i k o d r solves at chosen offered asked =
     ap (λ j. is_number (candidate_of (pairs choice) j) k) number ∙ ap (λ q. is_number q k) (chosen_at choice i ∙ chosen) ∙ eq-eqb k k refl in
     let first : is_some (candidate_of (pairs choice) (0 + i)) ≡ true = ap (λ j. is_some (candidate_of (pairs choice) j)) number ∙ ap is_some (chosen_at choice i ∙ chosen) in
     let decided = and_from (is_some (candidate_of (pairs choice) (0 + i))) (decides (pairs choice) (filter_map (λ (f : Fmri). number_of p f.stem) (mentions d))) first (decided_mentions c reach choice (mentions d) solves.0) in
-    let held = holding (is_number (candidate_of (pairs choice) (0 + i)) k) (decides (pairs choice) (stems_of_test p (test (0 + i) k d))) (holds (picked p (pairs choice)) (spared p) d) own decided unbroken in
+    let held = holding (is_number (candidate_of (pairs choice) (0 + i)) k) (decides (pairs choice) (stems_of_test p (test (0 + i) k d))) (holds (picked p (pairs choice)) (before p) (spared p) d) own decided unbroken in
     let here = standing_has stem reach i at in
     let saved = λ (y : List ℕ) (h : has y (stems (wanted d)) ≡ true). spared_in_reach c reach y (wanted_in_reach c reach stem y o d r here (among_at (candidates c stem) k o offered) asked h) in
-    sym (judged_by_wanted (picked p (pairs choice)) (picked p (pairs choice)) (spared p) (is_spared c) d (λ y. refl) saved) ∙ held
+    sym (judged_by_wanted (picked p (pairs choice)) (picked p (pairs choice)) (before p) (installed_version c) (spared p) (is_spared c) d (λ y. refl) (before_all c reach r) saved) ∙ held
 
 -- what a choice that breaks no test picks is admissible
 pub picked_admissible : (c : Case) (reach : List (List ℕ)) (choice : List ℕ) → IsReach c reach → Solves (meaning_of (posed c reach)) choice → IsAdmissible c (picked (posed c reach) (pairs choice))
@@ -189,9 +199,9 @@ picked_admissible c reach choice r solves =
         | inl h ↦
             let (i, number, at) = number_found x reach h in
             let (k, o, chosen, offered) = chosen_of c reach choice i x solves at in
-            subst (λ q. AllByRecursion (λ d. holds s (is_spared c) d ≡ true) (dependencies_of c x q)) (sym (picked_at c reach choice x i k o number at chosen offered))
-            (all_from_among (λ d. holds s (is_spared c) d ≡ true) (dependencies_of c x o) (λ d asked. picked_holds c reach choice x i k o d r solves at chosen offered asked))
-        | inr h ↦ subst (λ q. AllByRecursion (λ d. holds s (is_spared c) d ≡ true) (dependencies_of c x q)) (sym (picked_apart c reach (pairs choice) x h)) tt
+            subst (λ q. AllByRecursion (λ d. holds s (installed_version c) (is_spared c) d ≡ true) (dependencies_of c x q)) (sym (picked_at c reach choice x i k o number at chosen offered))
+            (all_from_among (λ d. holds s (installed_version c) (is_spared c) d ≡ true) (dependencies_of c x o) (λ d asked. picked_holds c reach choice x i k o d r solves at chosen offered asked))
+        | inr h ↦ subst (λ q. AllByRecursion (λ d. holds s (installed_version c) (is_spared c) d ≡ true) (dependencies_of c x q)) (sym (picked_apart c reach (pairs choice) x h)) tt
       ];
     }
 

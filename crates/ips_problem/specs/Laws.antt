@@ -1,43 +1,39 @@
 -- A puzzle's tests are facts about the pairs of their stems.
-use Rattle.std.proofs.Common.{◌≡◌, ℕ, zero, suc, ◌<◌, ◌≤◌, Bool, true, false, not, ◌==◌, ◌&&◌, ◌||◌, List, [], ◌∷◌, filter_map, All, Contains, length, slice_get, Option, Some, None, is_some, option_and_then, refl, sym, ap, subst, ◌∙◌, inl, inr, arith, eqb-true, eq-eqb, ne_eqb, bytes_eq}
-use Rattle.std.specs.List.{list_any, list_all, cons_option, AllByRecursion}
-use Rattle.std.proofs.lemmas.Bool.{both_ways, cases_Bool, or_cases, or_right, and_parts, and_from, cond-true, cond-false, cases_lt}
+use Rattle.std.proofs.Common.{◌≡◌, ℕ, zero, suc, ◌<◌, ◌≤◌, Bool, true, false, not, ◌==◌, ◌&&◌, List, [], ◌∷◌, filter_map, All, Contains, length, slice_get, Option, Some, None, is_some, option_and_then, refl, sym, ap, subst, ◌∙◌, inl, inr, arith, eqb-true, eq-eqb, ne_eqb, bytes_eq}
+use Rattle.std.specs.List.{list_all, cons_option, AllByRecursion}
+use Rattle.std.proofs.lemmas.Bool.{both_ways, cases_Bool, or_cases, and_parts, and_from, cond-true, cond-false, cases_lt}
 use Rattle.std.proofs.lemmas.Option.{none-some, same_Some}
 use Rattle.std.proofs.lemmas.List.Elements.{All-contains}
 use Rattle.std.proofs.lemmas.List.Quantifiers.{position-Some}
+use Rattle.std.proofs.lemmas.Map.Views.{list_any-from_Contains, Contains-from_any}
 use Rattle.std.proofs.lemmas.Slice.Eq.{bytes_eq-Decides}
+use Rattle.std.specs.Cmp.Lexicographic.{nat_list_eq_equiv}
 use Rattle.ips_fmri.specs.declared.fmri.Fmri.{Fmri}
 use Rattle.ips_refute.specs.declared.nogoods.Pair.{Pair}
 use Rattle.ips_refute.specs.Meaning.{Lawful, OnePerStem}
-use Rattle.ips_depend.specs.Selection.{Selection, Spared, is_present, is_some_that}
-use Rattle.ips_depend.specs.Matching.{reaches, admits}
-use Rattle.ips_depend.specs.Dependency.{Dependency, Require, Optional, Incorporate, Exclude, Conditional, RequireAny, Group, Parent, mentions, stems}
+use Rattle.ips_depend.specs.Selection.{Selection, Spared}
+use Rattle.ips_depend.specs.Dependency.{Dependency, mentions, stems}
 use Rattle.ips_depend.specs.Holds.{holds}
+use Rattle.ips_depend.proofs.Absence.{holds_alike}
 use Rattle.ips_request.specs.Stems.{has}
-use Rattle.ips_request.specs.Laws.{has_first}
-use Rattle.ips_problem.specs.Posed.{Numbered, Posed, IsFormed, candidate_of, version_at, number_of, picked, spared, stems_of_test, greatest_of, is_number, decides, breaks, breaks_at, last_at, meaning_of}
+use Rattle.ips_problem.specs.Posed.{Numbered, Posed, IsFormed, candidate_of, version_at, number_of, picked, before, spared, stems_of_test, greatest_of, is_number, decides, breaks, breaks_at, last_at, meaning_of}
 
 -- ---- dependencies
 
--- one of the FMRIs is present, where the selections agree
-pub any_alike : (s t : Selection) (fs : List Fmri) → ((y : List ℕ) → has y (stems fs) ≡ true → s y ≡ t y) → list_any (is_present s) fs ≡ list_any (is_present t) fs
-any_alike s t [] w = refl
-any_alike s t (f ∷ fs) w =
-    let first = ap (λ o. is_some_that (reaches f.version) o || list_any (is_present s) fs) (w f.stem (has_first f.stem (stems fs))) in
-    first ∙ ap (λ b. is_present t f || b) (any_alike s t fs (λ y e. w y (or_right (bytes_eq y f.stem) (has y (stems fs)) e)))
+-- a stem that is among others, as a test finds it
+pub has_contained : (stems : List (List ℕ)) (y : List ℕ) → Contains stems y → has y stems ≡ true
+has_contained stems y c = list_any-from_Contains nat_list_eq_equiv y stems c
+
+pub contained_had : (stems : List (List ℕ)) (y : List ℕ) → has y stems ≡ true → Contains stems y
+contained_had stems y h = Contains-from_any (λ a b. (bytes_eq-Decides a b).0) y stems h
 
 -- a dependency is judged by the stems that it mentions
-pub judged_alike : (s t : Selection) (sp : Spared) (d : Dependency) → ((y : List ℕ) → has y (stems (mentions d)) ≡ true → s y ≡ t y) → holds s sp d ≡ holds t sp d
-judged_alike s t sp (Require f) w = ap (λ o. is_some_that (reaches f.version) o) (w f.stem (has_first f.stem []))
-judged_alike s t sp (Optional f) w = ap (λ o. not (is_some o) || is_some_that (reaches f.version) o) (w f.stem (has_first f.stem []))
-judged_alike s t sp (Incorporate f) w = ap (λ o. not (is_some o) || is_some_that (admits f.version) o) (w f.stem (has_first f.stem []))
-judged_alike s t sp (Exclude f) w = ap (λ o. not (is_some_that (reaches f.version) o)) (w f.stem (has_first f.stem []))
-judged_alike s t sp (Conditional p f) w =
-    let one = ap (λ o. not (is_some_that (reaches p.version) o) || is_present s f) (w p.stem (has_first p.stem (f.stem ∷ []))) in
-    one ∙ ap (λ o. not (is_present t p) || is_some_that (reaches f.version) o) (w f.stem (or_right (bytes_eq f.stem p.stem) (has f.stem (f.stem ∷ [])) (has_first f.stem [])))
-judged_alike s t sp (RequireAny fs) w = any_alike s t fs w
-judged_alike s t sp (Group f) w = ap (λ o. is_some o || sp f.stem) (w f.stem (has_first f.stem []))
-judged_alike s t sp (Parent fs) w = refl
+judged_alike : (s t old : Selection) (sp : Spared) (d : Dependency) → ((y : List ℕ) → has y (stems (mentions d)) ≡ true → s y ≡ t y) → holds s old sp d ≡ holds t old sp d
+judged_alike s t old sp d w = holds_alike d s t old old sp sp (record {
+  selected = λ y c. w y (has_contained (stems (mentions d)) y c);
+  sparing = λ y c. refl;
+  earlier = λ y. refl;
+})
 
 -- ---- numbers
 
@@ -175,14 +171,14 @@ decides_too set other (i ∷ is) w e =
 -- a set that breaks a test shares that with each that has its pairs up to the test's last stem
 keeps_breaking : (p : Posed) (set other : List Pair) (n : Numbered) → Keeps (greatest_of (stems_of_test p n)) set other → OnePerStem other → breaks p set n ≡ true → breaks p other n ≡ true
 keeps_breaking p set other n w one e =
-    let outer = and_parts (is_number (candidate_of set n.stem) n.candidate && decides set (stems_of_test p n)) (not (holds (picked p set) (spared p) n.dependency)) e in
+    let outer = and_parts (is_number (candidate_of set n.stem) n.candidate && decides set (stems_of_test p n)) (not (holds (picked p set) (before p) (spared p) n.dependency)) e in
     let inner = and_parts (is_number (candidate_of set n.stem) n.candidate) (decides set (stems_of_test p n)) outer.0 in
     let alike = alike_numbers (greatest_of (stems_of_test p n)) set other (stems_of_test p n) w one (omega arith) inner.1 in
     let own : is_number (candidate_of other n.stem) n.candidate ≡ true = ap (λ o. is_number o n.candidate) (sym alike.0) ∙ inner.0 in
     let mentioned = λ (y : List ℕ) (h : has y (stems (mentions n.dependency)) ≡ true). then_alike p set other (number_of p y)
     (λ i at. number_among (λ i. candidate_of set i ≡ candidate_of other i) p (mentions n.dependency) y i h at alike.1) in
-    let same = judged_alike (picked p set) (picked p other) (spared p) n.dependency mentioned in
-    and_from (is_number (candidate_of other n.stem) n.candidate && decides other (stems_of_test p n)) (not (holds (picked p other) (spared p) n.dependency))
+    let same = judged_alike (picked p set) (picked p other) (before p) (spared p) n.dependency mentioned in
+    and_from (is_number (candidate_of other n.stem) n.candidate && decides other (stems_of_test p n)) (not (holds (picked p other) (before p) (spared p) n.dependency))
     (and_from (is_number (candidate_of other n.stem) n.candidate) (decides other (stems_of_test p n)) own (decides_too set other (stems_of_test p n) alike inner.1))
     (ap not (sym same) ∙ outer.1)
 
@@ -204,7 +200,7 @@ known_at p (n ∷ ns) (suc t) all l = known_at p ns t all.1 (omega arith)
 decided_at : (p : Posed) (o : Option Numbered) (set : List Pair) → breaks_at p set o ≡ true → (q : Pair) × Contains set q × (q.stem ≡ last_at p o)
 decided_at p None set e = absurd (both_ways false refl e)
 decided_at p (Some n) set e =
-    let outer = and_parts (is_number (candidate_of set n.stem) n.candidate && decides set (stems_of_test p n)) (not (holds (picked p set) (spared p) n.dependency)) e in
+    let outer = and_parts (is_number (candidate_of set n.stem) n.candidate && decides set (stems_of_test p n)) (not (holds (picked p set) (before p) (spared p) n.dependency)) e in
     let inner = and_parts (is_number (candidate_of set n.stem) n.candidate) (decides set (stems_of_test p n)) outer.0 in
     let last = greatest_passes (λ i. is_some (candidate_of set i)) n.stem (numbers_of p (mentions n.dependency)) inner.1 in
     let (k, at) = some_of (candidate_of set (greatest_of (stems_of_test p n))) last in

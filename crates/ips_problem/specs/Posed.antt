@@ -11,7 +11,7 @@ use Rattle.ips_refute.specs.Meaning.{Meaning}
 use Rattle.ips_depend.specs.Dependency.{Dependency, mentions}
 use Rattle.ips_depend.specs.Selection.{Selection, Spared}
 use Rattle.ips_depend.specs.Holds.{holds}
-use Rattle.ips_request.specs.Case.{Case, Facts, is_named, said}
+use Rattle.ips_request.specs.Case.{Case, Facts, installed_version, is_named, said}
 use Rattle.ips_request.specs.Candidates.{candidates, is_spared, installs}
 use Rattle.ips_problem.specs.Reach.{dependencies_of}
 
@@ -22,8 +22,10 @@ pub record Offer : Type 0 where
   pub version : Parts
   pub lines : List Line
 
--- A stem in reach: whether it is spared, and its candidates in order, absence as None.
+-- A stem in reach: the version at which it is installed before the request, whether it is spared, and its candidates in order, absence
+-- as None.
 pub record Row : Type 0 where
+  pub before : Option Parts
   pub spared : Bool
   pub candidates : List (Option Offer)
 
@@ -54,7 +56,7 @@ offer_of c stem (Some v) = Some (record { version = v; lines = lines_said (said 
 
 -- what is known of a stem
 abbrev pub row_of : Case → List ℕ → Row
-row_of c stem = record { spared = is_spared c stem; candidates = map (offer_of c stem) (candidates c stem) }
+row_of c stem = record { before = installed_version c stem; spared = is_spared c stem; candidates = map (offer_of c stem) (candidates c stem) }
 
 -- the dependencies of a candidate, each as a test
 abbrev pub numbered : ℕ → ℕ → List Dependency → List Numbered
@@ -105,6 +107,15 @@ number_of p stem = position (bytes_eq stem) p.stems
 abbrev pub picked : Posed → List Pair → Selection
 picked p set stem = option_and_then (λ i. version_at (slice_get p.rows i) (candidate_of set i)) (number_of p stem)
 
+-- the version that a stem had before, by what is known of it
+abbrev pub version_before : Option Row → Option Parts
+version_before None = None
+version_before (Some row) = row.before
+
+-- the old selection, as far as it is in reach
+abbrev pub before : Posed → Selection
+before p stem = option_and_then (λ i. version_before (slice_get p.rows i)) (number_of p stem)
+
 -- what is known of a stem tells that it is spared
 abbrev pub tells_spared : Option Row → Bool
 tells_spared None = false
@@ -142,7 +153,7 @@ abbrev pub breaks : Posed → List Pair → Numbered → Bool
 breaks p set n =
     is_number (candidate_of set n.stem) n.candidate
     && decides set (stems_of_test p n)
-    && not (holds (picked p set) (spared p) n.dependency)
+    && not (holds (picked p set) (before p) (spared p) n.dependency)
 
 -- the set breaks the test, where there is one
 abbrev pub breaks_at : Posed → List Pair → Option Numbered → Bool

@@ -21,7 +21,7 @@ seen_candidate reads (Some i) = option_map seen_read (slice_get reads i)
 
 -- what is known of a stem
 abbrev pub seen_row : declared.Row → Row
-seen_row r = record { spared = r.spared; candidates = map (seen_candidate r.reads.items) r.candidates.items }
+seen_row r = record { before = r.before; spared = r.spared; candidates = map (seen_candidate r.reads.items) r.candidates.items }
 
 -- a test
 abbrev pub seen_test : numbered.Numbered → Numbered

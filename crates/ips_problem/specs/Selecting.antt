@@ -5,14 +5,14 @@ use Rattle.ips_search.specs.Best.{NotLater}
 use Rattle.ips_depend.specs.Selection.{Selection}
 use Rattle.ips_depend.specs.Holds.{holds}
 use Rattle.ips_request.specs.Stems.{has}
-use Rattle.ips_request.specs.Case.{Case}
+use Rattle.ips_request.specs.Case.{Case, installed_version}
 use Rattle.ips_request.specs.Candidates.{candidates, is_spared}
 use Rattle.ips_problem.specs.Reach.{dependencies_of}
 
 -- A selection gives every stem, in reach or not, one of its candidates, and each dependency of what it selects holds.
 pub record IsAdmissible (c : Case) (s : Selection) : Type 0 where
   pub offered : (stem : List ℕ) → Contains (candidates c stem) (s stem)
-  pub holds : (stem : List ℕ) → AllByRecursion (λ d. holds s (is_spared c) d ≡ true) (dependencies_of c stem (s stem))
+  pub holds : (stem : List ℕ) → AllByRecursion (λ d. holds s (installed_version c) (is_spared c) d ≡ true) (dependencies_of c stem (s stem))
 
 -- the selection with every stem absent that isn't among these
 abbrev pub restricted : List (List ℕ) → Selection → Selection

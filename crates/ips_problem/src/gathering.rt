@@ -7,7 +7,7 @@ ghost use Rattle.ips_fmri.specs.Version.{Parts};
 ghost use Rattle.ips_outside.specs.Outside.{Reads};
 ghost use Rattle.ips_request.specs.Candidates as candidate;
 ghost use Rattle.ips_request.specs.Candidates.{candidates_in};
-ghost use Rattle.ips_request.specs.Case.{IsReading, Reading, own};
+ghost use Rattle.ips_request.specs.Case.{IsReading, Reading, installed_version, own};
 ghost use Rattle.ips_request.specs.Manifests as fault_of;
 ghost use Rattle.ips_request.specs.Manifests.{IsFetched, IsFetchFault, IsManifestFault, IsOwnFault, IsThere, all_manifests_limit, name_of};
 ghost use Rattle.ips_request.specs.Reads.{is_gone_at, stands_at};
@@ -56,11 +56,7 @@ pub fn row_of<S: Source>(
 fn needed(alloc: Global, subject: &Subject<'_>, stem: &str) -> Result<Vec<Version>, AllocError>
     ensures { IfOk result (λ v. (file : List ℕ → Parts → Option (List ℕ)) (r : Reading) → v.items ≡ fault_of.needed (case_of subject.now file r) stem.now) }
 {
-    let installed = match subject.installed(stem) {
-        Some(package) => Some(&package.version),
-        None => None,
-    };
-    let newest = newest_first(alloc, subject.listed(stem), installed)?;
+    let newest = newest_first(alloc, subject.listed(stem), subject.installed_version(stem))?;
     chosen(alloc, subject, stem, newest.as_slice())
 }
 
@@ -219,6 +215,7 @@ fn arranged_row(
         → row.candidates.items ≡ candidates_in (candidate.role (case_of subject.now file r) stem.now) subject.now.kind (is_gone_at reads.items) (stands_at reads.items) (coming_from 0 reads.items)) }
     ensures spared { IfOk result (λ row. (file : List ℕ → Parts → Option (List ℕ)) (r : Reading)
         → candidate.is_obsolete_at (case_of subject.now file r) stem.now (candidate.greatest (case_of subject.now file r) stem.now) ≡ spec.is_newest_gone reads.items → row.spared ≡ candidate.is_spared (case_of subject.now file r) stem.now) }
+    ensures before { IfOk result (λ row. (file : List ℕ → Parts → Option (List ℕ)) (r : Reading) → row.before ≡ installed_version (case_of subject.now file r) stem.now) }
     ensures reads { IfOk result (λ row. row.reads.items ≡ reads.items) }
     ensures few { IfOk result (λ row. vec_len row.candidates < 2 ^ 32) }
 {
@@ -234,12 +231,28 @@ fn arranged_row(
     if candidates.len() > u32::MAX as usize {
         return Err(AllocError);
     }
+    let before = version_before(alloc, subject, stem)?;
     let spared = subject.spares(stem, is_newest_gone(reads.as_slice()));
     Ok(Row {
+        before,
         spared,
         reads,
         candidates,
     })
+}
+
+// The version at which the stem is installed before the request.
+fn version_before(
+    alloc: Global,
+    subject: &Subject<'_>,
+    stem: &str,
+) -> Result<Option<Version>, AllocError>
+    ensures { IfOk result (λ v. (file : List ℕ → Parts → Option (List ℕ)) (r : Reading) → v ≡ installed_version (case_of subject.now file r) stem.now) }
+{
+    match subject.installed_version(stem) {
+        Some(version) => Ok(Some(version.copy(alloc)?)),
+        None => Ok(None),
+    }
 }
 
 // The numbers of the versions to which the stem may come.

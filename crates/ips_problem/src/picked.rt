@@ -50,6 +50,8 @@ impl Picked<'_> {
 impl View for Picked<'_> {
     ghost selection = { λ v. picked (puzzle_of v.stems.now.keys v.rows.now) (v.more ∷ v.set.now) };
 
+    ghost old_selection = { λ v. posed.before (puzzle_of v.stems.now.keys v.rows.now) };
+
     ghost spares = { λ v. spared (puzzle_of v.stems.now.keys v.rows.now) };
 
     fn version(&self, stem: &str) -> Option<&Version> {
@@ -57,6 +59,13 @@ impl View for Picked<'_> {
             return None;
         };
         version_at(self.rows, self.set, self.more, number)
+    }
+
+    fn before(&self, stem: &str) -> Option<&Version> {
+        let Some(number) = number(self.stems, stem) else {
+            return None;
+        };
+        version_before(self.rows, number)
     }
 
     fn spared(&self, stem: &str) -> bool {
@@ -79,6 +88,16 @@ fn version_at<'a>(rows: &'a [Row], set: &[Pair], more: Pair, number: usize) -> O
         return None;
     };
     version_of(row, candidate)
+}
+
+// The version at which the stem with this number is installed before the request.
+fn version_before(rows: &[Row], number: usize) -> Option<&Version>
+    ensures { option_map (λ v. v.now) result ≡ posed.version_before (option_map seen_row (slice_get rows.now number)) }
+{
+    match rows.get(number) {
+        Some(row) => row.before.as_ref(),
+        None => None,
+    }
 }
 
 // Whether the stem with this number is spared.

@@ -56,7 +56,7 @@ fn fails(
     more: Pair,
 ) -> bool
     requires { OnePerStem (more ∷ set.now) }
-    ensures { result ≡ not (holds (posed.picked (puzzle_of stems.now.keys rows.now) (more ∷ set.now)) (posed.spared (puzzle_of stems.now.keys rows.now)) numbered.now.test) }
+    ensures { result ≡ not (holds (posed.picked (puzzle_of stems.now.keys rows.now) (more ∷ set.now)) (posed.before (puzzle_of stems.now.keys rows.now)) (posed.spared (puzzle_of stems.now.keys rows.now)) numbered.now.test) }
 {
     let picked = Picked::new(stems, rows, set, more);
     !numbered.test.holds(&picked)

@@ -1,11 +1,14 @@
 //! What is known of the stems in reach, and their tests.
 
 use ips_depend::Test;
+use ips_fmri::Version;
 use ips_request::Read;
 
 /// What is known of a stem in reach.
 #[derive(Drop)]
 pub struct Row {
+    /// The version at which it is installed before the request.
+    pub before: Option<Version>,
     /// No group dependency asks for it.
     pub spared: bool,
     /// The versions whose manifests were read.

@@ -34,6 +34,16 @@ impl Subject<'_> {
         }
     }
 
+    /// The version at which the stem is installed.
+    pub fn installed_version(&self, stem: &str) -> Option<&Version>
+        ensures { (file : List ℕ → Parts → Option (List ℕ)) (r : Reading) → option_map (λ v. v.now) result ≡ case.installed_version (case_of self.now file r) stem.now }
+    {
+        match self.installed(stem) {
+            Some(package) => Some(&package.version),
+            None => None,
+        }
+    }
+
     /// The installed package with this stem, where it is at this version.
     pub fn own(&self, stem: &str, version: &Version) -> Option<&Package>
         ensures { (file : List ℕ → Parts → Option (List ℕ)) (r : Reading) → option_map (λ p. installed p.now) result ≡ case.own (case_of self.now file r) stem.now version.now }

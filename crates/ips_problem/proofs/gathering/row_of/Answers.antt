@@ -20,7 +20,7 @@ returns-in-Ok-clause-row g c = λ told r is.
     let row = c.in_ok-arranged_row-in-Ok.field-0 in
     let read = c.in-Ok.ensures.read told r is in
     let all = subst (λ vs. AllZip (IsReadOf case stem) vs reads) (c.as_slice.ensures.value ∙ c.in_ok-versions.ensures file r) read.each in
-    row_known case stem row reads all c.in_ok-arranged_row-in-Ok.ensures.reads (c.in_ok-arranged_row-in-Ok.ensures.candidates file r) (c.in_ok-arranged_row-in-Ok.ensures.spared file r (newest_gone case stem reads all))
+    row_known case stem row reads all c.in_ok-arranged_row-in-Ok.ensures.reads (c.in_ok-arranged_row-in-Ok.ensures.candidates file r) (c.in_ok-arranged_row-in-Ok.ensures.before file r) (c.in_ok-arranged_row-in-Ok.ensures.spared file r (newest_gone case stem reads all))
 
 pub returns-in-Ok-clause-read : goal.returns-in-Ok-clause-read
 returns-in-Ok-clause-read g c = λ told r is.

@@ -1,5 +1,5 @@
-use Rattle.std.proofs.Common.{◌≡◌, ◌<◌, ◌≤◌, ◌↔◌, ◌++◌, ◌∷◌, [], List, ℕ, Contains, Global, Result, Ok, Err, IfOk, Vec, filter_map, get_or, length, option_map, option_to_list, refl, sym, ap, subst, ◌∙◌}
-use Rattle.std.proofs.lemmas.List.{append-nil, take_all}
+use Rattle.std.proofs.Common.{◌≡◌, ◌<◌, ◌≤◌, ◌↔◌, ◌++◌, List, ℕ, Contains, Global, Result, Ok, Err, IfOk, Vec, flat_map, get_or, length, refl, ap, subst, ◌∙◌}
+use Rattle.std.proofs.lemmas.List.{take_all}
 use Rattle.ips_problem.specs.declared.rows.Numbered.{Numbered}
 use Rattle.ips_problem.specs.declared.rows.Row.{Row}
 use Rattle.ips_state.specs.State.{Ascend}
@@ -8,7 +8,6 @@ use Rattle.ips_problem.specs.Held.{posed_of}
 use Rattle.ips_problem.specs.Seen.{puzzle_of, seen_test}
 use Rattle.ips_problem.proofs.Missing.{avoided, gathered_more}
 use Rattle.ips_problem.proofs.problem.Problem.avoid.Goals as goal
-use Rattle.ips_problem.proofs.problem.Problem.avoid.Goals.{in-Some+in_ok-copy+in_ok-push, in_default}
 
 pub loop-test-preserved : goal.loop-test-preserved
 loop-test-preserved c =
@@ -17,21 +16,12 @@ loop-test-preserved c =
     let i = c.loop-test.test-index in
     let test = c.test-item.result in
     let old = c.loop-test.stems.items in
-    let new = c.match-missed.stems.items in
-    let missed = option_map (λ stem. stem.now) c.missed.result in
     let tests = c.deref-test-items.ensures.value in
     let rows = c.deref-in-loop-test.ensures.value in
     let within : i < length p.tests.items = subst (λ (l : List Numbered). i < length l) tests c.loop-test-test.true in
     let at : test ≡ get_or p.tests.items i test = c.test-item.is ∙ ap (λ (l : List Numbered). get_or l i test) tests in
-    let told = c.missed.ensures ∙ ap (λ (l : List Row). missed_by (puzzle_of p.stems.keys l) choice (seen_test test)) rows in
-    let added : new ≡ old ++ option_to_list missed =
-    elim c.match-missed.branch [
-      | in-Some+in_ok-copy+in_ok-push w ↦
-          ap (λ v. v.items) w.stems-is ∙ w.in_ok-push.ensures.items ∙ ap (λ (s : List ℕ). old ++ s ∷ []) w.in_ok-copy.ensures
-          ∙ ap (λ o. old ++ option_to_list (option_map (λ stem. stem.now) o)) (sym w.in-Some.is)
-      | in_default w ↦ ap (λ v. v.items) w.stems-is ∙ sym (append-nil old) ∙ ap (λ o. old ++ option_to_list (option_map (λ stem. stem.now) o)) (sym w.in_default.is)
-    ] in
-    gathered_more (λ (t : Numbered). missed_by (puzzle_of p.stems.keys p.rows.items) choice (seen_test t)) p.avoid.items p.tests.items i test old new missed within at c.loop-test.invariant told added
+    let added = c.in_ok-add_missed.ensures ∙ ap (λ (l : List Row). old ++ missed_by (puzzle_of p.stems.keys l) choice (seen_test test)) rows in
+    gathered_more (λ (t : Numbered). missed_by (puzzle_of p.stems.keys p.rows.items) choice (seen_test t)) p.avoid.items p.tests.items i test old c.add_missed.new.missed.items within at c.loop-test.invariant added
 
 if_both : {X E : Type 0} (P Q R : X → Type 0) → ((x : X) → P x → Q x → R x) → (r : Result X E) → IfOk r P → IfOk r Q → IfOk r R
 if_both P Q R w (Ok x) p q = w x p q
@@ -45,7 +35,7 @@ returns c =
     let before = c.loop-test.stems.items in
     let missed = λ (t : Numbered). missed_by (puzzle_of p.stems.keys p.rows.items) choice (seen_test t) in
     let past : length p.tests.items ≤ i = subst (λ (l : List Numbered). length l ≤ i) c.deref-test-items.ensures.value c.loop-test-test.false in
-    let all = c.loop-test.invariant ∙ ap (λ (l : List Numbered). p.avoid.items ++ filter_map missed l) (take_all i p.tests.items past) in
+    let all = c.loop-test.invariant ∙ ap (λ (l : List Numbered). p.avoid.items ++ flat_map missed l) (take_all i p.tests.items past) in
     if_both (λ (v : Vec (List ℕ) Global). Ascend v.items) (λ (v : Vec (List ℕ) Global). (stem : List ℕ) → Contains v.items stem ↔ Contains before stem)
     (λ (v : Vec (List ℕ) Global). AreAvoided (posed_of p) choice v.items)
     (λ v order same. avoided (posed_of p) choice seen_test p.tests.items before v.items refl all order same)

@@ -1,7 +1,7 @@
 use Rattle.std.proofs.Common.{◌∷◌, List, not, sym, ap, ◌∙◌}
 use Rattle.ips_depend.specs.Holds.{holds}
 use Rattle.ips_problem.specs.declared.rows.Row.{Row}
-use Rattle.ips_problem.specs.Posed.{decides, picked, spared}
+use Rattle.ips_problem.specs.Posed.{decides, picked, before, spared}
 use Rattle.ips_problem.specs.Seen.{puzzle_of}
 use Rattle.ips_problem.proofs.Answering.{broken_told, unbroken_undecided}
 use Rattle.ips_problem.proofs.puzzle.ProblemPuzzle.broken.Goals as goal
@@ -20,4 +20,4 @@ returns c =
     broken_told c.args.self.now c.args.test n c.index.result.now set c.fails.result c.requires.known c.index-numbered.ensures c.index.ensures
     (sym c.is_chosen.ensures ∙ c.if-not-is_chosen.false)
     (ap (decides set) (sym c.deref.ensures.value) ∙ sym c.decides_all.ensures ∙ c.if-not-decides_all.false)
-    (c.fails.ensures ∙ ap (λ (rows : List Row). not (holds (picked (puzzle_of keys rows) set) (spared (puzzle_of keys rows)) n.test)) c.deref-2.ensures.value)
+    (c.fails.ensures ∙ ap (λ (rows : List Row). not (holds (picked (puzzle_of keys rows) set) (before (puzzle_of keys rows)) (spared (puzzle_of keys rows)) n.test)) c.deref-2.ensures.value)
