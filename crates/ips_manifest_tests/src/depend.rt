@@ -6,8 +6,8 @@ use ips_filter::Settings;
 use ips_fmri::Version;
 use ips_manifest::Manifest;
 use ips_text::Or;
-use std::alloc::{AllocError, Global};
-use std::test::Fail;
+use std::alloc::Global;
+use std::process::Abort;
 
 // Two stems, each absent or at a version, of which the first may be spared.
 #[derive(Drop)]
@@ -38,13 +38,17 @@ impl View for Chosen {
 }
 
 // The tests of a manifest where nothing is set.
-fn read(alloc: Global, text: &str) -> Result<Vec<Test>, Fail> {
-    let manifest = Manifest::read(alloc, text.as_bytes())?;
-    Ok(tests_of(alloc, &manifest, &Settings::new(alloc))?)
+fn read(rt: &impl Abort, alloc: Global, text: &str) -> Vec<Test> {
+    let manifest = Manifest::read(alloc, text.as_bytes())
+        .ok()
+        .expect(rt, "an answer");
+    tests_of(alloc, &manifest, &Settings::new(alloc))
+        .ok()
+        .expect(rt, "an answer")
 }
 
 // What the words say is chosen, as `a=1.9 b=2 spared`.
-fn view_of(alloc: Global, words: &str) -> Result<Chosen, Fail> {
+fn view_of(rt: &impl Abort, alloc: Global, words: &str) -> Chosen {
     let mut chosen = Chosen {
         a: None,
         b: None,
@@ -52,15 +56,17 @@ fn view_of(alloc: Global, words: &str) -> Result<Chosen, Fail> {
     };
     for word in words.split_whitespace() {
         let (stem, version) = word.split_once('=').unwrap_or((word, "0"));
-        let version = Version::parse(alloc, version)?;
+        let version = Version::parse(alloc, version)
+            .ok()
+            .expect(rt, "a number or a path");
         match stem {
             "a" => chosen.a = Some(version),
             "b" => chosen.b = Some(version),
             "spared" => chosen.spared = true,
-            _ => return Err(Fail::new("no such word")),
+            _ => panic!(rt; "no such word"),
         }
     }
-    Ok(chosen)
+    chosen
 }
 
 // What a table asks of dependencies.
@@ -75,26 +81,26 @@ enum Asked {
 }
 
 impl Ask for Asked {
-    fn answer(&mut self, alloc: Global, question: &str) -> Result<String, Fail> {
-        let question = text(alloc, question)?;
+    fn answer(&mut self, rt: &impl Abort, alloc: Global, question: &str) -> String {
+        let question = text(rt, alloc, question);
         let question = question.as_str();
         match self {
-            Asked::Holds => judged(alloc, question),
-            Asked::Bad => bad_line(alloc, question),
-            Asked::Told => told(alloc, question),
+            Asked::Holds => judged(rt, alloc, question),
+            Asked::Bad => bad_line(rt, alloc, question),
+            Asked::Told => told(rt, alloc, question),
         }
     }
 }
 
-fn judged(alloc: Global, question: &str) -> Result<String, Fail> {
+fn judged(rt: &impl Abort, alloc: Global, question: &str) -> String {
     let (attributes, words) = columns(question);
-    let line = format!(in alloc; "depend {attributes}")?;
-    let view = view_of(alloc, words)?;
-    let answer = match read(alloc, line.as_str())?.as_slice() {
+    let line = format!(in alloc; "depend {attributes}").expect(rt, "memory");
+    let view = view_of(rt, alloc, words);
+    let answer = match read(rt, alloc, line.as_str()).as_slice() {
         [test] => if test.holds(&view) { "holds" } else { "fails" },
         _ => "not one",
     };
-    Ok(String::from_str(alloc, answer)?)
+    String::from_str(alloc, answer).expect(rt, "memory")
 }
 
 // The attributes of a dependency, what is chosen, and whether it holds.
@@ -142,82 +148,94 @@ type=parent fmri=a@9 | -> holds
 type=parent fmri=a fmri=b | a=1 -> holds
 ";
 
-#[test]
-fn each_type_holds_by_its_sentence(rt: HostRuntime) -> Result<(), Fail> {
-    holds(&rt, rt.alloc(), &mut Asked::Holds, 37, SENTENCES)
-}
-
-fn bad_line(alloc: Global, text: &str) -> Result<String, Fail> {
-    let manifest = Manifest::read(alloc, text.as_bytes())?;
+fn bad_line(rt: &impl Abort, alloc: Global, text: &str) -> String {
+    let manifest = Manifest::read(alloc, text.as_bytes())
+        .ok()
+        .expect(rt, "an answer");
     let mut settings = Settings::new(alloc);
-    settings.set_variant(alloc, "variant.arch", "i386")?;
+    settings
+        .set_variant(alloc, "variant.arch", "i386")
+        .ok()
+        .expect(rt, "an answer");
     match tests_of(alloc, &manifest, &settings) {
-        Err(Or::Bad(BadDepend { line })) => Ok(format!(in alloc; "{line}")?),
-        Err(Or::OutOfMemory) => Err(AllocError.into()),
-        Ok(_) => Ok(String::from_str(alloc, "none")?),
+        Err(Or::Bad(BadDepend { line })) => format!(in alloc; "{line}").expect(rt, "memory"),
+        Err(Or::OutOfMemory) => panic!(rt; "memory"),
+        Ok(_) => String::from_str(alloc, "none").expect(rt, "memory"),
     }
 }
 
-#[test]
-fn the_first_action_that_is_no_dependency_is_told(rt: HostRuntime) -> Result<(), Fail> {
-    let table = r"
-        depend type=origin fmri=a -> 1
-        set name=a¶depend type=group-any fmri=a fmri=b -> 2
-        depend type=Require fmri=a -> 1
-        # More than one FMRI.
-        depend type=require fmri=a fmri=b -> 1
-        depend type=group fmri=a fmri=a -> 1
-        depend type=conditional predicate=b fmri=a fmri=c -> 1
-        # No predicate, or one too many.
-        depend type=conditional fmri=a -> 1
-        depend type=require predicate=b fmri=a -> 1
-        depend type=require-any predicate=b fmri=a -> 1
-        # What is no FMRI.
-        depend type=require fmri=a@1.x -> 1
-        depend type=conditional predicate=a@ fmri=a -> 1
-        depend type=require-any fmri=a fmri=* -> 1
-        depend type=parent fmri=/a -> 1
-        # The first such line, by its first physical line.
-        depend type=require fmri=a¶# c¶¶depend \¶type=no fmri=a¶depend type=no fmri=a¶ -> 4
-        # A line that isn't taken isn't judged.
-        depend type=origin fmri=a variant.arch=sparc¶depend type=no fmri=b variant.arch=i386 -> 2
-        depend type=origin fmri=a variant.arch=sparc¶set name=depend type=origin¶ -> none
-    ";
-    holds(&rt, rt.alloc(), &mut Asked::Bad, 16, table)
-}
+const THE_FIRST_ACTION_THAT_IS_NO_DEPENDENCY_IS_TOLD: &str = r"
+depend type=origin fmri=a -> 1
+set name=a¶depend type=group-any fmri=a fmri=b -> 2
+depend type=Require fmri=a -> 1
+# More than one FMRI.
+depend type=require fmri=a fmri=b -> 1
+depend type=group fmri=a fmri=a -> 1
+depend type=conditional predicate=b fmri=a fmri=c -> 1
+# No predicate, or one too many.
+depend type=conditional fmri=a -> 1
+depend type=require predicate=b fmri=a -> 1
+depend type=require-any predicate=b fmri=a -> 1
+# What is no FMRI.
+depend type=require fmri=a@1.x -> 1
+depend type=conditional predicate=a@ fmri=a -> 1
+depend type=require-any fmri=a fmri=* -> 1
+depend type=parent fmri=/a -> 1
+# The first such line, by its first physical line.
+depend type=require fmri=a¶# c¶¶depend \¶type=no fmri=a¶depend type=no fmri=a¶ -> 4
+# A line that isn't taken isn't judged.
+depend type=origin fmri=a variant.arch=sparc¶depend type=no fmri=b variant.arch=i386 -> 2
+depend type=origin fmri=a variant.arch=sparc¶set name=depend type=origin¶ -> none
+";
 
 // Of each dependency the stems that it mentions, how many it wants, and the stem of a group dependency.
-fn told(alloc: Global, text: &str) -> Result<String, Fail> {
+fn told(rt: &impl Abort, alloc: Global, text: &str) -> String {
     let mut out = String::new(alloc);
-    for test in &read(alloc, text)? {
+    for test in &read(rt, alloc, text) {
         for fmri in test.mentions() {
-            out.push_str(fmri.stem.as_str())?;
-            out.push_str(" ")?;
+            out.push_str(fmri.stem.as_str()).expect(rt, "memory");
+            out.push_str(" ").expect(rt, "memory");
         }
         let group = match test.group() {
             Some(fmri) => fmri.stem.as_str(),
             None => "-",
         };
         let wants = test.wants();
-        write!(out, "{wants} {group};")?;
+        write!(out, "{wants} {group};").expect(rt, "memory");
     }
-    Ok(out)
+    out
 }
 
+const TESTS_MENTION_AND_WANT_STEMS: &str = "
+depend type=require fmri=a -> a 1 -;
+depend type=optional fmri=a -> a 0 -;
+depend type=incorporate fmri=a@1 -> a 0 -;
+depend type=exclude fmri=a -> a 0 -;
+depend fmri=a predicate=b type=conditional -> b a 1 -;
+depend type=require-any fmri=a fmri=c fmri=b -> a c b 3 -;
+depend type=group fmri=g/h -> g/h 1 g/h;
+depend type=parent fmri=a fmri=b -> a b 0 -;
+# They stand in the order of their lines.
+depend type=require fmri=a¶depend type=optional fmri=a¶depend type=incorporate fmri=a@1¶depend type=exclude fmri=a¶depend fmri=a predicate=b type=conditional¶depend type=require-any fmri=a fmri=c fmri=b¶depend type=group fmri=g/h¶depend type=parent fmri=a fmri=b -> a 1 -;a 0 -;a 0 -;a 0 -;b a 1 -;a c b 3 -;g/h 1 g/h;a b 0 -;
+depend type=optional fmri=a¶depend type=require fmri=b¶depend type=group fmri=c¶ -> a 0 -;b 1 -;c 1 c;
+";
+
 #[test]
-fn tests_mention_and_want_stems(rt: HostRuntime) -> Result<(), Fail> {
-    let table = "
-        depend type=require fmri=a -> a 1 -;
-        depend type=optional fmri=a -> a 0 -;
-        depend type=incorporate fmri=a@1 -> a 0 -;
-        depend type=exclude fmri=a -> a 0 -;
-        depend fmri=a predicate=b type=conditional -> b a 1 -;
-        depend type=require-any fmri=a fmri=c fmri=b -> a c b 3 -;
-        depend type=group fmri=g/h -> g/h 1 g/h;
-        depend type=parent fmri=a fmri=b -> a b 0 -;
-        # They stand in the order of their lines.
-        depend type=require fmri=a¶depend type=optional fmri=a¶depend type=incorporate fmri=a@1¶depend type=exclude fmri=a¶depend fmri=a predicate=b type=conditional¶depend type=require-any fmri=a fmri=c fmri=b¶depend type=group fmri=g/h¶depend type=parent fmri=a fmri=b -> a 1 -;a 0 -;a 0 -;a 0 -;b a 1 -;a c b 3 -;g/h 1 g/h;a b 0 -;
-        depend type=optional fmri=a¶depend type=require fmri=b¶depend type=group fmri=c¶ -> a 0 -;b 1 -;c 1 c;
-    ";
-    holds(&rt, rt.alloc(), &mut Asked::Told, 10, table)
+fn judges_dependencies(rt: HostRuntime) {
+    let alloc = rt.alloc();
+    holds(&rt, alloc, &mut Asked::Holds, 37, SENTENCES);
+    holds(
+        &rt,
+        alloc,
+        &mut Asked::Bad,
+        16,
+        THE_FIRST_ACTION_THAT_IS_NO_DEPENDENCY_IS_TOLD,
+    );
+    holds(
+        &rt,
+        alloc,
+        &mut Asked::Told,
+        10,
+        TESTS_MENTION_AND_WANT_STEMS,
+    );
 }

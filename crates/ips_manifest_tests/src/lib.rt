@@ -17,8 +17,6 @@ mod mediate;
 #[cfg(test)]
 mod resolve;
 #[cfg(test)]
-mod rows;
-#[cfg(test)]
 mod state;
 #[cfg(test)]
 mod table;

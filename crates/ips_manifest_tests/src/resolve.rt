@@ -5,25 +5,31 @@ use ips_manifest::{Line, Manifest, Package};
 use ips_resolve::{first_below, first_unbuilt};
 use ips_text::{RelPath, Text};
 use std::alloc::Global;
-use std::test::Fail;
+use std::process::Abort;
 
 // A package of this stem, whose manifest has this text.
-fn package(alloc: Global, stem: &str, text: &str) -> Result<Package, Fail> {
-    Ok(Package {
-        stem: Text::new(alloc, stem)?,
-        version: Version::parse(alloc, "1").map_err(|_| "version")?,
-        manifest: Manifest::read(alloc, text.as_bytes()).map_err(|_| "manifest")?,
-    })
+fn package(rt: &impl Abort, alloc: Global, stem: &str, text: &str) -> Package {
+    Package {
+        stem: Text::new(alloc, stem).expect(rt, "memory"),
+        version: Version::parse(alloc, "1")
+            .map_err(|_| "version")
+            .ok()
+            .expect(rt, "an answer"),
+        manifest: Manifest::read(alloc, text.as_bytes())
+            .map_err(|_| "manifest")
+            .ok()
+            .expect(rt, "an answer"),
+    }
 }
 
 // A line by its package's stem and its number; `none` where there is none.
-fn told(alloc: Global, found: Option<(&Package, &Line)>) -> Result<String, Fail> {
+fn told(rt: &impl Abort, alloc: Global, found: Option<(&Package, &Line)>) -> String {
     match found {
         Some((own, line)) => {
             let (stem, number) = (own.stem.as_str(), line.number);
-            Ok(format!(in alloc; "{stem} {number}")?)
+            format!(in alloc; "{stem} {number}").expect(rt, "memory")
         }
-        None => Ok(String::from_str(alloc, "none")?),
+        None => String::from_str(alloc, "none").expect(rt, "memory"),
     }
 }
 
@@ -50,8 +56,8 @@ enum Asked {
 }
 
 impl Ask for Asked {
-    fn answer(&mut self, alloc: Global, question: &str) -> Result<String, Fail> {
-        let question = text(alloc, question)?;
+    fn answer(&mut self, rt: &impl Abort, alloc: Global, question: &str) -> String {
+        let question = text(rt, alloc, question);
         let question = question.as_str();
         let settings = Settings::new(alloc);
         let other = match self {
@@ -59,43 +65,58 @@ impl Ask for Asked {
             Asked::Below => OTHER,
         };
         let mut packages = Vec::new(alloc);
-        packages.push(package(alloc, "a", BUILT)?)?;
-        packages.push(package(alloc, "b", other)?)?;
+        packages
+            .push(package(rt, alloc, "a", BUILT))
+            .expect(rt, "memory");
+        packages
+            .push(package(rt, alloc, "b", other))
+            .expect(rt, "memory");
         match self {
-            Asked::Unbuilt => told(alloc, first_unbuilt(packages.as_slice(), &settings)),
+            Asked::Unbuilt => told(rt, alloc, first_unbuilt(packages.as_slice(), &settings)),
             Asked::Below => {
-                let path = RelPath::parse(alloc, question.as_bytes())?;
-                told(alloc, first_below(packages.as_slice(), &settings, &path))
+                let path = RelPath::parse(alloc, question.as_bytes())
+                    .ok()
+                    .expect(rt, "a number or a path");
+                told(
+                    rt,
+                    alloc,
+                    first_below(packages.as_slice(), &settings, &path),
+                )
             }
         }
     }
 }
 
-#[test]
-fn finds_what_cannot_be_installed_yet(rt: HostRuntime) -> Result<(), Fail> {
-    let table = "
-        -> none
-        depend fmri=x type=require¶user group=g uid=1 username=u¶ -> b 2
-        group gid=1 groupname=g¶ -> b 1
-        driver name=d¶ -> b 1
-        license da39a3ee5e6b4b0d3255bfef95601890afd80709 license=l¶ -> b 1
-        legacy pkg=SUNWx¶ -> b 1
-        file da39a3ee5e6b4b0d3255bfef95601890afd80709 group=bin mode=0644 owner=root path=p preserve=true¶ -> b 1
-        ¶file da39a3ee5e6b4b0d3255bfef95601890afd80709 group=bin mode=0644 overlay=true owner=root path=p¶ -> b 2
-    ";
-    holds(&rt, rt.alloc(), &mut Asked::Unbuilt, 8, table)
-}
+const FINDS_WHAT_CANNOT_BE_INSTALLED_YET: &str = "
+-> none
+depend fmri=x type=require¶user group=g uid=1 username=u¶ -> b 2
+group gid=1 groupname=g¶ -> b 1
+driver name=d¶ -> b 1
+license da39a3ee5e6b4b0d3255bfef95601890afd80709 license=l¶ -> b 1
+legacy pkg=SUNWx¶ -> b 1
+file da39a3ee5e6b4b0d3255bfef95601890afd80709 group=bin mode=0644 owner=root path=p preserve=true¶ -> b 1
+¶file da39a3ee5e6b4b0d3255bfef95601890afd80709 group=bin mode=0644 overlay=true owner=root path=p¶ -> b 2
+";
+
+const FINDS_WHAT_GIVES_A_PATH: &str = "
+usr -> a 2
+# What is below a path that no line gives itself, and not what only begins with its bytes.
+usr/lib -> a 3
+usr/lib/g -> a 5
+us -> none
+var -> b 2
+var/pkg -> none
+";
 
 #[test]
-fn finds_what_gives_a_path(rt: HostRuntime) -> Result<(), Fail> {
-    let table = "
-        usr -> a 2
-        # What is below a path that no line gives itself, and not what only begins with its bytes.
-        usr/lib -> a 3
-        usr/lib/g -> a 5
-        us -> none
-        var -> b 2
-        var/pkg -> none
-    ";
-    holds(&rt, rt.alloc(), &mut Asked::Below, 6, table)
+fn finds_lines(rt: HostRuntime) {
+    let alloc = rt.alloc();
+    holds(
+        &rt,
+        alloc,
+        &mut Asked::Unbuilt,
+        8,
+        FINDS_WHAT_CANNOT_BE_INSTALLED_YET,
+    );
+    holds(&rt, alloc, &mut Asked::Below, 6, FINDS_WHAT_GIVES_A_PATH);
 }

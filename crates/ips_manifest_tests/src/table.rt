@@ -6,30 +6,23 @@
 
 use std::alloc::Global;
 use std::process::Abort;
-use std::test::Fail;
 
 /// A kind of question, whose answers are short texts.
 pub trait Ask {
-    fn answer(&mut self, alloc: Global, question: &str) -> Result<String, Fail>;
+    fn answer(&mut self, rt: &impl Abort, alloc: Global, question: &str) -> String;
 }
 
 /// Each case of the table has its answer, and there are so many cases.
-pub fn holds<Q: Ask>(
-    rt: &impl Abort,
-    alloc: Global,
-    kind: &mut Q,
-    cases: u64,
-    table: &str,
-) -> Result<(), Fail> {
+pub fn holds<Q: Ask>(rt: &impl Abort, alloc: Global, kind: &mut Q, cases: u64, table: &str) {
     let mut count = 0_u64;
     for line in table.lines() {
         let row = line.trim();
         if row.is_empty() || row.starts_with('#') {
             continue;
         }
-        let (question, wanted) = row.split_once("->").ok_or("a case without an answer")?;
-        let answer = kind.answer(alloc, question.trim())?;
-        let wanted = spelled(alloc, wanted.trim())?;
+        let (question, wanted) = row.split_once("->").expect(rt, "a case without an answer");
+        let answer = kind.answer(rt, alloc, question.trim());
+        let wanted = spelled(rt, alloc, wanted.trim());
         assert!(rt;
             answer.as_str().as_bytes() == wanted.as_slice(),
             "{row} but {answer}"
@@ -37,61 +30,58 @@ pub fn holds<Q: Ask>(
         count = count.saturating_add(1);
     }
     assert!(rt; count == cases, "{count} cases");
-    Ok(())
 }
 
 /// The bytes that a column spells.
-pub fn spelled(alloc: Global, column: &str) -> Result<Vec<u8>, Fail> {
+pub fn spelled(rt: &impl Abort, alloc: Global, column: &str) -> Vec<u8> {
     let mut bytes = Vec::new(alloc);
     for (i, piece) in column.split('{').enumerate() {
         match piece.split_once('}') {
             Some((name, behind)) => {
-                push_named(&mut bytes, name)?;
-                push_lines(&mut bytes, behind)?;
+                push_named(rt, &mut bytes, name);
+                push_lines(rt, &mut bytes, behind);
             }
-            None if i > 0 => return Err(Fail::new("an open brace")),
-            None => push_lines(&mut bytes, piece)?,
+            None if i > 0 => panic!(rt; "an open brace"),
+            None => push_lines(rt, &mut bytes, piece),
         }
     }
-    Ok(bytes)
+    bytes
 }
 
 /// The text that a column spells.
-pub fn text(alloc: Global, column: &str) -> Result<String, Fail> {
-    let bytes = spelled(alloc, column)?;
-    let text = str::from_utf8(bytes.as_slice())?;
-    Ok(String::from_str(alloc, text)?)
+pub fn text(rt: &impl Abort, alloc: Global, column: &str) -> String {
+    let bytes = spelled(rt, alloc, column);
+    let text = str::from_utf8(bytes.as_slice()).ok().expect(rt, "a text");
+    String::from_str(alloc, text).expect(rt, "memory")
 }
 
-fn push_lines(out: &mut Vec<u8>, text: &str) -> Result<(), Fail> {
+fn push_lines(rt: &impl Abort, out: &mut Vec<u8>, text: &str) {
     for (i, line) in text.split('¶').enumerate() {
         if i > 0 {
-            out.push(b'\n')?;
+            out.push(b'\n').expect(rt, "memory");
         }
-        out.extend_from_slice(line.as_bytes())?;
+        out.extend_from_slice(line.as_bytes()).expect(rt, "memory");
     }
-    Ok(())
 }
 
 // What stands in braces.
-fn push_named(out: &mut Vec<u8>, name: &str) -> Result<(), Fail> {
+fn push_named(rt: &impl Abort, out: &mut Vec<u8>, name: &str) {
     if let Some((piece, times)) = name.rsplit_once('*') {
-        for _ in 0..times.parse::<u32>()? {
-            out.extend_from_slice(piece.as_bytes())?;
+        for _ in 0..times.parse::<u32>().ok().expect(rt, "a number or a path") {
+            out.extend_from_slice(piece.as_bytes()).expect(rt, "memory");
         }
-        return Ok(());
+        return;
     }
     let byte = match name {
         "blank" => b' ',
         "tab" => b'\t',
         "hash" => b'#',
         _ => {
-            let digits = name.strip_prefix("0x").ok_or("no name in braces")?;
-            u8::from_str_radix(digits, 16)?
+            let digits = name.strip_prefix("0x").expect(rt, "no name in braces");
+            u8::from_str_radix(digits, 16).ok().expect(rt, "an answer")
         }
     };
-    out.push(byte)?;
-    Ok(())
+    out.push(byte).expect(rt, "memory");
 }
 
 /// The two columns of a question.
@@ -100,4 +90,14 @@ pub fn columns(question: &str) -> (&str, &str) {
         Some((one, two)) => (one.trim(), two.trim()),
         None => (question, ""),
     }
+}
+
+/// An answer of these words.
+pub fn word(rt: &impl Abort, alloc: Global, words: &str) -> String {
+    String::from_str(alloc, words).expect(rt, "memory")
+}
+
+/// A number as an answer.
+pub fn counted(rt: &impl Abort, alloc: Global, count: usize) -> String {
+    format!(in alloc; "{count}").expect(rt, "memory")
 }

@@ -1,5 +1,4 @@
 use ips_cases::{Cases, Row};
-use std::test::Fail;
 
 const fn row(a: u32, b: u32, c: u32, d: u32, value: u8) -> Row {
     Row {
@@ -9,18 +8,17 @@ const fn row(a: u32, b: u32, c: u32, d: u32, value: u8) -> Row {
 }
 
 #[test]
-fn each_key_has_the_value_of_its_row(rt: HostRuntime) -> Result<(), Fail> {
+fn each_key_has_the_value_of_its_row(rt: HostRuntime) {
     let rows = [
         row(1, 3, 1, 1, 10),
         row(2, 1, 1, 1, 20),
         row(2, 2, 1, 1, 30),
     ];
-    let table = Cases::new(rows, [2, 2, 1, 1]).ok_or("each key has a row")?;
+    let table = Cases::new(rows, [2, 2, 1, 1]).expect(&rt, "each key has a row");
     assert_eq!(rt; table.find([0, 0, 0, 0]), 10);
     assert_eq!(rt; table.find([0, 1, 0, 0]), 10);
     assert_eq!(rt; table.find([1, 0, 0, 0]), 20);
     assert_eq!(rt; table.find([1, 1, 0, 0]), 30);
-    Ok(())
 }
 
 #[test]
@@ -37,14 +35,13 @@ fn gaps_and_overlaps_are_refused(rt: HostRuntime) {
 }
 
 #[test]
-fn sizes_of_32(rt: HostRuntime) -> Result<(), Fail> {
+fn sizes_of_32(rt: HostRuntime) {
     const ALL: u32 = u32::MAX;
     const TOP: u32 = 0x8000_0000;
     let rows = [row(ALL, ALL, ALL, ALL - TOP, 1), row(ALL, ALL, ALL, TOP, 2)];
-    let table = Cases::new(rows, [32, 32, 32, 32]).ok_or("each key has a row")?;
+    let table = Cases::new(rows, [32, 32, 32, 32]).expect(&rt, "each key has a row");
     assert_eq!(rt; table.find([31, 31, 31, 30]), 1);
     assert_eq!(rt; table.find([31, 31, 31, 31]), 2);
     let last_key_has_two = [rows[0], rows[1], row(TOP, TOP, TOP, TOP, 3)];
     assert!(rt; Cases::new(last_key_has_two, [32, 32, 32, 32]).is_none());
-    Ok(())
 }
