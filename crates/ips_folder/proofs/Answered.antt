@@ -1,7 +1,7 @@
 -- What a call on a folder in memory tells, by what it does to the record.
 use Rattle.std.proofs.Common.{◌≡◌, ◌⊎◌, inl, inr, ⊎_elim, ℕ, Bool, true, false, cond, ◌||◌, List, [], ◌∷◌, ◌++◌, length, Option, Some, None, Result, Ok, Err, is_err, OnOk, OnErr, refl, sym, ◌∙◌, ap, subst, arith, length-append}
 use Rattle.ips_outside.specs.State.{State, Changed}
-use Rattle.ips_outside.specs.Outside.{Elapses, IsCall, Reads}
+use Rattle.ips_outside.specs.Outside.{Elapses, IsCall, Reads, OneMore}
 use Rattle.std.proofs.lemmas.Bool.{false_from_ne_true}
 use Rattle.std.proofs.lemmas.Bool.Decides.{nat_tests}
 use Rattle.ips_outside.specs.Tally.{next_fails}
@@ -69,12 +69,12 @@ module _ (f g : MemFolder) where
     called_same : (failed : Bool) → IsCounted f g failed → IsCall mem_folder f g (failed ≡ true)
     called_same failed counted = record { same_kind = refl; time = elapses_same; cause = counted.cause }
 
-    pub reads : (failed : Bool) → IsCounted f g failed → Reads mem_folder f g (failed ≡ true)
-    reads failed counted = record { call = called_same failed counted; kept = ap (λ (m : Moment). m.state) moment_same }
+    pub reads : (failed : Bool) → IsCounted f g failed → g.changes ≡ f.changes → Reads mem_folder f g (failed ≡ true)
+    reads failed counted none_made = record { call = called_same failed counted; kept = ap (λ (m : Moment). m.state) moment_same; none_made = none_made }
 
     -- where the failure is told by another answer
-    pub reads_as : (failed told : Bool) → failed ≡ told → IsCounted f g failed → Reads mem_folder f g (told ≡ true)
-    reads_as failed told is counted = subst (λ (b : Bool). Reads mem_folder f g (b ≡ true)) is (reads failed counted)
+    pub reads_as : (failed told : Bool) → failed ≡ told → IsCounted f g failed → g.changes ≡ f.changes → Reads mem_folder f g (told ≡ true)
+    reads_as failed told is counted none_made = subst (λ (b : Bool). Reads mem_folder f g (b ≡ true)) is (reads failed counted none_made)
 
   -- the record goes on with a call
   module _ (c : Call) (more : IsRecorded c f.log g.log) where
@@ -95,12 +95,12 @@ module _ (f g : MemFolder) where
 
   module _ {E : Type 0} (r : Result (Unit {0}) E) where
     -- a call without effect, which failed
-    unchanged : (to : State) (free loose : List ℕ → Bool) → is_err r ≡ true → IsSameRecord f.log g.log → IsCounted f g (is_err r) → Writes mem_folder free loose to f g r
-    unchanged to free loose bad same counts = record { call = called_same same (is_err r) counts; done = λ told. failed_ok _ r bad; only = λ told. inl (ap (λ (m : Moment). m.state) (moment_same same)) }
+    unchanged : (to : State) (free loose : List ℕ → Bool) → is_err r ≡ true → IsSameRecord f.log g.log → IsCounted f g (is_err r) → OneMore f.changes g.changes → Writes mem_folder free loose to f g r
+    unchanged to free loose bad same counts one = record { one_made = one; call = called_same same (is_err r) counts; done = λ told. failed_ok _ r bad; only = λ told. inl (ap (λ (m : Moment). m.state) (moment_same same)) }
 
     -- memory was refused
     pub refused : (to : State) (free loose : List ℕ → Bool) → IsRefused f g (is_err r) → Writes mem_folder free loose to f g r
-    refused to free loose lost = unchanged to free loose lost.answer lost.same lost.counts
+    refused to free loose lost = unchanged to free loose lost.answer lost.same lost.counts lost.one_made
 
     pub starves : (to : Moment) → IsRefused f g (is_err r) → Does to f g r
     starves to lost = record { tallied = lost.counts.tallied; ends = inr (record { answer = lost.answer; starved = lost.starved; moment = moment_same lost.same }) }
@@ -113,8 +113,9 @@ module _ (f g : MemFolder) where
             call = called_push c made.recorded (is_err r) made.counts;
             done = λ told. on_ok r now;
             only = λ told. inr (subst (Changed free loose (mem_folder.state f)) (sym now) changed);
+            one_made = made.one_made;
           }
-      writes free loose changed (inr (inl late)) = unchanged to.state free loose (late.answer ∙ late_fails f late.after) late.same late.counts
+      writes free loose changed (inr (inl late)) = unchanged to.state free loose (late.answer ∙ late_fails f late.after) late.same late.counts late.one_made
       writes free loose changed (inr (inr lost)) = refused to.state free loose lost
 
       pub does : IsActed c f g (is_err r) → Does to f g r
@@ -129,8 +130,8 @@ module _ (f g : MemFolder) where
       does (inr (inr lost)) = starves to lost
 
     -- a sync that had to fail, or to which memory was refused
-    pub syncs_not : is_err r ≡ true → IsSameRecord f.log g.log → IsCounted f g (is_err r) → Syncs mem_folder f g r
-    syncs_not bad same counts = record { call = called_same same (is_err r) counts; done = λ told. failed_ok _ r bad; kept = on_err r (ap (λ (m : Moment). m.state) (moment_same same)) }
+    pub syncs_not : is_err r ≡ true → IsSameRecord f.log g.log → IsCounted f g (is_err r) → OneMore f.changes g.changes → Syncs mem_folder f g r
+    syncs_not bad same counts one = record { one_made = one; call = called_same same (is_err r) counts; done = λ told. failed_ok _ r bad; kept = on_err r (ap (λ (m : Moment). m.state) (moment_same same)) }
 
     -- one that was to be carried out
     pub syncs : must_fail f ≡ false → IsActed call.Sync f g (is_err r) → Syncs mem_folder f g r
@@ -140,6 +141,7 @@ module _ (f g : MemFolder) where
           call = called_push call.Sync made.recorded (is_err r) made.counts;
           done = λ told. on_ok r (ap (λ (m : Moment). m.state) now);
           kept = served_err _ r (made.answer ∙ served);
+          one_made = made.one_made;
         }
-    syncs served (inr (inl late)) = syncs_not (late.answer ∙ late_fails f late.after) late.same late.counts
-    syncs served (inr (inr lost)) = syncs_not lost.answer lost.same lost.counts
+    syncs served (inr (inl late)) = syncs_not (late.answer ∙ late_fails f late.after) late.same late.counts late.one_made
+    syncs served (inr (inr lost)) = syncs_not lost.answer lost.same lost.counts lost.one_made

@@ -2,20 +2,23 @@
 use Rattle.std.specs.Prelude.{◌≡◌, ◌⊎◌, ℕ, ◌≤◌, Bool, true, false, ◌||◌, IsTrue, List, Option, Some, None, Result, IsErr, OnOk, OnErr}
 use Rattle.ips_outside.specs.Image.{Entry, Dir, File, Link, Other, Image, is_file, is_dir, has_parent}
 use Rattle.ips_outside.specs.State.{State, MayChange, Within, settled}
-use Rattle.ips_outside.specs.Outside.{Outside, IsCall}
+use Rattle.ips_outside.specs.Outside.{Outside, IsCall, OneMore}
 
 -- A call that writes: at `Ok` the folder has this state. Whatever it answers, nothing, or these paths and modes alone
--- are changed and touched.
+-- are changed and touched, and it is counted as one that may change something.
 pub record Writes {F T E : Type 0} (o : Outside F) (free loose : List ℕ → Bool) (to : State) (old new : F) (result : Result T E) : Type 0 where
   pub call : IsCall o old new (IsErr result)
   pub done : IsTrue (o.tells old) → OnOk result (o.state new ≡ to)
   pub only : IsTrue (o.tells old) → MayChange free loose (o.state old) (o.state new)
+  pub one_made : OneMore (o.changes old) (o.changes new)
 
--- A sync: at `Ok` the same image is held and nothing is touched any more; at `Err` nothing has changed.
+-- A sync: at `Ok` the same image is held and nothing is touched any more; at `Err` nothing has changed. It is counted as
+-- a call that may change something.
 pub record Syncs {F T E : Type 0} (o : Outside F) (old new : F) (result : Result T E) : Type 0 where
   pub call : IsCall o old new (IsErr result)
   pub done : IsTrue (o.tells old) → OnOk result (o.state new ≡ settled (o.state old))
   pub kept : OnErr result (o.state new ≡ o.state old)
+  pub one_made : OneMore (o.changes old) (o.changes new)
 
 -- Nothing stands at the path, and its parent is a directory.
 pub record CanMake (t : Image) (p : List ℕ) : Type 0 where

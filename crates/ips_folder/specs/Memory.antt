@@ -5,8 +5,8 @@ use Rattle.std.proofs.Math.Nat.{le_refl}
 use Rattle.std.proofs.lemmas.List.{take_all}
 use Rattle.ips_outside.specs.Image.{IsImage}
 use Rattle.ips_outside.specs.State.{State}
-use Rattle.ips_outside.specs.Outside.{Outside, IsOutside, HasCause}
-use Rattle.ips_outside.specs.Tally.{Tally, fresh, next_fails, counted, after_call}
+use Rattle.ips_outside.specs.Outside.{Outside, IsOutside, HasCause, OneMore, counted}
+use Rattle.ips_outside.specs.Tally.{Tally, fresh, next_fails, after_call}
 use Rattle.ips_outside.specs.declared.tree.Tree.{Tree}
 use Rattle.ips_outside.specs.Tree.{tree_image, tree_formed}
 use Rattle.ips_folder.specs.History.{Moment, begun, replay}
@@ -46,6 +46,7 @@ mem_folder = record {
   clock = λ f. length f.log.calls.items;
   states = λ f time s. Since f.log.calls.items (first_moment f.log) time s;
   faults = λ f. f.calls.failed;
+  changes = λ f. f.changes;
 }
 
 -- how many calls failed because memory was refused to them
@@ -91,6 +92,7 @@ pub record Begins (tree : Tree) (fails : List ℕ) (stop : Option Stop) (f : Mem
   pub tally : tally_of f ≡ fresh fails
   pub stops : stop_of f ≡ stop
   pub starved : f.starved ≡ 0
+  pub changes : mem_folder.changes f ≡ 0
 
 -- A call that leaves this moment, unless it comes after the stop, and fails exactly where it must.
 pub record IsServed (to : Moment) (old new : MemFolder) (failed : Bool) : Type 0 where
@@ -145,6 +147,7 @@ pub record IsMade (call : Call) (old new : MemFolder) (failed : Bool) : Type 0 w
   pub counts : IsCounted old new failed
   pub answer : failed ≡ must_fail old
   pub starved : new.starved ≡ old.starved
+  pub one_made : OneMore old.changes new.changes
   pub before : is_over old ≡ false
   pub recorded : IsRecorded call old.log new.log
 
@@ -153,6 +156,7 @@ pub record IsLate (old new : MemFolder) (failed : Bool) : Type 0 where
   pub counts : IsCounted old new failed
   pub answer : failed ≡ must_fail old
   pub starved : new.starved ≡ old.starved
+  pub one_made : OneMore old.changes new.changes
   pub after : is_over old ≡ true
   pub same : IsSameRecord old.log new.log
 
@@ -160,6 +164,7 @@ pub record IsLate (old new : MemFolder) (failed : Bool) : Type 0 where
 pub record IsRefused (old new : MemFolder) (failed : Bool) : Type 0 where
   pub counts : IsCounted old new failed
   pub answer : IsTrue failed
+  pub one_made : OneMore old.changes new.changes
   pub starved : new.starved ≡ counted old.starved
   pub same : IsSameRecord old.log new.log
 

@@ -2,6 +2,7 @@
 
 ghost use Rattle.std.specs.Prelude.{◌≡◌, ◌||◌, not, true, false, is_err, IfOk};
 ghost use Rattle.ips_outside.specs.State.{MayLeave};
+ghost use Rattle.ips_outside.specs.Outside.{OneMore};
 ghost use Rattle.ips_outside.specs.Tree.{tree_image};
 ghost use Rattle.ips_folder.specs.Crash.{IsLeftBy};
 ghost use Rattle.ips_folder.specs.History.{CanDo, is_change};
@@ -25,6 +26,7 @@ pub struct MemFolder {
     calls: Calls,
     stop: Option<Stop>,
     starved: u64,
+    changes: u64,
 }
 
 impl MemFolder {
@@ -43,6 +45,7 @@ impl MemFolder {
             calls: Calls::new(fails),
             stop,
             starved: 0,
+            changes: 0,
         })
     }
 
@@ -98,6 +101,7 @@ impl MemFolder {
         ensures counted { IsCounted self.old self.new (is_err result) }
         ensures log { self.new.log ≡ self.old.log }
         ensures starved { self.new.starved ≡ self.old.starved }
+        ensures changes { self.new.changes ≡ self.old.changes }
     {
         let refused = self.is_stopped() || !served;
         if self.calls.fails(refused) {
@@ -107,12 +111,24 @@ impl MemFolder {
         }
     }
 
-    // A call to which memory was refused.
+    // The same for a call that may change something.
+    fn answer_change(&mut self, served: bool) -> Result<(), Failed>
+        ensures failed { is_err result ≡ (must_fail self.old || not served) }
+        ensures counted { IsCounted self.old self.new (is_err result) }
+        ensures log { self.new.log ≡ self.old.log }
+        ensures starved { self.new.starved ≡ self.old.starved }
+        ensures changes { OneMore self.old.changes self.new.changes }
+    {
+        self.changes = self.changes.saturating_add(1);
+        self.answer(served)
+    }
+
+    // A call that may change something, to which memory was refused.
     fn starve(&mut self) -> Result<(), Failed>
         ensures { IsRefused self.old self.new (is_err result) }
     {
         self.starved = self.starved.saturating_add(1);
-        self.answer(false)
+        self.answer_change(false)
     }
 
     // Carries a call out that changes something and records it, unless it comes after the stop or memory is refused.
@@ -122,10 +138,10 @@ impl MemFolder {
         ensures { IsActed call self.old self.new (is_err result) }
     {
         if self.is_over() {
-            return self.answer(true);
+            return self.answer_change(true);
         }
         match self.log.keep(self.alloc, call) {
-            Ok(()) => self.answer(true),
+            Ok(()) => self.answer_change(true),
             Err(_) => self.starve(),
         }
     }
@@ -136,7 +152,7 @@ impl MemFolder {
         ensures { IsActed Call.Sync self.old self.new (is_err result) }
     {
         match self.log.settle() {
-            Ok(()) => self.answer(true),
+            Ok(()) => self.answer_change(true),
             Err(_) => self.starve(),
         }
     }

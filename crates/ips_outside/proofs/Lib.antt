@@ -1,4 +1,5 @@
 pub mod Faults
+pub mod Reading
 pub mod Looks
 pub mod Agree
 pub mod Images

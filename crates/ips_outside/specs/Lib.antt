@@ -3,6 +3,7 @@ pub mod Change
 pub mod State
 pub mod Outside
 pub mod Taking
+pub mod Running
 pub mod Tally
 pub mod Table
 pub mod Order
@@ -12,3 +13,5 @@ pub mod Making
 pub mod Tree
 pub mod Memory
 pub mod Filling
+pub mod Spawning
+pub mod Marks

@@ -16,6 +16,7 @@ unchanging image faults = record {
   clock = λ f. 0;
   states = λ f t s. s ≡ untouched (image f);
   faults = faults;
+  changes = λ f. 0;
 }
 
 -- the calls on the source so far, and which of them fail

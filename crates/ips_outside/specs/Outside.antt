@@ -1,5 +1,5 @@
 -- What an object of the outside means to proofs, and what each call on it says.
-use Rattle.std.specs.Prelude.{◌≡◌, ◌⊎◌, ℕ, ◌+◌, ◌^◌, ◌<◌, ◌≤◌, Bool, IsTrue, List, [], length, take, drop, Option, Some, None, unwrap_or}
+use Rattle.std.specs.Prelude.{◌≡◌, ◌⊎◌, ℕ, ◌+◌, ◌-◌, ◌^◌, ◌<◌, ◌≤◌, Bool, IsTrue, List, [], length, take, drop, Option, Some, None, unwrap_or, min}
 use Rattle.ips_outside.specs.declared.outside.Look.{Look}
 use Rattle.ips_outside.specs.declared.outside.Look.TheVariants as look
 use Rattle.ips_outside.specs.Image.{Entry, Dir, File, Link, Other, IsImage, file_bytes}
@@ -17,6 +17,8 @@ pub record Outside (F : Type 0) : Type 1 where
   pub states : F → ℕ → State → Type 0
   -- how often it failed
   pub faults : F → ℕ
+  -- how often a call was made that may change something
+  pub changes : F → ℕ
 
 -- What holds of each such object.
 pub record IsOutside {F : Type 0} (o : Outside F) : Type 0 where
@@ -26,15 +28,29 @@ pub record IsOutside {F : Type 0} (o : Outside F) : Type 0 where
   -- this moment is one of those since an earlier one
   pub counts_now : (f : F) (t : ℕ) → t ≤ o.clock f → o.states f t (o.state f)
 
--- A count of faults rose, or stands at the last value of its counter.
+-- one count more, up to the last value of its counter
+abbrev pub counted : ℕ → ℕ
+counted n = min (n + 1) (2 ^ 64 - 1)
+
+-- A count rose, or stands at the last value of its counter.
 abbrev pub Rose : ℕ → ℕ → Type 0
 Rose before now = (before < now) ⊎ (2 ^ 64 ≤ now + 1)
 
--- A count never falls. A failure is told only where it rose, and where nothing failed it stays.
+-- A count of faults never falls. A failure is told only where it rose, and where nothing failed it stays.
 pub record HasCause (before now : ℕ) (failure : Type 0) : Type 0 where
   pub later : before ≤ now
   pub rose : failure → Rose before now
   pub steady : (failure → ⊥) → now ≡ before
+
+-- A count never falls, and rose where this is so.
+pub record RoseWhere (before now : ℕ) (some : Type 0) : Type 0 where
+  pub later : before ≤ now
+  pub rose : some → Rose before now
+
+-- One call more was counted.
+pub record OneMore (before now : ℕ) : Type 0 where
+  pub later : before ≤ now
+  pub one : now ≡ counted before
 
 -- Time goes on, and nothing is forgotten: the states since a moment are those from before the call, and the one after it.
 pub record Elapses {F : Type 0} (o : Outside F) (old new : F) : Type 0 where
@@ -48,10 +64,11 @@ pub record IsCall {F : Type 0} (o : Outside F) (old new : F) (failure : Type 0) 
   pub time : Elapses o old new
   pub cause : HasCause (o.faults old) (o.faults new) failure
 
--- A call that changes neither the image nor what was touched, whatever it answers.
+-- A call that changes neither the image nor what was touched, whatever it answers. It isn't counted among those that may.
 pub record Reads {F : Type 0} (o : Outside F) (old new : F) (failure : Type 0) : Type 0 where
   pub call : IsCall o old new failure
   pub kept : o.state new ≡ o.state old
+  pub none_made : o.changes new ≡ o.changes old
 
 -- what a look at an entry answers
 abbrev pub look_of : Option Entry → Look

@@ -1,10 +1,11 @@
-//! Sources of files and sinks of bytes, as the program meets them.
+//! Sources of files, sinks of bytes and spawners of programs, as the program meets them.
 
 ghost use Rattle.std.specs.Prelude.{◌≡◌, ◌≤◌, ◌++◌, ℕ, Bool, IsTrue, List, IfOk, IsErr, OnErr, length, take};
 ghost use Rattle.ips_outside.specs.Outside.{Outside, IsOutside, HasCause, Reads, look_of, IsSmall, readable, IsRead};
 ghost use Rattle.ips_outside.specs.Taking.{Taking, TakesSome};
+ghost use Rattle.ips_outside.specs.Running.{Running, Runs};
 
-use ips_text::RelPath;
+use ips_text::{RelPath, Text};
 
 /// A call on the outside failed. It says no more: the object's count of faults rose.
 #[derive(Clone, Copy, Debug, PartialEq, Eq)]
@@ -58,4 +59,15 @@ pub trait Sink {
         ensures some { IfOk result (TakesSome bytes.now) }
         ensures taken { IsTrue (taking.tells self.old) → IfOk result (λ count. taking.taken self.new ≡ taking.taken self.old ++ take count bytes.now) }
         ensures kept { IsTrue (taking.tells self.old) → OnErr result (taking.taken self.new ≡ taking.taken self.old) };
+}
+
+/// What runs programs.
+pub trait Spawner {
+    /// What it means to proofs.
+    ghost running: { Running Self };
+
+    /// Runs the program that the first word names with all the words, waits until it has ended, and answers its status.
+    /// After `Err` it hasn't run to an end of which a status tells.
+    fn run(&mut self, words: &[Text]) -> Result<u8, Failed>
+        ensures { Runs running words.now self.old self.new result };
 }

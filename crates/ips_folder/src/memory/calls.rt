@@ -166,7 +166,7 @@ impl Folder for MemFolder {
         ensures does { Does (if must_fail self.old then moment self.old else begun (moment self.old).state.held) self.old self.new result }
     {
         if self.must_fail() {
-            return self.answer(true);
+            return self.answer_change(true);
         }
         self.settle()
     }

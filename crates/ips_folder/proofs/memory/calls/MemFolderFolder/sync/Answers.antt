@@ -7,8 +7,8 @@ use Rattle.ips_folder.proofs.memory.calls.MemFolderFolder.sync.Goals as goal
 
 pub returns-then-must_fail-clause-syncs : goal.returns-then-must_fail-clause-syncs
 returns-then-must_fail-clause-syncs c =
-    let bad : is_err c.answer.result ≡ true = search rules in
-    syncs_not c.args.self.now c.answer.new.self c.answer.result bad (same_log c.answer.ensures.log) c.answer.ensures.counted
+    let bad : is_err c.answer_change.result ≡ true = search rules in
+    syncs_not c.args.self.now c.answer_change.new.self c.answer_change.result bad (same_log c.answer_change.ensures.log) c.answer_change.ensures.counted c.answer_change.ensures.changes
 
 pub returns-clause-syncs : goal.returns-clause-syncs
 returns-clause-syncs c =
