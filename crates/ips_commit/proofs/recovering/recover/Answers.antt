@@ -4,7 +4,7 @@ use Rattle.ips_text.specs.declared.refusal.Or.TheVariants.{Bad}
 use Rattle.ips_outside.specs.Image.{Image}
 use Rattle.ips_outside.specs.State.{State, nowhere}
 use Rattle.ips_folder.proofs.Runs.{started, begun, one_read}
-use Rattle.ips_repo.proofs.Calls.{answered}
+use Rattle.ips_outside.proofs.Reading.{answered}
 use Rattle.ips_outside.specs.Children.{bytes_of}
 use Rattle.ips_steps.specs.Owed.{IsOpen, FolderOwes, steps_left}
 use Rattle.ips_steps.specs.Steps.{after}
@@ -16,7 +16,7 @@ use Rattle.ips_commit.specs.Pending.{IsDone, IsSwept, is_swept}
 use Rattle.ips_commit.specs.Recovering.{IsPlaced, IsJournalled, CanRollForward, SaysOfFinding, SaysOfRecovery, SaysOfLaying}
 use Rattle.ips_commit.proofs.AllWritten.{as_bad}
 use Rattle.ips_commit.proofs.Places.{placed_open}
-use Rattle.ips_commit.proofs.Rolled.{still_owed, still_clean, rolled_owed, swept_keeps, swept_owed, swept_done, placed_done, found_open, found_shut, says_rolled, never_refused, says_only_read, rolled_marks, if_starved, read_cause, roll_cause, never_found, calm_cause, no_answer}
+use Rattle.ips_commit.proofs.Rolled.{still_owed, still_clean, rolled_owed, swept_keeps, swept_owed, swept_done, placed_done, found_open, found_shut, says_rolled, front_as, never_refused, says_only_read, rolled_marks, if_starved, read_cause, roll_cause, never_found, calm_cause, no_answer}
 use Rattle.ips_commit.proofs.recovering.recover.Goals as goal
 
 -- ---- nothing but reading
@@ -81,20 +81,18 @@ returns-clause-cause g c =
 pub returns-in-Ok-roll_forward-clause-owed : goal.returns-in-Ok-roll_forward-clause-owed
 returns-in-Ok-roll_forward-clause-owed g c = λ told b a due owes.
     let o = g.F.Source.outside in
-    let clean = still_clean o g.met.F.Source.sane c.args.folder.now c.find_left.new.folder _ c.find_left.ensures.reads (c.requires.safe told) in
     let told_1 = c.find_left.ensures.reads.call.same_kind ∙ told in
     rolled_owed o g.met.F.Source.sane c.args.folder.now c.find_left.new.folder _ c.find_left.ensures.reads c.roll_forward.new.folder c.find_left.new.reader b a due
     (found_open c.in-Ok.left.is_open (o.state c.args.folder.now).held (c.in-Ok.ensures.gate told) c.if-is_open.true) (c.in-Ok.ensures.placed told c.if-is_open.true) owes
-    (λ steps count x is_open at. c.roll_forward.ensures.owed told_1 clean steps count b x due is_open at)
+    (λ steps count x is_open at. c.roll_forward.ensures.owed told_1 steps count b x due is_open at)
 
 pub returns-in-Err-roll_forward-clause-owed : goal.returns-in-Err-roll_forward-clause-owed
 returns-in-Err-roll_forward-clause-owed g c = λ told b a due owes.
     let o = g.F.Source.outside in
-    let clean = still_clean o g.met.F.Source.sane c.args.folder.now c.find_left.new.folder _ c.find_left.ensures.reads (c.requires.safe told) in
     let told_1 = c.find_left.ensures.reads.call.same_kind ∙ told in
     rolled_owed o g.met.F.Source.sane c.args.folder.now c.find_left.new.folder _ c.find_left.ensures.reads c.roll_forward.new.folder c.find_left.new.reader b a due
     (found_open c.in-Ok.left.is_open (o.state c.args.folder.now).held (c.in-Ok.ensures.gate told) c.if-is_open.true) (c.in-Ok.ensures.placed told c.if-is_open.true) owes
-    (λ steps count x is_open at. c.roll_forward.ensures.owed told_1 clean steps count b x due is_open at)
+    (λ steps count x is_open at. c.roll_forward.ensures.owed told_1 steps count b x due is_open at)
 
 pub returns-in-Ok-roll_forward-clause-closed : goal.returns-in-Ok-roll_forward-clause-closed
 returns-in-Ok-roll_forward-clause-closed g c = λ told shut.
@@ -226,3 +224,19 @@ returns-in_default-clause-read_first g c = λ told none gate.
 pub returns-clause-read_first : goal.returns-clause-read_first
 returns-clause-read_first g c = λ told none gate.
     absurd (gate (found_shut c.in-Ok.left.is_open (g.F.Source.outside.state c.args.folder.now).held (c.in-Ok.ensures.gate told) c.if-is_open.false))
+
+pub roll_forward-requires-clause-safe : goal.roll_forward-requires-clause-safe
+roll_forward-requires-clause-safe g c = λ told_now.
+    still_clean g.F.Source.outside g.met.F.Source.sane c.args.folder.now c.find_left.new.folder _ c.find_left.ensures.reads (c.requires.safe (sym c.find_left.ensures.reads.call.same_kind ∙ told_now))
+
+pub returns-in_default-clause-untouched : goal.returns-in_default-clause-untouched
+returns-in_default-clause-untouched g c = λ told gate. absurd (gate (found_shut c.in-Ok.left.is_open (g.F.Source.outside.state c.args.folder.now).held (c.in-Ok.ensures.gate told) c.if-is_open.false))
+
+pub returns-in-Err-roll_forward-clause-front : goal.returns-in-Err-roll_forward-clause-front
+returns-in-Err-roll_forward-clause-front g c = λ told steps count journalled.
+    let placed = c.in-Ok.ensures.placed told c.if-is_open.true in
+    let kept = c.find_left.ensures.reads.kept in
+    let told_1 = c.find_left.ensures.reads.call.same_kind ∙ told in
+    let is = subst (λ (s : State). IsJournalled s.held placed.steps placed.count) (sym kept) placed.is in
+    let at = subst (λ (s : State). IsAt (journal_of s.held) (take (1000 * placed.count) placed.steps) c.find_left.new.reader) (sym kept) placed.at in
+    front_as (g.F.Source.outside.state c.args.folder.now).held c.find_left.new.reader placed steps count journalled _ _ (c.in-Err-roll_forward.ensures.front told_1 placed.steps placed.count is at)
