@@ -30,7 +30,7 @@ use ips_outside::Source;
 /// Wherever it is stopped, within any call, the folder owes the image that was seen before or the one that is meant; once the
 /// gate is safely open, the latter. No memory is taken.
 pub fn commit<F: Folder>(
-    ready: Ready,
+    mut ready: Ready,
     folder: &mut F,
     kinds: &mut Vec<Box<dyn Kind>>,
 ) -> Result<u64, CommitFault>
@@ -61,12 +61,14 @@ pub fn commit<F: Folder>(
     ensures same_kind { F.outside.tells folder.new ≡ F.outside.tells folder.old }
     ensures changed { Rose (F.outside.changes folder.old) (F.outside.changes folder.new) }
 {
-    let Ready {
-        names,
-        mut reader,
-        mut buffer,
-    } = ready;
-    run(folder, &names, &mut reader, kinds, &mut buffer)
+    let memory = &mut ready;
+    run(
+        folder,
+        &memory.names,
+        &mut memory.reader,
+        kinds,
+        &mut memory.buffer,
+    )
 }
 
 // The same with the memory that is ready lent.
