@@ -1,5 +1,5 @@
 -- A step carried out act by act.
-use Rattle.std.proofs.Common.{◌≡◌, ℕ, ◌+◌, ◌<◌, Bool, true, false, List, length, slice_get, Some, Result, Ok, Err, refl, sym, ◌∙◌, ap, ap₂, subst, arith}
+use Rattle.std.proofs.Common.{◌≡◌, ℕ, ◌+◌, ◌<◌, ◌≤◌, Bool, true, false, List, length, slice_get, Some, Result, Ok, Err, refl, sym, ◌∙◌, ap, ap₂, subst, arith}
 use Rattle.ips_outside.specs.Image.{Image}
 use Rattle.ips_outside.specs.Outside.{Outside, IsOutside}
 use Rattle.ips_steps.specs.Steps.{Step, Stage, laid, can_lay, meets, stage_of}
@@ -19,11 +19,12 @@ use Rattle.ips_apply.proofs.Walks.{until, act_next, act_can, act_meets, act_last
 pub record InTurn {F : Type 0} (o : Outside F) (s : Step) (start now : F) (turn : ℕ) : Type 0 where
   pub same_kind : o.tells now ≡ o.tells start
   pub faults : o.faults now ≡ o.faults start
+  pub changes : o.changes start ≤ o.changes now
   pub held : o.tells start ≡ true → (o.state now).held ≡ until (stage_of (o.state start).held) s turn (o.state start).held
   pub moments : o.tells start ≡ true → ChangedBy o s start now
 
 pub first_turn : {F : Type 0} (o : Outside F) (sane : IsOutside o) (s : Step) (start : F) → InTurn o s start start 0
-first_turn o sane s start = record { same_kind = refl; faults = refl; held = λ told. refl; moments = λ told. idle o sane s start }
+first_turn o sane s start = record { same_kind = refl; faults = refl; changes = omega arith; held = λ told. refl; moments = λ told. idle o sane s start }
 
 module _ {F : Type 0} (o : Outside F) (sane : IsOutside o) (s : Step) (may : step_allowed s ≡ true) (start now : F) (turn : ℕ) (c : InTurn o s start now turn)
     (can : o.tells start ≡ true → can_lay (stage_of (o.state start).held) s (o.state start).held ≡ true) where
@@ -39,11 +40,12 @@ module _ {F : Type 0} (o : Outside F) (sane : IsOutside o) (s : Step) (may : ste
     changed_so_far new step told = act_more o sane s start now new (c.moments told)
         (λ q. ap (λ (t : Image). meets s t q) (c.held told) ∙ act_meets (stage_of (o.state start).held) s (o.state start).held turn a is (can told) q) (step (c.same_kind ∙ told))
 
-    pub next_turn : (new : F) → o.tells new ≡ o.tells now → o.faults new ≡ o.faults now → (o.tells now ≡ true → (o.state new).held ≡ acted (stage_of (o.state now).held) s a (o.state now).held)
+    pub next_turn : (new : F) → o.tells new ≡ o.tells now → o.faults new ≡ o.faults now → o.changes now ≤ o.changes new → (o.tells now ≡ true → (o.state new).held ≡ acted (stage_of (o.state now).held) s a (o.state now).held)
         → (o.tells now ≡ true → ChangedBy o s now new) → InTurn o s start new (turn + 1)
-    next_turn new same_kind faults done step = record {
+    next_turn new same_kind faults made done step = record {
       same_kind = same_kind ∙ c.same_kind;
       faults = faults ∙ c.faults;
+      changes = omega (arith, c.changes, made);
       held = λ told.
           done (c.same_kind ∙ told)
           ∙ ap₂ (λ (stage : Stage) (t : Image). acted stage s a t) (contents_stay o sane s start now may (c.moments told)) (c.held told)

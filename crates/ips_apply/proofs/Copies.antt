@@ -7,16 +7,9 @@ use Rattle.ips_outside.specs.Change.{appended}
 use Rattle.ips_outside.specs.State.{State, nowhere, written}
 use Rattle.ips_outside.specs.Outside.{Outside, IsOutside, HasCause, Reads, readable, IsRead}
 use Rattle.ips_folder.specs.Calls.{Writes, Keeps, IsSole}
-use Rattle.ips_outside.proofs.Faults.{cause_behind}
+use Rattle.ips_outside.proofs.Reading.{answered}
 use Rattle.ips_folder.proofs.Runs.{keeps_then, one_read, one_write}
 use Rattle.ips_apply.proofs.Filled.{appended_none, appended_twice, sole_appended}
-
--- an answer is no failure
-pub answered : {T E : Type 0} (r : Result T E) (x : T) → r ≡ Ok x → IsErr r → ⊥
-answered r x is err = let bad : is_err r ≡ false = ap is_err is in cc
-
-pub no_fault : {T E : Type 0} (r : Result T E) (x : T) (e : E) → r ≡ Ok x → r ≡ Err e → ⊥
-no_fault r x e is err = cc
 
 module _ {F : Type 0} (o : Outside F) (p from : List ℕ) where
   -- what can be read of the file that is copied
@@ -27,6 +20,7 @@ module _ {F : Type 0} (o : Outside F) (p from : List ℕ) where
   pub record Copied (start now : F) (count : ℕ) : Type 0 where
     pub same_kind : o.tells now ≡ o.tells start
     pub faults : o.faults now ≡ o.faults start
+    pub changes : o.changes start ≤ o.changes now
     pub held : o.tells start ≡ true → (o.state now).held ≡ appended p (take count (source_of start)) (o.state start).held
     pub moments : o.tells start ≡ true → Keeps o (covers p) nowhere start now
 
@@ -41,6 +35,7 @@ module _ {F : Type 0} (o : Outside F) (sane : IsOutside o) (p from : List ℕ) w
   copied_none start mid failure read fine = record {
     same_kind = read.call.same_kind;
     faults = read.call.cause.steady fine;
+    changes = omega (arith, read.none_made);
     held = λ told. ap (λ s. s.held) read.kept ∙ sym (appended_none p (o.state start).held);
     moments = λ told. one_read o sane (covers p) nowhere start mid failure read;
   }
@@ -75,6 +70,7 @@ module _ {F : Type 0} (o : Outside F) (sane : IsOutside o) (p from : List ℕ) w
       copied_more fine buffer n part new result x is w done = record {
         same_kind = w.call.same_kind ∙ read.call.same_kind ∙ c.same_kind;
         faults = w.call.cause.steady (answered result x is) ∙ read.call.cause.steady fine ∙ c.faults;
+        changes = omega (arith, c.changes, read.none_made, w.one_made.later);
         held = λ told.
             let here = part (c.same_kind ∙ told) in
             let file : source now ≡ source start = source_stays told in

@@ -72,11 +72,6 @@ module _ {K : Type 0} (sorts : K → Sort → Bool) (finished : K → ℕ) where
     pub it_stays : (new : K) → sorts new ≡ sorts k → finished new ≡ finished k → seen (set kinds i new) ≡ seen kinds
     it_stays new same_sorts tally = nothing_counted sorts finished kinds i k new at same_sorts tally
 
--- a fact, at a failure
-pub on_err : {T E P : Type 0} (r : Result T E) → P → OnErr r P
-on_err (Ok x) h = tt
-on_err (Err e) h = h
-
 -- what holds of each sort
 pub each_sort : (P : Sort → Type 0) → P sort.Gone → P sort.Fresh → P sort.Mode → P sort.Put → P sort.Link → P sort.Hard → (s : Sort) → P s
 each_sort P a b c d e f sort.Gone = a

@@ -1,5 +1,5 @@
 -- What is done to a folder while steps are carried out on it.
-use Rattle.std.specs.Prelude.{◌≡◌, ◌⊎◌, ℕ, ◌+◌, ◌-◌, ◌^◌, ◌||◌, min, IfOk, IsTrue, IsFalse, List, [], ◌∷◌, ◌++◌, length, Result, Ok, Err}
+use Rattle.std.specs.Prelude.{◌≡◌, ◌⊎◌, ℕ, ◌+◌, ◌-◌, ◌^◌, ◌≤◌, ◌||◌, min, Bool, true, false, IfOk, IsTrue, IsFalse, List, [], ◌∷◌, ◌++◌, length, Result, Ok, Err}
 use Rattle.ips_outside.specs.Image.{Image}
 use Rattle.ips_outside.specs.Outside.{Outside}
 use Rattle.ips_folder.specs.Calls.{Keeps}
@@ -51,12 +51,26 @@ pub record AreBegun {F : Type 0} (o : Outside F) (text : List ℕ) (front steps 
   pub can : IsTrue (possible (stage_of (o.state old).held) steps (o.state old).held)
   pub moments : ChangedByAll o begun old new
 
--- How a run through the steps of the text behind the front ended, when these of them were finished: the text ends there; or
--- that line is the first that isn't of the grammar, or the step behind isn't possible; or a call on the folder failed.
+-- How a run through the steps of the text behind the front was stopped, when these of them were finished: that line is the
+-- first that isn't of the grammar, or the step behind isn't possible; or a call on the folder failed.
+abbrev pub StopsBy : {F : Type 0} → Outside F → List ℕ → List Step → List Step → F → F → StepFault → Type 0
+StopsBy o text front steps old new (BadJournal line) = AreLaid o steps old new × (IsBadLine text line ⊎ IsImpossible text (front ++ steps) (o.state new).held line)
+StopsBy o text front steps old new FolderFault = AreBegun o text front steps old new
+
+-- How such a run ended: the text ends there, or it was stopped.
 abbrev pub Ends : {F : Type 0} → Outside F → List ℕ → List Step → List Step → F → F → Result ℕ StepFault → Type 0
 Ends o text front steps old new (Ok count) = IsJournal (front ++ steps) × (text ≡ journal_text (front ++ steps)) × (count ≡ length steps) × AreLaid o steps old new
-Ends o text front steps old new (Err (BadJournal line)) = AreLaid o steps old new × (IsBadLine text line ⊎ IsImpossible text (front ++ steps) (o.state new).held line)
-Ends o text front steps old new (Err FolderFault) = AreBegun o text front steps old new
+Ends o text front steps old new (Err fault) = StopsBy o text front steps old new fault
+
+-- whether the text ends behind these steps: it is the journal of just these; or the reader stands behind them
+abbrev pub EndsOrNot : List ℕ → List Step → Reading → Bool → Type 0
+EndsOrNot text steps r true = IsJournal steps × (text ≡ journal_text steps)
+EndsOrNot text steps r false = IsAt text steps r
+
+-- How a run through a part of the steps ended: these are laid, and the text ends there or not; or it was stopped.
+abbrev pub EndsPart : {F : Type 0} → Outside F → List ℕ → List Step → List Step → F → F → Reading → Result (ℕ × Bool) StepFault → Type 0
+EndsPart o text front steps old new r (Ok x) = EndsOrNot text (front ++ steps) r x.1 × AreLaid o steps old new
+EndsPart o text front steps old new r (Err fault) = StopsBy o text front steps old new fault
 
 -- What a run through a journal does from a reader's place on: some steps are finished, each counted by the first kind that
 -- takes it; where the folder tells its image they are those of its journal behind the front that the reader has read.
@@ -65,3 +79,13 @@ pub record Applied {F : Type 0} (o : Outside F) (old new : F) (r : Reading) (bef
   pub tallies : now ≡ all_counted steps before
   pub count : IfOk result (λ n. n ≡ min (length steps) (2 ^ 64 - 1))
   pub ends : IsTrue (o.tells old) → (front : List Step) → IsAt (journal_of (o.state old).held) front r → Ends o (journal_of (o.state old).held) front steps old new result
+
+-- What a run of at most so many steps does: as many where the text doesn't end before.
+pub record AppliedPart {F : Type 0} (o : Outside F) (most : ℕ) (old new : F) (start r : Reading) (before now : List Carrier) (result : Result (ℕ × Bool) StepFault) : Type 0 where
+  pub steps : List Step
+  pub tallies : now ≡ all_counted steps before
+  pub few : length steps ≤ most
+  pub count : IfOk result (λ x. x.0 ≡ length steps)
+  pub full : IfOk result (λ x. IsFalse x.1 → length steps ≡ most)
+  pub ends : IsTrue (o.tells old) → (front : List Step) → IsAt (journal_of (o.state old).held) front start
+      → EndsPart o (journal_of (o.state old).held) front steps old new r result

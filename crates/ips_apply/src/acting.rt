@@ -1,6 +1,6 @@
 //! The acts of a step, each of them calls on the folder.
 
-ghost use Rattle.std.specs.Prelude.{◌≡◌, ◌<◌, IsTrue, IsErr, OnOk, MatchOption, Some, None, length};
+ghost use Rattle.std.specs.Prelude.{◌≡◌, ◌<◌, ◌≤◌, IsTrue, IsErr, OnOk, MatchOption, Some, None, length};
 ghost use Rattle.ips_outside.specs.Outside.{HasCause};
 ghost use Rattle.ips_outside.specs.Change.{moded, names};
 ghost use Rattle.ips_outside.specs.State.{nowhere};
@@ -35,6 +35,7 @@ pub(crate) fn perform<F: Folder>(
     ensures done { IsTrue (F.outside.tells folder.old) → OnOk result ((F.outside.state folder.new).held ≡ acted (stage_of (F.outside.state folder.old).held) (step_of step.now) act (F.outside.state folder.old).held) }
     ensures any_moment { IsTrue (F.outside.tells folder.old) → ChangedBy F.outside (step_of step.now) folder.old folder.new }
     ensures same_kind { F.outside.tells folder.new ≡ F.outside.tells folder.old }
+    ensures changes { F.outside.changes folder.old ≤ F.outside.changes folder.new }
     ensures cause { HasCause (F.outside.faults folder.old) (F.outside.faults folder.new) (IsErr result) }
 {
     match act {
@@ -54,6 +55,7 @@ fn clear<F: Folder>(folder: &mut F, step: &Step) -> Result<(), Failed>
     ensures done { IsTrue (F.outside.tells folder.old) → OnOk result ((F.outside.state folder.new).held ≡ cleared (step_of step.now) (F.outside.state folder.old).held) }
     ensures any_moment { IsTrue (F.outside.tells folder.old) → ChangedBy F.outside (step_of step.now) folder.old folder.new }
     ensures same_kind { F.outside.tells folder.new ≡ F.outside.tells folder.old }
+    ensures changes { F.outside.changes folder.old ≤ F.outside.changes folder.new }
     ensures cause { HasCause (F.outside.faults folder.old) (F.outside.faults folder.new) (IsErr result) }
 {
     if step.sort() == Sort::Mode {
@@ -70,6 +72,7 @@ fn make_dir<F: Folder>(folder: &mut F, step: &Step) -> Result<(), Failed>
     ensures done { IsTrue (F.outside.tells folder.old) → OnOk result ((F.outside.state folder.new).held ≡ with_dir (step_of step.now) (F.outside.state folder.old).held) }
     ensures any_moment { IsTrue (F.outside.tells folder.old) → ChangedBy F.outside (step_of step.now) folder.old folder.new }
     ensures same_kind { F.outside.tells folder.new ≡ F.outside.tells folder.old }
+    ensures changes { F.outside.changes folder.old ≤ F.outside.changes folder.new }
     ensures cause { HasCause (F.outside.faults folder.old) (F.outside.faults folder.new) (IsErr result) }
 {
     match step {
@@ -84,6 +87,7 @@ fn make_file<F: Folder>(folder: &mut F, step: &Step) -> Result<(), Failed>
     ensures done { IsTrue (F.outside.tells folder.old) → OnOk result ((F.outside.state folder.new).held ≡ with_file (step_of step.now) (F.outside.state folder.old).held) }
     ensures any_moment { IsTrue (F.outside.tells folder.old) → ChangedBy F.outside (step_of step.now) folder.old folder.new }
     ensures same_kind { F.outside.tells folder.new ≡ F.outside.tells folder.old }
+    ensures changes { F.outside.changes folder.old ≤ F.outside.changes folder.new }
     ensures cause { HasCause (F.outside.faults folder.old) (F.outside.faults folder.new) (IsErr result) }
 {
     match step {
@@ -106,6 +110,7 @@ fn copy_content<F: Folder>(
     ensures done { IsTrue (F.outside.tells folder.old) → OnOk result ((F.outside.state folder.new).held ≡ with_content (stage_of (F.outside.state folder.old).held) (step_of step.now) (F.outside.state folder.old).held) }
     ensures any_moment { IsTrue (F.outside.tells folder.old) → ChangedBy F.outside (step_of step.now) folder.old folder.new }
     ensures same_kind { F.outside.tells folder.new ≡ F.outside.tells folder.old }
+    ensures changes { F.outside.changes folder.old ≤ F.outside.changes folder.new }
     ensures cause { HasCause (F.outside.faults folder.old) (F.outside.faults folder.new) (IsErr result) }
 {
     match (step, content) {
@@ -120,6 +125,7 @@ fn make_link<F: Folder>(folder: &mut F, step: &Step) -> Result<(), Failed>
     ensures done { IsTrue (F.outside.tells folder.old) → OnOk result ((F.outside.state folder.new).held ≡ with_link (step_of step.now) (F.outside.state folder.old).held) }
     ensures any_moment { IsTrue (F.outside.tells folder.old) → ChangedBy F.outside (step_of step.now) folder.old folder.new }
     ensures same_kind { F.outside.tells folder.new ≡ F.outside.tells folder.old }
+    ensures changes { F.outside.changes folder.old ≤ F.outside.changes folder.new }
     ensures cause { HasCause (F.outside.faults folder.old) (F.outside.faults folder.new) (IsErr result) }
 {
     match step {
@@ -134,6 +140,7 @@ fn make_hard<F: Folder>(folder: &mut F, step: &Step) -> Result<(), Failed>
     ensures done { IsTrue (F.outside.tells folder.old) → OnOk result ((F.outside.state folder.new).held ≡ with_name (step_of step.now) (F.outside.state folder.old).held) }
     ensures any_moment { IsTrue (F.outside.tells folder.old) → ChangedBy F.outside (step_of step.now) folder.old folder.new }
     ensures same_kind { F.outside.tells folder.new ≡ F.outside.tells folder.old }
+    ensures changes { F.outside.changes folder.old ≤ F.outside.changes folder.new }
     ensures cause { HasCause (F.outside.faults folder.old) (F.outside.faults folder.new) (IsErr result) }
 {
     match step {
@@ -149,6 +156,7 @@ fn set_mode<F: Folder>(folder: &mut F, step: &Step) -> Result<(), Failed>
     ensures done { IsTrue (F.outside.tells folder.old) → OnOk result ((F.outside.state folder.new).held ≡ with_step_mode (step_of step.now) (F.outside.state folder.old).held) }
     ensures any_moment { IsTrue (F.outside.tells folder.old) → ChangedBy F.outside (step_of step.now) folder.old folder.new }
     ensures same_kind { F.outside.tells folder.new ≡ F.outside.tells folder.old }
+    ensures changes { F.outside.changes folder.old ≤ F.outside.changes folder.new }
     ensures cause { HasCause (F.outside.faults folder.old) (F.outside.faults folder.new) (IsErr result) }
 {
     match step {
@@ -164,6 +172,7 @@ fn set_standing_mode<F: Folder>(folder: &mut F, path: &RelPath, mode: u16) -> Re
     ensures done { IsTrue (F.outside.tells folder.old) → OnOk result ((F.outside.state folder.new).held ≡ moded mode path.now.bytes (F.outside.state folder.old).held) }
     ensures any_moment { IsTrue (F.outside.tells folder.old) → Keeps F.outside nowhere (names (F.outside.state folder.old).held path.now.bytes) folder.old folder.new }
     ensures same_kind { F.outside.tells folder.new ≡ F.outside.tells folder.old }
+    ensures changes { F.outside.changes folder.old ≤ F.outside.changes folder.new }
     ensures cause { HasCause (F.outside.faults folder.old) (F.outside.faults folder.new) (IsErr result) }
 {
     match folder.look(path)? {

@@ -1,6 +1,6 @@
 //! The steps of a journal laid one after another.
 
-ghost use Rattle.std.specs.Prelude.{◌≡◌, ◌<◌, ℕ, IsTrue, IsFalse, IsSome, IfErr, OnOk, OnErr, Some, Err, length};
+ghost use Rattle.std.specs.Prelude.{◌≡◌, ◌<◌, ◌≤◌, ℕ, IsTrue, IsFalse, IsSome, IfOk, IfErr, OnOk, OnErr, Some, Err, length};
 ghost use Rattle.ips_outside.specs.Outside.{HasCause, Reads};
 ghost use Rattle.ips_steps.specs.Steps.{Step as StepMeant, laid, can_lay, stage_of};
 ghost use Rattle.ips_steps.specs.View.{sort_of};
@@ -8,7 +8,7 @@ ghost use Rattle.ips_steps.specs.declared.step.Sort.{Sort};
 ghost use Rattle.ips_kinds.specs.Tallies.{seen_by, taken, counted};
 ghost use Rattle.ips_journal.specs.Reading.{TellsLine};
 ghost use Rattle.ips_journal.specs.declared.fault.StepFault.TheVariants as fault;
-ghost use Rattle.ips_apply.specs.Applied.{ChangedBy, OnBadJournal, Applied};
+ghost use Rattle.ips_apply.specs.Applied.{ChangedBy, OnBadJournal, Applied, AppliedPart};
 
 use crate::carrying::lay;
 use crate::judging::is_possible;
@@ -36,20 +36,47 @@ pub fn apply<F: Folder>(
     ensures applied { Applied F.outside folder.old folder.new reader.old (seen_by sorts finished kinds.old.items) (seen_by sorts finished kinds.new.items) result }
     ensures line { IfErr result (TellsLine reader.new.line) }
     ensures same_kind { F.outside.tells folder.new ≡ F.outside.tells folder.old }
+    ensures changes { F.outside.changes folder.old ≤ F.outside.changes folder.new }
+    ensures cause { HasCause (F.outside.faults folder.old) (F.outside.faults folder.new) (result ≡ Err fault.FolderFault) }
+{
+    let count = match apply_block(folder, reader, kinds, buffer, u64::MAX) {
+        Ok((count, true)) => return Ok(count),
+        Ok((count, false)) => count,
+        Err(fault) => return Err(fault),
+    };
+    // no journal lists more steps
+    let _more = reader.next(folder)?;
+    Ok(count)
+}
+
+/// The same for at most so many steps. It answers how many were laid, fewer only where the end line was read, and whether it
+/// was.
+pub fn apply_block<F: Folder>(
+    folder: &mut F,
+    reader: &mut StepReader,
+    kinds: &mut Vec<Box<dyn Kind>>,
+    buffer: &mut [u8],
+    most: u64,
+) -> Result<(u64, bool), StepFault>
+    requires open { IsTrue reader.old.is_open }
+    requires takers { (s : Sort) → IsTrue (taken (seen_by sorts finished kinds.old.items) s) }
+    requires room { 0 < length buffer.old }
+    ensures applied { AppliedPart F.outside most folder.old folder.new reader.old reader.new (seen_by sorts finished kinds.old.items) (seen_by sorts finished kinds.new.items) result }
+    ensures open { IfOk result (λ x. IsFalse x.1 → IsTrue reader.new.is_open) }
+    ensures line { IfErr result (TellsLine reader.new.line) }
+    ensures same_kind { F.outside.tells folder.new ≡ F.outside.tells folder.old }
+    ensures changes { F.outside.changes folder.old ≤ F.outside.changes folder.new }
     ensures cause { HasCause (F.outside.faults folder.old) (F.outside.faults folder.new) (result ≡ Err fault.FolderFault) }
 {
     let mut count = 0u64;
-    loop {
+    while count < most {
         if !reader.next(folder)? {
-            return Ok(count);
+            return Ok((count, true));
         }
         lay_next(folder, reader, kinds, buffer)?;
-        // no journal lists so many steps
-        if count == u64::MAX {
-            return Ok(count);
-        }
         count += 1;
     }
+    Ok((count, false))
 }
 
 /// Lays the step that the reader lends, where it can be laid.
@@ -72,6 +99,7 @@ fn lay_next<F: Folder>(
     ensures uncounted { OnErr result (seen_by sorts finished kinds.new.items ≡ seen_by sorts finished kinds.old.items) }
     ensures line { IfErr result (TellsLine reader.now.line) }
     ensures same_kind { F.outside.tells folder.new ≡ F.outside.tells folder.old }
+    ensures changes { F.outside.changes folder.old ≤ F.outside.changes folder.new }
     ensures cause { HasCause (F.outside.faults folder.old) (F.outside.faults folder.new) (result ≡ Err fault.FolderFault) }
 {
     let step = reader.step();

@@ -1,6 +1,6 @@
 //! A step carried out by the first kind that takes it.
 
-ghost use Rattle.std.specs.Prelude.{◌≡◌, ◌<◌, IsTrue, IsFalse, IsErr, IfNone, IfSome, OnOk, OnErr, MatchOption, Some, None, length, slice_get};
+ghost use Rattle.std.specs.Prelude.{◌≡◌, ◌<◌, ◌≤◌, IsTrue, IsFalse, IsErr, IfNone, IfSome, OnOk, OnErr, MatchOption, Some, None, length, slice_get};
 ghost use Rattle.ips_outside.specs.Outside.{HasCause};
 ghost use Rattle.ips_steps.specs.Steps.{laid, can_lay, stage_of};
 ghost use Rattle.ips_steps.specs.Journal.{IsProper, step_allowed};
@@ -38,6 +38,7 @@ pub(crate) fn lay<F: Folder>(
     ensures counted { OnOk result (seen_by sorts finished kinds.new.items ≡ counted (sort_of (step_of step.now)) (seen_by sorts finished kinds.old.items)) }
     ensures uncounted { OnErr result (seen_by sorts finished kinds.new.items ≡ seen_by sorts finished kinds.old.items) }
     ensures same_kind { F.outside.tells folder.new ≡ F.outside.tells folder.old }
+    ensures changes { F.outside.changes folder.old ≤ F.outside.changes folder.new }
     ensures cause { HasCause (F.outside.faults folder.old) (F.outside.faults folder.new) (IsErr result) }
 {
     let Some(place) = first_taker(kinds, step) else {
@@ -68,6 +69,7 @@ fn carry_out<F: Folder>(
     ensures counted { OnOk result (finished kind.new ≡ tally_after act.Finished (finished kind.old)) }
     ensures uncounted { OnErr result (finished kind.new ≡ finished kind.old) }
     ensures same_kind { F.outside.tells folder.new ≡ F.outside.tells folder.old }
+    ensures changes { F.outside.changes folder.old ≤ F.outside.changes folder.new }
     ensures cause { HasCause (F.outside.faults folder.old) (F.outside.faults folder.new) (IsErr result) }
 {
     let mut turn = 0u8;

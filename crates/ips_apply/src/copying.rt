@@ -25,6 +25,7 @@ pub fn copy<F: Folder>(
         ((F.outside.state folder.new).held ≡ appended path.now.bytes (readable ((F.outside.state folder.old).held.look from.now.bytes)) (F.outside.state folder.old).held) }
     ensures any_moment { IsTrue (F.outside.tells folder.old) → Keeps F.outside (covers path.now.bytes) nowhere folder.old folder.new }
     ensures same_kind { F.outside.tells folder.new ≡ F.outside.tells folder.old }
+    ensures changes { F.outside.changes folder.old ≤ F.outside.changes folder.new }
     ensures cause { HasCause (F.outside.faults folder.old) (F.outside.faults folder.new) (IsErr result) }
 {
     let size = size_of(folder, from)?;

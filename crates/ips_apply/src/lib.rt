@@ -13,7 +13,7 @@ mod carrying;
 mod copying;
 mod judging;
 
-pub use applying::apply;
+pub use applying::{apply, apply_block};
 pub use copying::copy;
 pub use ips_journal::{StepFault, StepReader};
 pub use ips_kinds::{Act, Kind, Step};

@@ -104,7 +104,7 @@ module _ {F : Type 0} (o : Outside F) (sane : IsOutside o) where
             (λ s owes. record { now = owes_less before a s.held owes.now; left = λ c may. owes_less before a c (owes.left c may) }) owed)
 
         pub due_since : DueOnceOpen o before a old new
-        due_since = inr (record { before = opens.before; since = mid; not_yet = opens.not_yet; call = opens.call; is_open = opens.is_open; owed = owed })
+        due_since = inr (record { before = opens.before; since = mid; not_yet = opens.not_yet; written = opens.written; call = opens.call; sync = opens.sync; is_open = opens.is_open; owed = owed })
 
       pub laying : (new : F) → HasBegun o (journal_of (o.state mid).held) [] mid new → Throughout o mid new (FolderOwes journal_text before (Some a) true)
       laying new begun = laying_owed o sane steps 0 a mid new (kind ∙ told) is_open clean begun before true
@@ -123,6 +123,9 @@ module _ {F : Type 0} (o : Outside F) (sane : IsOutside o) where
       module _ (at : F) (r : Reading) (counts now : List Carrier) (result : Result ℕ StepFault) (lays : Lays o mid at r counts now result) (begins : IsAt (journal_of (o.state mid).held) [] r) where
         pub after_lay : Throughout o mid at (FolderOwes journal_text before (Some a) true)
         after_lay = laying at (lays.changes (kind ∙ told) [] begins)
+
+        pub front : (laid : ℕ) × (now ≡ all_counted (take laid steps) counts)
+        front = (length lays.steps, lays.tallies ∙ ap (λ (l : List Step). all_counted l counts) (lays.next (kind ∙ told) [] begins steps is_open.ready.lists (ready_text steps 0 a (o.state mid).held is_open.ready)))
 
         pub bad_line : (line : ℕ) → result ≡ Err (BadJournal line) → ⊥
         bad_line line is = never_bad steps 0 a mid is_open lays.steps line (laid_bad (journal_of (o.state mid).held) [] lays.steps mid at result line is (lays.ends (kind ∙ told) [] begins))

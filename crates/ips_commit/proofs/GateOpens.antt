@@ -10,7 +10,7 @@ use Rattle.ips_folder.specs.Calls.{Writes, Syncs, Throughout}
 use Rattle.ips_folder.proofs.Runs.{started, goes_on, weaker}
 use Rattle.ips_steps.specs.Private.{gate_name}
 use Rattle.ips_steps.proofs.Lists.{clash}
-use Rattle.ips_commit.specs.Due.{IsSafelyOpen}
+use Rattle.ips_commit.specs.Due.{gate_file, IsSafelyOpen}
 use Rattle.ips_commit.specs.Phases.{Opens}
 
 -- nothing stands at the gate, or what stands there isn't safe
@@ -52,10 +52,12 @@ module _ {F : Type 0} (o : Outside F) (sane : IsOutside o) where
   pub never : (old new : F) → Throughout o old new IsNotYet → Throughout o old new (λ s. IsSafelyOpen s → ⊥)
   never old new run = weaker o old new IsNotYet (λ s. IsSafelyOpen s → ⊥) not_open run
 
-  pub opens : (old mid new : F) (bytes : List ℕ) → Throughout o old mid IsNotYet → Elapses o mid new → o.state new ≡ settled (o.state mid) → (o.state mid).held.look gate_name ≡ Some (File 384 bytes) → Opens o old new
-  opens old mid new bytes run time done there = record {
+  pub opens : (old mid new : F) → Throughout o old mid IsNotYet → Elapses o mid new → o.state new ≡ settled (o.state mid) → (o.state mid).held.look gate_name ≡ gate_file → Opens o old new
+  opens old mid new run time done there = record {
     before = mid;
     not_yet = never old mid run;
+    written = there;
     call = time;
-    is_open = subst IsSafelyOpen (sym done) (record { stands = λ none. let bad : Some (File 384 bytes) ≡ None = sym there ∙ none in cc; safe = refl });
+    sync = done;
+    is_open = subst IsSafelyOpen (sym done) (record { stands = λ none. let bad : gate_file ≡ None = sym there ∙ none in cc; safe = refl });
   }

@@ -1,5 +1,5 @@
 -- Steps laid from a reader's place on, and made safe.
-use Rattle.std.proofs.Common.{◌≡◌, ◌⊎◌, inl, inr, ⊎_elim, ℕ, zero, suc, ◌+◌, ◌*◌, ◌≤◌, Bool, true, false, ◌||◌, List, [], ◌∷◌, ◌++◌, length, length-append, take, drop, min, Result, Ok, Err, refl, sym, ◌∙◌, ap, subst, arith}
+use Rattle.std.proofs.Common.{◌≡◌, ◌⊎◌, inl, inr, ⊎_elim, ℕ, zero, suc, ◌+◌, ◌*◌, ◌≤◌, Bool, true, false, ◌||◌, List, [], ◌∷◌, ◌++◌, append_assoc, length, length-append, take, drop, min, Result, Ok, Err, refl, sym, ◌∙◌, ap, subst, arith}
 use Rattle.std.proofs.Math.ListN.{drop_of_length-le}
 use Rattle.std.proofs.Math.Seq.{take-length, take-append_seam, drop-append_seam, drop-length}
 use Rattle.std.proofs.lemmas.List.{take-append-drop, drop-take, take-append-le, length-take, length-take-le, take_all}
@@ -18,7 +18,7 @@ use Rattle.ips_journal.specs.Bad.{IsBadLine}
 use Rattle.ips_journal.specs.Reading.{Reading, IsAt, journal_of}
 use Rattle.ips_journal.specs.declared.fault.StepFault.{StepFault}
 use Rattle.ips_journal.specs.declared.fault.StepFault.TheVariants.{BadJournal, FolderFault}
-use Rattle.ips_apply.specs.Applied.{Applied, AreLaid, AreBegun, BeginsWith, IsImpossible, ChangedByAll, Ends}
+use Rattle.ips_apply.specs.Applied.{Applied, AreLaid, AreBegun, BeginsWith, IsImpossible, ChangedByAll, StopsBy, Ends}
 use Rattle.ips_commit.specs.Phases.{AreSafelyLaid, StopsAt, LaysTo, HasBegun, Lays}
 use Rattle.ips_journal.proofs.JournalLaws.{one_text, none_bad, in_order}
 
@@ -81,6 +81,14 @@ module _ {F : Type 0} (o : Outside F) (sane : IsOutside o) where
     err_changes text front steps (BadJournal line) ends = record { begun = steps; next = bad_next text front steps (o.state new).held line ends.1; moments = ends.0.moments }
     err_changes text front steps FolderFault ends = record { begun = ends.begun; next = begins_next text front ends.begun ends.stands; moments = ends.moments }
 
+    -- so were the steps that were finished
+    err_next : (text : List ℕ) (front steps : List Step) (e : StepFault) → StopsBy o text front steps old new e → (all : List Step) → IsJournal all → text ≡ journal_text all → front ++ steps ≡ take (length (front ++ steps)) all
+    err_next text front steps (BadJournal line) ends all lists is = bad_next text front steps (o.state new).held line ends.1 all lists is
+    err_next text front steps FolderFault ends all lists is = ⊎_elim
+        (λ same. subst (λ (l : List Step). front ++ l ≡ take (length (front ++ l)) all) same (begins_next text front ends.begun ends.stands all lists is))
+        (λ one. front_less (front ++ steps) all one.0 (subst (λ (l : List Step). l ≡ take (length l) all) (ap (λ (l : List Step). front ++ l) one.1 ∙ sym (append_assoc front steps (one.0 ∷ []))) (begins_next text front ends.begun ends.stands all lists is)))
+        ends.one_more
+
     -- laying that failed
     pub lays_failed : (result : Result ℕ StepFault) (e : StepFault) → result ≡ Err e → Applied o old new r before now result → Lays o old new r before now (Err e)
     lays_failed result e is applied =
@@ -88,6 +96,7 @@ module _ {F : Type 0} (o : Outside F) (sane : IsOutside o) where
         record {
           steps = a.steps;
           tallies = a.tallies;
+          next = λ told front at all lists is_text. err_next (journal_of (o.state old).held) front a.steps e (a.ends told front at) all lists is_text;
           ends = λ told front at. err_ends (journal_of (o.state old).held) front a.steps e (a.ends told front at);
           changes = λ told front at. err_changes (journal_of (o.state old).held) front a.steps e (a.ends told front at);
         }
@@ -97,6 +106,9 @@ module _ {F : Type 0} (o : Outside F) (sane : IsOutside o) where
     done = subst (λ (x : Result ℕ StepFault). Applied o old mid r before now x) is applied
 
     module _ {T E : Type 0} (answer : Result T E) (sync : Syncs o mid new answer) where
+      synced_next : (told : o.tells old ≡ true) (front : List Step) → IsAt (journal_of (o.state old).held) front r → (all : List Step) → IsJournal all → journal_of (o.state old).held ≡ journal_text all → front ++ done.steps ≡ take (length (front ++ done.steps)) all
+      synced_next told front at all lists is_text = let ends = done.ends told front at in whole_next (journal_of (o.state old).held) (front ++ done.steps) ends.0 ends.1 all lists is_text
+
       synced_changes : (told : o.tells old ≡ true) (front : List Step) → IsAt (journal_of (o.state old).held) front r → HasBegun o (journal_of (o.state old).held) front old new
       synced_changes told front at =
           let ends = done.ends told front at in
@@ -109,13 +121,14 @@ module _ {F : Type 0} (o : Outside F) (sane : IsOutside o) where
 
       -- laying whose sync failed
       pub lays_unsynced : Lays o old new r before now (Err FolderFault)
-      lays_unsynced = record { steps = done.steps; tallies = done.tallies; ends = λ told front at. tt; changes = synced_changes }
+      lays_unsynced = record { steps = done.steps; tallies = done.tallies; next = synced_next; ends = λ told front at. tt; changes = synced_changes }
 
       -- laying that is done
       pub lays_done : (o.tells mid ≡ true → o.state new ≡ settled (o.state mid)) → Lays o old new r before now (Ok count)
       lays_done all_safe = record {
         steps = done.steps;
         tallies = done.tallies;
+        next = synced_next;
         ends = λ told front at.
             let ends = done.ends told front at in
             let safe = all_safe (kind ∙ told) in (

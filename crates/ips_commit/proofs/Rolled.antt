@@ -1,7 +1,7 @@
 -- A change that was stopped, brought to its end.
-use Rattle.std.proofs.Common.{◌≡◌, ◌≢◌, ◌⊎◌, inl, inr, ⊎_elim, ℕ, zero, suc, ◌+◌, ◌*◌, ◌≤◌, Bool, true, false, ◌||◌, List, [], ◌∷◌, ◌++◌, length, take, drop, Option, Some, None, is_some, Result, Ok, Err, OnOk, IfErr, append_assoc, refl, sym, ◌∙◌, ap, subst, arith}
+use Rattle.std.proofs.Common.{◌≡◌, ◌≢◌, ◌⊎◌, inl, inr, ⊎_elim, ℕ, zero, suc, ◌+◌, ◌*◌, ◌<◌, ◌≤◌, Bool, true, false, ◌||◌, List, [], ◌∷◌, ◌++◌, length, take, drop, Option, Some, None, is_some, Result, Ok, Err, OnOk, IfErr, append_assoc, refl, sym, ◌∙◌, ap, subst, arith}
 use Rattle.std.specs.List.{list_any}
-use Rattle.std.proofs.lemmas.Bool.{or_parts}
+use Rattle.std.proofs.lemmas.Bool.{or_parts, cases_lt}
 use Rattle.std.proofs.Math.ListN.{drop_of_length-le}
 use Rattle.ips_text.specs.Ancestry.{covers}
 use Rattle.ips_text.specs.declared.refusal.Or.{Or}
@@ -14,14 +14,15 @@ use Rattle.ips_outside.specs.Children.{bytes_of}
 use Rattle.ips_outside.specs.State.{State, IsSettled, nowhere}
 use Rattle.ips_outside.specs.Outside.{Outside, IsOutside, HasCause, Reads}
 use Rattle.ips_outside.proofs.Faults.{cause_as, cause_behind}
-use Rattle.ips_folder.specs.Calls.{Keeps, Throughout}
+use Rattle.ips_folder.specs.Calls.{Syncs, Keeps, Throughout}
 use Rattle.ips_folder.proofs.Runs.{started, goes_on, joins, keeps_then, one_read}
 use Rattle.ips_steps.specs.Steps.{Step, stage_of, after, possible, freed, met}
 use Rattle.ips_steps.specs.Private.{gate_name, mark_front, begins, visible}
 use Rattle.ips_steps.specs.Journal.{IsJournal}
 use Rattle.ips_steps.specs.Owed.{steps_left, IsReady, IsOpen, Owes, Old, Open, New, FolderOwes}
 use Rattle.ips_steps.proofs.Within.{laid_within}
-use Rattle.ips_steps.proofs.Owing.{owed_open}
+use Rattle.ips_outside.proofs.Moments.{within_self}
+use Rattle.ips_steps.proofs.Owing.{owed_open, owes_laying}
 use Rattle.ips_kinds.specs.Tallies.{Carrier, all_counted}
 use Rattle.ips_journal.specs.Text.{journal_text}
 use Rattle.ips_journal.specs.Bad.{IsBadLine}
@@ -34,10 +35,10 @@ use Rattle.ips_commit.specs.declared.fault.CommitFault.{CommitFault}
 use Rattle.ips_commit.specs.declared.fault.CommitFault.TheVariants as fault
 use Rattle.ips_commit.specs.Pending.{HasNoOtherMark, IsSwept, IsDone, is_swept}
 use Rattle.ips_commit.specs.Phases.{AreSafelyLaid, StopsAt, LaysTo, HasBegun, Lays}
-use Rattle.ips_commit.specs.Recovering.{IsJournalled, IsStuck, IsBadJournal, IsPlaced, CanRollForward, IfBadJournal, SaysOfFinding, SaysOfLaying, SaysOfRecovery}
+use Rattle.ips_commit.specs.Recovering.{AreCounted, IsJournalled, IsStuck, IsBadJournal, IsPlaced, CanRollForward, IfBadJournal, SaysOfFinding, SaysOfLaying, SaysOfRecovery}
 use Rattle.ips_commit.proofs.OwnNames.{marks_stay, none_alike}
 use Rattle.ips_commit.proofs.Lays.{next_of, rest_of}
-use Rattle.ips_commit.proofs.Owing.{ready_text, laying_owed, laid_ready, laid_means, sweeping_owed, cleared_of}
+use Rattle.ips_commit.proofs.Owing.{nodes_of, ready_text, laying_owed, laid_ready, laid_means, sweeping_owed, cleared_of}
 use Rattle.ips_commit.proofs.Committed.{front_of, laid_ok, laid_bad, never_bad}
 use Rattle.ips_commit.proofs.Places.{same_steps, same_left, placed_open}
 
@@ -101,6 +102,11 @@ module _ {F : Type 0} (o : Outside F) (sane : IsOutside o) (old at : F) (told : 
 
   -- with any list of the journal
   module _ (is : IsJournalled t steps count) where
+    pub roll_front : (laid : ℕ) × (now ≡ all_counted (take laid left) counts)
+    roll_front =
+        let next = next_of steps lays.steps (1000 * count) (lays.next told front begins steps is.lists is.text_is) in
+        (length lays.steps, lays.tallies ∙ ap (λ (l : List Step). all_counted l counts) next)
+
     pub roll_stuck : (line : ℕ) → result ≡ Err (BadJournal line) → IsStuck t line
     roll_stuck line was = stuck_of t steps count lays.steps line o old refl is (laid_bad o sane (journal_of t) front lays.steps old at result line was (lays.ends told front begins))
 
@@ -250,3 +256,44 @@ found_shut b t is shut = go (t.look gate_name) (sym is ∙ shut)
     go : {A : Type 0} (e : Option A) → is_some e ≡ false → e ≡ None
     go None off = refl
     go (Some x) off = cc
+
+-- ---- a recovery behind its first sync
+
+module _ {F : Type 0} (o : Outside F) (sane : IsOutside o) (old mid : F) {T E : Type 0} (answer : Result T E) (sync : Syncs o old mid answer) (told : o.tells old ≡ true) where
+  pub settled_owed : IsSettled (o.state old) → (steps : List Step) (count : ℕ) (b a : Image) (due : Bool) → IsOpen journal_text steps count a (o.state old).held → (o.state mid).held ≡ (o.state old).held → IsSettled (o.state mid)
+      → Throughout o old mid (FolderOwes journal_text b (Some a) due)
+  settled_owed clean steps count b a due is_open same safe =
+      let still = subst (λ (t : Image). IsOpen journal_text steps count a t) (sym same) is_open in
+      goes_on o old old mid (FolderOwes journal_text b (Some a) due) (started o old (FolderOwes journal_text b (Some a) due) (sane.only_now old) (owes old told clean is_open)) sync.call.time
+      (owes mid (sync.call.same_kind ∙ told) safe still)
+    where
+      owes : (f : F) → o.tells f ≡ true → IsSettled (o.state f) → IsOpen journal_text steps count a (o.state f).held → FolderOwes journal_text b (Some a) due (o.state f)
+      owes f tells settled open_f = owes_laying journal_text steps count a b due (o.state f) (o.state f) open_f (nodes_of (o.state f).held (sane.formed f tells)) settled (within_self _ _ (o.state f))
+
+pub unsynced_held : {F : Type 0} (o : Outside F) (old mid : F) → o.state mid ≡ o.state old → (o.state mid).held ≡ (o.state old).held
+unsynced_held o old mid same = ap (λ (s : State). s.held) same
+
+-- counts of the same marks leave the same steps
+pub counted_left : (t : Image) (steps : List Step) (m n : ℕ) → AreCounted t (length steps) m → AreCounted t (length steps) n → steps_left m steps ≡ steps_left n steps
+counted_left t steps m n ms ns = elim (cases_lt m n) [
+  | inl lt ↦ fewer m n lt ms ns
+  | inr ge ↦ elim (cases_lt n m) [
+    | inl lt ↦ sym (fewer n m lt ns ms)
+    | inr le ↦ let same : m ≡ n = omega (arith, ge, le) in ap (λ (k : ℕ). steps_left k steps) same
+  ]
+]
+  where
+    fewer : (x y : ℕ) → x < y → AreCounted t (length steps) x → AreCounted t (length steps) y → steps_left x steps ≡ steps_left y steps
+    fewer x y lt xs ys = ⊎_elim
+        (λ none. absurd (ys.stand x lt none))
+        (λ all. let more : length steps ≤ 1000 * y = omega (arith, all, lt) in drop_of_length-le steps all ∙ sym (drop_of_length-le steps more))
+        xs.last
+
+-- what was counted, told by any list and count that the journal and the marks are of
+pub front_as : (t : Image) (r : Reading) (placed : IsPlaced t r) (steps : List Step) (count : ℕ) → IsJournalled t steps count → (counts now : List Carrier)
+    → (laid : ℕ) × (now ≡ all_counted (take laid (steps_left placed.count placed.steps)) counts) → (laid : ℕ) × (now ≡ all_counted (take laid (steps_left count steps)) counts)
+front_as t r placed steps count is counts now front =
+    let same : placed.steps ≡ steps = one_text placed.steps steps placed.is.lists is.lists (sym placed.is.text_is ∙ is.text_is) in
+    let marked = subst (λ (l : List Step). AreCounted t (length l) placed.count) same placed.is.marked in
+    let left : steps_left placed.count placed.steps ≡ steps_left count steps = ap (steps_left placed.count) same ∙ counted_left t steps placed.count count marked is.marked in
+    (front.0, front.1 ∙ ap (λ (l : List Step). all_counted (take front.0 l) counts) left)

@@ -109,6 +109,7 @@ pub filled_swept : (tells : Bool) (repository : Image) (publisher text : List �
 filled_swept tells repository publisher text staged t u s h seen filled = record {
   safe = filled.safe;
   journal = filled.journal;
+  stage = filled.stage;
   contents = contents_swept tells repository publisher t u h staged seen (stage_of s.held) filled.contents;
   unmarked = filled.unmarked;
 }
@@ -134,6 +135,10 @@ records_staged = refl
 content_unlisted : (n : ℕ) → covers journal_name (stage_path n) ≡ false
 unfolding stage_name journal_name
 content_unlisted n = refl
+
+stage_unlisted : covers journal_name stage_name ≡ false
+unfolding stage_name journal_name
+stage_unlisted = refl
 
 journal_is_swept : is_swept journal_name ≡ true
 unfolding stage_name journal_name
@@ -167,8 +172,11 @@ can_make_stage t p at cleared dir = can_make_own t stage_name p at stage_parent 
 pub can_make_journal : (t u : Image) (p : List ℕ) → p ≡ journal_name → Agrees (covers stage_name) nowhere t u → IsCleared t → is_dir (t.look records_name) ≡ true → CanMake u p
 can_make_journal t u p at h cleared dir = can_make_own u journal_name p at journal_parent (h.look journal_name journal_staged refl ∙ cleared journal_name journal_is_swept) (ap is_dir (h.look records_name records_staged refl) ∙ dir)
 
+pub made_entry : (p : List ℕ) (t u : Image) → p ≡ stage_name → u ≡ placed p (Some (Dir 448 false)) t → u.look stage_name ≡ Some (Dir 448 false)
+made_entry p t u at made = ap u.look (sym at) ∙ ap (λ (w : Image). w.look p) made ∙ look_placed p (Some (Dir 448 false)) t
+
 pub made_dir : (p : List ℕ) (t u : Image) → p ≡ stage_name → u ≡ placed p (Some (Dir 448 false)) t → is_dir (u.look stage_name) ≡ true
-made_dir p t u at made = ap is_dir (ap u.look (sym at) ∙ ap (λ (w : Image). w.look p) made ∙ look_placed p (Some (Dir 448 false)) t)
+made_dir p t u at made = ap is_dir (made_entry p t u at made)
 
 none_in_stage : (t : Image) (n : ℕ) → (placed stage_name (Some (Dir 448 false)) t).look (stage_path n) ≡ None
 unfolding stage_name
@@ -195,11 +203,12 @@ module _ {F : Type 0} (o : Outside F) (sane : IsOutside o) where
       (keeps_wider o (covers p) nowhere is_swept nowhere mid new (λ q off. ap (λ (x : List ℕ). covers x q) at ∙ journal_swept q off) (λ q n. n) run)
 
 pub all_filled : (tells : Bool) (repository : Image) (publisher text : List ℕ) (staged : List Staged) (p : List ℕ) (t u v : Image) (s : State) → p ≡ journal_name → IsCleared t → AreSeen staged
-    → Agrees (covers stage_name) nowhere t u → Agrees (covers stage_name) nowhere t v → Agrees (covers p) nowhere v s.held → AreContents tells repository publisher u staged (stage_of v)
+    → Agrees (covers stage_name) nowhere t u → Agrees (covers stage_name) nowhere t v → Agrees (covers p) nowhere v s.held → AreContents tells repository publisher u staged (stage_of v) → v.look stage_name ≡ Some (Dir 448 false)
     → s.held.look p ≡ Some (File 384 text) → IsSettled s → IsFilled tells repository publisher text staged t s
-all_filled tells repository publisher text staged p t u v s at cleared seen made filled last are file safe = record {
+all_filled tells repository publisher text staged p t u v s at cleared seen made filled last are stands file safe = record {
   safe = safe;
   journal = ap file_bytes (ap s.held.look (sym at) ∙ file);
+  stage = last.look stage_name (off stage_name stage_unlisted) refl ∙ stands;
   contents = λ n x there.
       let old = contents_swept tells repository publisher t u (in_stage t u made) staged seen (stage_of v) are n x there in
       (old.0, ap file_bytes (last.look (stage_path n) (off (stage_path n) (content_unlisted n)) refl) ∙ old.1, old.2);
@@ -231,6 +240,7 @@ has_staged tells repository publisher text steps staged t s formed lists can tex
     record {
       contents = contents;
       are = filled.contents;
+      stage = filled.stage;
       is = record {
         safe = filled.safe;
         shut = h.look gate_name gate_unswept refl ∙ can.shut;

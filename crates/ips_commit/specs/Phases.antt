@@ -1,10 +1,11 @@
 -- What the phases of a commit do to a folder.
 use Rattle.std.specs.Prelude.{◌≡◌, ◌⊎◌, ℕ, IsTrue, List, ◌++◌, length, take, Result, Ok, Err}
-use Rattle.ips_outside.specs.State.{IsSettled}
+use Rattle.ips_outside.specs.State.{IsSettled, settled}
 use Rattle.ips_outside.specs.Outside.{Outside, Elapses}
 use Rattle.ips_folder.specs.Calls.{Throughout}
 use Rattle.ips_steps.specs.Steps.{Step, after, possible, stage_of}
 use Rattle.ips_steps.specs.Journal.{IsJournal}
+use Rattle.ips_steps.specs.Private.{gate_name}
 use Rattle.ips_kinds.specs.Tallies.{Carrier, all_counted}
 use Rattle.ips_journal.specs.Text.{journal_text}
 use Rattle.ips_journal.specs.Bad.{IsBadLine}
@@ -12,13 +13,15 @@ use Rattle.ips_journal.specs.Reading.{Reading, IsAt, journal_of}
 use Rattle.ips_journal.specs.declared.fault.StepFault.{StepFault}
 use Rattle.ips_journal.specs.declared.fault.StepFault.TheVariants.{BadJournal, FolderFault}
 use Rattle.ips_apply.specs.Applied.{ChangedByAll, IsImpossible}
-use Rattle.ips_commit.specs.Due.{IsSafelyOpen}
+use Rattle.ips_commit.specs.Due.{gate_file, IsSafelyOpen}
 
--- The gate was not safely open until the last call of a run, and is since.
+-- The gate was not safely open until the last call of a run, which made its file safe, and is since.
 pub record Opens {F : Type 0} (o : Outside F) (old new : F) : Type 0 where
   pub before : F
   pub not_yet : Throughout o old before (λ s. IsSafelyOpen s → ⊥)
+  pub written : (o.state before).held.look gate_name ≡ gate_file
   pub call : Elapses o before new
+  pub sync : o.state new ≡ settled (o.state before)
   pub is_open : IsSafelyOpen (o.state new)
 
 -- The steps behind the front are all that the text lists there, they were possible and are laid, and nothing is touched.
@@ -54,5 +57,7 @@ pub record HasBegun {F : Type 0} (o : Outside F) (text : List ℕ) (front : List
 pub record Lays {F : Type 0} (o : Outside F) (old new : F) (r : Reading) (before now : List Carrier) (result : Result ℕ StepFault) : Type 0 where
   pub steps : List Step
   pub tallies : now ≡ all_counted steps before
+  pub next : IsTrue (o.tells old) → (front : List Step) → IsAt (journal_of (o.state old).held) front r → (all : List Step) → IsJournal all → journal_of (o.state old).held ≡ journal_text all
+      → front ++ steps ≡ take (length (front ++ steps)) all
   pub ends : IsTrue (o.tells old) → (front : List Step) → IsAt (journal_of (o.state old).held) front r → LaysTo o (journal_of (o.state old).held) front steps old new result
   pub changes : IsTrue (o.tells old) → (front : List Step) → IsAt (journal_of (o.state old).held) front r → HasBegun o (journal_of (o.state old).held) front old new

@@ -1,8 +1,8 @@
 -- What can be staged, and what then stands ready.
-use Rattle.std.specs.Prelude.{◌≡◌, ℕ, ◌<◌, Bool, IsTrue, List, length, Some, None, is_some}
-use Rattle.ips_outside.specs.Image.{Image, is_dir, file_bytes}
+use Rattle.std.specs.Prelude.{◌≡◌, ℕ, ◌<◌, Bool, false, IsTrue, List, length, Some, None, is_some}
+use Rattle.ips_outside.specs.Image.{Image, Dir, is_dir, file_bytes}
 use Rattle.ips_outside.specs.State.{State, IsSettled}
-use Rattle.ips_steps.specs.Steps.{Step, Stage, stage_of, all_laid, possible, sound}
+use Rattle.ips_steps.specs.Steps.{Step, Stage, stage_name, stage_of, all_laid, possible, sound}
 use Rattle.ips_steps.specs.Private.{records_name, journal_name, gate_name, mark_front, begins, visible}
 use Rattle.ips_steps.specs.Owed.{IsReady}
 use Rattle.ips_journal.specs.Text.{journal_text}
@@ -30,10 +30,11 @@ pub record IsStaged (steps : List Step) (a : Image) (s : State) : Type 0 where
   pub ready : IsReady journal_text steps 0 a s.held
 
 -- The list was staged with the contents that were to be staged. It means what is seen once it is laid with these on the
--- image that was held before.
+-- image that was held before. Nobody else may enter the stage.
 pub record HasStaged (tells : Bool) (repository : Image) (publisher : List ℕ) (steps : List Step) (staged : List Staged) (t : Image) (s : State) : Type 0 where
   pub contents : Stage
   pub are : AreContents tells repository publisher t staged contents
+  pub stage : s.held.look stage_name ≡ Some (Dir 448 false)
   pub is : IsStaged steps (visible (all_laid contents steps t)) s
 
 -- nothing stands where staging writes
@@ -44,5 +45,6 @@ IsCleared t = (q : List ℕ) → IsTrue (is_swept q) → t.look q ≡ None
 pub record IsFilled (tells : Bool) (repository : Image) (publisher text : List ℕ) (staged : List Staged) (t : Image) (s : State) : Type 0 where
   pub safe : IsSettled s
   pub journal : file_bytes (s.held.look journal_name) ≡ Some text
+  pub stage : s.held.look stage_name ≡ Some (Dir 448 false)
   pub contents : AreContents tells repository publisher t staged (stage_of s.held)
   pub unmarked : (q : List ℕ) → IsTrue (begins mark_front q) → s.held.look q ≡ None

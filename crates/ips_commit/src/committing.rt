@@ -1,8 +1,8 @@
 //! A staged change committed.
 
-ghost use Rattle.std.specs.Prelude.{◌≡◌, ◌<◌, ℕ, List, false, Some, Err, IsTrue, IfOk, IfErr, OnOk, length};
+ghost use Rattle.std.specs.Prelude.{◌≡◌, ◌<◌, ℕ, List, false, Some, Err, IsTrue, IfOk, IfErr, OnOk, length, take};
 ghost use Rattle.ips_outside.specs.Image.{Image};
-ghost use Rattle.ips_outside.specs.Outside.{HasCause};
+ghost use Rattle.ips_outside.specs.Outside.{HasCause, Rose};
 ghost use Rattle.ips_folder.specs.Calls.{CanMake, Throughout};
 ghost use Rattle.ips_steps.specs.Steps.{Step};
 ghost use Rattle.ips_steps.specs.Private.{gate_name, visible};
@@ -30,7 +30,7 @@ use ips_outside::Source;
 /// Wherever it is stopped, within any call, the folder owes the image that was seen before or the one that is meant; once the
 /// gate is safely open, the latter. No memory is taken.
 pub fn commit<F: Folder>(
-    ready: Ready,
+    mut ready: Ready,
     folder: &mut F,
     kinds: &mut Vec<Box<dyn Kind>>,
 ) -> Result<u64, CommitFault>
@@ -49,19 +49,26 @@ pub fn commit<F: Folder>(
     ensures counted { IsTrue (F.outside.tells folder.old) → (steps : List Step) (a : Image) → IsStaged steps a (F.outside.state folder.old)
         → OnOk result (seen_by sorts finished kinds.new.items ≡ all_counted steps (seen_by sorts finished kinds.old.items)) }
 
+    // Wherever it ends, the steps that were counted are a front of the list.
+    ensures front { IsTrue (F.outside.tells folder.old) → (steps : List Step) (a : Image) → IsStaged steps a (F.outside.state folder.old)
+        → IfErr result (λ why. (laid : ℕ) × (seen_by sorts finished kinds.new.items ≡ all_counted (take laid steps) (seen_by sorts finished kinds.old.items))) }
+
     // Behind `stage` a failed call is the only cause of a fault; the first call is the gate's, so nothing fails before it.
     ensures faults { IsTrue (F.outside.tells folder.old) → (steps : List Step) (a : Image) → IsStaged steps a (F.outside.state folder.old)
         → IfErr result (λ why. why ≡ fault.Unfinished) }
     ensures begun { IfErr result (λ why. why ≡ fault.Unchanged → ⊥) }
     ensures cause { HasCause (F.outside.faults folder.old) (F.outside.faults folder.new) (result ≡ Err fault.Unfinished) }
     ensures same_kind { F.outside.tells folder.new ≡ F.outside.tells folder.old }
+    ensures changed { Rose (F.outside.changes folder.old) (F.outside.changes folder.new) }
 {
-    let Ready {
-        names,
-        mut reader,
-        mut buffer,
-    } = ready;
-    run(folder, &names, &mut reader, kinds, &mut buffer)
+    let memory = &mut ready;
+    run(
+        folder,
+        &memory.names,
+        &mut memory.reader,
+        kinds,
+        &mut memory.buffer,
+    )
 }
 
 // The same with the memory that is ready lent.
@@ -83,11 +90,14 @@ fn run<F: Folder>(
         → IfOk result (λ count. (count ≡ length steps) × IsDone a (F.outside.state folder.new)) }
     ensures counted { IsTrue (F.outside.tells folder.old) → (steps : List Step) (a : Image) → IsStaged steps a (F.outside.state folder.old)
         → OnOk result (seen_by sorts finished kinds.new.items ≡ all_counted steps (seen_by sorts finished kinds.old.items)) }
+    ensures front { IsTrue (F.outside.tells folder.old) → (steps : List Step) (a : Image) → IsStaged steps a (F.outside.state folder.old)
+        → IfErr result (λ why. (laid : ℕ) × (seen_by sorts finished kinds.new.items ≡ all_counted (take laid steps) (seen_by sorts finished kinds.old.items))) }
     ensures faults { IsTrue (F.outside.tells folder.old) → (steps : List Step) (a : Image) → IsStaged steps a (F.outside.state folder.old)
         → IfErr result (λ why. why ≡ fault.Unfinished) }
     ensures begun { IfErr result (λ why. why ≡ fault.Unchanged → ⊥) }
     ensures cause { HasCause (F.outside.faults folder.old) (F.outside.faults folder.new) (result ≡ Err fault.Unfinished) }
     ensures same_kind { F.outside.tells folder.new ≡ F.outside.tells folder.old }
+    ensures changed { Rose (F.outside.changes folder.old) (F.outside.changes folder.new) }
 {
     let Ok(()) = open(folder, names) else {
         return Err(CommitFault::Unfinished);

@@ -42,6 +42,7 @@ pub(crate) fn write_contents<S: Source, F: Folder>(
     requires room { 0 < length buffer.old }
     ensures written { IsTrue (F.outside.tells folder.old) → OnOk result
         (AreContents (S.outside.tells source.old) (S.outside.state source.old).held publisher.now (F.outside.state folder.old).held staged.now (stage_of (F.outside.state folder.new).held)) }
+    ensures stands { IsTrue (F.outside.tells folder.old) → OnOk result ((F.outside.state folder.new).held.look stage_name ≡ (F.outside.state folder.old).held.look stage_name) }
     ensures intact { IsTrue (S.outside.tells source.old) → OnOk result (AreIntact (S.outside.state source.old).held publisher.now staged.now) }
     ensures refused { IfBad result (SaysOfStage (S.outside.tells source.old) (S.outside.state source.old).held publisher.now staged.now) }
     ensures any_moment { IsTrue (F.outside.tells folder.old) → Keeps F.outside (covers stage_name) nowhere folder.old folder.new }

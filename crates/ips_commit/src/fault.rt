@@ -4,7 +4,7 @@ use ips_digest::PayloadName;
 use ips_repo::RepoFault;
 
 /// Why a list of steps isn't staged. The image that is seen is as before.
-#[derive(Debug, Drop)]
+#[derive(Drop)]
 pub enum StageFault {
     /// A payload isn't intact.
     Payload {
@@ -20,7 +20,7 @@ pub enum StageFault {
 }
 
 /// Why a change isn't committed or recovered.
-#[derive(Clone, Copy, Debug, PartialEq, Eq, Drop)]
+#[derive(Drop)]
 pub enum CommitFault {
     /// A call on the folder failed before the gate was to open, or before an open one was to be recovered from: the image
     /// that is seen is as before.

@@ -18,20 +18,34 @@ pub fn pending<F: Folder>(alloc: Global, folder: &mut F) -> Result<Pending, Or<F
     ensures found { IsTrue (F.outside.tells folder.old) → IfOk result (IsPending (F.outside.state folder.old).held) }
     ensures reads { Reads F.outside folder.old folder.new (IsBad result) }
 {
-    let names = OwnNames::new(alloc)?;
+    let Ok(names) = OwnNames::new(alloc) else {
+        return Err(Or::OutOfMemory);
+    };
+    look_for(alloc, folder, &names)
+}
+
+// The same with the updater's own names lent.
+fn look_for<F: Folder>(
+    alloc: Global,
+    folder: &mut F,
+    names: &OwnNames,
+) -> Result<Pending, Or<Failed>>
+    ensures found { IsTrue (F.outside.tells folder.old) → IfOk result (IsPending (F.outside.state folder.old).held) }
+    ensures reads { Reads F.outside folder.old folder.new (IsBad result) }
+{
     let Ok(is_open) = stands(folder, &names.gate) else {
         return Err(Or::Bad(Failed));
     };
     if is_open {
         return Ok(Pending::Open);
     }
-    let Ok(is_left) = stands_behind(folder, &names) else {
+    let Ok(is_left) = stands_behind(folder, names) else {
         return Err(Or::Bad(Failed));
     };
     if is_left {
         return Ok(Pending::Leftover);
     }
-    let marks = marks(alloc, folder, &names)?;
+    let marks = marks(alloc, folder, names)?;
     if marks.is_empty() {
         return Ok(Pending::Nothing);
     }

@@ -1,7 +1,7 @@
 //! What `pending` finds.
 
 /// What a run that was stopped may have left.
-#[derive(Clone, Copy, Debug, PartialEq, Eq, Drop)]
+#[derive(Drop)]
 pub enum Pending {
     /// Nothing: no file or directory stands at the updater's own names.
     Nothing,

@@ -1,12 +1,12 @@
 //! The phases of a commit: the gate opens, the steps are laid, the gate closes, and what is left is swept.
 
-ghost use Rattle.std.specs.Prelude.{◌≡◌, ◌<◌, ℕ, List, Bool, Some, None, Err, IsTrue, IsFalse, IsErr, OnOk, OnErr, IfErr, length};
+ghost use Rattle.std.specs.Prelude.{◌≡◌, ◌<◌, ◌≤◌, ℕ, List, Bool, Some, None, Err, IsTrue, IsFalse, IsErr, OnOk, OnErr, IfErr, length};
 ghost use Rattle.std.specs.List.{list_all, list_any};
 ghost use Rattle.ips_text.specs.Ancestry.{covers};
 ghost use Rattle.ips_outside.specs.Image.{Image};
 ghost use Rattle.ips_outside.specs.Change.{placed};
 ghost use Rattle.ips_outside.specs.State.{IsSettled, nowhere};
-ghost use Rattle.ips_outside.specs.Outside.{HasCause};
+ghost use Rattle.ips_outside.specs.Outside.{HasCause, counted};
 ghost use Rattle.ips_outside.specs.Children.{bytes_of};
 ghost use Rattle.ips_folder.specs.Calls.{CanMake, Keeps, Throughout};
 ghost use Rattle.ips_steps.specs.Steps.{Step};
@@ -38,6 +38,8 @@ pub(crate) fn open<F: Folder>(folder: &mut F, names: &OwnNames) -> Result<(), Fa
     ensures not_yet { IsTrue (F.outside.tells folder.old) → OnErr result (Throughout F.outside folder.old folder.new (λ s. IsSafelyOpen s → ⊥)) }
     ensures cause { HasCause (F.outside.faults folder.old) (F.outside.faults folder.new) (IsErr result) }
     ensures same_kind { F.outside.tells folder.new ≡ F.outside.tells folder.old }
+    ensures changes { F.outside.changes folder.old ≤ F.outside.changes folder.new }
+    ensures changed { counted (F.outside.changes folder.old) ≤ F.outside.changes folder.new }
 {
     folder.make_file(&names.gate)?;
     folder.append(&names.gate, b"1")?;
@@ -58,6 +60,7 @@ pub(crate) fn lay<F: Folder>(
     ensures lays { Lays F.outside folder.old folder.new reader.old (seen_by sorts finished kinds.old.items) (seen_by sorts finished kinds.new.items) result }
     ensures cause { HasCause (F.outside.faults folder.old) (F.outside.faults folder.new) (result ≡ Err step_fault.FolderFault) }
     ensures same_kind { F.outside.tells folder.new ≡ F.outside.tells folder.old }
+    ensures changes { F.outside.changes folder.old ≤ F.outside.changes folder.new }
 {
     let count = match apply(folder, reader, kinds, buffer) {
         Ok(count) => count,
@@ -83,6 +86,8 @@ pub(crate) fn finish<F: Folder>(
         → OnOk result (IsDone (visible (F.outside.state folder.old).held) (F.outside.state folder.new)) }
     ensures cause { HasCause (F.outside.faults folder.old) (F.outside.faults folder.new) (IsErr result) }
     ensures same_kind { F.outside.tells folder.new ≡ F.outside.tells folder.old }
+    ensures changes { F.outside.changes folder.old ≤ F.outside.changes folder.new }
+    ensures changed { counted (F.outside.changes folder.old) ≤ F.outside.changes folder.new }
 {
     close(folder, names)?;
     clear(folder, names, marks)?;
@@ -96,6 +101,8 @@ fn close<F: Folder>(folder: &mut F, names: &OwnNames) -> Result<(), Failed>
     ensures any_moment { IsTrue (F.outside.tells folder.old) → Keeps F.outside (covers gate_name) nowhere folder.old folder.new }
     ensures cause { HasCause (F.outside.faults folder.old) (F.outside.faults folder.new) (IsErr result) }
     ensures same_kind { F.outside.tells folder.new ≡ F.outside.tells folder.old }
+    ensures changes { F.outside.changes folder.old ≤ F.outside.changes folder.new }
+    ensures changed { counted (F.outside.changes folder.old) ≤ F.outside.changes folder.new }
 {
     folder.remove(&names.gate)?;
     folder.sync()?;
@@ -114,6 +121,8 @@ pub(crate) fn clear<F: Folder>(
     ensures any_moment { IsTrue (F.outside.tells folder.old) → Keeps F.outside is_swept nowhere folder.old folder.new }
     ensures cause { HasCause (F.outside.faults folder.old) (F.outside.faults folder.new) (IsErr result) }
     ensures same_kind { F.outside.tells folder.new ≡ F.outside.tells folder.old }
+    ensures changes { F.outside.changes folder.old ≤ F.outside.changes folder.new }
+    ensures changed { counted (F.outside.changes folder.old) ≤ F.outside.changes folder.new }
 {
     sweep(folder, names, marks)?;
     folder.sync()?;

@@ -1,12 +1,12 @@
 //! What a run that was stopped left, brought to an end.
 
-ghost use Rattle.std.specs.Prelude.{◌≡◌, ◌≢◌, ◌⊎◌, ◌*◌, ◌<◌, ℕ, List, Option, Bool, Some, None, Err, IsTrue, IfOk, IfErr, OnOk, length, is_some, take};
+ghost use Rattle.std.specs.Prelude.{◌≡◌, ◌≢◌, ◌⊎◌, ◌*◌, ◌<◌, ◌≤◌, ℕ, List, Option, Bool, Some, None, Err, IsTrue, IfOk, IfErr, OnOk, length, is_some, take};
 ghost use Rattle.std.specs.List.{list_all};
 ghost use Rattle.ips_text.specs.Reading.{IfBad};
 ghost use Rattle.ips_text.specs.declared.refusal.Or.TheVariants.{Bad};
 ghost use Rattle.ips_outside.specs.Image.{Image};
 ghost use Rattle.ips_outside.specs.State.{IsSettled, nowhere};
-ghost use Rattle.ips_outside.specs.Outside.{HasCause};
+ghost use Rattle.ips_outside.specs.Outside.{HasCause, Rose};
 ghost use Rattle.ips_outside.specs.Children.{bytes_of};
 ghost use Rattle.ips_folder.specs.Calls.{Keeps, Throughout};
 ghost use Rattle.ips_steps.specs.Steps.{Step, after};
@@ -71,30 +71,133 @@ pub fn recover<F: Folder>(
         → (F.outside.state folder.old).held.look gate_name ≢ None → F.outside.state folder.new ≡ F.outside.state folder.old }
     ensures cause { HasCause (F.outside.faults folder.old) (F.outside.faults folder.new) ((result ≡ Err (Bad fault.Unchanged)) ⊎ (result ≡ Err (Bad fault.Unfinished))) }
     ensures same_kind { F.outside.tells folder.new ≡ F.outside.tells folder.old }
+
+    // `Unfinished` comes only where a call was made that may change something, and at an open gate `Unchanged` only where none was.
+    ensures changed { result ≡ Err (Bad fault.Unfinished) → Rose (F.outside.changes folder.old) (F.outside.changes folder.new) }
+    ensures untouched { IsTrue (F.outside.tells folder.old) → (F.outside.state folder.old).held.look gate_name ≢ None
+        → result ≡ Err (Bad fault.Unchanged) → F.outside.changes folder.new ≡ F.outside.changes folder.old }
+
+    // Wherever it ends, the steps that were counted are a front of those that the marks leave, and none are at a closed gate.
+    ensures front { IsTrue (F.outside.tells folder.old) → (steps : List Step) (count : ℕ) → IsJournalled (F.outside.state folder.old).held steps count
+        → IfErr result (λ why. (laid : ℕ) × (seen_by sorts finished kinds.new.items ≡ all_counted (take laid (steps_left count steps)) (seen_by sorts finished kinds.old.items))) }
+    ensures uncounted { IsTrue (F.outside.tells folder.old) → (F.outside.state folder.old).held.look gate_name ≡ None
+        → seen_by sorts finished kinds.new.items ≡ seen_by sorts finished kinds.old.items }
 {
-    let Ready {
-        names,
-        mut reader,
-        mut buffer,
-    } = Ready::new(alloc)?;
-    let Left { is_open, marks } = match find_left(alloc, folder, &names, &mut reader) {
+    let Ok(mut ready) = Ready::new(alloc) else {
+        return Err(Or::OutOfMemory);
+    };
+    let memory = &mut ready;
+    restore(
+        alloc,
+        folder,
+        kinds,
+        &memory.names,
+        &mut memory.reader,
+        &mut memory.buffer,
+    )
+}
+
+// The same with the memory that is needed lent.
+fn restore<F: Folder>(
+    alloc: Global,
+    folder: &mut F,
+    kinds: &mut Vec<Box<dyn Kind>>,
+    names: &OwnNames,
+    reader: &mut StepReader,
+    buffer: &mut [u8],
+) -> Result<bool, Or<CommitFault>>
+    requires room { 0 < length buffer.old }
+    requires safe { IsTrue (F.outside.tells folder.old) → IsSettled (F.outside.state folder.old) }
+    requires takers { (s : Sort) → IsTrue (taken (seen_by sorts finished kinds.old.items) s) }
+    ensures owed { IsTrue (F.outside.tells folder.old) → (b : Image) (a : Option Image) (due : Bool) → FolderOwes journal_text b a due (F.outside.state folder.old)
+        → Throughout F.outside folder.old folder.new (FolderOwes journal_text b a due) }
+    ensures closed { IsTrue (F.outside.tells folder.old) → (F.outside.state folder.old).held.look gate_name ≡ None → Keeps F.outside is_swept nowhere folder.old folder.new }
+    ensures forward { IsTrue (F.outside.tells folder.old) → IfOk result (λ forward. forward ≡ is_some ((F.outside.state folder.old).held.look gate_name)) }
+    ensures done { IsTrue (F.outside.tells folder.old) → (F.outside.state folder.old).held.look gate_name ≢ None
+        → OnOk result ((steps : List Step) × (count : ℕ) × CanRollForward (F.outside.state folder.old).held steps count
+        × IsDone (visible (after (steps_left count steps) (F.outside.state folder.old).held)) (F.outside.state folder.new)
+        × (seen_by sorts finished kinds.new.items ≡ all_counted (steps_left count steps) (seen_by sorts finished kinds.old.items))) }
+    ensures cleared { IsTrue (F.outside.tells folder.old) → (F.outside.state folder.old).held.look gate_name ≡ None
+        → OnOk result (IsDone (visible (F.outside.state folder.old).held) (F.outside.state folder.new)) }
+    ensures meant { IsTrue (F.outside.tells folder.old) → (steps : List Step) (count : ℕ) (a : Image) → IsOpen journal_text steps count a (F.outside.state folder.old).held
+        → OnOk result (IsDone a (F.outside.state folder.new)) × IfBadJournal result (λ line. ⊥) }
+    ensures refused { IsTrue (F.outside.tells folder.old) → IfBad result (SaysOfRecovery (F.outside.state folder.old) (F.outside.state folder.new)) }
+    ensures starved { IfStarved result (F.outside.state folder.new ≡ F.outside.state folder.old) }
+    ensures read_first { IsTrue (F.outside.tells folder.old) → ((steps : List Step) → IsJournal steps → journal_of (F.outside.state folder.old).held ≡ journal_text steps → ⊥)
+        → (F.outside.state folder.old).held.look gate_name ≢ None → F.outside.state folder.new ≡ F.outside.state folder.old }
+    ensures cause { HasCause (F.outside.faults folder.old) (F.outside.faults folder.new) ((result ≡ Err (Bad fault.Unchanged)) ⊎ (result ≡ Err (Bad fault.Unfinished))) }
+    ensures same_kind { F.outside.tells folder.new ≡ F.outside.tells folder.old }
+    ensures changed { result ≡ Err (Bad fault.Unfinished) → Rose (F.outside.changes folder.old) (F.outside.changes folder.new) }
+    ensures untouched { IsTrue (F.outside.tells folder.old) → (F.outside.state folder.old).held.look gate_name ≢ None
+        → result ≡ Err (Bad fault.Unchanged) → F.outside.changes folder.new ≡ F.outside.changes folder.old }
+    ensures front { IsTrue (F.outside.tells folder.old) → (steps : List Step) (count : ℕ) → IsJournalled (F.outside.state folder.old).held steps count
+        → IfErr result (λ why. (laid : ℕ) × (seen_by sorts finished kinds.new.items ≡ all_counted (take laid (steps_left count steps)) (seen_by sorts finished kinds.old.items))) }
+    ensures uncounted { IsTrue (F.outside.tells folder.old) → (F.outside.state folder.old).held.look gate_name ≡ None
+        → seen_by sorts finished kinds.new.items ≡ seen_by sorts finished kinds.old.items }
+{
+    let Left { is_open, marks } = match find_left(alloc, folder, names, reader) {
         Ok(left) => left,
         Err(fault) => return Err(fault),
     };
     if is_open {
-        match roll_forward(folder, &names, &mut reader, kinds, &marks, &mut buffer) {
+        match roll_forward(folder, names, reader, kinds, &marks, buffer) {
             Ok(()) => return Ok(true),
             Err(fault) => return Err(Or::Bad(fault)),
         }
     }
-    let Ok(()) = clear(folder, &names, &marks) else {
+    let Ok(()) = clear(folder, names, &marks) else {
         return Err(Or::Bad(CommitFault::Unchanged));
     };
     Ok(false)
 }
 
-// Lays the steps from the reader's place on, closes the gate and sweeps.
+// The same behind a sync, the first call that may change something: what fails before it leaves all as it was.
 fn roll_forward<F: Folder>(
+    folder: &mut F,
+    names: &OwnNames,
+    reader: &mut StepReader,
+    kinds: &mut Vec<Box<dyn Kind>>,
+    marks: &[RelPath],
+    buffer: &mut [u8],
+) -> Result<(), CommitFault>
+    requires safe { IsTrue (F.outside.tells folder.old) → IsSettled (F.outside.state folder.old) }
+    requires open { IsTrue reader.old.is_open }
+    requires takers { (s : Sort) → IsTrue (taken (seen_by sorts finished kinds.old.items) s) }
+    requires own { IsTrue (list_all (begins mark_front) (bytes_of marks.now)) }
+    requires room { 0 < length buffer.old }
+    ensures owed { IsTrue (F.outside.tells folder.old) → (steps : List Step) (count : ℕ) (b a : Image) (due : Bool)
+        → IsOpen journal_text steps count a (F.outside.state folder.old).held → IsAt (journal_of (F.outside.state folder.old).held) (take (1000 * count) steps) reader.old
+        → Throughout F.outside folder.old folder.new (FolderOwes journal_text b (Some a) due) }
+    ensures done { IsTrue (F.outside.tells folder.old) → HasNoOtherMark (F.outside.state folder.old).held (bytes_of marks.now) → (steps : List Step) (count : ℕ)
+        → IsJournalled (F.outside.state folder.old).held steps count → IsAt (journal_of (F.outside.state folder.old).held) (take (1000 * count) steps) reader.old
+        → OnOk result (CanRollForward (F.outside.state folder.old).held steps count
+        × IsDone (visible (after (steps_left count steps) (F.outside.state folder.old).held)) (F.outside.state folder.new)
+        × (seen_by sorts finished kinds.new.items ≡ all_counted (steps_left count steps) (seen_by sorts finished kinds.old.items))) }
+    ensures meant { IsTrue (F.outside.tells folder.old) → (steps : List Step) (count : ℕ) (a : Image)
+        → IsOpen journal_text steps count a (F.outside.state folder.old).held → IsAt (journal_of (F.outside.state folder.old).held) (take (1000 * count) steps) reader.old
+        → IfErr result (λ why. why ≡ fault.Unfinished) }
+    ensures refused { IsTrue (F.outside.tells folder.old) → (steps : List Step) (count : ℕ)
+        → IsJournalled (F.outside.state folder.old).held steps count → IsAt (journal_of (F.outside.state folder.old).held) (take (1000 * count) steps) reader.old
+        → IfErr result (SaysOfLaying (F.outside.state folder.old).held) }
+    ensures begun { IfErr result (λ why. why ≡ fault.Unchanged → ⊥) }
+    ensures cause { HasCause (F.outside.faults folder.old) (F.outside.faults folder.new) (result ≡ Err fault.Unfinished) }
+    ensures same_kind { F.outside.tells folder.new ≡ F.outside.tells folder.old }
+    ensures changed { Rose (F.outside.changes folder.old) (F.outside.changes folder.new) }
+    ensures front { IsTrue (F.outside.tells folder.old) → (steps : List Step) (count : ℕ)
+        → IsJournalled (F.outside.state folder.old).held steps count → IsAt (journal_of (F.outside.state folder.old).held) (take (1000 * count) steps) reader.old
+        → IfErr result (λ why. (laid : ℕ) × (seen_by sorts finished kinds.new.items ≡ all_counted (take laid (steps_left count steps)) (seen_by sorts finished kinds.old.items))) }
+{
+    let Ok(()) = folder.sync() else {
+        return Err(CommitFault::Unfinished);
+    };
+    match lay_rest(folder, names, reader, kinds, marks, buffer) {
+        Ok(()) => Ok(()),
+        Err(fault) => Err(fault),
+    }
+}
+
+// Lays the steps from the reader's place on, closes the gate and sweeps.
+fn lay_rest<F: Folder>(
     folder: &mut F,
     names: &OwnNames,
     reader: &mut StepReader,
@@ -123,6 +226,10 @@ fn roll_forward<F: Folder>(
     ensures begun { IfErr result (λ why. why ≡ fault.Unchanged → ⊥) }
     ensures cause { HasCause (F.outside.faults folder.old) (F.outside.faults folder.new) (result ≡ Err fault.Unfinished) }
     ensures same_kind { F.outside.tells folder.new ≡ F.outside.tells folder.old }
+    ensures changes { F.outside.changes folder.old ≤ F.outside.changes folder.new }
+    ensures front { IsTrue (F.outside.tells folder.old) → (steps : List Step) (count : ℕ)
+        → IsJournalled (F.outside.state folder.old).held steps count → IsAt (journal_of (F.outside.state folder.old).held) (take (1000 * count) steps) reader.old
+        → IfErr result (λ why. (laid : ℕ) × (seen_by sorts finished kinds.new.items ≡ all_counted (take laid (steps_left count steps)) (seen_by sorts finished kinds.old.items))) }
 {
     match lay(folder, reader, kinds, buffer) {
         Ok(_) => {}

@@ -15,7 +15,7 @@ ghost use Rattle.ips_steps.specs.View.{step_of};
 ghost use Rattle.ips_journal.specs.Text.{journal_text};
 ghost use Rattle.ips_commit.specs.Answers.{IsBad};
 ghost use Rattle.ips_commit.specs.Pending.{IsBehindGate, is_swept};
-ghost use Rattle.ips_commit.specs.Contents.{AreStanding, AreSeen, SaysOfStage};
+ghost use Rattle.ips_commit.specs.Contents.{AreStanding, AreSeen, AreIntact, SaysOfStage};
 ghost use Rattle.ips_commit.specs.Staging.{CanStage, HasStaged, IsCleared, IsFilled};
 ghost use Rattle.ips_commit.specs.declared.fault.StageFault.TheVariants as fault;
 
@@ -55,6 +55,7 @@ pub fn stage<S: Source, F: Folder>(
     // Done: the list stands ready with its contents.
     ensures staged { IsTrue (F.outside.tells folder.old) → OnOk result
         (HasStaged (S.outside.tells source.old) (S.outside.state source.old).held publisher.now (map step_of steps.now) staged.now (F.outside.state folder.old).held (F.outside.state folder.new)) }
+    ensures intact { IsTrue (S.outside.tells source.old) → OnOk result (AreIntact (S.outside.state source.old).held publisher.now staged.now) }
 
     // Each refusal has its cause.
     ensures refused { IfBad result (SaysOfStage (S.outside.tells source.old) (S.outside.state source.old).held publisher.now staged.now) }
@@ -104,6 +105,7 @@ fn write_stage<S: Source, F: Folder>(
     ensures within { IsTrue (F.outside.tells folder.old) → OnOk result (Within is_swept nowhere (settled (F.outside.state folder.old)) (F.outside.state folder.new)) }
     ensures filled { IsTrue (F.outside.tells folder.old) → OnOk result
         (IsFilled (S.outside.tells source.old) (S.outside.state source.old).held publisher.now text.now staged.now (F.outside.state folder.old).held (F.outside.state folder.new)) }
+    ensures intact { IsTrue (S.outside.tells source.old) → OnOk result (AreIntact (S.outside.state source.old).held publisher.now staged.now) }
     ensures refused { IfBad result (SaysOfStage (S.outside.tells source.old) (S.outside.state source.old).held publisher.now staged.now) }
     ensures reads { Reads S.outside source.old source.new (result ≡ Err (Bad fault.SourceFault)) }
     ensures cause { HasCause (F.outside.faults folder.old) (F.outside.faults folder.new) (result ≡ Err (Bad fault.FolderFault)) }
@@ -156,6 +158,7 @@ fn fill<S: Source, F: Folder>(
     requires seen { AreSeen staged.now }
     ensures filled { IsTrue (F.outside.tells folder.old) → OnOk result
         (IsFilled (S.outside.tells source.old) (S.outside.state source.old).held publisher.now text.now staged.now (F.outside.state folder.old).held (F.outside.state folder.new)) }
+    ensures intact { IsTrue (S.outside.tells source.old) → OnOk result (AreIntact (S.outside.state source.old).held publisher.now staged.now) }
     ensures refused { IfBad result (SaysOfStage (S.outside.tells source.old) (S.outside.state source.old).held publisher.now staged.now) }
     ensures any_moment { IsTrue (F.outside.tells folder.old) → Keeps F.outside is_swept nowhere folder.old folder.new }
     ensures reads { Reads S.outside source.old source.new (result ≡ Err (Bad fault.SourceFault)) }

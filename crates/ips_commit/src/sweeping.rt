@@ -1,11 +1,11 @@
 //! What is left behind a closed gate, found and taken away.
 
-ghost use Rattle.std.specs.Prelude.{◌≡◌, ℕ, List, None, IsTrue, IsErr, IfOk, OnOk};
+ghost use Rattle.std.specs.Prelude.{◌≡◌, ◌≤◌, ℕ, List, None, IsTrue, IsErr, IfOk, OnOk};
 ghost use Rattle.std.specs.List.{filter, list_all, list_any};
 ghost use Rattle.ips_text.specs.Ancestry.{covers};
 ghost use Rattle.ips_outside.specs.Image.{is_dir};
 ghost use Rattle.ips_outside.specs.State.{nowhere};
-ghost use Rattle.ips_outside.specs.Outside.{HasCause, Reads};
+ghost use Rattle.ips_outside.specs.Outside.{HasCause, Reads, counted};
 ghost use Rattle.ips_outside.specs.Children.{bytes_of};
 ghost use Rattle.ips_folder.specs.Calls.{Keeps};
 ghost use Rattle.ips_steps.specs.Private.{mark_front, begins};
@@ -83,6 +83,8 @@ pub(crate) fn sweep<F: Folder>(
     ensures any_moment { IsTrue (F.outside.tells folder.old) → Keeps F.outside is_swept nowhere folder.old folder.new }
     ensures cause { HasCause (F.outside.faults folder.old) (F.outside.faults folder.new) (IsErr result) }
     ensures same_kind { F.outside.tells folder.new ≡ F.outside.tells folder.old }
+    ensures changes { F.outside.changes folder.old ≤ F.outside.changes folder.new }
+    ensures changed { counted (F.outside.changes folder.old) ≤ F.outside.changes folder.new }
 {
     folder.remove(&names.journal)?;
     folder.remove(&names.stage)?;
@@ -98,6 +100,7 @@ fn remove_all<F: Folder>(folder: &mut F, marks: &[RelPath]) -> Result<(), Failed
     ensures any_moment { IsTrue (F.outside.tells folder.old) → Keeps F.outside (begins mark_front) nowhere folder.old folder.new }
     ensures cause { HasCause (F.outside.faults folder.old) (F.outside.faults folder.new) (IsErr result) }
     ensures same_kind { F.outside.tells folder.new ≡ F.outside.tells folder.old }
+    ensures changes { F.outside.changes folder.old ≤ F.outside.changes folder.new }
 {
     for mark in marks {
         folder.remove(mark)?;

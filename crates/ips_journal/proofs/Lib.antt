@@ -7,7 +7,6 @@ pub mod Journals
 pub mod JournalLaws
 pub mod PrivateNames
 pub mod PartForms
-pub mod Calls
 pub mod Paths
 pub mod LinePieces
 pub mod Standing

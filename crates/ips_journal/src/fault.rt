@@ -6,7 +6,7 @@ ghost use Rattle.ips_journal.specs.declared.fault.StepFault.TheVariants as fault
 use ips_outside::Failed;
 
 /// Why the steps of a journal can't be read on, or laid.
-#[derive(Clone, Copy, Debug, PartialEq, Eq, Drop)]
+#[derive(Drop)]
 pub enum StepFault {
     /// A line isn't of the grammar of journals, or its step can't be laid.
     BadJournal {

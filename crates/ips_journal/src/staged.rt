@@ -4,7 +4,7 @@ use ips_digest::PayloadName;
 use ips_text::RelPath;
 
 /// Where the bytes of a content come from, before it is put into the stage.
-#[derive(Debug, Drop)]
+#[derive(Drop)]
 pub enum Staged {
     /// A payload of the repository.
     Payload(PayloadName),

@@ -13,7 +13,7 @@ ghost use Rattle.ips_kinds.specs.declared.kind.Act.TheVariants.{Finished};
 use ips_steps::Step;
 
 /// What is to be done next for a step, at its path.
-#[derive(Clone, Copy, Debug, PartialEq, Eq, Drop)]
+#[derive(Clone, Copy, Drop)]
 pub enum Act {
     /// Take away what stands at and below the path.
     Clear,

@@ -1,4 +1,3 @@
-pub mod Faults
 pub mod Laying
 pub mod Again
 pub mod Lists

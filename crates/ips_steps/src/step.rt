@@ -9,7 +9,7 @@ use ips_text::RelPath;
 
 /// What is to become of one path. A new directory, file or link takes the place of whatever stands at and below the
 /// path. Modes are permission bits, below 0o10000.
-#[derive(Debug, Drop)]
+#[derive(Drop)]
 pub enum Step {
     /// What stands at and below the path goes.
     Gone {
@@ -44,7 +44,7 @@ pub enum Step {
 }
 
 /// The sorts of steps.
-#[derive(Clone, Copy, Debug, PartialEq, Eq, Drop)]
+#[derive(Clone, Copy, PartialEq, Drop)]
 pub enum Sort {
     Gone,
     Fresh,

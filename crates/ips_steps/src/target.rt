@@ -2,26 +2,24 @@
 
 ghost use Rattle.std.specs.Prelude.{◌≡◌, ◌≤◌, IfOk, IfErr, IsOk, OnErr, OnOk, IfNone, IfSome, IsNone, MatchOption, length};
 ghost use Rattle.ips_text.specs.Reading.{IfBad};
-ghost use Rattle.ips_steps.specs.Targets.{IsTarget, IsFirstFault, faults_in_order};
+ghost use Rattle.ips_steps.specs.Targets.{IsTarget, HasFault};
 
 use ips_text::Or;
 use std::alloc::{AllocError, Global};
 use std::marker::Model;
 
-/// Why bytes are no target. The variants stand in the order in which they are looked for.
-#[derive(Clone, Copy, Debug, PartialEq, Eq, Drop)]
+/// Why bytes are no target. No bytes have both faults.
+#[derive(Drop)]
 pub enum TargetFault {
     /// There are no bytes.
     Empty,
-    /// A byte is 0, which no system can put into a link.
-    NulByte,
     /// There are more than 4,095 bytes.
     TooLong,
 }
 
-/// The target of a symbolic link: 1 to 4,095 bytes, none of them 0. It needn't be UTF-8, and nothing need stand there.
+/// The target of a symbolic link: 1 to 4,095 bytes of any kind. It needn't be UTF-8, and nothing need stand there.
 /// Contracts see its bytes and the number of bytes that it keeps room for.
-#[derive(Debug, Drop)]
+#[derive(Drop)]
 pub struct Target {
     bytes: Vec<u8>,
 }
@@ -39,12 +37,12 @@ impl Model for Target {
 }
 
 impl Target {
-    /// The target that the bytes are, or their first fault in the order of `TargetFault`.
+    /// The target that the bytes are, or their fault.
     pub fn parse(alloc: Global, bytes: &[u8]) -> Result<Target, Or<TargetFault>>
         ensures found { IfOk result (λ t. t.bytes ≡ bytes.now) }
         ensures target { IfOk result (λ t. IsTarget t.bytes) }
         ensures only { IsTarget bytes.now → IfBad result (λ _. ⊥) }
-        ensures first { IfBad result (λ fault. IsFirstFault faults_in_order fault bytes.now) }
+        ensures fault { IfBad result (λ fault. HasFault fault bytes.now) }
     {
         match fault_of(bytes) {
             Some(fault) => Err(Or::Bad(fault)),
@@ -60,7 +58,7 @@ impl Target {
         ensures target { IfOk result (λ t. IsTarget t.bytes) }
         ensures room { IfOk result (λ t. 4095 ≤ t.room) }
         ensures only { IsTarget bytes.now → IfBad result (λ _. ⊥) }
-        ensures first { IfBad result (λ fault. IsFirstFault faults_in_order fault bytes.now) }
+        ensures fault { IfBad result (λ fault. HasFault fault bytes.now) }
     {
         if let Some(fault) = fault_of(bytes) {
             return Err(Or::Bad(fault));
@@ -70,15 +68,15 @@ impl Target {
         Ok(Target { bytes: kept })
     }
 
-    /// Writes another target over this one, without memory. At a fault, the first in the order of `TargetFault`, the
-    /// target stays as it was. It has to keep room for every target, as one made by `with_room` does.
+    /// Writes another target over this one, without memory. At a fault the target stays as it
+    /// was. It has to keep room for every target, as one made by `with_room` does.
     pub fn set(&mut self, bytes: &[u8]) -> Result<(), TargetFault>
         requires { 4095 ≤ self.old.room }
         ensures written { OnOk result (self.new.bytes ≡ bytes.now) }
         ensures room { OnOk result (4095 ≤ self.new.room) }
         ensures target { OnOk result (IsTarget bytes.now) }
         ensures only { IsTarget bytes.now → IsOk result }
-        ensures first { IfErr result (λ fault. IsFirstFault faults_in_order fault bytes.now) }
+        ensures fault { IfErr result (λ fault. HasFault fault bytes.now) }
         ensures stays { OnErr result (self.new ≡ self.old) }
     {
         if let Some(fault) = fault_of(bytes) {
@@ -110,24 +108,14 @@ impl Target {
     }
 }
 
-// The first fault of the bytes, or None where they are a target.
-#[tactic(auto, using(crate::proofs::Faults::target_fits))]
+// The fault of the bytes, or None where they are a target.
 fn fault_of(bytes: &[u8]) -> Option<TargetFault>
-    ensures none { IfNone result (IsTarget bytes.now) }
+    ensures found { MatchOption result (IsTarget bytes.now) (λ fault. HasFault fault bytes.now) }
     ensures fits { IfNone result (length bytes.now ≤ 4095) }
-    ensures first { IfSome result (λ fault. IsFirstFault faults_in_order fault bytes.now) }
     ensures only { IsTarget bytes.now → IsNone result }
-{
-    first_fault(bytes)
-}
-
-fn first_fault(bytes: &[u8]) -> Option<TargetFault>
-    ensures { MatchOption result (IsTarget bytes.now) (λ fault. IsFirstFault faults_in_order fault bytes.now) }
 {
     if bytes.is_empty() {
         Some(TargetFault::Empty)
-    } else if bytes.contains(&0) {
-        Some(TargetFault::NulByte)
     } else if bytes.len() > 4095 {
         Some(TargetFault::TooLong)
     } else {

@@ -8,7 +8,7 @@ use crate::kind::{Act, Kind, finish};
 use ips_steps::Step;
 
 /// Takes away what stands at the path.
-#[derive(Debug, Drop)]
+#[derive(Drop)]
 pub struct GoneKind {
     tally: u64,
 }

@@ -8,7 +8,7 @@ use crate::kind::{Act, Kind, finish};
 use ips_steps::Step;
 
 /// Makes a symbolic link in place of what stands at the path.
-#[derive(Debug, Drop)]
+#[derive(Drop)]
 pub struct LinkKind {
     tally: u64,
 }

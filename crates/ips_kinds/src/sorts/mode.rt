@@ -8,7 +8,7 @@ use crate::kind::{Act, Kind, finish};
 use ips_steps::Step;
 
 /// Sets the mode of what stands at the path.
-#[derive(Debug, Drop)]
+#[derive(Drop)]
 pub struct ModeKind {
     tally: u64,
 }

@@ -8,7 +8,7 @@ use crate::kind::{Act, Kind, finish};
 use ips_steps::Step;
 
 /// Puts a file, with its content and its mode, in place of what stands at the path.
-#[derive(Debug, Drop)]
+#[derive(Drop)]
 pub struct PutKind {
     tally: u64,
 }

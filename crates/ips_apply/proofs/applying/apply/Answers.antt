@@ -1,53 +1,24 @@
-use Rattle.std.proofs.Common.{◌≡◌, ◌≤◌, ◌+◌, ℕ, Bool, true, false, Ok, Err, refl, sym, ◌∙◌, ap, rules}
+use Rattle.std.proofs.Common.{◌≡◌, ℕ, Bool, Ok, Err, ◌∙◌, ap}
 use Rattle.std.proofs.lemmas.Result.{err_from_is_err_and}
 use Rattle.ips_journal.specs.declared.fault.StepFault.{StepFault}
 use Rattle.ips_journal.specs.declared.fault.StepFault.TheVariants.{FolderFault}
-use Rattle.ips_apply.proofs.Copies.{no_fault}
-use Rattle.ips_apply.proofs.Going.{going_start, ends_there, ends_reading_as, ends_at_step, going_on, takers_stay, too_many, lends_one}
+use Rattle.ips_apply.proofs.Going.{all_stopped, all_ended, all_read, all_unread}
 use Rattle.ips_apply.proofs.applying.apply.Goals as goal
 
-pub loop-folder-init : goal.loop-folder-init
-loop-folder-init g c = going_start g.F.Source.outside g.met.F.Source.sane c.args.folder.now c.args.reader.now _ c.requires.open
+pub returns-in-Ok-default-true-clause-applied : goal.returns-in-Ok-default-true-clause-applied
+returns-in-Ok-default-true-clause-applied g c =
+    all_ended g.F.Source.outside g.met.F.Source.sane c.args.folder.now c.apply_block.new.folder c.args.reader.now c.apply_block.new.reader _ _ c.apply_block.result c.in-Ok-default-true.count
+    (c.in-Ok-default-true.is ∙ ap (λ (b : Bool). Ok (c.in-Ok-default-true.count, b)) c.in-Ok-default-true.field-0-1-test) c.apply_block.ensures.applied
 
-pub lay_next-requires-clause-takers : goal.lay_next-requires-clause-takers
-lay_next-requires-clause-takers g c = takers_stay g.F.Source.outside c.args.folder.now c.loop-folder.folder c.args.reader.now c.loop-folder.reader _ _ c.loop-folder.count c.loop-folder.invariant c.requires.takers
-
-pub returns-in_err-next-clause-applied : goal.returns-in_err-next-clause-applied
-returns-in_err-next-clause-applied g c =
+pub returns-in_err-_more-clause-applied : goal.returns-in_err-_more-clause-applied
+returns-in_err-_more-clause-applied g c =
     let left = err_from_is_err_and c.from_residual.result c.from_residual.ensures.1 in
-    ends_reading_as g.F.Source.outside g.met.F.Source.sane c.args.folder.now c.loop-folder.folder c.next.new.folder c.args.reader.now c.loop-folder.reader c.next.new.self _ _ c.loop-folder.count c.loop-folder.invariant (c.next.result ≡ Err FolderFault) c.next.ensures.reads c.next.result c.next.ensures.means c.from_residual.result c.in_err-next.field-0.0 (left.1 ∙ ap (λ (e : StepFault). Err e) left.2) c.in_err-next.was
+    all_unread g.F.Source.outside g.met.F.Source.sane c.args.folder.now c.apply_block.new.folder c.args.reader.now c.apply_block.new.reader _ _ c.apply_block.result c.in-Ok-default-false.count
+    (c.in-Ok-default-false.is ∙ ap (λ (b : Bool). Ok (c.in-Ok-default-false.count, b)) c.in-Ok-default-false.field-0-1-test) c.apply_block.ensures.applied c.apply_block.ensures.same_kind
+    c.next.new.folder c.next.new.self (c.next.result ≡ Err FolderFault) c.next.ensures.reads c.next.result c.next.ensures.means c.from_residual.result c.in_err-_more.field-0.0 (left.1 ∙ ap (λ (e : StepFault). Err e) left.2) c.in_err-_more.was
 
-pub returns-then-not-branch-clause-applied : goal.returns-then-not-branch-clause-applied
-returns-then-not-branch-clause-applied g c =
-    ends_there g.F.Source.outside g.met.F.Source.sane c.args.folder.now c.loop-folder.folder c.next.new.folder c.args.reader.now c.loop-folder.reader c.next.new.self _ _ c.loop-folder.count c.loop-folder.invariant (c.next.result ≡ Err FolderFault) c.next.ensures.reads c.next.result c.next.ensures.means (c.in_ok-next.was ∙ ap (λ (b : Bool). Ok b) c.if-not-branch.true) (search rules)
-
-pub returns-in_err-lay_next-clause-applied : goal.returns-in_err-lay_next-clause-applied
-returns-in_err-lay_next-clause-applied g c =
-    let left = err_from_is_err_and c.from_residual-in_err-lay_next.result c.from_residual-in_err-lay_next.ensures.1 in
-    let one = lends_one c.next.new.self.step (c.in_ok-next.ensures.lends.0 ∙ c.if-not-branch.false) in
-    ends_at_step g.F.Source.outside g.met.F.Source.sane c.args.folder.now c.loop-folder.folder c.next.new.folder c.args.reader.now c.loop-folder.reader c.next.new.self _ _ c.loop-folder.count c.loop-folder.invariant (c.next.result ≡ Err FolderFault) c.next.ensures.reads c.next.result c.next.ensures.means one.0 (c.in_ok-next.was ∙ ap (λ (b : Bool). Ok b) c.if-not-branch.false) one.1
-    c.lay_next.new.folder _ c.from_residual-in_err-lay_next.result c.in_err-lay_next.field-0.0 c.in_err-lay_next.ensures.uncounted (left.1 ∙ ap (λ (e : StepFault). Err e) left.2) c.in_err-lay_next.ensures.line
-    (λ told. c.lay_next.ensures.any_moment told one.0 one.1) (λ told. c.in_err-lay_next.ensures.bad told one.0 one.1)
-
-pub loop-folder-preserved : goal.loop-folder-preserved
-loop-folder-preserved g c =
-    let one = lends_one c.next.new.self.step (c.in_ok-next.ensures.lends.0 ∙ c.if-not-branch.false) in
-    let kept = c.next.ensures.reads.call.same_kind ∙ c.loop-folder.invariant.same_kind in
-    let calm = c.next.ensures.reads.call.cause.steady (no_fault c.next.result _ FolderFault c.in_ok-next.was) ∙ c.loop-folder.invariant.faults in
-    going_on g.F.Source.outside g.met.F.Source.sane c.args.folder.now c.loop-folder.folder c.next.new.folder c.args.reader.now c.loop-folder.reader c.next.new.self _ _ c.loop-folder.count c.loop-folder.invariant (c.next.result ≡ Err FolderFault) c.next.ensures.reads c.next.result c.next.ensures.means one.0 (c.in_ok-next.was ∙ ap (λ (b : Bool). Ok b) c.if-not-branch.false) one.1
-    c.lay_next.new.folder _ (c.in_ok-next.ensures.lends.1 ∙ c.if-not-branch.false) (c.in_ok-lay_next.ensures.counted one.0 one.1)
-    (c.lay_next.ensures.same_kind ∙ kept) (c.lay_next.ensures.cause.steady (no_fault c.lay_next.result _ FolderFault c.in_ok-lay_next.was) ∙ calm)
-    (λ told. let laid = c.in_ok-lay_next.ensures.done (kept ∙ told) one.0 one.1 in (laid.0, laid.1, c.lay_next.ensures.any_moment (kept ∙ told) one.0 one.1))
-
-pub returns-then-count-clause-applied : goal.returns-then-count-clause-applied
-returns-then-count-clause-applied g c =
-    let more =
-    let one = lends_one c.next.new.self.step (c.in_ok-next.ensures.lends.0 ∙ c.if-not-branch.false) in
-    let kept = c.next.ensures.reads.call.same_kind ∙ c.loop-folder.invariant.same_kind in
-    let calm = c.next.ensures.reads.call.cause.steady (no_fault c.next.result _ FolderFault c.in_ok-next.was) ∙ c.loop-folder.invariant.faults in
-    going_on g.F.Source.outside g.met.F.Source.sane c.args.folder.now c.loop-folder.folder c.next.new.folder c.args.reader.now c.loop-folder.reader c.next.new.self _ _ c.loop-folder.count c.loop-folder.invariant (c.next.result ≡ Err FolderFault) c.next.ensures.reads c.next.result c.next.ensures.means one.0 (c.in_ok-next.was ∙ ap (λ (b : Bool). Ok b) c.if-not-branch.false) one.1
-    c.lay_next.new.folder _ (c.in_ok-next.ensures.lends.1 ∙ c.if-not-branch.false) (c.in_ok-lay_next.ensures.counted one.0 one.1)
-    (c.lay_next.ensures.same_kind ∙ kept) (c.lay_next.ensures.cause.steady (no_fault c.lay_next.result _ FolderFault c.in_ok-lay_next.was) ∙ calm)
-    (λ told. let laid = c.in_ok-lay_next.ensures.done (kept ∙ told) one.0 one.1 in (laid.0, laid.1, c.lay_next.ensures.any_moment (kept ∙ told) one.0 one.1))
-    in
-    too_many g.F.Source.outside c.args.folder.now c.lay_next.new.folder c.args.reader.now c.next.new.self _ _ c.loop-folder.count more c.if-count.true
+pub returns-clause-applied : goal.returns-clause-applied
+returns-clause-applied g c =
+    all_read g.F.Source.outside g.met.F.Source.sane c.args.folder.now c.apply_block.new.folder c.args.reader.now c.apply_block.new.reader _ _ c.apply_block.result c.in-Ok-default-false.count
+    (c.in-Ok-default-false.is ∙ ap (λ (b : Bool). Ok (c.in-Ok-default-false.count, b)) c.in-Ok-default-false.field-0-1-test) c.apply_block.ensures.applied c.apply_block.ensures.same_kind
+    c.next.new.folder c.next.new.self (c.next.result ≡ Err FolderFault) c.next.ensures.reads c.next.result c.next.ensures.means c.in_ok-_more._more c.in_ok-_more.was

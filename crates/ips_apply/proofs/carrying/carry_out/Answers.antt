@@ -2,7 +2,7 @@ use Rattle.std.proofs.Common.{IsErr, Some, refl, sym, ◌∙◌, ap, arith}
 use Rattle.ips_steps.specs.View.{step_of, sort_of}
 use Rattle.ips_kinds.specs.declared.kind.Act.{Act}
 use Rattle.ips_kinds.proofs.Turns.{goes_on}
-use Rattle.ips_apply.proofs.Copies.{answered}
+use Rattle.ips_outside.proofs.Reading.{answered}
 use Rattle.ips_apply.proofs.Carried.{has_acts, tally_stays, first_turn, can_act, changed_so_far, next_turn, last_turn}
 use Rattle.ips_apply.proofs.carrying.carry_out.Goals as goal
 
@@ -28,5 +28,5 @@ loop-folder-preserved g c = record {
   finished = c.next_act-act.ensures.tally ∙ tally_stays c.next_act-act.result _ c.in_default.not-Finished ∙ c.loop-folder.invariant.finished;
   turn = goes_on (sort_of (step_of c.args.step.now)) c.loop-folder.turn c.next_act-act.result c.next_act-act.ensures.act c.in_default.not-Finished;
   acts = next_turn g.F.Source.outside g.met.F.Source.sane (step_of c.args.step.now) c.requires.allowed c.args.folder.now c.loop-folder.folder c.loop-folder.turn c.loop-folder.invariant.acts c.requires.can c.next_act-act.result c.next_act-act.ensures.act
-      c.perform.new.folder c.perform.ensures.same_kind (c.perform.ensures.cause.steady (answered c.perform.result _ c.in_ok-perform.was)) c.in_ok-perform.ensures.done c.perform.ensures.any_moment;
+      c.perform.new.folder c.perform.ensures.same_kind (c.perform.ensures.cause.steady (answered c.perform.result _ c.in_ok-perform.was)) c.perform.ensures.changes c.in_ok-perform.ensures.done c.perform.ensures.any_moment;
 }

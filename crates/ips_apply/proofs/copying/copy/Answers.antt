@@ -1,5 +1,6 @@
 use Rattle.std.proofs.Common.{IsErr, arith}
-use Rattle.ips_apply.proofs.Copies.{answered, kept_writing, copied_more}
+use Rattle.ips_outside.proofs.Reading.{answered}
+use Rattle.ips_apply.proofs.Copies.{kept_writing, copied_more}
 use Rattle.ips_apply.proofs.copying.copy.Goals as goal
 
 pub returns-in_err-append-clause-any_moment : goal.returns-in_err-append-clause-any_moment

@@ -2,7 +2,7 @@ use Rattle.std.proofs.Common.{◌≡◌, Err, ◌∙◌, ap, subst}
 use Rattle.ips_outside.specs.Image.{Image}
 use Rattle.ips_journal.specs.declared.fault.StepFault.{StepFault}
 use Rattle.ips_commit.specs.Pending.{IsDone}
-use Rattle.ips_commit.proofs.Committed.{opening, owed_since, due_since, after_lay, bad_line, counted, tallied, all_seen, unmarked, after_finish}
+use Rattle.ips_commit.proofs.Committed.{opening, owed_since, due_since, after_lay, front, bad_line, counted, tallied, all_seen, unmarked, after_finish}
 use Rattle.ips_commit.proofs.committing.run.Goals as goal
 
 pub returns-in_default-clause-owed : goal.returns-in_default-clause-owed
@@ -125,3 +125,18 @@ pub returns-clause-counted : goal.returns-clause-counted
 returns-clause-counted g c = λ told steps a staged.
     tallied g.F.Source.outside g.met.F.Source.sane steps a c.args.folder.now told staged c.open.new.folder c.open.ensures.same_kind (c.open.ensures.any_moment told) (c.in-Ok.ensures.opened told) (c.in-Ok.ensures.safe told)
     c.lay.new.folder _ _ _ c.lay.result c.lay.ensures.lays (c.rewind.ensures.start _) c.in-Ok-lay.count c.in-Ok-lay.is
+
+pub returns-in-Err-FolderFault-clause-front : goal.returns-in-Err-FolderFault-clause-front
+returns-in-Err-FolderFault-clause-front g c = λ told steps a staged.
+    front g.F.Source.outside g.met.F.Source.sane steps a c.args.folder.now told staged c.open.new.folder c.open.ensures.same_kind (c.open.ensures.any_moment told) (c.in-Ok.ensures.opened told) (c.in-Ok.ensures.safe told)
+    c.lay.new.folder _ _ _ c.lay.result c.lay.ensures.lays (c.rewind.ensures.start _)
+
+pub returns-in-Err-BadJournal-clause-front : goal.returns-in-Err-BadJournal-clause-front
+returns-in-Err-BadJournal-clause-front g c = λ told steps a staged.
+    front g.F.Source.outside g.met.F.Source.sane steps a c.args.folder.now told staged c.open.new.folder c.open.ensures.same_kind (c.open.ensures.any_moment told) (c.in-Ok.ensures.opened told) (c.in-Ok.ensures.safe told)
+    c.lay.new.folder _ _ _ c.lay.result c.lay.ensures.lays (c.rewind.ensures.start _)
+
+pub returns-in_default-finish-clause-front : goal.returns-in_default-finish-clause-front
+returns-in_default-finish-clause-front g c = λ told steps a staged.
+    front g.F.Source.outside g.met.F.Source.sane steps a c.args.folder.now told staged c.open.new.folder c.open.ensures.same_kind (c.open.ensures.any_moment told) (c.in-Ok.ensures.opened told) (c.in-Ok.ensures.safe told)
+    c.lay.new.folder _ _ _ c.lay.result c.lay.ensures.lays (c.rewind.ensures.start _)

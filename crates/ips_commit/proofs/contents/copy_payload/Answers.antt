@@ -3,7 +3,7 @@ use Rattle.ips_text.specs.Ancestry.{covers}
 use Rattle.ips_outside.specs.Image.{Image}
 use Rattle.ips_outside.specs.State.{State}
 use Rattle.ips_repo.specs.Payload.{Reading, IsFrontOf}
-use Rattle.ips_repo.proofs.Calls.{answered, reads_then}
+use Rattle.ips_outside.proofs.Reading.{answered, reads_then}
 use Rattle.ips_commit.specs.Contents.{HoldsAlone}
 use Rattle.ips_commit.proofs.Swept.{wrote_then}
 use Rattle.ips_commit.proofs.Written.{alone_appended}

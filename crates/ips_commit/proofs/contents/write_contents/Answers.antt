@@ -5,7 +5,7 @@ use Rattle.ips_outside.specs.Image.{Image, is_dir}
 use Rattle.ips_outside.specs.State.{State, nowhere}
 use Rattle.ips_folder.proofs.Runs.{begun, keeps_then, keeps_wider}
 use Rattle.ips_steps.specs.Steps.{stage_name, stage_path}
-use Rattle.ips_repo.proofs.Calls.{answered, reads_none, reads_then}
+use Rattle.ips_outside.proofs.Reading.{answered, reads_none, reads_then}
 use Rattle.ips_journal.specs.declared.staged.Staged.{Staged}
 use Rattle.ips_commit.specs.Contents.{IsContent, IsIntactContent, SaysOfContent, SaysOfStage}
 use Rattle.ips_commit.specs.declared.fault.StageFault.{StageFault}
@@ -18,6 +18,7 @@ loop-number-init g c = record {
   faults = refl;
   reads = reads_none g.S.Source.outside c.args.source.now ⊥ (λ f. f);
   stage = c.requires.stage;
+  stands = λ told. refl;
   empty = λ told n le small. c.requires.empty told n;
   written = λ told n s lt at. absurd (omega (arith, lt));
   intact = λ told n s lt at. absurd (omega (arith, lt));
@@ -83,6 +84,7 @@ loop-number-preserved g c =
       faults = c.write_content.ensures.cause.steady (λ failed. let bad = sym c.in-Ok.is ∙ failed in cc) ∙ inv.faults;
       reads = reads_then so c.args.source.now c.loop-number.source c.write_content.new.source _ ⊥ inv.reads c.write_content.ensures.reads (λ failed. let bad = sym c.in-Ok.is ∙ failed in cc) (λ f. absurd f);
       stage = λ told. ap is_dir ((c.write_content.ensures.any_moment (inv.kind ∙ told)).now.agrees.look stage_name (ap (λ (x : List ℕ). covers x stage_name) c.in_ok-path.ensures ∙ stage_apart i) refl) ∙ inv.stage told;
+      stands = λ told. (c.write_content.ensures.any_moment (inv.kind ∙ told)).now.agrees.look stage_name (ap (λ (x : List ℕ). covers x stage_name) c.in_ok-path.ensures ∙ stage_apart i) refl ∙ inv.stands told;
       empty = λ told.
           let wrote = wrote_at i p c.in_ok-path.ensures t u (c.write_content.ensures.any_moment (inv.kind ∙ told)).now.agrees in
           empty_more staged i s c.loop-number-test.true c.index-staged-number.is (so.tells c.args.source.now) (so.state c.args.source.now).held publisher t0 t u (omega arith) wrote (inv.empty told);

@@ -16,6 +16,7 @@ invariant-loop-number g l = record {
   faults : g.F.Source.outside.faults l.folder ≡ g.F.Source.outside.faults l.fn.folder;
   reads : Reads g.S.Source.outside l.fn.source l.source ⊥;
   stage : IsTrue (g.F.Source.outside.tells l.fn.folder) → IsTrue (is_dir ((g.F.Source.outside.state l.folder).held.look stage_name));
+  stands : IsTrue (g.F.Source.outside.tells l.fn.folder) → (g.F.Source.outside.state l.folder).held.look stage_name ≡ (g.F.Source.outside.state l.fn.folder).held.look stage_name;
   empty : IsTrue (g.F.Source.outside.tells l.fn.folder) → (n : ℕ) → l.number ≤ n → n < 2 ^ 64 → (g.F.Source.outside.state l.folder).held.look (stage_path n) ≡ None;
   written : IsTrue (g.F.Source.outside.tells l.fn.folder) → (n : ℕ) (s : Staged) → n < l.number → slice_get l.staged n ≡ Some s
       → IsWritten (g.S.Source.outside.tells l.fn.source) (g.S.Source.outside.state l.fn.source).held l.publisher (g.F.Source.outside.state l.fn.folder).held (g.F.Source.outside.state l.folder).held n s;

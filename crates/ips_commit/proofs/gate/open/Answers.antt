@@ -101,4 +101,4 @@ returns-clause-opened g c = λ told.
     let stands : (o.state c.append.new.self).held.look gate_name ≡ Some (File 384 (49 ∷ [])) = subst (λ (q : List ℕ). (o.state c.append.new.self).held.look q ≡ Some (File 384 (49 ∷ []))) at
     (filled_file p (49 ∷ []) (o.state c.args.folder.now).held (o.state c.make_file.new.self).held (o.state c.append.new.self).held
     (ap (λ (s : State). s.held) (c.in_ok-make_file.ensures.done told)) (ap (λ (s : State). s.held) (c.in_ok-append.ensures.done told_1))) in
-    opens o sane c.args.folder.now c.append.new.self c.sync.new.self (49 ∷ []) filled c.sync.ensures.call.time (c.in_ok-sync.ensures.done told_2) stands
+    opens o sane c.args.folder.now c.append.new.self c.sync.new.self filled c.sync.ensures.call.time (c.in_ok-sync.ensures.done told_2) stands

@@ -1,6 +1,6 @@
 use Rattle.std.proofs.Common.{◌≡◌, ◌≤◌, ◌+◌, ◌*◌, ◌/◌, Ok, refl, sym, ◌∙◌, ap, arith}
 use Rattle.ips_outside.specs.State.{State}
-use Rattle.ips_repo.proofs.Calls.{answered, reads_none, reads_then}
+use Rattle.ips_outside.proofs.Reading.{answered, reads_none, reads_then}
 use Rattle.ips_commit.proofs.Places.{stand_more, counted_here, counted_all}
 use Rattle.ips_commit.proofs.placing.count_marks.Goals as goal
 

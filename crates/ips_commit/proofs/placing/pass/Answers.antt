@@ -3,7 +3,7 @@ use Rattle.std.proofs.lemmas.Result.{err_from_is_err_and}
 use Rattle.ips_journal.specs.declared.fault.StepFault.{StepFault}
 use Rattle.ips_journal.specs.declared.fault.StepFault.TheVariants.{FolderFault}
 use Rattle.ips_journal.specs.Reading.{IsAt, journal_of}
-use Rattle.ips_repo.proofs.Calls.{reads_none, reads_then}
+use Rattle.ips_outside.proofs.Reading.{reads_none, reads_then}
 use Rattle.ips_commit.proofs.Places.{means_here, passed_more, never_ends, only_folder, failed_as}
 use Rattle.ips_commit.proofs.placing.pass.Goals as goal
 

@@ -2,7 +2,7 @@ use Rattle.std.proofs.Common.{◌≡◌, Bool, true, false, [], Ok, Err, refl, s
 use Rattle.std.proofs.lemmas.Result.{err_from_is_err_and}
 use Rattle.ips_journal.specs.declared.fault.StepFault.{StepFault}
 use Rattle.ips_journal.specs.declared.fault.StepFault.TheVariants.{FolderFault}
-use Rattle.ips_repo.proofs.Calls.{reads_none, reads_then}
+use Rattle.ips_outside.proofs.Reading.{reads_none, reads_then}
 use Rattle.ips_commit.proofs.Places.{means_here, whole_fault, whole_end, read_more, too_many}
 use Rattle.ips_commit.proofs.placing.read_whole.Goals as goal
 

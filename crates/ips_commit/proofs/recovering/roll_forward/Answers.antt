@@ -1,44 +1,90 @@
-use Rattle.std.proofs.Common.{◌≡◌, List, Err, ap, ◌∙◌, sym, subst}
-use Rattle.ips_journal.specs.declared.fault.StepFault.{StepFault}
+use Rattle.std.proofs.Common.{◌≡◌, ◌*◌, List, take, Some, sym, ◌∙◌, ap, subst, refl}
+use Rattle.ips_outside.specs.Image.{Image}
+use Rattle.ips_outside.specs.State.{State, IsSettled}
 use Rattle.ips_outside.specs.Children.{bytes_of}
-use Rattle.ips_commit.proofs.Rolled.{roll_owed, roll_line, roll_finished, roll_stuck, roll_can, roll_counted, roll_marks, roll_done}
+use Rattle.ips_folder.proofs.Runs.{joins}
+use Rattle.ips_steps.specs.Steps.{after}
+use Rattle.ips_steps.specs.Private.{visible}
+use Rattle.ips_steps.specs.Owed.{IsOpen, FolderOwes, steps_left}
+use Rattle.ips_journal.specs.Text.{journal_text}
+use Rattle.ips_journal.specs.Reading.{IsAt, journal_of}
+use Rattle.ips_commit.specs.Pending.{HasNoOtherMark, IsDone}
+use Rattle.ips_commit.specs.Recovering.{IsJournalled, CanRollForward, SaysOfLaying}
+use Rattle.ips_commit.proofs.Rolled.{settled_owed}
 use Rattle.ips_commit.proofs.recovering.roll_forward.Goals as goal
 
-pub returns-in-Err-FolderFault-clause-owed : goal.returns-in-Err-FolderFault-clause-owed
-returns-in-Err-FolderFault-clause-owed g c = λ told clean steps count b a due is_open begins.
-    roll_owed g.F.Source.outside g.met.F.Source.sane c.args.folder.now c.lay.new.folder told steps count c.args.reader.now _ _ c.lay.result c.lay.ensures.lays begins a is_open clean b due
-
-pub returns-in-Err-BadJournal-clause-owed : goal.returns-in-Err-BadJournal-clause-owed
-returns-in-Err-BadJournal-clause-owed g c = λ told clean steps count b a due is_open begins.
-    roll_owed g.F.Source.outside g.met.F.Source.sane c.args.folder.now c.lay.new.folder told steps count c.args.reader.now _ _ c.lay.result c.lay.ensures.lays begins a is_open clean b due
-
-pub returns-in-Err-BadJournal-clause-meant : goal.returns-in-Err-BadJournal-clause-meant
-returns-in-Err-BadJournal-clause-meant g c = λ told steps count a is_open begins.
-    absurd (roll_line g.F.Source.outside g.met.F.Source.sane c.args.folder.now c.lay.new.folder told steps count c.args.reader.now _ _ c.lay.result c.lay.ensures.lays begins a is_open
-    c.in-Err-BadJournal.line (c.in-Err-BadJournal.is ∙ ap (λ (e : StepFault). Err e) c.in-Err-BadJournal.field-0-is))
-
-pub returns-in-Err-BadJournal-clause-refused : goal.returns-in-Err-BadJournal-clause-refused
-returns-in-Err-BadJournal-clause-refused g c = λ told steps count is begins.
-    roll_stuck g.F.Source.outside g.met.F.Source.sane c.args.folder.now c.lay.new.folder told steps count c.args.reader.now _ _ c.lay.result c.lay.ensures.lays begins is
-    c.in-Err-BadJournal.line (c.in-Err-BadJournal.is ∙ ap (λ (e : StepFault). Err e) c.in-Err-BadJournal.field-0-is)
-
 pub returns-in_default-clause-owed : goal.returns-in_default-clause-owed
-returns-in_default-clause-owed g c = λ told clean steps count b a due is_open begins.
-    roll_finished g.F.Source.outside g.met.F.Source.sane c.args.folder.now c.lay.new.folder told steps count c.args.reader.now _ _ c.lay.result c.lay.ensures.lays begins a is_open c.in-Ok.field-0 c.in-Ok.is c.finish.new.folder clean b due
-    (λ safe ready seen. c.finish.ensures.owed (c.lay.ensures.same_kind ∙ told) safe steps count b a due ready seen)
-
-pub returns-clause-owed : goal.returns-clause-owed
-returns-clause-owed g c = λ told clean steps count b a due is_open begins.
-    roll_finished g.F.Source.outside g.met.F.Source.sane c.args.folder.now c.lay.new.folder told steps count c.args.reader.now _ _ c.lay.result c.lay.ensures.lays begins a is_open c.in-Ok.field-0 c.in-Ok.is c.finish.new.folder clean b due
-    (λ safe ready seen. c.finish.ensures.owed (c.lay.ensures.same_kind ∙ told) safe steps count b a due ready seen)
-
-pub returns-clause-done : goal.returns-clause-done
-returns-clause-done g c = λ told others steps count is begins.
+returns-in_default-clause-owed g c = λ told steps count b a due is_open begins.
     let o = g.F.Source.outside in
-    let sane = g.met.F.Source.sane in (
-      roll_can o sane c.args.folder.now c.lay.new.folder told steps count c.args.reader.now _ _ c.lay.result c.lay.ensures.lays begins is c.in-Ok.field-0 c.in-Ok.is,
-      roll_done o sane c.args.folder.now c.lay.new.folder told steps count c.args.reader.now _ _ c.lay.result c.lay.ensures.lays begins is c.in-Ok.field-0 c.in-Ok.is c.finish.new.folder
-          (c.in-Ok-finish.ensures.done (c.lay.ensures.same_kind ∙ told)
-          (roll_marks o sane c.args.folder.now c.lay.new.folder told steps count c.args.reader.now _ _ c.lay.result c.lay.ensures.lays begins is c.in-Ok.field-0 c.in-Ok.is (bytes_of c.args.marks.now) others)),
-      roll_counted o sane c.args.folder.now c.lay.new.folder told steps count c.args.reader.now _ _ c.lay.result c.lay.ensures.lays begins is c.in-Ok.field-0 c.in-Ok.is,
+    let kept = c.in_default.ensures.kept in
+    settled_owed o g.met.F.Source.sane c.args.folder.now c.sync.new.self c.sync.result c.sync.ensures told (c.requires.safe told) steps count b a due is_open (ap (λ (s : State). s.held) kept) (subst IsSettled (sym kept) (c.requires.safe told))
+
+pub returns-in-Ok-lay_rest-clause-owed : goal.returns-in-Ok-lay_rest-clause-owed
+returns-in-Ok-lay_rest-clause-owed g c = λ told steps count b a due is_open begins.
+    let o = g.F.Source.outside in
+    let mid = c.sync.new.self in
+    let told_1 = c.sync.ensures.call.same_kind ∙ told in
+    let safe = c.in-Ok.ensures.done told in
+    let same : (o.state mid).held ≡ (o.state c.args.folder.now).held = ap (λ (s : State). s.held) safe in
+    let clean : IsSettled (o.state mid) = subst IsSettled (sym safe) (record { whole = λ q. refl; modes = λ q. refl }) in
+    joins o c.args.folder.now mid c.lay_rest.new.folder (FolderOwes journal_text b (Some a) due)
+    (settled_owed o g.met.F.Source.sane c.args.folder.now mid c.sync.result c.sync.ensures told (c.requires.safe told) steps count b a due is_open same clean)
+    (c.lay_rest.ensures.owed told_1 clean steps count b a due (subst (λ (t : Image). IsOpen journal_text steps count a t) (sym same) is_open)
+    (subst (λ (t : Image). IsAt (journal_of t) (take (1000 * count) steps) c.args.reader.now) (sym same) begins))
+
+pub returns-in-Err-clause-owed : goal.returns-in-Err-clause-owed
+returns-in-Err-clause-owed g c = λ told steps count b a due is_open begins.
+    let o = g.F.Source.outside in
+    let mid = c.sync.new.self in
+    let told_1 = c.sync.ensures.call.same_kind ∙ told in
+    let safe = c.in-Ok.ensures.done told in
+    let same : (o.state mid).held ≡ (o.state c.args.folder.now).held = ap (λ (s : State). s.held) safe in
+    let clean : IsSettled (o.state mid) = subst IsSettled (sym safe) (record { whole = λ q. refl; modes = λ q. refl }) in
+    joins o c.args.folder.now mid c.lay_rest.new.folder (FolderOwes journal_text b (Some a) due)
+    (settled_owed o g.met.F.Source.sane c.args.folder.now mid c.sync.result c.sync.ensures told (c.requires.safe told) steps count b a due is_open same clean)
+    (c.lay_rest.ensures.owed told_1 clean steps count b a due (subst (λ (t : Image). IsOpen journal_text steps count a t) (sym same) is_open)
+    (subst (λ (t : Image). IsAt (journal_of t) (take (1000 * count) steps) c.args.reader.now) (sym same) begins))
+
+pub returns-in-Ok-lay_rest-clause-done : goal.returns-in-Ok-lay_rest-clause-done
+returns-in-Ok-lay_rest-clause-done g c = λ told others steps count is begins.
+    let o = g.F.Source.outside in
+    let mid = c.sync.new.self in
+    let told_1 = c.sync.ensures.call.same_kind ∙ told in
+    let safe = c.in-Ok.ensures.done told in
+    let same : (o.state mid).held ≡ (o.state c.args.folder.now).held = ap (λ (s : State). s.held) safe in
+    let clean : IsSettled (o.state mid) = subst IsSettled (sym safe) (record { whole = λ q. refl; modes = λ q. refl }) in
+    let all = c.in-Ok-lay_rest.ensures.done told_1 (subst (λ (t : Image). HasNoOtherMark t (bytes_of c.args.marks.now)) (sym same) others) steps count (subst (λ (t : Image). IsJournalled t steps count) (sym same) is) (subst (λ (t : Image). IsAt (journal_of t) (take (1000 * count) steps) c.args.reader.now) (sym same) begins) in (
+      subst (λ (t : Image). CanRollForward t steps count) same all.0,
+      subst (λ (t : Image). IsDone (visible (after (steps_left count steps) t)) (o.state c.lay_rest.new.folder)) same all.1,
+      all.2,
     )
+
+pub returns-in-Err-clause-meant : goal.returns-in-Err-clause-meant
+returns-in-Err-clause-meant g c = λ told steps count a is_open begins.
+    let o = g.F.Source.outside in
+    let mid = c.sync.new.self in
+    let told_1 = c.sync.ensures.call.same_kind ∙ told in
+    let safe = c.in-Ok.ensures.done told in
+    let same : (o.state mid).held ≡ (o.state c.args.folder.now).held = ap (λ (s : State). s.held) safe in
+    let clean : IsSettled (o.state mid) = subst IsSettled (sym safe) (record { whole = λ q. refl; modes = λ q. refl }) in
+    c.in-Err.ensures.meant told_1 steps count a (subst (λ (t : Image). IsOpen journal_text steps count a t) (sym same) is_open) (subst (λ (t : Image). IsAt (journal_of t) (take (1000 * count) steps) c.args.reader.now) (sym same) begins)
+
+pub returns-in-Err-clause-refused : goal.returns-in-Err-clause-refused
+returns-in-Err-clause-refused g c = λ told steps count is begins.
+    let o = g.F.Source.outside in
+    let mid = c.sync.new.self in
+    let told_1 = c.sync.ensures.call.same_kind ∙ told in
+    let safe = c.in-Ok.ensures.done told in
+    let same : (o.state mid).held ≡ (o.state c.args.folder.now).held = ap (λ (s : State). s.held) safe in
+    let clean : IsSettled (o.state mid) = subst IsSettled (sym safe) (record { whole = λ q. refl; modes = λ q. refl }) in
+    subst (λ (t : Image). SaysOfLaying t c.in-Err.fault) same (c.in-Err.ensures.refused told_1 steps count (subst (λ (t : Image). IsJournalled t steps count) (sym same) is) (subst (λ (t : Image). IsAt (journal_of t) (take (1000 * count) steps) c.args.reader.now) (sym same) begins))
+
+pub returns-in-Err-clause-front : goal.returns-in-Err-clause-front
+returns-in-Err-clause-front g c = λ told steps count is begins.
+    let o = g.F.Source.outside in
+    let mid = c.sync.new.self in
+    let told_1 = c.sync.ensures.call.same_kind ∙ told in
+    let safe = c.in-Ok.ensures.done told in
+    let same : (o.state mid).held ≡ (o.state c.args.folder.now).held = ap (λ (s : State). s.held) safe in
+    let clean : IsSettled (o.state mid) = subst IsSettled (sym safe) (record { whole = λ q. refl; modes = λ q. refl }) in
+    c.in-Err.ensures.front told_1 steps count (subst (λ (t : Image). IsJournalled t steps count) (sym same) is) (subst (λ (t : Image). IsAt (journal_of t) (take (1000 * count) steps) c.args.reader.now) (sym same) begins)

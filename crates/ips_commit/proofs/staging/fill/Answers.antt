@@ -4,7 +4,7 @@ use Rattle.ips_outside.specs.State.{State, nowhere}
 use Rattle.ips_folder.specs.Calls.{Keeps}
 use Rattle.ips_folder.proofs.Runs.{keeps_then}
 use Rattle.ips_steps.specs.Steps.{stage_name}
-use Rattle.ips_commit.proofs.Staged.{can_make_stage, can_make_journal, made_dir, made_empty, standing_staged, stage_made, stage_kept, journal_kept, all_filled}
+use Rattle.ips_commit.proofs.Staged.{can_make_stage, can_make_journal, made_dir, made_entry, made_empty, standing_staged, stage_made, stage_kept, journal_kept, all_filled}
 use Rattle.ips_commit.proofs.staging.fill.Goals as goal
 
 pub make_dir-requires-clause-can : goal.make_dir-requires-clause-can
@@ -86,4 +86,5 @@ returns-clause-filled g c = λ told.
     all_filled (g.S.Source.outside.tells c.args.source.now) (g.S.Source.outside.state c.args.source.now).held c.args.publisher.now c.args.text.now c.args.staged.now c.args.names.now.journal.bytes
     (o.state c.args.folder.now).held (o.state c.make_dir.new.self).held (o.state c.write_contents.new.folder).held (o.state c.write_safely.new.folder) c.args.names.now.journal_is
     (c.requires.cleared told) c.requires.seen made.now.agrees run.now.agrees (c.write_safely.ensures.any_moment told_2).now.agrees (c.in_ok-write_contents.ensures.written told_1)
+    (c.in_ok-write_contents.ensures.stands told_1 ∙ made_entry c.args.names.now.stage.bytes (o.state c.args.folder.now).held (o.state c.make_dir.new.self).held c.args.names.now.stage_is (ap (λ (s : State). s.held) (c.in-Ok.ensures.done told)))
     (c.in-Ok-write_safely.ensures.written told_2) (c.in-Ok-write_safely.ensures.safe told_2)

@@ -5,7 +5,7 @@ use Rattle.ips_text.specs.Ancestry.{covers}
 use Rattle.ips_text.specs.Kept.{Kept}
 use Rattle.ips_outside.specs.State.{State}
 use Rattle.ips_steps.specs.Private.{mark_front, begins}
-use Rattle.ips_repo.proofs.Calls.{answered}
+use Rattle.ips_outside.proofs.Reading.{answered}
 use Rattle.ips_commit.proofs.Swept.{wrote_then, off_mark, own_at, gone_more, all_bytes, removed_none}
 use Rattle.ips_commit.proofs.sweeping.remove_all.Goals as goal
 
@@ -23,6 +23,7 @@ loop-mark-preserved g c =
     record {
       kind = c.remove.ensures.call.same_kind ∙ c.loop-mark.invariant.kind;
       faults = c.remove.ensures.call.cause.steady (answered c.remove.result _ c.in_ok-remove.was) ∙ c.loop-mark.invariant.faults;
+      changes = omega (arith, c.loop-mark.invariant.changes, c.remove.ensures.one_made.later);
       gone = λ told q. gone_more c.args.marks.now c.loop-mark.mark-index c.mark-item.result (g.F.Source.outside.state c.loop-mark.folder).held (g.F.Source.outside.state c.remove.new.self).held q
           c.loop-mark-test.true c.mark-item.is (ap (λ (s : State). s.held) (c.in_ok-remove.ensures.done (c.loop-mark.invariant.kind ∙ told))) (c.loop-mark.invariant.gone told q);
       nothing_new = λ told q none. ap (λ (s : State). s.held.look q) (c.in_ok-remove.ensures.done (c.loop-mark.invariant.kind ∙ told))
@@ -34,3 +35,9 @@ loop-mark-preserved g c =
 pub returns-clause-gone : goal.returns-clause-gone
 returns-clause-gone g c = λ told q is.
     c.loop-mark.invariant.gone told q (ap (list_any (λ (k : Kept). covers k.bytes q)) (take_all c.loop-mark.mark-index c.args.marks.now (omega arith)) ∙ all_bytes c.args.marks.now q is)
+
+pub returns-in_err-remove-clause-changes : goal.returns-in_err-remove-clause-changes
+returns-in_err-remove-clause-changes g c = omega (arith, c.loop-mark.invariant.changes, c.remove.ensures.one_made.later)
+
+pub returns-clause-changes : goal.returns-clause-changes
+returns-clause-changes g c = c.loop-mark.invariant.changes

@@ -2,7 +2,7 @@ use Rattle.std.proofs.Common.{◌≡◌, ◌+◌, ◌-◌, ◌^◌, ◌<◌, ◌
 use Rattle.ips_outside.specs.State.{State}
 use Rattle.ips_outside.specs.Outside.{readable}
 use Rattle.ips_journal.specs.Line.{has, IsCut}
-use Rattle.ips_journal.proofs.Calls.{answered, reads_then}
+use Rattle.ips_outside.proofs.Reading.{answered, reads_then}
 use Rattle.ips_journal.proofs.Cuts.{found_cuts, none_lacks}
 use Rattle.ips_journal.proofs.LinePieces.{filled_within, piece_read, more_filled, at_end, line_at}
 use Rattle.ips_journal.proofs.lines.read_line.Goals as goal

@@ -1,5 +1,9 @@
-use Rattle.ips_steps.proofs.Faults.{no_fault}
+use Rattle.std.proofs.Common.{◌≡◌, length, arith, rules}
+use Rattle.ips_steps.specs.declared.target.TargetFault.TheVariants.{Empty, TooLong}
 use Rattle.ips_steps.proofs.target.fault_of.Goals as goal
 
-pub returns-clause-only : goal.returns-clause-only
-returns-clause-only c = no_fault c.first_fault.result c.args.bytes.now c.first_fault.ensures
+pub returns-then-is_empty-clause-only : goal.returns-then-is_empty-clause-only
+returns-then-is_empty-clause-only c = λ p. let none : length c.args.bytes.now ≡ 0 = search rules in absurd (p Empty none)
+
+pub returns-then-bytes-gt4095-clause-only : goal.returns-then-bytes-gt4095-clause-only
+returns-then-bytes-gt4095-clause-only c = λ p. absurd (p TooLong (omega arith))

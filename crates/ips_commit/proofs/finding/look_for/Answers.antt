@@ -6,12 +6,12 @@ use Rattle.ips_outside.specs.State.{State}
 use Rattle.ips_steps.specs.Private.{gate_name}
 use Rattle.ips_commit.specs.Pending.{AreMarkNames}
 use Rattle.ips_commit.proofs.Leftovers.{behind_at, gate_shut, left_behind, left_mark, nothing_of, none_listed, some_listed}
-use Rattle.ips_commit.proofs.finding.pending.Goals as goal
+use Rattle.ips_commit.proofs.finding.look_for.Goals as goal
 
 pub returns-then-is_left-clause-found : goal.returns-then-is_left-clause-found
 returns-then-is_left-clause-found g c = λ told.
     let t = (g.F.Source.outside.state c.args.folder.now).held in
-    let names = c.in_ok-names.names in
+    let names = c.args.names.now in
     let gate : c.in-Ok.is_open ≡ is_some (t.look gate_name) = c.in-Ok.ensures.found told ∙ ap (λ (p : List ℕ). is_some (t.look p)) names.gate_is in
     let same : (g.F.Source.outside.state c.stands.new.folder).held ≡ t = ap (λ (s : State). s.held) c.stands.ensures.reads.kept in
     let behind = behind_at t (g.F.Source.outside.state c.stands.new.folder).held names.stage.bytes names.journal.bytes c.in-Ok-stands_behind.is_left same names.stage_is names.journal_is
@@ -21,7 +21,7 @@ returns-then-is_left-clause-found g c = λ told.
 pub returns-then-is_empty-clause-found : goal.returns-then-is_empty-clause-found
 returns-then-is_empty-clause-found g c = λ told.
     let t = (g.F.Source.outside.state c.args.folder.now).held in
-    let names = c.in_ok-names.names in
+    let names = c.args.names.now in
     let gate : c.in-Ok.is_open ≡ is_some (t.look gate_name) = c.in-Ok.ensures.found told ∙ ap (λ (p : List ℕ). is_some (t.look p)) names.gate_is in
     let same : (g.F.Source.outside.state c.stands.new.folder).held ≡ t = ap (λ (s : State). s.held) c.stands.ensures.reads.kept in
     let told_1 = c.stands.ensures.reads.call.same_kind ∙ told in
@@ -36,7 +36,7 @@ returns-then-is_empty-clause-found g c = λ told.
 pub returns-clause-found : goal.returns-clause-found
 returns-clause-found g c = λ told.
     let t = (g.F.Source.outside.state c.args.folder.now).held in
-    let names = c.in_ok-names.names in
+    let names = c.args.names.now in
     let gate : c.in-Ok.is_open ≡ is_some (t.look gate_name) = c.in-Ok.ensures.found told ∙ ap (λ (p : List ℕ). is_some (t.look p)) names.gate_is in
     let same : (g.F.Source.outside.state c.stands.new.folder).held ≡ t = ap (λ (s : State). s.held) c.stands.ensures.reads.kept in
     let told_1 = c.stands.ensures.reads.call.same_kind ∙ told in
