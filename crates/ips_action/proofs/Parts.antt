@@ -1,6 +1,5 @@
 -- The last of the parts of a path.
-use Rattle.std.proofs.Common.{◌≡◌, ℕ, Bool, true, false, cond, eqb, List, [], ◌∷◌, refl, sym, ◌∙◌, ap}
-use Rattle.std.specs.List.{onto_first}
+use Rattle.std.proofs.Common.{◌≡◌, ℕ, List, ◌∷◌, sym, ◌∙◌, ap}
 use Rattle.ips_text.specs.Path.{parts}
 use Rattle.ips_action.specs.Check.{last_of}
 use Rattle.ips_text.proofs.Fronts.{some_part}

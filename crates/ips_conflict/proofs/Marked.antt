@@ -1,8 +1,8 @@
 -- Which paths stand above a path: its parent, and what stands above that.
-use Rattle.std.proofs.Common.{◌≡◌, ℕ, suc, ◌<◌, ◌⊎◌, Bool, true, false, not, cond, ◌||◌, ◌==◌, List, [], ◌∷◌, length, Option, Some, None, Bor, refl, sym, ap, subst, ◌∙◌, inl, inr, arith}
+use Rattle.std.proofs.Common.{◌≡◌, ℕ, suc, ◌<◌, ◌⊎◌, Bool, true, false, not, ◌||◌, List, length, Option, Some, None, Bor, sym, ap, subst, ◌∙◌, inl, inr, arith}
 use Rattle.std.specs.Prelude.{◌↔◌, IfNone, IfSome}
-use Rattle.std.proofs.lemmas.Bool.{and_parts, and_from, or_cases, or_left, or_right, eq-eqb, false_from_ne_true, cases_Bool, not-true, not_from_false}
-use Rattle.ips_text.specs.Ancestry.{same_path, covers, is_below, parent, behind}
+use Rattle.std.proofs.lemmas.Bool.{and_parts, and_from, or_cases, or_left, or_right, false_from_ne_true, cases_Bool, not-true, not_from_false}
+use Rattle.ips_text.specs.Ancestry.{same_path, covers, is_below, parent}
 use Rattle.ips_text.proofs.Ancestry.{same_path-true, covers_trans, covers_length, parent_length, at_parent_of, parent_covers}
 use Rattle.ips_action.specs.Attrs.{is_same}
 use Rattle.ips_conflict.proofs.Kept.{is_same_self}

@@ -1,8 +1,8 @@
 -- Total orders, and those of places and files.
-use Rattle.std.proofs.Common.{◌≡◌, ◌≢◌, ◌⊎◌, true, false, List, refl, sym, ap, ◌∙◌, inl, inr}
+use Rattle.std.proofs.Common.{◌≡◌, ◌≢◌, ◌⊎◌, false, List, refl, sym, ap, ◌∙◌, inl, inr}
 use Rattle.std.specs.declared.cmp.Ordering.{Ordering}
 use Rattle.std.specs.declared.cmp.Ordering.TheVariants.{Less, Equal, Greater}
-use Rattle.std.specs.Ordering.{is_gt, is_lt, ordering_reverse}
+use Rattle.std.specs.Ordering.{is_gt, ordering_reverse}
 use Rattle.std.specs.Cmp.{IsTotalOrder, then_total, on_total}
 use Rattle.std.specs.Cmp.Lexicographic.{options_total}
 use Rattle.std.proofs.lemmas.Bool.{true≢false}

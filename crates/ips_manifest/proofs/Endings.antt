@@ -1,6 +1,5 @@
 -- A canonical line stands on one physical line: it ends with no backslash, and isn't skipped.
-use Rattle.std.proofs.Common.{◌≡◌, ℕ, zero, suc, ◌+◌, ◌/◌, ◌%◌, ◌<◌, Bool, true, false, cond, not, ◌||◌, eqb, List, [], ◌∷◌, ◌++◌, length, get_or, Option, Some, None, refl, sym, ap, subst, ◌∙◌, append_assoc, arith}
-use Rattle.std.specs.Prelude.{slice_index}
+use Rattle.std.proofs.Common.{◌≡◌, ℕ, zero, suc, ◌/◌, ◌%◌, Bool, true, false, cond, not, eqb, List, [], ◌∷◌, ◌++◌, get_or, Option, Some, None, refl, sym, ap, subst, ◌∙◌, arith}
 use Rattle.std.specs.List.{list_all, list_any, flat_map}
 use Rattle.std.proofs.lemmas.Bool.{and_parts, true≢false}
 use Rattle.std.proofs.lemmas.List.{append-nil}
@@ -14,7 +13,7 @@ use Rattle.ips_action.specs.declared.kind.ActionKind.{ActionKind}
 use Rattle.ips_action.specs.declared.kind.ActionKind.TheVariants as kind
 use Rattle.ips_action.specs.Kind.{kind_name}
 use Rattle.ips_action.specs.Action.{Fields, payload_word, pairs_of, line_text}
-use Rattle.ips_manifest.specs.Logical.{continues, is_blank, is_skipped}
+use Rattle.ips_manifest.specs.Logical.{continues, is_skipped}
 use Rattle.ips_text.proofs.Truths.{not_true}
 
 abbrev plain : ℕ → Bool

@@ -1,18 +1,18 @@
 -- The lines of a manifest are read one logical line after the other.
-use Rattle.std.proofs.Common.{◌≡◌, ℕ, ◌+◌, ◌<◌, ◌≤◌, Bool, true, false, List, [], ◌∷◌, ◌++◌, length, Option, Some, None, Result, Ok, Err, refl, sym, ap, subst, ◌∙◌, append_assoc, arith, inl, inr, ◌⊎◌}
+use Rattle.std.proofs.Common.{◌≡◌, ℕ, Bool, true, false, List, [], ◌∷◌, ◌++◌, length, Option, Some, None, Result, Ok, Err, refl, sym, ap, subst, ◌∙◌, append_assoc, arith, inl, inr}
 use Rattle.std.proofs.lemmas.Bool.{true≢false}
 use Rattle.std.proofs.lemmas.List.{append-nil}
 use Rattle.ips_text.specs.declared.refusal.Or.{Or}
 use Rattle.ips_text.specs.declared.refusal.Or.TheVariants.{Bad, OutOfMemory}
-use Rattle.ips_text.specs.Reading.{Gives, Fails, IfBad}
-use Rattle.ips_text.proofs.Readers.{ok_is, ok_not_err}
+use Rattle.ips_text.specs.Reading.{Fails, IfBad}
+use Rattle.ips_text.proofs.Readers.{ok_is}
 use Rattle.ips_action.specs.Action.{Fields}
 use Rattle.ips_action.specs.Meaning.{Means}
 use Rattle.ips_manifest.specs.declared.line.Line.{Line}
 use Rattle.ips_manifest.specs.declared.fault.LineFault.{LineFault}
 use Rattle.ips_manifest.specs.declared.fault.LineFault.TheVariants as fault
 use Rattle.ips_manifest.specs.declared.fault.ManifestFault.{ManifestFault}
-use Rattle.ips_manifest.specs.Logical.{Logical, physical_lines, logical_lines, lines_of, is_skipped}
+use Rattle.ips_manifest.specs.Logical.{Logical, physical_lines, logical_lines, is_skipped}
 use Rattle.ips_manifest.specs.Manifest.{TextMeans, LineMeans, LinesMean, IsActionFault, IsFaultAt, IsLineFault, IsFirstIn}
 use Rattle.ips_manifest.specs.Seen.{TextGives, lines_for}
 use Rattle.ips_manifest.specs.Next.{IsNext, IsUnreadable}

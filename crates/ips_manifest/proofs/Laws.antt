@@ -1,13 +1,13 @@
 -- The canonical text of a manifest reads as the manifest, and no two have one.
-use Rattle.std.proofs.Common.{◌≡◌, ℕ, zero, suc, ◌+◌, Bool, true, false, cond, not, eqb, List, [], ◌∷◌, ◌++◌, length, Option, Some, None, refl, sym, ap, subst, ◌∙◌, append_assoc}
+use Rattle.std.proofs.Common.{◌≡◌, ℕ, ◌+◌, Bool, true, cond, not, eqb, List, [], ◌∷◌, ◌++◌, Option, None, refl, sym, ap, subst, ◌∙◌, append_assoc}
 use Rattle.std.specs.Prelude.{map}
-use Rattle.std.specs.List.{list_all, flat_map, AllByRecursion}
-use Rattle.std.proofs.lemmas.Bool.{and_parts, true≢false}
+use Rattle.std.specs.List.{list_all, AllByRecursion}
+use Rattle.std.proofs.lemmas.Bool.{and_parts}
 use Rattle.ips_action.specs.Action.{Fields, IsAction, line_text}
 use Rattle.ips_action.specs.Meaning.{Means}
 use Rattle.ips_manifest.specs.declared.line.Line.{Line}
-use Rattle.ips_manifest.specs.Logical.{into_first, physical_lines, continues, is_skipped, Logical, unreadable_at, continued, logical_lines, lines_of}
-use Rattle.ips_manifest.specs.Manifest.{TextMeans, LineMeans, LinesMean, IsManifestOf, line_written, manifest_text, renumbered, StandsOnLine}
+use Rattle.ips_manifest.specs.Logical.{into_first, physical_lines, is_skipped, Logical, unreadable_at, continued, logical_lines}
+use Rattle.ips_manifest.specs.Manifest.{LineMeans, LinesMean, manifest_text, renumbered, StandsOnLine}
 use Rattle.ips_manifest.proofs.Joins.{read_none}
 use Rattle.ips_manifest.proofs.Gone.{action_means}
 use Rattle.ips_manifest.proofs.Endings.{line_ends, line_kept}

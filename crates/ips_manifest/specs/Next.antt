@@ -1,5 +1,5 @@
 -- The next logical line of what is still to be read.
-use Rattle.std.specs.Prelude.{◌≡◌, ℕ, ◌+◌, ◌<◌, ◌≤◌, List, [], ◌∷◌, length, Option, Some, None}
+use Rattle.std.specs.Prelude.{◌≡◌, ℕ, ◌+◌, ◌<◌, ◌≤◌, List, ◌∷◌, length, Some, None}
 use Rattle.ips_manifest.specs.declared.fault.LineFault.TheVariants.{NotText}
 use Rattle.ips_manifest.specs.declared.fault.ManifestFault.{ManifestFault}
 use Rattle.ips_manifest.specs.Logical.{Logical, physical_lines, logical_lines}

@@ -1,22 +1,14 @@
 -- What stands above a path is one.
-use Rattle.std.proofs.Common.{◌≡◌, ℕ, ◌+◌, ◌<◌, ◌≤◌, Bool, true, false, cond, not, ◌⊎◌, ◌||◌, ◌==◌, eqb, ltb, List, [], ◌∷◌, ◌++◌, length, IsUtf8, inl, inr, ⊎_elim, get_or, refl, sym, ap, ◌∙◌, subst, arith, length-append}
-use Rattle.std.specs.List.{list_any, list_all, onto_first}
-use Rattle.std.proofs.lemmas.Bool.{eqb-true, false≢true, cases_lt}
-use borrow.Author.Tests.{ltb-true}
-use Rattle.std.proofs.lemmas.List.{get_or_past}
-use Rattle.std.proofs.lemmas.List.Sums.{AllPass-from_list_all}
-use Rattle.std.proofs.lemmas.List.Folds.{list_any-append}
-use Rattle.std.proofs.Math.Seq.{take-append_seam, drop-append-add}
-use Rattle.ips_text.specs.Path.{IsPath, parts, is_dots, is_nothing, is_long, begins_at_root}
-use Rattle.ips_text.specs.declared.path.PathFault.TheVariants.{Empty, Absolute, DotPart, EmptyPart, NulByte, NotText, TooLong}
+use Rattle.std.proofs.Common.{◌≡◌, ℕ, true, not, ◌⊎◌, eqb, List, [], ◌∷◌, ◌++◌, inl, inr, refl, sym, ap, subst, arith}
+use Rattle.std.proofs.lemmas.Bool.{eqb-true, false≢true}
+use Rattle.ips_text.specs.Path.{IsPath}
 use Rattle.std.specs.Prelude.{◌↔◌, codes}
-use Rattle.std.proofs.lemmas.Str.{IsUtf8-append, IsUtf8-from_ascii, IsUtf8-take, IsUtf8-drop, IsCharBoundary-after_ascii, IsCharBoundary-at_seam}
 use Rattle.std.proofs.lemmas.Bool.{and_parts, and_from, cases_Bool, not_from_false}
 use Rattle.ips_text.specs.Ancestry.{covers, is_below, same_path}
 use Rattle.ips_text.proofs.Ancestry.{same_path-true, covers-self}
 use Rattle.ips_action.specs.Attrs.{is_same}
 use Rattle.ips_conflict.proofs.Kept.{is_same_self}
-use Rattle.ips_text.proofs.Fronts.{some_part, parts_at, or_left, any_front, ascii_text, front_text, root_front, root_empty, front_path, ascii_path}
+use Rattle.ips_text.proofs.Fronts.{front_path, ascii_path}
 use Rattle.ips_action.proofs.KeyOrder.{same_true}
 
 -- ---- parts

@@ -1,13 +1,12 @@
 -- The path that an action gives.
-use Rattle.std.proofs.Common.{◌≡◌, ◌==◌, ℕ, Bool, true, false, cond, List, Option, Some, None, refl, sym, ap, ◌∙◌}
+use Rattle.std.proofs.Common.{◌≡◌, ℕ, Bool, true, false, cond, List, Option, Some, None, refl, sym, ap, ◌∙◌}
 use Rattle.std.specs.Prelude.{codes, option_map}
 use Rattle.std.specs.Option.{option_map_or}
-use Rattle.std.proofs.lemmas.Bool.{true≢false, eq-eqb}
 use Rattle.std.proofs.lemmas.Option.{none-some, same_Some}
 use Rattle.ips_conflict.specs.declared.placed.Placed.{Placed}
 use Rattle.ips_conflict.specs.declared.placed.Sort.{Sort}
-use Rattle.ips_conflict.specs.declared.placed.Sort.TheVariants.{Path, User, Group, Driver, Legacy, License}
-use Rattle.ips_conflict.specs.Key.{Key, key_of, sort_of, sort_rank, text_of, value_of}
+use Rattle.ips_conflict.specs.declared.placed.Sort.TheVariants.{Path}
+use Rattle.ips_conflict.specs.Key.{Key, key_of, sort_of, text_of, value_of}
 use Rattle.ips_conflict.specs.Clash.{path_key, has_path_key}
 use Rattle.ips_meaning.specs.Places.{given_path}
 use Rattle.ips_conflict.proofs.Indexed.{path_by, path_of}

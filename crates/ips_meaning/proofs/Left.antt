@@ -1,12 +1,10 @@
 -- What is left of a list that is gone through from the front.
-use Rattle.std.proofs.Common.{◌≡◌, ℕ, ◌+◌, ◌<◌, List, [], ◌∷◌, ◌++◌, length, get_or, take, map, refl, sym, ap, subst, ◌∙◌, inl, inr}
-use Rattle.std.specs.List.{flat_map}
-use Rattle.std.proofs.lemmas.List.{take_more, map-append, append_assoc, append-nil, flat_map_more}
+use Rattle.std.proofs.Common.{◌≡◌, ℕ, List, [], ◌∷◌, ◌++◌, refl, sym, ap, subst, ◌∙◌, inl, inr}
+use Rattle.std.proofs.lemmas.List.{append_assoc, append-nil}
 use Rattle.ips_manifest.specs.declared.line.Line.{Line}
 use Rattle.ips_conflict.specs.declared.placed.Placed.{Placed}
 use Rattle.ips_meaning.specs.Taken.{Leaves}
 use Rattle.ips_meaning.specs.Leaving.{LeavesMore}
-use Rattle.ips_text.proofs.Lists.{take_item}
 
 module _ {A : Type 0} (P : A → Type 0) where
   pub leaves_append : (xs ys a b : List A) → Leaves P xs a → Leaves P ys b → Leaves P (xs ++ ys) (a ++ b)

@@ -3,7 +3,7 @@ use Rattle.std.proofs.Common.{◌≡◌, ◌==◌, ℕ, zero, suc, ◌<◌, Bool
 use Rattle.std.specs.Prelude.{codes, slice_get}
 use Rattle.std.specs.List.{Contains, list_any}
 use Rattle.std.specs.Option.{option_eq}
-use Rattle.std.specs.Ordering.{nat_cmp, ordering_reverse}
+use Rattle.std.specs.Ordering.{ordering_reverse}
 use Rattle.std.specs.declared.cmp.Ordering.{Ordering}
 use Rattle.std.specs.declared.cmp.Ordering.TheVariants.{Less, Equal, Greater}
 use Rattle.std.proofs.lemmas.Bool.{and_parts, and_from, or_cases, or_left, or_right, cases_Bool, true≢false, false_from_ne_true, not-true, not_from_false, eqb-true}
@@ -23,9 +23,9 @@ use Rattle.ips_conflict.specs.Key.{Key, is_dir}
 use Rattle.ips_conflict.specs.Order.{place_cmp}
 use Rattle.ips_conflict.specs.Alike.{kind_place, alike, overlaid}
 use Rattle.ips_conflict.specs.Verdict.{breaks, decision}
-use Rattle.ips_conflict.specs.Clash.{HasKey, Counts, HasSureFile, path_key, has_legacy, is_held, is_held_by, file_rank, file_cmp, may_be_missing}
+use Rattle.ips_conflict.specs.Clash.{HasKey, Counts, HasSureFile, path_key, has_legacy, is_held, is_held_by, may_be_missing}
 use Rattle.ips_conflict.proofs.Places.{one_there}
-use Rattle.ips_conflict.proofs.Ordered.{place_total, file_total, le_cases, less_le}
+use Rattle.ips_conflict.proofs.Ordered.{place_total}
 use Rattle.ips_conflict.proofs.FirstPair.{place_tie}
 use Rattle.ips_conflict.proofs.Marked.{up_one, down_one, no_parent}
 use Rattle.ips_meaning.specs.declared.entry.Entry.{Entry}
@@ -36,7 +36,6 @@ use Rattle.ips_meaning.specs.Together.{IsDirWanted, IsFileWanted, LeadsToWanted,
 use Rattle.ips_meaning.proofs.Wants.{wanted_path}
 use Rattle.ips_action.proofs.KeyOrder.{same_true}
 use Rattle.ips_conflict.proofs.Found.{one_counts}
-use Rattle.ips_text.proofs.Orders.{last_tie}
 
 -- ---- what stands above a path
 

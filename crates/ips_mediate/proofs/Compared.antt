@@ -1,8 +1,8 @@
 -- The comparison of links by cases.
-use Rattle.std.proofs.Common.{◌≡◌, ◌≢◌, ◌⊎◌, ℕ, ◌<◌, ◌≤◌, Bool, true, false, List, [], ◌∷◌, Option, Some, None, refl, sym, ap, subst, ◌∙◌, inl, inr, arith}
+use Rattle.std.proofs.Common.{◌≡◌, ◌≢◌, ◌⊎◌, ℕ, ◌<◌, ◌≤◌, false, List, Option, Some, None, refl, sym, ap, subst, ◌∙◌, inl, inr, arith}
 use Rattle.std.specs.declared.cmp.Ordering.{Ordering}
 use Rattle.std.specs.declared.cmp.Ordering.TheVariants.{Less, Equal, Greater}
-use Rattle.std.specs.Ordering.{MatchOrdering, nat_cmp, ordering_then, ordering_reverse, is_gt, is_eq}
+use Rattle.std.specs.Ordering.{MatchOrdering, nat_cmp, ordering_then, is_gt, is_eq}
 use Rattle.std.specs.Cmp.{IsTotalOrder, ranks, then_total, on_total, back_total}
 use Rattle.std.specs.Cmp.Lexicographic.{slice_cmp, options_total}
 use Rattle.std.specs.Option.{option_cmp}
@@ -14,7 +14,6 @@ use Rattle.ips_fmri.specs.Version.{Parts}
 use Rattle.ips_fmri.specs.Order.{IsLess, version_cmp, version_total}
 use Rattle.ips_fmri.proofs.Orders.{versions_tell}
 use Rattle.ips_action.specs.Action.{Fields}
-use Rattle.ips_action.specs.Attrs.{IsBefore}
 use Rattle.ips_mediate.specs.Mediation.{Mediation, mediation_of, version_of, implementation_of, rank_of}
 use Rattle.ips_mediate.specs.Best.{IsLessVersion, ComesBefore, IsPreferred}
 use Rattle.ips_mediate.specs.Order.{link_cmp}

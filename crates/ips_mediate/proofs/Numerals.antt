@@ -1,25 +1,23 @@
 -- Numbers joined by dots, cut at the dots.
 use Rattle.std.proofs.Common.{◌≡◌, ℕ, suc, ◌+◌, ◌-◌, ◌<◌, ◌≤◌, ◌^◌, Bool, true, false, cond, eqb, ltb, not, List, [], ◌∷◌, ◌++◌, length, take, drop, map, Option, Some, None, Bor, IsTrue, refl, sym, ap, subst, ◌∙◌, arith}
-use Rattle.std.specs.Prelude.{All, MatchOption, is_some}
-use Rattle.std.specs.List.{AllByRecursion, slice_split, position_or_len, onto_first, join_with_byte}
-use Rattle.std.specs.Char.{digit_value}
-use Rattle.std.specs.Str.Parse.{AllDigits, digits_value}
+use Rattle.std.specs.Prelude.{MatchOption, is_some}
+use Rattle.std.specs.List.{AllByRecursion, position_or_len, onto_first}
+use Rattle.std.specs.Str.Parse.{digits_value}
 use Rattle.std.specs.Fmt.{decimal}
 use Rattle.std.specs.declared.cmp.Ordering.{Ordering}
 use Rattle.std.specs.declared.cmp.Ordering.TheVariants.{Less, Equal, Greater}
 use Rattle.std.specs.Ordering.{MatchOrdering, nat_cmp, ordering_then}
 use Rattle.std.specs.Cmp.{ranks}
 use Rattle.std.specs.Cmp.Lexicographic.{slice_cmp}
-use Rattle.std.proofs.lemmas.Bool.{eqb-true, ltb-true, ltb-false, true≢false}
+use Rattle.std.proofs.lemmas.Bool.{ltb-true, ltb-false, true≢false}
 use Rattle.std.proofs.lemmas.Cmp.{tied_itself, nat_cmp_total}
 use Rattle.std.proofs.lemmas.Fmt.{decimal_is_IsNumeral}
 use Rattle.std.proofs.lemmas.List.{append-nil, take_all, length-drop, length-append}
-use Rattle.std.proofs.lemmas.List.Elements.{All-from_recursion}
 use Rattle.std.proofs.lemmas.List.Splits.{slice_split_at, slice_split_none, slice_split_first, length-slice_split}
 use Rattle.ips_fmri.specs.Version.{AreNumbers, numerals}
 use Rattle.ips_action.specs.Check.{IsNumber, IsNumerals}
 use Rattle.ips_mediate.specs.Mediation.{dotted, numbers_of}
-use Rattle.ips_action.proofs.Numbers.{no_dot, digits_dotless, dotless}
+use Rattle.ips_action.proofs.Numbers.{dotless}
 
 -- ---- the parts of numbers joined by dots are numbers
 

@@ -1,6 +1,6 @@
 -- What the table of actions says of the version that a link offers.
-use Rattle.std.proofs.Common.{◌≡◌, ℕ, List, [], ◌∷◌, Option, Some, None, refl, subst}
-use Rattle.std.specs.Prelude.{codes, slice_get, IfSome}
+use Rattle.std.proofs.Common.{◌≡◌, ℕ, List, [], ◌∷◌, Option, Some, subst}
+use Rattle.std.specs.Prelude.{codes, slice_get}
 use Rattle.std.specs.List.{AllByRecursion}
 use Rattle.ips_action.specs.declared.kind.ActionKind.{ActionKind}
 use Rattle.ips_action.specs.declared.kind.ActionKind.TheVariants.{Set, Depend, Dir, File, Link, Hardlink, User, Group, Driver, License, Legacy, Signature}

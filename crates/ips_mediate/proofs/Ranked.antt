@@ -1,5 +1,5 @@
 -- The link that stands highest is of the best mediation.
-use Rattle.std.proofs.Common.{◌≡◌, ◌≢◌, ◌⊎◌, ℕ, zero, suc, ◌+◌, ◌<◌, ◌≤◌, Bool, true, false, List, [], ◌∷◌, ◌++◌, length, get_or, take, Option, Some, None, Bor, refl, sym, ap, subst, ◌∙◌, inl, inr, arith}
+use Rattle.std.proofs.Common.{◌≡◌, ◌⊎◌, ℕ, zero, suc, ◌+◌, ◌<◌, ◌≤◌, false, List, [], ◌∷◌, ◌++◌, length, get_or, take, Option, Some, None, Bor, refl, sym, ap, subst, ◌∙◌, inl, inr, arith}
 use Rattle.std.specs.Prelude.{slice_get}
 use Rattle.std.specs.List.{All, Any}
 use Rattle.std.specs.declared.cmp.Ordering.{Ordering}
@@ -9,7 +9,7 @@ use Rattle.std.specs.Cmp.Lexicographic.{slice_cmp}
 use Rattle.std.proofs.lemmas.Bool.{cases_lt}
 use Rattle.std.proofs.lemmas.Cmp.{upto, tied_itself, nat_list_cmp_total}
 use Rattle.std.proofs.lemmas.List.{take_all, take_more, length-take-le}
-use Rattle.std.proofs.lemmas.List.Elements.{All-nil, All-cons, All-push, All-tail, All-weaker}
+use Rattle.std.proofs.lemmas.List.Elements.{All-nil, All-cons, All-push, All-weaker}
 use Rattle.std.proofs.lemmas.Option.{slice_get_within, get_or_from_slice_get}
 use Rattle.ips_action.specs.Action.{Fields}
 use Rattle.ips_fmri.specs.Version.{Parts}
@@ -19,7 +19,7 @@ use Rattle.ips_mediate.specs.declared.set.SetMediator.{SetMediator}
 use Rattle.ips_mediate.specs.Mediation.{Mediation, mediation_of, rank_of}
 use Rattle.ips_mediate.specs.Best.{IsLessVersion, ComesBefore, HasRank, IsBetter, IsPreferred, Fits, IsBest}
 use Rattle.ips_mediate.specs.Order.{link_cmp, Leads}
-use Rattle.ips_mediate.proofs.Compared.{link_cmp_total, AtMost, at_most, rank_at_most, same_or_not}
+use Rattle.ips_mediate.proofs.Compared.{link_cmp_total, at_most, rank_at_most, same_or_not}
 
 -- ---- the highest so far
 

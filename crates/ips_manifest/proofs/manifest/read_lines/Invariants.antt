@@ -1,4 +1,4 @@
-use Rattle.std.proofs.Common.{◌≡◌, ◌+◌, ◌≤◌, length}
+use Rattle.std.proofs.Common.{◌+◌, ◌≤◌, length}
 use Rattle.ips_manifest.specs.Logical.{physical_lines, logical_lines, lines_of}
 use Rattle.ips_manifest.proofs.Gone.{Gone}
 use Rattle.ips_manifest.proofs.manifest.read_lines.Given as goal

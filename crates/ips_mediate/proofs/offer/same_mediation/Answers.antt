@@ -1,10 +1,5 @@
-use Rattle.std.proofs.Common.{refl, ◌≡◌, ◌∙◌, sym, ap, subst, List, ℕ, Option, rules}
+use Rattle.std.proofs.Common.{◌∙◌, sym, ap}
 use Rattle.std.proofs.lemmas.Bool.{true≢false}
-use Rattle.std.specs.Ordering.{nat_cmp}
-use Rattle.std.specs.Option.{option_cmp}
-use Rattle.std.specs.Cmp.Lexicographic.{slice_cmp}
-use Rattle.ips_fmri.specs.Version.{Parts}
-use Rattle.ips_fmri.specs.Order.{version_cmp}
 use Rattle.ips_mediate.specs.Mediation.{Mediation, mediation_of}
 use Rattle.ips_mediate.proofs.Compared.{same_parts, version_tie, text_tie}
 use Rattle.ips_mediate.proofs.offer.same_mediation.Goals as goal

@@ -1,7 +1,6 @@
-use Rattle.std.proofs.Common.{◌≡◌, ◌∙◌, sym, ap, subst, List}
+use Rattle.std.proofs.Common.{◌≡◌, ◌∙◌, sym, ap, subst}
 use Rattle.std.proofs.lemmas.Bool.{true≢false}
 use Rattle.ips_action.specs.Action.{Fields}
-use Rattle.ips_action.specs.declared.attrs.Attr.{Attr}
 use Rattle.ips_filter.specs.Admitted.{MeetsVariants, MeetsAllFacets, MeetsSomeFacet}
 use Rattle.ips_filter.proofs.settings.Settings.admits.Goals as goal
 

@@ -1,6 +1,5 @@
-use Rattle.std.proofs.Common.{◌≡◌, ◌∙◌, ap, Bool, List, ℕ}
+use Rattle.std.proofs.Common.{◌∙◌, Bool}
 use Rattle.std.specs.String.{string_bytes}
-use Rattle.ips_filter.specs.Settings.{Set}
 use Rattle.ips_filter.proofs.Views.{seen_clone}
 use Rattle.ips_filter.proofs.settings.Settings.copy.Goals as goal
 

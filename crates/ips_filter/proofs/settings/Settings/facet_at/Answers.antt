@@ -1,10 +1,9 @@
-use Rattle.std.proofs.Common.{◌≡◌, ◌∙◌, sym, ap, Bool, Some}
+use Rattle.std.proofs.Common.{◌∙◌, sym, ap, Bool, Some}
 use Rattle.std.specs.String.{string_bytes}
 use Rattle.std.specs.Map.Iter.{deref_pair}
 use Rattle.std.proofs.lemmas.Iterator.Consumers.{nth_from_yields_List, YieldsList-from_rest}
 use Rattle.std.proofs.lemmas.Option.{slice_get-map}
 use Rattle.std.specs.Option.{option_map}
-use Rattle.ips_filter.specs.Settings.{AreByName}
 use Rattle.ips_filter.proofs.Views.{seen_ascends}
 use Rattle.ips_filter.proofs.settings.Settings.facet_at.Goals as goal
 

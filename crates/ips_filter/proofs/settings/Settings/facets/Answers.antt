@@ -1,5 +1,4 @@
-use Rattle.std.proofs.Common.{◌≡◌, Bool}
-use Rattle.std.specs.String.{string_bytes}
+use Rattle.std.proofs.Common.{Bool}
 use Rattle.ips_filter.proofs.Views.{seen_ascends}
 use Rattle.ips_filter.proofs.settings.Settings.facets.Goals as goal
 

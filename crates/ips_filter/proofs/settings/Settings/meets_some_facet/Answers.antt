@@ -1,10 +1,10 @@
-use Rattle.std.proofs.Common.{◌≡◌, ◌∙◌, sym, subst, refl, List, ℕ, arith, ap, length, Bool, true, false}
+use Rattle.std.proofs.Common.{◌∙◌, sym, subst, refl, List, ℕ, arith, ap, length, true, false}
 use Rattle.std.proofs.lemmas.Bool.{true≢false}
 use Rattle.ips_action.specs.Attrs.{AreAttrs}
 use Rattle.ips_action.specs.declared.attrs.Attr.{Attr}
 use Rattle.ips_filter.specs.Admitted.{MeetsSomeFacet}
 use Rattle.ips_filter.specs.Facet.{HasFacet}
-use Rattle.ips_filter.proofs.Tags.{Passed, TrueIsOff, HasSeen, none_passed, one_passed, all_passed, all_in_front, at_next, nothing_seen, seen_here, seen_before, some_met, decided_by}
+use Rattle.ips_filter.proofs.Tags.{TrueIsOff, HasSeen, none_passed, one_passed, all_passed, all_in_front, at_next, nothing_seen, seen_here, seen_before, some_met, decided_by}
 use Rattle.ips_filter.proofs.settings.Settings.meets_some_facet.Goals as goal
 
 pub loop-attr-init : goal.loop-attr-init

@@ -1,9 +1,8 @@
-use Rattle.std.proofs.Common.{◌≡◌, ◌∙◌, sym, subst, refl, List, arith, ap, length}
+use Rattle.std.proofs.Common.{◌∙◌, sym, subst, refl, arith, ap, length}
 use Rattle.std.proofs.lemmas.Bool.{true≢false}
 use Rattle.ips_action.specs.Attrs.{AreAttrs}
-use Rattle.ips_action.specs.declared.attrs.Attr.{Attr}
 use Rattle.ips_filter.specs.Admitted.{MeetsVariant, MeetsVariants}
-use Rattle.ips_filter.proofs.Tags.{Passed, none_passed, one_passed, all_passed, at_next, variants_met, variant_met}
+use Rattle.ips_filter.proofs.Tags.{none_passed, one_passed, all_passed, at_next, variants_met, variant_met}
 use Rattle.ips_filter.proofs.settings.Settings.meets_variants.Goals as goal
 
 pub loop-attr-init : goal.loop-attr-init

@@ -1,4 +1,4 @@
-use Rattle.std.proofs.Common.{◌≡◌, subst, Some, None, List, ℕ, Bool, Option, sym}
+use Rattle.std.proofs.Common.{subst, Some, None, List, ℕ, Bool}
 use Rattle.std.specs.String.{string_bytes}
 use Rattle.ips_filter.specs.Settings.{Sets}
 use Rattle.ips_filter.specs.View.{facets_of}

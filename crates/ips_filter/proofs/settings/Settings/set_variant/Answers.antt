@@ -1,4 +1,4 @@
-use Rattle.std.proofs.Common.{◌≡◌, subst, Some, List, ℕ}
+use Rattle.std.proofs.Common.{subst, Some, List, ℕ}
 use Rattle.std.specs.String.{string_bytes}
 use Rattle.ips_filter.specs.Settings.{Sets}
 use Rattle.ips_filter.specs.View.{variants_of}

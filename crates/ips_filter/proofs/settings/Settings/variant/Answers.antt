@@ -1,8 +1,7 @@
-use Rattle.std.proofs.Common.{◌≡◌, sym, ap, ◌∙◌, Option, List, ℕ}
+use Rattle.std.proofs.Common.{sym, ap, ◌∙◌, Option, List, ℕ}
 use Rattle.std.specs.String.{string_bytes}
 use Rattle.std.specs.Option.{option_map, unwrap_or}
 use Rattle.std.specs.Prelude.{codes}
-use Rattle.ips_filter.specs.Settings.{Set, variant_value}
 use Rattle.ips_filter.proofs.Views.{seen_at}
 use Rattle.ips_filter.proofs.settings.Settings.variant.Goals as goal
 

@@ -1,4 +1,3 @@
-use Rattle.std.proofs.Common.{◌≡◌, Bool}
 use Rattle.std.specs.String.{string_bytes}
 use Rattle.ips_filter.proofs.Views.{seen_ascends}
 use Rattle.ips_filter.proofs.settings.Settings.variants.Goals as goal
