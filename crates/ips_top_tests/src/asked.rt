@@ -1,74 +1,46 @@
 //! What a table asks of its rows.
 
+use crate::conflict::clash_told;
+use crate::meaning::{entry_told, want_told};
+use crate::plan::plan_told;
 use crate::rows::{column, number, row_of};
-use crate::world::*;
 use std::alloc::Global;
-use std::test::Fail;
+use std::process::Abort;
 
 // What a table asks of its rows, whose columns are named behind each.
 #[derive(Clone, Copy)]
 pub enum Asked {
-    // One of the questions below, each over the image that the rows above it left: the question, and its words.
-    Script,
-    // The report over another repository: its mark and its catalog.
-    Judged,
-    // The call on the repository that fails.
-    SourceFault,
-    // The call on the image that fails.
-    ImageFault,
-    // How many bytes the sink has room for, and the call on it that fails.
-    SinkFault,
-    // The path at which a file stands.
-    Standing,
+    // The first clash: the names of the actions' lines.
+    Clash,
+    // What two packages mean: their manifests, and the version that the mediator `p` is set to.
+    Want,
+    // What two packages want at a path: the path.
+    Entry,
+    // A plan: what stands in the image, the manifest, and the look that fails.
+    Plan,
 }
 
-fn told(alloc: Global, asked: Asked, world: &mut World, row: &str) -> Result<String, Fail> {
+fn told(rt: &impl Abort, alloc: Global, asked: Asked, row: &str) -> String {
     let first = column(row, 0);
     let second = column(row, 1);
+    let third = column(row, 2);
     match asked {
-        Asked::Script => script_told(alloc, world, first, second, column(row, 2)),
-        Asked::Judged => judged_told(alloc, first, second),
-        Asked::SourceFault => source_fault_told(alloc, number(first)?),
-        Asked::ImageFault => image_fault_told(alloc, number(first)?),
-        Asked::SinkFault => sink_fault_told(alloc, number(first)? as usize, number(second)?),
-        Asked::Standing => standing_told(alloc, first),
-    }
-}
-
-// What a run tells, what rule it breaks, or what then stands at a path, where a link leads, and whether two names are one file.
-fn script_told(
-    alloc: Global,
-    world: &mut World,
-    question: &str,
-    first: &str,
-    second: &str,
-) -> Result<String, Fail> {
-    if question == "run" {
-        run_told(alloc, world, first)
-    } else if question == "rule" {
-        rule_told(alloc, world, first)
-    } else if question == "look" {
-        look_told(alloc, world, first)
-    } else if question == "target" {
-        target_told(alloc, world, first)
-    } else if question == "same" {
-        same_told(alloc, world, first, second)
-    } else {
-        Err(Fail::new("no question"))
+        Asked::Clash => clash_told(rt, alloc, first),
+        Asked::Want => want_told(rt, alloc, first, second, third),
+        Asked::Entry => entry_told(rt, alloc, first),
+        Asked::Plan => plan_told(rt, alloc, first, second, number(rt, third)),
     }
 }
 
 // How many rows a table has, each of which is told as it says.
-pub fn rows_told(alloc: Global, asked: Asked, world: &mut World, table: &str) -> Result<u32, Fail> {
+pub fn rows_told(rt: &impl Abort, alloc: Global, asked: Asked, table: &str) -> u32 {
     let mut rows = 0u32;
     for line in table.lines() {
         if let Some((row, want)) = row_of(line) {
-            let told = told(alloc, asked, world, row)?;
-            if told.as_str() != want {
-                return Err(Fail::new(format_args!("{row}: {told}, and not {want}")));
-            }
+            let told = told(rt, alloc, asked, row);
+            assert!(rt; told.as_str() == want, "{row}: {told}, and not {want}");
             rows = rows.saturating_add(1);
         }
     }
-    Ok(rows)
+    rows
 }

@@ -1,8 +1,7 @@
 //! The cases, each table behind what it shows.
 
-use crate::asked::{Asked, rows_told};
+use crate::runs::{Asked, rows_told};
 use crate::world::World;
-use std::test::Fail;
 
 // Each on the image that the one before left, and what then stands there.
 const OUTCOMES: &str = r#"
@@ -59,15 +58,6 @@ look | lost -> absent
 look | damaged -> absent
 look | gzip -> absent"#;
 
-#[test]
-fn tells_each_outcome(rt: HostRuntime) -> Result<(), Fail> {
-    let alloc = rt.alloc();
-    let mut world = World::whole(alloc)?;
-    let rows = rows_told(alloc, Asked::Script, &mut world, OUTCOMES)?;
-    assert_eq!(rt; rows, 45);
-    Ok(())
-}
-
 // The mark and the catalog.
 const JUDGED: &str = r#"
 mark | catalog -> "done\n"
@@ -82,27 +72,9 @@ mark | {"test": {"hello": [{"version": "1"}, {"version": "1"}]}} -> "bad catalog
 # without the publisher the catalog is empty
 mark | {"other": {"hello": []}} -> "no match hello\n""#;
 
-#[test]
-fn repositories_are_judged_first(rt: HostRuntime) -> Result<(), Fail> {
-    let alloc = rt.alloc();
-    let mut world = World::whole(alloc)?;
-    let rows = rows_told(alloc, Asked::Judged, &mut world, JUDGED)?;
-    assert_eq!(rt; rows, 8);
-    Ok(())
-}
-
 // A manifest that is one byte beyond the limit.
 const LARGE: &str = r#"
 run | -R i -s r install large -> 1 "too large: 16777217\n""#;
-
-#[test]
-fn manifests_have_a_limit(rt: HostRuntime) -> Result<(), Fail> {
-    let alloc = rt.alloc();
-    let mut world = World::large(alloc)?;
-    let rows = rows_told(alloc, Asked::Script, &mut world, LARGE)?;
-    assert_eq!(rt; rows, 1);
-    Ok(())
-}
 
 // Each call on the repository fails in turn: what is told, whether the outcome is that fault, and what then stands at `usr`.
 const SOURCE_FAULTS: &str = r#"
@@ -121,15 +93,6 @@ const SOURCE_FAULTS: &str = r#"
 11 -> "source fault\n" fault: true usr: dir 755
 # no further call
 12 -> "done\n" fault: false usr: dir 755"#;
-
-#[test]
-fn repository_faults(rt: HostRuntime) -> Result<(), Fail> {
-    let alloc = rt.alloc();
-    let mut world = World::whole(alloc)?;
-    let rows = rows_told(alloc, Asked::SourceFault, &mut world, SOURCE_FAULTS)?;
-    assert_eq!(rt; rows, 12);
-    Ok(())
-}
 
 // Each call on the image fails in turn.
 const IMAGE_FAULTS: &str = r#"
@@ -151,30 +114,12 @@ const IMAGE_FAULTS: &str = r#"
 # no further call
 14 -> 0 "done\n""#;
 
-#[test]
-fn image_faults(rt: HostRuntime) -> Result<(), Fail> {
-    let alloc = rt.alloc();
-    let mut world = World::whole(alloc)?;
-    let rows = rows_told(alloc, Asked::ImageFault, &mut world, IMAGE_FAULTS)?;
-    assert_eq!(rt; rows, 14);
-    Ok(())
-}
-
 // Room for so many bytes, the call that fails, and what is then told; what happened stays the outcome.
 const SINK_FAULTS: &str = r#"
 0 | 9 -> 1 "" done: true
 3 | 9 -> 1 "don" done: true
 80 | 1 -> 1 "" done: true
 80 | 2 -> 0 "done\n" done: true"#;
-
-#[test]
-fn sink_faults(rt: HostRuntime) -> Result<(), Fail> {
-    let alloc = rt.alloc();
-    let mut world = World::whole(alloc)?;
-    let rows = rows_told(alloc, Asked::SinkFault, &mut world, SINK_FAULTS)?;
-    assert_eq!(rt; rows, 4);
-    Ok(())
-}
 
 // What can't be one image, and what can't be installed yet: nothing is laid.
 const REFUSALS: &str = r#"
@@ -189,29 +134,11 @@ run | -R i -s r install user way -> 1 "not yet user@1 line 3\n"
 run | -R i -s r install keeping -> 1 "not yet keeping@1 line 1\n"
 look | var -> absent"#;
 
-#[test]
-fn refuses_what_is_no_image(rt: HostRuntime) -> Result<(), Fail> {
-    let alloc = rt.alloc();
-    let mut world = World::linked(alloc)?;
-    let rows = rows_told(alloc, Asked::Script, &mut world, REFUSALS)?;
-    assert_eq!(rt; rows, 8);
-    Ok(())
-}
-
 // The rule of a clash, which isn't printed.
 const RULES: &str = r#"
 rule | -R i -s r install mail post -> Deliverers
 rule | -R i -s r install under -> Below
 rule | -R i -s r install alone -> Target"#;
-
-#[test]
-fn tells_the_rule_of_a_clash(rt: HostRuntime) -> Result<(), Fail> {
-    let alloc = rt.alloc();
-    let mut world = World::linked(alloc)?;
-    let rows = rows_told(alloc, Asked::Script, &mut world, RULES)?;
-    assert_eq!(rt; rows, 3);
-    Ok(())
-}
 
 // Links, names of one file, and the directories that no line gives.
 const LAID: &str = r#"
@@ -230,15 +157,6 @@ same | bin/m | bin/a -> true
 same | bin/m | bin/z -> true
 same | bin/m | opt/c -> true"#;
 
-#[test]
-fn lays_links_and_directories(rt: HostRuntime) -> Result<(), Fail> {
-    let alloc = rt.alloc();
-    let mut world = World::linked(alloc)?;
-    let rows = rows_told(alloc, Asked::Script, &mut world, LAID)?;
-    assert_eq!(rt; rows, 14);
-    Ok(())
-}
-
 // A file that stands in the image as `way` is installed; what stands stays, and a directory has the mode that a line gives it.
 const STANDING: &str = r#"
 # something stands in the way: the first line at or below its path is told, or the image where there is none
@@ -251,11 +169,45 @@ var/pkg -> "not yet image line 0\n" mine
 home/x -> "done\n" mine
 usr/share/h -> "done\n" mine"#;
 
+// Each table but the first one has a repository and an image for each of its rows.
 #[test]
-fn nothing_gives_way(rt: HostRuntime) -> Result<(), Fail> {
+fn tells_each_outcome_and_fault(rt: HostRuntime) {
     let alloc = rt.alloc();
-    let mut world = World::linked(alloc)?;
-    let rows = rows_told(alloc, Asked::Standing, &mut world, STANDING)?;
-    assert_eq!(rt; rows, 7);
-    Ok(())
+    let mut world = World::whole(&rt, alloc);
+    for (asked, count, table) in [
+        (Asked::Script, 45u32, OUTCOMES),
+        (Asked::Judged, 8u32, JUDGED),
+        (Asked::SourceFault, 12u32, SOURCE_FAULTS),
+        (Asked::ImageFault, 14u32, IMAGE_FAULTS),
+        (Asked::SinkFault, 4u32, SINK_FAULTS),
+    ] {
+        let rows = rows_told(&rt, alloc, asked, &mut world, table);
+        assert!(rt; rows == count, "{rows} rows in place of {count}");
+    }
+}
+
+#[test]
+fn manifests_have_a_limit(rt: HostRuntime) {
+    let alloc = rt.alloc();
+    let mut world = World::large(&rt, alloc);
+    for (asked, count, table) in [(Asked::Script, 1u32, LARGE)] {
+        let rows = rows_told(&rt, alloc, asked, &mut world, table);
+        assert!(rt; rows == count, "{rows} rows in place of {count}");
+    }
+}
+
+// What is refused leaves the image as it was.
+#[test]
+fn links_and_what_is_refused(rt: HostRuntime) {
+    let alloc = rt.alloc();
+    let mut world = World::linked(&rt, alloc);
+    for (asked, count, table) in [
+        (Asked::Script, 8u32, REFUSALS),
+        (Asked::Script, 3u32, RULES),
+        (Asked::Script, 14u32, LAID),
+        (Asked::Standing, 7u32, STANDING),
+    ] {
+        let rows = rows_told(&rt, alloc, asked, &mut world, table);
+        assert!(rt; rows == count, "{rows} rows in place of {count}");
+    }
 }

@@ -1,6 +1,7 @@
-//! Tests of the whole program, over a repository and an image in memory.
+//! Tests of what packages mean, and of the whole program over a repository and an image in memory.
 //!
-//! Each is a table of `cases`; `asked` says what is asked of a row, over the repositories of `packages`.
+//! Clashes, what is wanted, and its plan are tables of rows, and `asked` says what is asked of a row. The runs of the program are
+//! tables of `cases`; `runs` says what is asked of a row, over the repositories of `packages` and the image of a `world`.
 #![tactic(auto)]
 
 #[cfg(test)]
@@ -8,8 +9,16 @@ mod asked;
 #[cfg(test)]
 mod cases;
 #[cfg(test)]
+mod conflict;
+#[cfg(test)]
+mod meaning;
+#[cfg(test)]
 mod packages;
 #[cfg(test)]
+mod plan;
+#[cfg(test)]
 mod rows;
+#[cfg(test)]
+mod runs;
 #[cfg(test)]
 mod world;

@@ -4,7 +4,7 @@ use crate::rows::{bytes_of, column};
 use ips_outside::Tree;
 use ips_text::RelPath;
 use std::alloc::Global;
-use std::test::Fail;
+use std::process::Abort;
 
 const MARK: &str = "[repository]\nversion = 4\n";
 
@@ -87,7 +87,7 @@ file da39a3ee5e6b4b0d3255bfef95601890afd80709 group=bin mode=0644 owner=root pat
 license da39a3ee5e6b4b0d3255bfef95601890afd80709 license=l
 dir group=bin mode=0755 owner=root path=var/pkg/x
 dir group=bin mode=0755 owner=root path="var/pkg/a b"
-== publisher/test/pkg/python2/1 | a link of a mediator, of the priority `vendor`
+== publisher/test/pkg/python2/1 | a link of a mediator, of the priority `vendor`, which goes before a greater version
 link mediator=python mediator-priority=vendor mediator-version=2.7 path=usr/bin/python target=python2.7
 == publisher/test/pkg/python3/1 | one of the same mediator, of a greater version
 link mediator=python mediator-version=3.9 path=usr/bin/python target=python3.9
@@ -111,54 +111,56 @@ link path=usr/share/g target=f
 "#;
 
 // Adds a directory; one that stands already is left.
-fn add_dir(alloc: Global, tree: &mut Tree, place: &[u8]) -> Result<(), Fail> {
-    let path = RelPath::parse(alloc, place)?;
+fn add_dir(rt: &impl Abort, alloc: Global, tree: &mut Tree, place: &[u8]) {
+    let path = RelPath::parse(alloc, place)
+        .ok()
+        .expect(rt, "what is spelled");
     let _ = tree.dir(alloc, &path, 0o755);
-    Ok(())
 }
 
-fn add_file(alloc: Global, tree: &mut Tree, place: &[u8], bytes: &[u8]) -> Result<(), Fail> {
-    let path = RelPath::parse(alloc, place)?;
-    tree.file(alloc, &path, 0o644, bytes)?;
-    Ok(())
+fn add_file(rt: &impl Abort, alloc: Global, tree: &mut Tree, place: &[u8], bytes: &[u8]) {
+    let path = RelPath::parse(alloc, place)
+        .ok()
+        .expect(rt, "what is spelled");
+    tree.file(alloc, &path, 0o644, bytes)
+        .ok()
+        .expect(rt, "no fault");
 }
 
 // Adds a directory for each part but the last, and a file.
-pub fn add(alloc: Global, tree: &mut Tree, place: &str, bytes: &[u8]) -> Result<(), Fail> {
+pub fn add(rt: &impl Abort, alloc: Global, tree: &mut Tree, place: &str, bytes: &[u8]) {
     let place = place.as_bytes();
     for (i, b) in place.iter().enumerate() {
         if *b == b'/' {
-            add_dir(alloc, tree, &place[..i])?;
+            add_dir(rt, alloc, tree, &place[..i]);
         }
     }
-    add_file(alloc, tree, place, bytes)
+    add_file(rt, alloc, tree, place, bytes)
 }
 
-fn add_manifests(alloc: Global, tree: &mut Tree, manifests: &str) -> Result<(), Fail> {
+fn add_manifests(rt: &impl Abort, alloc: Global, tree: &mut Tree, manifests: &str) {
     for manifest in manifests.split("== ") {
         if let Some((head, lines)) = manifest.split_once('\n') {
             let place = column(head, 0);
             if !place.is_empty() {
-                add(alloc, tree, place, lines.as_bytes())?;
+                add(rt, alloc, tree, place, lines.as_bytes());
             }
         }
     }
-    Ok(())
 }
 
-fn add_payloads(alloc: Global, tree: &mut Tree) -> Result<(), Fail> {
+fn add_payloads(rt: &impl Abort, alloc: Global, tree: &mut Tree) {
     for line in PAYLOADS.lines() {
         let place = column(line, 0);
         if !place.is_empty() {
-            let bytes = bytes_of(alloc, column(line, 1))?;
-            add(alloc, tree, place, &bytes)?;
+            let bytes = bytes_of(rt, alloc, column(line, 1));
+            add(rt, alloc, tree, place, &bytes);
         }
     }
-    Ok(())
 }
 
 // A repository with this mark and this catalog, as they are spelled; `mark` and `catalog` are those above.
-pub fn repository(alloc: Global, mark: &str, catalog: &str) -> Result<Tree, Fail> {
+pub fn repository(rt: &impl Abort, alloc: Global, mark: &str, catalog: &str) -> Tree {
     let mark = if mark == "mark" { MARK } else { mark };
     let catalog = if catalog == "catalog" {
         CATALOG
@@ -166,30 +168,36 @@ pub fn repository(alloc: Global, mark: &str, catalog: &str) -> Result<Tree, Fail
         catalog
     };
     let mut tree = Tree::new(alloc);
-    add(alloc, &mut tree, "pkg5.repository", &bytes_of(alloc, mark)?)?;
+    add(
+        rt,
+        alloc,
+        &mut tree,
+        "pkg5.repository",
+        &bytes_of(rt, alloc, mark),
+    );
     let place = "publisher/test/catalog/catalog.base.C";
-    add(alloc, &mut tree, place, catalog.as_bytes())?;
-    add_manifests(alloc, &mut tree, MANIFESTS)?;
-    add_payloads(alloc, &mut tree)?;
-    Ok(tree)
+    add(rt, alloc, &mut tree, place, catalog.as_bytes());
+    add_manifests(rt, alloc, &mut tree, MANIFESTS);
+    add_payloads(rt, alloc, &mut tree);
+    tree
 }
 
 // The repository of all packages.
-pub fn whole_repository(alloc: Global) -> Result<Tree, Fail> {
-    repository(alloc, "mark", "catalog")
+pub fn whole_repository(rt: &impl Abort, alloc: Global) -> Tree {
+    repository(rt, alloc, "mark", "catalog")
 }
 
 // The repository of `large`, whose manifest is one byte beyond the limit.
-pub fn large_repository(alloc: Global) -> Result<Tree, Fail> {
-    let mut tree = whole_repository(alloc)?;
-    let blanks = vec![in alloc; b' '; 16_777_217]?;
-    add(alloc, &mut tree, "publisher/test/pkg/large/1", &blanks)?;
-    Ok(tree)
+pub fn large_repository(rt: &impl Abort, alloc: Global) -> Tree {
+    let mut tree = whole_repository(rt, alloc);
+    let blanks = vec![in alloc; b' '; 16_777_217].expect(rt, "memory");
+    add(rt, alloc, &mut tree, "publisher/test/pkg/large/1", &blanks);
+    tree
 }
 
 // A repository of packages with links at version 1.
-pub fn linked_repository(alloc: Global) -> Result<Tree, Fail> {
-    let mut tree = repository(alloc, "mark", LINKED_CATALOG)?;
-    add_manifests(alloc, &mut tree, LINKED_MANIFESTS)?;
-    Ok(tree)
+pub fn linked_repository(rt: &impl Abort, alloc: Global) -> Tree {
+    let mut tree = repository(rt, alloc, "mark", LINKED_CATALOG);
+    add_manifests(rt, alloc, &mut tree, LINKED_MANIFESTS);
+    tree
 }

@@ -1,8 +1,8 @@
 //! Tables of rows: a row is a line of columns that `|` divides, then `->`, then what is told of it. Lines that begin with `#`
-//! say what the rows below them mean.
+//! say what the rows below them mean. Another table gives names to texts: a line is the name, ` = ` and the text.
 
 use std::alloc::Global;
-use std::test::Fail;
+use std::process::Abort;
 
 // A row's columns, and what is told of them.
 pub fn row_of(line: &str) -> Option<(&str, &str)> {
@@ -18,21 +18,51 @@ pub fn column(row: &str, number: usize) -> &str {
     row.split('|').nth(number).unwrap_or("").trim()
 }
 
-pub fn number(column: &str) -> Result<u64, Fail> {
-    Ok(column.parse::<u64>()?)
+pub fn number(rt: &impl Abort, column: &str) -> u64 {
+    column.parse::<u64>().ok().expect(rt, "what is spelled")
+}
+
+// The text that a table gives this name.
+pub fn text_named<'a>(table: &'a str, name: &str) -> Option<&'a str> {
+    for line in table.lines() {
+        if let Some((named, text)) = line.split_once(" = ") {
+            if named == name {
+                return Some(text);
+            }
+        }
+    }
+    None
+}
+
+// A manifest's lines, which `;` divides in a column.
+pub fn lines_of(rt: &impl Abort, alloc: Global, column: &str) -> String {
+    let mut lines = String::new(alloc);
+    for (number, line) in column.split(';').enumerate() {
+        if number > 0 {
+            lines.push_str("\n").expect(rt, "memory");
+        }
+        lines.push_str(line.trim()).expect(rt, "memory");
+    }
+    lines
 }
 
 // The bytes that are spelled so: each `%` with two digits is one byte.
-pub fn bytes_of(alloc: Global, spelled: &str) -> Result<Vec<u8>, Fail> {
+pub fn bytes_of(rt: &impl Abort, alloc: Global, spelled: &str) -> Vec<u8> {
     let mut bytes = Vec::new(alloc);
     for (part, text) in spelled.split('%').enumerate() {
         if part == 0 {
-            bytes.extend_from_slice(text.as_bytes())?;
+            bytes
+                .extend_from_slice(text.as_bytes())
+                .expect(rt, "memory");
         } else {
-            let (digits, behind) = text.split_at_checked(2).ok_or("digits")?;
-            bytes.push(u8::from_str_radix(digits, 16)?)?;
-            bytes.extend_from_slice(behind.as_bytes())?;
+            let (digits, behind) = text.split_at_checked(2).expect(rt, "digits");
+            bytes
+                .push(u8::from_str_radix(digits, 16).ok().expect(rt, "no fault"))
+                .expect(rt, "memory");
+            bytes
+                .extend_from_slice(behind.as_bytes())
+                .expect(rt, "memory");
         }
     }
-    Ok(bytes)
+    bytes
 }
