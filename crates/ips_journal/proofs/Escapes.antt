@@ -1,9 +1,10 @@
 -- Percent-encoded fields.
-use Rattle.std.proofs.Common.{◌≡◌, ℕ, suc, ◌+◌, ◌*◌, ◌/◌, ◌%◌, ◌<◌, ◌≤◌, Bool, true, false, cond, ◌||◌, ◌&&◌, eqb, List, [], ◌∷◌, ◌++◌, length, map, refl, sym, ap, ap₂, ◌∙◌, arith, append_assoc, append-nil, length-append}
+use Rattle.std.proofs.Common.{◌≡◌, ℕ, suc, ◌+◌, ◌*◌, ◌/◌, ◌%◌, ◌<◌, ◌≤◌, Bool, true, false, cond, ◌||◌, ◌&&◌, eqb, List, [], ◌∷◌, ◌++◌, length, map, take, get_or, refl, sym, ap, ap₂, ◌∙◌, arith, append_assoc, append-nil, length-append}
 use Rattle.std.specs.List.{onto_first, join_with_byte}
 use Rattle.std.specs.Fmt.{digit_glyph}
 use Rattle.std.proofs.lemmas.Bool.{eqb-true}
 use Rattle.std.proofs.lemmas.Bool.Decides.{nat_tests}
+use Rattle.std.proofs.lemmas.List.{take_more}
 use Rattle.std.proofs.lemmas.List.Concat.{flat_map-cons}
 use Rattle.ips_text.specs.Path.{parts}
 use Rattle.ips_text.specs.Quote.{is_plain, quoted_byte, quoted, shown, AreBytes}
@@ -139,6 +140,17 @@ escaped_apart slash (b ∷ x) (c ∷ y) hx hy e =
     let once = byte_once slash b c (escaped slash x) (escaped slash y) hx.0 hy.0 e in
     let rest = escaped_apart slash x y hx.1 hy.1 once.1 in
     ap₂ (λ (x : ℕ) (l : List ℕ). x ∷ l) once.0 rest
+
+-- one more byte is written
+pub written_more : (slash : Bool) (bytes : List ℕ) (i : ℕ) (start was now : List ℕ) → i < length bytes → was ≡ start ++ escaped slash (take i bytes) → now ≡ was ++ escaped_byte slash (get_or bytes i 0)
+    → now ≡ start ++ escaped slash (take (i + 1) bytes)
+written_more slash bytes i start was now lt so_far one =
+    let b = get_or bytes i 0 in
+    one
+    ∙ ap (λ (l : List ℕ). l ++ escaped_byte slash b) so_far
+    ∙ append_assoc start (escaped slash (take i bytes)) (escaped_byte slash b)
+    ∙ ap (λ (l : List ℕ). start ++ l)
+    (ap (λ (l : List ℕ). escaped slash (take i bytes) ++ l) (sym (append-nil (escaped_byte slash b))) ∙ sym (escaped_more slash (take i bytes) (b ∷ [])) ∙ ap (escaped slash) (sym (take_more bytes i 0 lt)))
 
 -- ---- quoted and shown forms
 

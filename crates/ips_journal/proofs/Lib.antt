@@ -10,3 +10,4 @@ pub mod PartForms
 pub mod Paths
 pub mod LinePieces
 pub mod Standing
+pub mod Writers

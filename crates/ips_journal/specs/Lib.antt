@@ -4,3 +4,4 @@ pub mod Reading
 pub mod Escape
 pub mod Line
 pub mod Holding
+pub mod Writing

@@ -106,7 +106,7 @@ fn digit(glyph: u8) -> Option<u8>
 }
 
 // Whether a byte stands for itself.
-fn is_kept(slash: bool, byte: u8) -> bool
+pub fn is_kept(slash: bool, byte: u8) -> bool
     ensures { result ≡ escape.is_kept slash byte }
 {
     is_plain(byte) || (slash && byte == b'/')
