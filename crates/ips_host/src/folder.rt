@@ -1,6 +1,7 @@
 //! A folder of the host that is read and changed.
 
-ghost use Rattle.std.specs.Prelude.{◌≡◌};
+ghost use Rattle.std.specs.Prelude.{◌≡◌, IsErr};
+ghost use Rattle.ips_outside.specs.Outside.{HasCause, OneMore};
 ghost use Rattle.ips_host.specs.Silent.{silent, silent_is_sane};
 
 use crate::fault::counted;
@@ -9,6 +10,7 @@ use ips_folder::{Folder, ListFault, Listing};
 use ips_outside::{Failed, Look, Source};
 use ips_text::{RelPath, Text};
 use std::alloc::Global;
+use std::io;
 use std::rt::{Processes, Runtime};
 
 /// The files below a root of the host, to be read and changed.
@@ -20,6 +22,7 @@ use std::rt::{Processes, Runtime};
 pub struct HostFolder<R: Runtime + Processes> {
     root: Root<R>,
     faults: u64,
+    changes: u64,
 }
 
 impl<R: Runtime + Processes> HostFolder<R> {
@@ -30,14 +33,24 @@ impl<R: Runtime + Processes> HostFolder<R> {
         HostFolder {
             root: Root::new(rt, root),
             faults: 0,
+            changes: 0,
         }
+    }
+
+    // The host's answer to a call that may change something.
+    fn changed(&mut self, answer: io::Result<()>) -> Result<(), Failed>
+        ensures cause { HasCause self.old.faults self.new.faults (IsErr result) }
+        ensures one_made { OneMore self.old.changes self.new.changes }
+    {
+        self.changes = self.changes.saturating_add(1);
+        counted(&mut self.faults, answer)
     }
 }
 
 impl<R: Runtime + Processes> Source for HostFolder<R> {
-    ghost outside = { silent (λ s. s.faults) };
+    ghost outside = { silent (λ s. s.faults) (λ s. s.changes) };
 
-    ghost sane = { silent_is_sane (λ s. s.faults) };
+    ghost sane = { silent_is_sane (λ s. s.faults) (λ s. s.changes) };
 
     fn look(&mut self, path: &RelPath) -> Result<Look, Failed> {
         let answer = self.root.look(path);
@@ -68,41 +81,41 @@ impl<R: Runtime + Processes> Folder for HostFolder<R> {
 
     fn make_dir(&mut self, path: &RelPath, mode: u16) -> Result<(), Failed> {
         let answer = self.root.make_dir(path, mode);
-        counted(&mut self.faults, answer)
+        self.changed(answer)
     }
 
     fn make_file(&mut self, path: &RelPath) -> Result<(), Failed> {
         let answer = self.root.make_file(path);
-        counted(&mut self.faults, answer)
+        self.changed(answer)
     }
 
     fn append(&mut self, path: &RelPath, bytes: &[u8]) -> Result<(), Failed> {
         let answer = self.root.append(path, bytes);
-        counted(&mut self.faults, answer)
+        self.changed(answer)
     }
 
     fn make_link(&mut self, path: &RelPath, target: &[u8]) -> Result<(), Failed> {
         let answer = self.root.make_link(path, target);
-        counted(&mut self.faults, answer)
+        self.changed(answer)
     }
 
     fn make_hard(&mut self, path: &RelPath, to: &RelPath) -> Result<(), Failed> {
         let answer = self.root.make_hard(path, to);
-        counted(&mut self.faults, answer)
+        self.changed(answer)
     }
 
     fn remove(&mut self, path: &RelPath) -> Result<(), Failed> {
         let answer = self.root.remove(path);
-        counted(&mut self.faults, answer)
+        self.changed(answer)
     }
 
     fn set_mode(&mut self, path: &RelPath, mode: u16) -> Result<(), Failed> {
         let answer = self.root.set_mode(path, mode);
-        counted(&mut self.faults, answer)
+        self.changed(answer)
     }
 
     fn sync(&mut self) -> Result<(), Failed> {
         let answer = self.root.sync();
-        counted(&mut self.faults, answer)
+        self.changed(answer)
     }
 }

@@ -32,9 +32,9 @@ impl<R: Runtime + Processes> HostSource<R> {
 }
 
 impl<R: Runtime + Processes> Source for HostSource<R> {
-    ghost outside = { silent (λ s. s.faults) };
+    ghost outside = { silent (λ s. s.faults) (λ s. 0) };
 
-    ghost sane = { silent_is_sane (λ s. s.faults) };
+    ghost sane = { silent_is_sane (λ s. s.faults) (λ s. 0) };
 
     fn look(&mut self, path: &RelPath) -> Result<Look, Failed> {
         let answer = self.root.look(path);

@@ -14,3 +14,4 @@ pub mod Children
 pub mod Cuts
 pub mod Copies
 pub mod Tallies
+pub mod Spawns

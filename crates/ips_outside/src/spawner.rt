@@ -143,6 +143,7 @@ fn write_word(text: &mut Vec<u8>, marks: &mut Vec<Mark>, word: &[u8])
     requires marks { length text.old.items + length (word_text word.now) ≤ vec_capacity marks.old }
     ensures text { text.new.items ≡ text.old.items ++ word_text word.now }
     ensures marks { marks.new.items ≡ marks.old.items ++ word_marks word.now }
+    ensures same { length marks.new.items ≡ length text.new.items }
     ensures same_text_room { vec_capacity text.new ≡ vec_capacity text.old }
     ensures same_marks_room { vec_capacity marks.new ≡ vec_capacity marks.old }
 {
@@ -159,6 +160,7 @@ fn write_run(text: &mut Vec<u8>, marks: &mut Vec<Mark>, words: &[Text], status: 
     requires marks { length text.old.items + length (words_text words.now) ≤ vec_capacity marks.old }
     ensures text { text.new.items ≡ text.old.items ++ words_text words.now }
     ensures marks { marks.new.items ≡ marks.old.items ++ words_marks words.now ++ Mark.RunEnd status ∷ [] }
+    ensures same { length marks.new.items ≡ length text.new.items }
     ensures same_text_room { vec_capacity text.new ≡ vec_capacity text.old }
     ensures same_marks_room { vec_capacity marks.new ≡ vec_capacity marks.old }
 {

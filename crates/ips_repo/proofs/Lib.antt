@@ -1,4 +1,3 @@
-pub mod Calls
 pub mod Parts
 pub mod Scans
 pub mod Found

@@ -5,7 +5,7 @@ use Rattle.ips_repo.specs.Mark.{is_mark_file, marking}
 use Rattle.ips_repo.specs.Places.{mark_place}
 use Rattle.ips_repo.specs.declared.fault.RepoFault.{RepoFault}
 use Rattle.ips_repo.specs.declared.fault.RepoFault.TheVariants as fault
-use Rattle.ips_repo.proofs.Calls.{answered, reads_as}
+use Rattle.ips_outside.proofs.Reading.{answered, reads_as}
 use Rattle.ips_repo.proofs.mark.check_mark.Goals as goal
 
 -- what was found in the file at the place tells whether the folder is marked

@@ -4,7 +4,7 @@ use Rattle.ips_outside.specs.State.{State}
 use Rattle.ips_outside.specs.Outside.{readable}
 use Rattle.ips_repo.specs.Mark.{has_mark_line}
 use Rattle.ips_repo.specs.Scan.{Scanned, stepped, unscanned, scanned, finds}
-use Rattle.ips_repo.proofs.Calls.{answered, reads_then}
+use Rattle.ips_outside.proofs.Reading.{answered, reads_then}
 use Rattle.ips_repo.proofs.Parts.{part_more, part_end}
 use Rattle.ips_repo.proofs.Scans.{finds_mark}
 use Rattle.ips_repo.proofs.mark.has_mark_line.Goals as goal

@@ -1,7 +1,7 @@
 use Rattle.std.proofs.Common.{◌+◌, IsErr, take, drop, take-add, sym, ◌∙◌, ap, arith}
 use Rattle.ips_outside.specs.State.{State}
 use Rattle.ips_outside.specs.Outside.{readable}
-use Rattle.ips_repo.proofs.Calls.{answered, reads_then}
+use Rattle.ips_outside.proofs.Reading.{answered, reads_then}
 use Rattle.ips_repo.proofs.Parts.{part_more}
 use Rattle.ips_repo.proofs.reading.fill.Goals as goal
 

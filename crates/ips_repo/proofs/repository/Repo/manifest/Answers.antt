@@ -10,7 +10,7 @@ use Rattle.ips_repo.specs.Opening.{Opened}
 use Rattle.ips_repo.specs.Manifest.{manifest_file, manifest_in}
 use Rattle.ips_repo.specs.declared.fault.RepoFault.{RepoFault}
 use Rattle.ips_repo.specs.declared.fault.RepoFault.TheVariants as fault
-use Rattle.ips_repo.proofs.Calls.{handed_on, no_fault, reads_as}
+use Rattle.ips_outside.proofs.Reading.{handed_on, no_fault, reads_as}
 use Rattle.ips_repo.proofs.Manifests.{given_bytes, holds_bytes, refused_bytes, faults_bytes, only_bytes, refused_text, faults_text, steady_text, only_text}
 use Rattle.ips_repo.proofs.repository.Repo.manifest.Goals as goal
 

@@ -1,0 +1,36 @@
+//! Programs of the host, as a spawner.
+
+ghost use Rattle.std.specs.Prelude.{◌≡◌};
+ghost use Rattle.ips_host.specs.Silent.{silent_spawner};
+
+use crate::fault::counted;
+use crate::programs::run_program;
+use ips_outside::{Failed, Spawner};
+use ips_text::Text;
+use std::rt::{Processes, Runtime};
+
+/// What runs programs of the host.
+///
+/// Trusted here, and not proved: that a program was run with the words, and ended with the status that is answered.
+#[derive(Drop)]
+pub struct HostSpawner<R: Runtime + Processes> {
+    rt: R,
+    faults: u64,
+}
+
+impl<R: Runtime + Processes> HostSpawner<R> {
+    pub fn new(rt: R) -> HostSpawner<R>
+        ensures { (⟦<HostSpawner<R> as Spawner>⟧.running).faults result ≡ 0 }
+    {
+        HostSpawner { rt, faults: 0 }
+    }
+}
+
+impl<R: Runtime + Processes> Spawner for HostSpawner<R> {
+    ghost running = { silent_spawner (λ s. s.faults) };
+
+    fn run(&mut self, words: &[Text]) -> Result<u8, Failed> {
+        let answer = run_program(&self.rt, words);
+        counted(&mut self.faults, answer)
+    }
+}

@@ -1,0 +1,34 @@
+//! The standard descriptors, where the program was started without them.
+
+use std::fs::OpenOptions;
+use std::io;
+use std::rt::{Processes, Runtime};
+
+/// Three open files. A host gives a file that is opened the least number that is free, so none that is opened later, while
+/// these stay open, has the number of a standard descriptor, and no report can land in a file of the image.
+#[derive(Drop)]
+pub struct Standard<R: Runtime + Processes> {
+    first: R::File,
+    second: R::File,
+    third: R::File,
+}
+
+/// Opens `/dev/null` as often as there are standard descriptors, to be read: where standard output is one of them, a write
+/// to it is still an error.
+pub fn take_standard<R: Runtime + Processes>(rt: &R) -> io::Result<Standard<R>> {
+    let how = null_to_read();
+    let first = how.open(rt, "/dev/null")?;
+    let second = how.open(rt, "/dev/null")?;
+    let third = how.open(rt, "/dev/null")?;
+    Ok(Standard {
+        first,
+        second,
+        third,
+    })
+}
+
+fn null_to_read() -> OpenOptions {
+    let mut how = OpenOptions::new();
+    how.read(true);
+    how
+}
