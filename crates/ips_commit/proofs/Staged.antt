@@ -204,10 +204,10 @@ module _ {F : Type 0} (o : Outside F) (sane : IsOutside o) where
 
 pub all_filled : (tells : Bool) (repository : Image) (publisher text : List ℕ) (staged : List Staged) (p : List ℕ) (t u v : Image) (s : State) → p ≡ journal_name → IsCleared t → AreSeen staged
     → Agrees (covers stage_name) nowhere t u → Agrees (covers stage_name) nowhere t v → Agrees (covers p) nowhere v s.held → AreContents tells repository publisher u staged (stage_of v) → v.look stage_name ≡ Some (Dir 448 false)
-    → s.held.look p ≡ Some (File 384 text) → IsSettled s → IsFilled tells repository publisher text staged t s
+    → file_bytes (s.held.look journal_name) ≡ Some text → IsSettled s → IsFilled tells repository publisher text staged t s
 all_filled tells repository publisher text staged p t u v s at cleared seen made filled last are stands file safe = record {
   safe = safe;
-  journal = ap file_bytes (ap s.held.look (sym at) ∙ file);
+  journal = file;
   stage = last.look stage_name (off stage_name stage_unlisted) refl ∙ stands;
   contents = λ n x there.
       let old = contents_swept tells repository publisher t u (in_stage t u made) staged seen (stage_of v) are n x there in

@@ -99,12 +99,8 @@ fn write_content<S: Source, F: Folder>(
     }
 }
 
-/// Makes a file of these bytes.
-pub(crate) fn write_file<F: Folder>(
-    folder: &mut F,
-    path: &RelPath,
-    bytes: &[u8],
-) -> Result<(), Failed>
+// Makes a file of these bytes.
+fn write_file<F: Folder>(folder: &mut F, path: &RelPath, bytes: &[u8]) -> Result<(), Failed>
     requires { IsTrue (F.outside.tells folder.old) → CanMake (F.outside.state folder.old).held path.now.bytes }
     ensures written { IsTrue (F.outside.tells folder.old) → OnOk result ((F.outside.state folder.new).held.look path.now.bytes ≡ Some (File 384 bytes.now)) }
     ensures any_moment { IsTrue (F.outside.tells folder.old) → Keeps F.outside (covers path.now.bytes) nowhere folder.old folder.new }

@@ -1,34 +1,35 @@
 //! A list of steps staged, with all that it puts.
 
-ghost use Rattle.std.specs.Prelude.{◌≡◌, ◌<◌, Option, false, Some, Err, IsTrue, IsErr, OnOk, length, map};
+ghost use Rattle.std.specs.Prelude.{◌≡◌, ◌<◌, [], Option, false, Some, Err, IsTrue, IsErr, OnOk, length, map};
 ghost use Rattle.ips_text.specs.Reading.{IfBad};
 ghost use Rattle.ips_text.specs.declared.refusal.Or.TheVariants.{Bad};
 ghost use Rattle.ips_text.specs.Ancestry.{covers};
-ghost use Rattle.ips_outside.specs.Image.{Image, File, is_dir};
+ghost use Rattle.ips_outside.specs.Image.{Image, is_dir, file_bytes};
 ghost use Rattle.ips_outside.specs.State.{IsSettled, Within, nowhere, settled};
 ghost use Rattle.ips_outside.specs.Outside.{HasCause, Reads};
-ghost use Rattle.ips_folder.specs.Calls.{CanMake, Keeps, Throughout};
-ghost use Rattle.ips_steps.specs.Private.{records_name, visible};
+ghost use Rattle.ips_folder.specs.Calls.{CanMake, IsSole, Keeps, Throughout};
+ghost use Rattle.ips_steps.specs.Private.{records_name, journal_name, visible};
 ghost use Rattle.ips_steps.specs.Journal.{IsJournal};
 ghost use Rattle.ips_steps.specs.Owed.{FolderOwes};
 ghost use Rattle.ips_steps.specs.View.{step_of};
 ghost use Rattle.ips_journal.specs.Text.{journal_text};
+ghost use Rattle.ips_journal.specs.Writing.{IsWritten};
 ghost use Rattle.ips_commit.specs.Answers.{IsBad};
 ghost use Rattle.ips_commit.specs.Pending.{IsBehindGate, is_swept};
 ghost use Rattle.ips_commit.specs.Contents.{AreStanding, AreSeen, AreIntact, SaysOfStage};
 ghost use Rattle.ips_commit.specs.Staging.{CanStage, HasStaged, IsCleared, IsFilled};
 ghost use Rattle.ips_commit.specs.declared.fault.StageFault.TheVariants as fault;
 
-use crate::contents::{write_contents, write_file};
+use crate::contents::write_contents;
 use crate::fault::StageFault;
 use crate::names::OwnNames;
 use crate::ready::Ready;
 use crate::sweeping::{marks, sweep};
 use ips_folder::Folder;
-use ips_journal::{Staged, write_steps};
+use ips_journal::{JournalWriter, Staged};
 use ips_outside::{Failed, Source};
 use ips_steps::Step;
-use ips_text::{Or, RelPath};
+use ips_text::Or;
 use std::alloc::Global;
 
 /// Stages the steps of a change with the contents that they put: makes safe what was written before, takes away what a run
@@ -63,40 +64,37 @@ pub fn stage<S: Source, F: Folder>(
     ensures cause { HasCause (F.outside.faults folder.old) (F.outside.faults folder.new) (result ≡ Err (Bad fault.FolderFault)) }
     ensures same_kind { F.outside.tells folder.new ≡ F.outside.tells folder.old }
 {
-    let Ready {
-        names,
-        reader,
-        mut buffer,
-    } = Ready::new(alloc)?;
-    let text = write_steps(alloc, steps)?;
-    write_stage(
+    let Ok(mut ready) = Ready::new(alloc) else {
+        return Err(Or::OutOfMemory);
+    };
+    let memory = &mut ready;
+    match write_stage(
         alloc,
         publisher,
+        steps,
         staged,
-        &text,
         source,
         folder,
-        &names,
-        &mut buffer,
-    )?;
-    Ok(Ready {
-        names,
-        reader,
-        buffer,
-    })
+        &memory.names,
+        &mut memory.buffer,
+    ) {
+        Ok(()) => Ok(ready),
+        Err(fault) => Err(fault),
+    }
 }
 
-// Writes the contents and the text of the journal in the place of what was left, and makes them safe.
+// Writes the contents and the journal in the place of what was left, and makes them safe.
 fn write_stage<S: Source, F: Folder>(
     alloc: Global,
     publisher: &str,
+    steps: &[Step],
     staged: &[Staged],
-    text: &[u8],
     source: &mut S,
     folder: &mut F,
     names: &OwnNames,
     buffer: &mut [u8],
 ) -> Result<(), Or<StageFault>>
+    requires lists { IsJournal (map step_of steps.now) }
     requires room { 0 < length buffer.old }
     requires records { IsTrue (F.outside.tells folder.old) → IsTrue (is_dir ((F.outside.state folder.old).held.look records_name)) }
     requires standing { IsTrue (F.outside.tells folder.old) → AreStanding (F.outside.state folder.old).held staged.now }
@@ -104,7 +102,7 @@ fn write_stage<S: Source, F: Folder>(
     ensures any_moment { IsTrue (F.outside.tells folder.old) → Throughout F.outside folder.old folder.new (IsBehindGate (F.outside.state folder.old)) }
     ensures within { IsTrue (F.outside.tells folder.old) → OnOk result (Within is_swept nowhere (settled (F.outside.state folder.old)) (F.outside.state folder.new)) }
     ensures filled { IsTrue (F.outside.tells folder.old) → OnOk result
-        (IsFilled (S.outside.tells source.old) (S.outside.state source.old).held publisher.now text.now staged.now (F.outside.state folder.old).held (F.outside.state folder.new)) }
+        (IsFilled (S.outside.tells source.old) (S.outside.state source.old).held publisher.now (journal_text (map step_of steps.now)) staged.now (F.outside.state folder.old).held (F.outside.state folder.new)) }
     ensures intact { IsTrue (S.outside.tells source.old) → OnOk result (AreIntact (S.outside.state source.old).held publisher.now staged.now) }
     ensures refused { IfBad result (SaysOfStage (S.outside.tells source.old) (S.outside.state source.old).held publisher.now staged.now) }
     ensures reads { Reads S.outside source.old source.new (result ≡ Err (Bad fault.SourceFault)) }
@@ -117,7 +115,7 @@ fn write_stage<S: Source, F: Folder>(
         Err(Or::OutOfMemory) => return Err(Or::OutOfMemory),
     }
     fill(
-        alloc, publisher, staged, text, source, folder, names, buffer,
+        alloc, publisher, steps, staged, source, folder, names, buffer,
     )?;
     Ok(())
 }
@@ -144,20 +142,21 @@ fn settle<F: Folder>(alloc: Global, folder: &mut F, names: &OwnNames) -> Result<
 fn fill<S: Source, F: Folder>(
     alloc: Global,
     publisher: &str,
+    steps: &[Step],
     staged: &[Staged],
-    text: &[u8],
     source: &mut S,
     folder: &mut F,
     names: &OwnNames,
     buffer: &mut [u8],
 ) -> Result<(), Or<StageFault>>
+    requires lists { IsJournal (map step_of steps.now) }
     requires room { 0 < length buffer.old }
     requires records { IsTrue (F.outside.tells folder.old) → IsTrue (is_dir ((F.outside.state folder.old).held.look records_name)) }
     requires cleared { IsTrue (F.outside.tells folder.old) → IsCleared (F.outside.state folder.old).held }
     requires standing { IsTrue (F.outside.tells folder.old) → AreStanding (F.outside.state folder.old).held staged.now }
     requires seen { AreSeen staged.now }
     ensures filled { IsTrue (F.outside.tells folder.old) → OnOk result
-        (IsFilled (S.outside.tells source.old) (S.outside.state source.old).held publisher.now text.now staged.now (F.outside.state folder.old).held (F.outside.state folder.new)) }
+        (IsFilled (S.outside.tells source.old) (S.outside.state source.old).held publisher.now (journal_text (map step_of steps.now)) staged.now (F.outside.state folder.old).held (F.outside.state folder.new)) }
     ensures intact { IsTrue (S.outside.tells source.old) → OnOk result (AreIntact (S.outside.state source.old).held publisher.now staged.now) }
     ensures refused { IfBad result (SaysOfStage (S.outside.tells source.old) (S.outside.state source.old).held publisher.now staged.now) }
     ensures any_moment { IsTrue (F.outside.tells folder.old) → Keeps F.outside is_swept nowhere folder.old folder.new }
@@ -169,22 +168,74 @@ fn fill<S: Source, F: Folder>(
         return Err(Or::Bad(StageFault::FolderFault));
     };
     write_contents(alloc, publisher, staged, source, folder, buffer)?;
-    let Ok(()) = write_safely(folder, &names.journal, text) else {
-        return Err(Or::Bad(StageFault::FolderFault));
-    };
-    Ok(())
+    match write_journal(alloc, steps, folder, names) {
+        Ok(()) => Ok(()),
+        Err(Or::Bad(Failed)) => Err(Or::Bad(StageFault::FolderFault)),
+        Err(Or::OutOfMemory) => Err(Or::OutOfMemory),
+    }
 }
 
-// Makes a file of these bytes, and makes all that was written safe.
-fn write_safely<F: Folder>(folder: &mut F, path: &RelPath, bytes: &[u8]) -> Result<(), Failed>
-    requires { IsTrue (F.outside.tells folder.old) → CanMake (F.outside.state folder.old).held path.now.bytes }
-    ensures written { IsTrue (F.outside.tells folder.old) → OnOk result ((F.outside.state folder.new).held.look path.now.bytes ≡ Some (File 384 bytes.now)) }
+// Writes the journal where nothing stands, and makes all that was written safe.
+fn write_journal<F: Folder>(
+    alloc: Global,
+    steps: &[Step],
+    folder: &mut F,
+    names: &OwnNames,
+) -> Result<(), Or<Failed>>
+    requires lists { IsJournal (map step_of steps.now) }
+    requires can { IsTrue (F.outside.tells folder.old) → CanMake (F.outside.state folder.old).held journal_name }
+    ensures written { IsTrue (F.outside.tells folder.old) → OnOk result (file_bytes ((F.outside.state folder.new).held.look journal_name) ≡ Some (journal_text (map step_of steps.now))) }
     ensures safe { IsTrue (F.outside.tells folder.old) → OnOk result (IsSettled (F.outside.state folder.new)) }
-    ensures any_moment { IsTrue (F.outside.tells folder.old) → Keeps F.outside (covers path.now.bytes) nowhere folder.old folder.new }
+    ensures any_moment { IsTrue (F.outside.tells folder.old) → Keeps F.outside (covers journal_name) nowhere folder.old folder.new }
+    ensures cause { HasCause (F.outside.faults folder.old) (F.outside.faults folder.new) (IsBad result) }
+    ensures same_kind { F.outside.tells folder.new ≡ F.outside.tells folder.old }
+{
+    let Ok(mut writer) = JournalWriter::new(alloc) else {
+        return Err(Or::OutOfMemory);
+    };
+    match write_safely(steps, &mut writer, folder, names) {
+        Ok(()) => Ok(()),
+        Err(Failed) => Err(Or::Bad(Failed)),
+    }
+}
+
+// The same with the writer lent.
+fn write_safely<F: Folder>(
+    steps: &[Step],
+    writer: &mut JournalWriter,
+    folder: &mut F,
+    names: &OwnNames,
+) -> Result<(), Failed>
+    requires lists { IsJournal (map step_of steps.now) }
+    requires can { IsTrue (F.outside.tells folder.old) → CanMake (F.outside.state folder.old).held journal_name }
+    requires start { (t : Image) → IsSole t journal_name → file_bytes (t.look journal_name) ≡ Some [] → IsWritten writer.old t [] }
+    ensures written { IsTrue (F.outside.tells folder.old) → OnOk result (file_bytes ((F.outside.state folder.new).held.look journal_name) ≡ Some (journal_text (map step_of steps.now))) }
+    ensures safe { IsTrue (F.outside.tells folder.old) → OnOk result (IsSettled (F.outside.state folder.new)) }
+    ensures any_moment { IsTrue (F.outside.tells folder.old) → Keeps F.outside (covers journal_name) nowhere folder.old folder.new }
     ensures cause { HasCause (F.outside.faults folder.old) (F.outside.faults folder.new) (IsErr result) }
     ensures same_kind { F.outside.tells folder.new ≡ F.outside.tells folder.old }
 {
-    write_file(folder, path, bytes)?;
+    folder.make_file(&names.journal)?;
+    write_steps(steps, writer, folder)?;
+    writer.finish(folder)?;
     folder.sync()?;
+    Ok(())
+}
+
+// Writes the lines of the steps.
+fn write_steps<F: Folder>(
+    steps: &[Step],
+    writer: &mut JournalWriter,
+    folder: &mut F,
+) -> Result<(), Failed>
+    requires { IsTrue (F.outside.tells folder.old) → IsWritten writer.old (F.outside.state folder.old).held [] }
+    ensures written { IsTrue (F.outside.tells folder.old) → OnOk result (IsWritten writer.new (F.outside.state folder.new).held (map step_of steps.now)) }
+    ensures any_moment { IsTrue (F.outside.tells folder.old) → Keeps F.outside (covers journal_name) nowhere folder.old folder.new }
+    ensures cause { HasCause (F.outside.faults folder.old) (F.outside.faults folder.new) (IsErr result) }
+    ensures same_kind { F.outside.tells folder.new ≡ F.outside.tells folder.old }
+{
+    for step in steps {
+        writer.step(folder, step)?;
+    }
     Ok(())
 }

@@ -1,9 +1,12 @@
-use Rattle.std.proofs.Common.{◌≡◌, ap, ◌∙◌, sym}
+use Rattle.std.proofs.Common.{◌≡◌, map, refl, ap, ◌∙◌, sym}
 use Rattle.ips_text.specs.Ancestry.{covers}
 use Rattle.ips_outside.specs.State.{State, nowhere}
 use Rattle.ips_folder.specs.Calls.{Keeps}
 use Rattle.ips_folder.proofs.Runs.{keeps_then}
 use Rattle.ips_steps.specs.Steps.{stage_name}
+use Rattle.ips_steps.specs.Private.{journal_name}
+use Rattle.ips_steps.specs.View.{step_of}
+use Rattle.ips_journal.specs.Text.{journal_text}
 use Rattle.ips_commit.proofs.Staged.{can_make_stage, can_make_journal, made_dir, made_entry, made_empty, standing_staged, stage_made, stage_kept, journal_kept, all_filled}
 use Rattle.ips_commit.proofs.staging.fill.Goals as goal
 
@@ -44,38 +47,48 @@ returns-in_err-write_contents-clause-any_moment g c = λ told.
     (stage_made o g.met.F.Source.sane c.args.names.now.stage.bytes c.args.names.now.stage_is c.args.folder.now c.make_dir.new.self _ c.make_dir.result told c.make_dir.ensures)
     (c.write_contents.ensures.any_moment (c.make_dir.ensures.call.same_kind ∙ told)))
 
-pub write_safely-requires : goal.write_safely-requires
-write_safely-requires g c = λ told_now.
+pub write_journal-requires-clause-can : goal.write_journal-requires-clause-can
+write_journal-requires-clause-can g c = λ told_now.
     let o = g.F.Source.outside in
     let told = sym c.make_dir.ensures.call.same_kind ∙ sym c.write_contents.ensures.same_kind ∙ told_now in
     let run : Keeps o (covers stage_name) nowhere c.args.folder.now c.write_contents.new.folder =
     keeps_then o (covers stage_name) nowhere c.args.folder.now c.make_dir.new.self c.write_contents.new.folder
     (stage_made o g.met.F.Source.sane c.args.names.now.stage.bytes c.args.names.now.stage_is c.args.folder.now c.make_dir.new.self _ c.make_dir.result told c.make_dir.ensures)
     (c.write_contents.ensures.any_moment (c.make_dir.ensures.call.same_kind ∙ told)) in
-    can_make_journal (o.state c.args.folder.now).held (o.state c.write_contents.new.folder).held c.args.names.now.journal.bytes c.args.names.now.journal_is run.now.agrees (c.requires.cleared told) (c.requires.records told)
+    can_make_journal (o.state c.args.folder.now).held (o.state c.write_contents.new.folder).held journal_name refl run.now.agrees (c.requires.cleared told) (c.requires.records told)
 
-pub returns-in_default-write_safely-clause-any_moment : goal.returns-in_default-write_safely-clause-any_moment
-returns-in_default-write_safely-clause-any_moment g c = λ told.
+pub returns-in-Err-OutOfMemory-clause-any_moment : goal.returns-in-Err-OutOfMemory-clause-any_moment
+returns-in-Err-OutOfMemory-clause-any_moment g c = λ told.
     let o = g.F.Source.outside in
-    let told_1 = c.make_dir.ensures.call.same_kind ∙ told in
-    journal_kept o g.met.F.Source.sane c.args.names.now.journal.bytes c.args.names.now.journal_is c.args.folder.now c.write_contents.new.folder c.write_safely.new.folder
-    (keeps_then o (covers stage_name) nowhere c.args.folder.now c.make_dir.new.self c.write_contents.new.folder
+    let run : Keeps o (covers stage_name) nowhere c.args.folder.now c.write_contents.new.folder =
+    keeps_then o (covers stage_name) nowhere c.args.folder.now c.make_dir.new.self c.write_contents.new.folder
     (stage_made o g.met.F.Source.sane c.args.names.now.stage.bytes c.args.names.now.stage_is c.args.folder.now c.make_dir.new.self _ c.make_dir.result told c.make_dir.ensures)
-    (c.write_contents.ensures.any_moment told_1))
-    (c.write_safely.ensures.any_moment (c.write_contents.ensures.same_kind ∙ told_1))
+    (c.write_contents.ensures.any_moment (c.make_dir.ensures.call.same_kind ∙ told)) in
+    journal_kept o g.met.F.Source.sane journal_name refl c.args.folder.now c.write_contents.new.folder c.write_journal.new.folder run
+    (c.write_journal.ensures.any_moment (c.write_contents.ensures.same_kind ∙ c.make_dir.ensures.call.same_kind ∙ told))
 
-pub returns-clause-any_moment : goal.returns-clause-any_moment
-returns-clause-any_moment g c = λ told.
+pub returns-in-Err-Bad-clause-any_moment : goal.returns-in-Err-Bad-clause-any_moment
+returns-in-Err-Bad-clause-any_moment g c = λ told.
     let o = g.F.Source.outside in
-    let told_1 = c.make_dir.ensures.call.same_kind ∙ told in
-    journal_kept o g.met.F.Source.sane c.args.names.now.journal.bytes c.args.names.now.journal_is c.args.folder.now c.write_contents.new.folder c.write_safely.new.folder
-    (keeps_then o (covers stage_name) nowhere c.args.folder.now c.make_dir.new.self c.write_contents.new.folder
+    let run : Keeps o (covers stage_name) nowhere c.args.folder.now c.write_contents.new.folder =
+    keeps_then o (covers stage_name) nowhere c.args.folder.now c.make_dir.new.self c.write_contents.new.folder
     (stage_made o g.met.F.Source.sane c.args.names.now.stage.bytes c.args.names.now.stage_is c.args.folder.now c.make_dir.new.self _ c.make_dir.result told c.make_dir.ensures)
-    (c.write_contents.ensures.any_moment told_1))
-    (c.write_safely.ensures.any_moment (c.write_contents.ensures.same_kind ∙ told_1))
+    (c.write_contents.ensures.any_moment (c.make_dir.ensures.call.same_kind ∙ told)) in
+    journal_kept o g.met.F.Source.sane journal_name refl c.args.folder.now c.write_contents.new.folder c.write_journal.new.folder run
+    (c.write_journal.ensures.any_moment (c.write_contents.ensures.same_kind ∙ c.make_dir.ensures.call.same_kind ∙ told))
 
-pub returns-clause-filled : goal.returns-clause-filled
-returns-clause-filled g c = λ told.
+pub returns-in-Ok-write_journal-clause-any_moment : goal.returns-in-Ok-write_journal-clause-any_moment
+returns-in-Ok-write_journal-clause-any_moment g c = λ told.
+    let o = g.F.Source.outside in
+    let run : Keeps o (covers stage_name) nowhere c.args.folder.now c.write_contents.new.folder =
+    keeps_then o (covers stage_name) nowhere c.args.folder.now c.make_dir.new.self c.write_contents.new.folder
+    (stage_made o g.met.F.Source.sane c.args.names.now.stage.bytes c.args.names.now.stage_is c.args.folder.now c.make_dir.new.self _ c.make_dir.result told c.make_dir.ensures)
+    (c.write_contents.ensures.any_moment (c.make_dir.ensures.call.same_kind ∙ told)) in
+    journal_kept o g.met.F.Source.sane journal_name refl c.args.folder.now c.write_contents.new.folder c.write_journal.new.folder run
+    (c.write_journal.ensures.any_moment (c.write_contents.ensures.same_kind ∙ c.make_dir.ensures.call.same_kind ∙ told))
+
+pub returns-in-Ok-write_journal-clause-filled : goal.returns-in-Ok-write_journal-clause-filled
+returns-in-Ok-write_journal-clause-filled g c = λ told.
     let o = g.F.Source.outside in
     let told_1 = c.make_dir.ensures.call.same_kind ∙ told in
     let told_2 = c.write_contents.ensures.same_kind ∙ told_1 in
@@ -83,8 +96,8 @@ returns-clause-filled g c = λ told.
     stage_made o g.met.F.Source.sane c.args.names.now.stage.bytes c.args.names.now.stage_is c.args.folder.now c.make_dir.new.self _ c.make_dir.result told c.make_dir.ensures in
     let run : Keeps o (covers stage_name) nowhere c.args.folder.now c.write_contents.new.folder =
     keeps_then o (covers stage_name) nowhere c.args.folder.now c.make_dir.new.self c.write_contents.new.folder made (c.write_contents.ensures.any_moment told_1) in
-    all_filled (g.S.Source.outside.tells c.args.source.now) (g.S.Source.outside.state c.args.source.now).held c.args.publisher.now c.args.text.now c.args.staged.now c.args.names.now.journal.bytes
-    (o.state c.args.folder.now).held (o.state c.make_dir.new.self).held (o.state c.write_contents.new.folder).held (o.state c.write_safely.new.folder) c.args.names.now.journal_is
-    (c.requires.cleared told) c.requires.seen made.now.agrees run.now.agrees (c.write_safely.ensures.any_moment told_2).now.agrees (c.in_ok-write_contents.ensures.written told_1)
+    all_filled (g.S.Source.outside.tells c.args.source.now) (g.S.Source.outside.state c.args.source.now).held c.args.publisher.now (journal_text (map step_of c.args.steps.now)) c.args.staged.now journal_name
+    (o.state c.args.folder.now).held (o.state c.make_dir.new.self).held (o.state c.write_contents.new.folder).held (o.state c.write_journal.new.folder) refl
+    (c.requires.cleared told) c.requires.seen made.now.agrees run.now.agrees (c.write_journal.ensures.any_moment told_2).now.agrees (c.in_ok-write_contents.ensures.written told_1)
     (c.in_ok-write_contents.ensures.stands told_1 ∙ made_entry c.args.names.now.stage.bytes (o.state c.args.folder.now).held (o.state c.make_dir.new.self).held c.args.names.now.stage_is (ap (λ (s : State). s.held) (c.in-Ok.ensures.done told)))
-    (c.in-Ok-write_safely.ensures.written told_2) (c.in-Ok-write_safely.ensures.safe told_2)
+    (c.in-Ok-write_journal.ensures.written told_2) (c.in-Ok-write_journal.ensures.safe told_2)

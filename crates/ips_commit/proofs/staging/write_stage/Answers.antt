@@ -1,7 +1,9 @@
-use Rattle.std.proofs.Common.{◌≡◌, ap, ◌∙◌, sym}
+use Rattle.std.proofs.Common.{◌≡◌, map, ap, ◌∙◌, sym}
 use Rattle.ips_outside.specs.State.{State}
 use Rattle.ips_outside.proofs.Moments.{within_then}
 use Rattle.ips_outside.specs.State.{nowhere, settled}
+use Rattle.ips_steps.specs.View.{step_of}
+use Rattle.ips_journal.specs.Text.{journal_text}
 use Rattle.ips_commit.specs.Pending.{is_swept}
 use Rattle.ips_commit.proofs.Staged.{standing_swept, records_swept, behind_then, filled_swept}
 use Rattle.ips_commit.proofs.staging.write_stage.Goals as goal
@@ -37,6 +39,6 @@ returns-clause-within g c = λ told.
 pub returns-clause-filled : goal.returns-clause-filled
 returns-clause-filled g c = λ told.
     let o = g.F.Source.outside in
-    filled_swept (g.S.Source.outside.tells c.args.source.now) (g.S.Source.outside.state c.args.source.now).held c.args.publisher.now c.args.text.now c.args.staged.now
+    filled_swept (g.S.Source.outside.tells c.args.source.now) (g.S.Source.outside.state c.args.source.now).held c.args.publisher.now (journal_text (map step_of c.args.steps.now)) c.args.staged.now
     (o.state c.args.folder.now).held (o.state c.settle.new.folder).held (o.state c.fill.new.folder) (c.in-Ok.ensures.within told).agrees c.requires.seen
     (c.in_ok-fill.ensures.filled (c.settle.ensures.same_kind ∙ told))
