@@ -3,6 +3,7 @@ pub mod Laws
 pub mod Checks
 pub mod Scanners
 pub mod Lines
+pub mod InRuns
 pub mod Joined
 pub mod Spelled
 pub mod Tables

@@ -1,19 +1,20 @@
 -- The lines of a refutation's text are read as they are spelled.
-use Rattle.std.proofs.Common.{◌≡◌, ℕ, zero, suc, ◌+◌, ◌<◌, ◌^◌, ◌%◌, Bool, true, false, cond, eqb, ltb, List, [], ◌∷◌, ◌++◌, All, Result, Ok, Err, refl, sym, ap, subst, ◌∙◌, append_assoc, arith, inl, inr}
-use Rattle.std.proofs.lemmas.Bool.{eqb-true, eq-eqb, and_parts, and_from, lt-ltb, ltb-true}
+use Rattle.std.proofs.Common.{◌≡◌, ℕ, zero, suc, ◌+◌, ◌<◌, ◌≤◌, ◌^◌, ◌%◌, ◌&&◌, Bool, true, false, cond, eqb, ltb, ne_eqb, drop, List, [], ◌∷◌, ◌++◌, All, Result, Ok, Err, refl, sym, ap, subst, ◌∙◌, append_assoc, arith, inl, inr, ◌⊎◌}
+use Rattle.std.proofs.lemmas.Bool.{eqb-true, eq-eqb, and_parts, and_from, and_right, lt-ltb, ltb-true, cases_lt}
 use Rattle.std.proofs.lemmas.Fmt.{decimal_by_steps}
 use Rattle.std.proofs.lemmas.Bool.Decides.{nat_tests}
 use Rattle.std.specs.Fmt.{decimal}
 use Rattle.ips_text.specs.Reading.{◌>>=◌, next_is, via}
 use Rattle.ips_text.specs.Number.{number_at}
-use Rattle.ips_text.proofs.Readers.{bind_ok, chosen, ok_is, ok_not_err}
+use Rattle.ips_text.proofs.Readers.{bind_ok, chosen, ok_is, ok_not_err, next_parts}
 use Rattle.ips_text.proofs.Numbers.{NoDigit, Reads-number}
 use Rattle.ips_refute.specs.declared.nogoods.Pair.{Pair}
 use Rattle.ips_refute.specs.declared.nogoods.Reason.{Reason}
 use Rattle.ips_refute.specs.declared.nogoods.Reason.TheVariants.{Test, Earlier}
 use Rattle.ips_refute.specs.Meaning.{Ascends}
-use Rattle.ips_refute.specs.Text.{Entry, IsEntry, IsSmallPair, IsSmallReason, pair_text, set_text, reason_text, reasons_text, entry_text, bar}
-use Rattle.ips_refute.specs.Reading.{Scanner, stop_at, small_at, mark_at, nothing, bar_at, pair_of, pair_at, pairs_at, ascends, set_at, reason_at, reasons_at, between, stem_at, entry_from, entry_at}
+use Rattle.ips_refute.specs.declared.runs.Run.{Run}
+use Rattle.ips_refute.specs.Text.{Entry, Written, IsWritten, IsRun, IsSmallPair, IsSmallReason, pair_text, set_text, reason_text, count_text, run_text, runs_text, line_text, meant, most, most_of, bar}
+use Rattle.ips_refute.specs.Reading.{Scanner, stop_at, small_at, mark_at, nothing, bar_at, pair_of, pair_at, pairs_at, ascends, set_at, reason_at, count_at, run, run_at, runs_at, between, stem_at, Fields, fields_at, written_from, entry_from, entry_at}
 use Rattle.ips_refute.proofs.Scanners.{Stopped, Scans, Scans-both, Scans-via, Scans-listed, AllFollow, NoDash, all_follow}
 
 -- ---- a filter
@@ -199,12 +200,112 @@ reason_no_dash : NoDash reason_text IsSmallReason
 reason_no_dash (Test t) rest f = refl
 reason_no_dash (Earlier n) rest f = refl
 
-abbrev pub ReasonsFollow : List Reason → List ℕ → Type 0
-ReasonsFollow = AllFollow 32 reason_text ReasonFollows
+-- ---- runs
 
-pub Scans-reasons : Scans reasons_text (All IsSmallReason) ReasonsFollow reasons_at
-unfolding reasons_at
-Scans-reasons = Scans-listed 32 reason_text IsSmallReason ReasonFollows reason_at Scans-reason reason_no_dash
+abbrev pub IsCount : ℕ → Type 0
+IsCount n = (1 < n) × (n ≤ most)
+
+abbrev is_count : ℕ → Bool
+is_count n = ltb 1 n && ltb n (most + 1)
+
+count_told : (n : ℕ) → is_count n ≡ true → IsCount n
+count_told n t =
+    let p = and_parts (ltb 1 n) (ltb n (most + 1)) t in
+    let low = ltb-true 1 n p.0 in
+    let high = ltb-true n (most + 1) p.1 in
+    (low, omega arith)
+
+count_tells : (n : ℕ) → IsCount n → is_count n ≡ true
+count_tells n f = let high : n < most + 1 = omega (arith, f.1) in and_from (ltb 1 n) (ltb n (most + 1)) (lt-ltb 1 n f.0) (lt-ltb n (most + 1) high)
+
+Scans-count : Scans decimal IsCount NumberFollows count_at
+unfolding count_at
+Scans-count = Scans-kept IsCount is_count Scans-small (λ n w t. count_told n t) (λ n f. (omega (arith, f.1), count_tells n f))
+
+-- what comes behind a reason
+abbrev behind : Bool → Reason × List ℕ → Result (Run × List ℕ) Stopped
+behind counts x = cond (counts && next_is 42 x.1) (via (run x.0) count_at (drop 1 x.1)) (Ok (run x.0 1, x.1))
+
+abbrev pub RunFollows : Run → List ℕ → Type 0
+RunFollows r rest = NoDigit rest × (next_is 42 rest ≡ false)
+
+counted_text : (n : ℕ) → 1 < n → count_text n ≡ 42 ∷ decimal n
+counted_text n lt = ap (λ (b : Bool). cond b [] (42 ∷ decimal n)) (ne_eqb n 1 (λ e. omega arith))
+
+some_of : (counts : Bool) → 1 ≤ most_of counts
+some_of true = omega arith
+some_of false = omega arith
+
+run_takes : (counts : Bool) (bytes : List ℕ) (z : Run × List ℕ) → run_at counts bytes ≡ Ok z → (bytes ≡ run_text z.0 ++ z.1) × IsRun counts z.0
+unfolding run_at
+run_takes counts bytes z e =
+    let P : Run × List ℕ → Type 0 = λ p. (bytes ≡ run_text p.0 ++ p.1) × IsRun counts p.0 in
+    let a = bind_ok (reason_at bytes) (behind counts) z e in
+    let x = a.0.0 in
+    let after = a.0.1 in
+    let t = reason_takes bytes a.0 a.1 in
+    elim (chosen (counts && next_is 42 after) (via (run x) count_at (drop 1 after)) (Ok (run x 1, after)) (Ok z) a.2) [
+      | inl w ↦
+          let b = bind_ok (count_at (drop 1 after)) (λ y. Ok (run x y.0, y.1)) z w.1 in
+          let n = b.0.0 in
+          let u = Scans-count.takes (drop 1 after) b.0 b.1 in
+          let flags = and_parts counts (next_is 42 after) w.0 in
+          let cut = next_parts 42 after flags.1 in
+          let made : Run × List ℕ = (run x n, b.0.1) in
+          let tail : after ≡ count_text n ++ b.0.1 = cut ∙ ap (λ (l : List ℕ). 42 ∷ l) u.0 ∙ ap (λ (l : List ℕ). l ++ b.0.1) (sym (counted_text n u.1.0)) in
+          let parts : bytes ≡ run_text (run x n) ++ b.0.1 = t.0 ∙ ap (λ (l : List ℕ). reason_text x ++ l) tail ∙ sym (append_assoc (reason_text x) (count_text n) b.0.1) in
+          let few : n ≤ most_of counts = subst (λ (c : Bool). n ≤ most_of c) (sym flags.0) u.1.1 in
+          subst P (ok_is {E = Stopped} made z b.2) (parts, (t.1, omega (arith, u.1.0), few))
+      | inr w ↦
+          let made : Run × List ℕ = (run x 1, after) in
+          let parts : bytes ≡ run_text (run x 1) ++ after = t.0 ∙ sym (append_assoc (reason_text x) [] after) in
+          subst P (ok_is {E = Stopped} made z w.1) (parts, (t.1, omega arith, some_of counts))
+    ]
+
+-- a reason alone
+once_again : (counts : Bool) (x : Reason) (rest : List ℕ) → IsSmallReason x → RunFollows (run x 1) rest → run_at counts (run_text (run x 1) ++ rest) ≡ Ok (run x 1, rest)
+unfolding run_at
+once_again counts x rest small fol =
+    ap (λ (l : List ℕ). reason_at l >>= behind counts) (append_assoc (reason_text x) [] rest)
+    ∙ ap (λ (v : Result (Reason × List ℕ) Stopped). v >>= behind counts) (reason_again x rest small fol.0)
+    ∙ ap (λ (b : Bool). cond b (via (run x) count_at (drop 1 rest)) (Ok (run x 1, rest))) (and_right counts (next_is 42 rest) fol.1)
+
+-- a reason with its count
+counted_again : (x : Reason) (n : ℕ) (rest : List ℕ) → IsSmallReason x → IsCount n → NoDigit rest → run_at true (run_text (run x n) ++ rest) ≡ Ok (run x n, rest)
+unfolding run_at
+counted_again x n rest small is fol =
+    ap (λ (l : List ℕ). reason_at l >>= behind true) (append_assoc (reason_text x) (count_text n) rest ∙ ap (λ (l : List ℕ). reason_text x ++ (l ++ rest)) (counted_text n is.0))
+    ∙ ap (λ (v : Result (Reason × List ℕ) Stopped). v >>= behind true) (reason_again x (42 ∷ (decimal n ++ rest)) small refl)
+    ∙ ap (λ (v : Result (ℕ × List ℕ) Stopped). v >>= λ y. Ok (run x y.0, y.1)) (Scans-count.again n rest is fol)
+
+one_or_more_of : (n : ℕ) → 0 < n → (n ≡ 1) ⊎ (1 < n)
+one_or_more_of n lt = elim (cases_lt 1 n) [ inl h ↦ inr h | inr h ↦ inl (omega arith) ]
+
+run_again : (counts : Bool) (r : Run) (rest : List ℕ) → IsRun counts r → RunFollows r rest → run_at counts (run_text r ++ rest) ≡ Ok (r, rest)
+run_again counts r rest f fol = go counts r.reason r.count f fol
+  where
+    go : (counts : Bool) (x : Reason) (n : ℕ) → IsRun counts (run x n) → RunFollows (run x n) rest → run_at counts (run_text (run x n) ++ rest) ≡ Ok (run x n, rest)
+    go counts x n f fol = elim (one_or_more_of n f.1) [
+      | inl one ↦ subst (λ (k : ℕ). run_at counts (run_text (run x k) ++ rest) ≡ Ok (run x k, rest)) (sym one) (once_again counts x rest f.0 fol)
+      | inr more ↦ many counts f.2 more
+    ]
+      where
+        many : (c : Bool) → n ≤ most_of c → 1 < n → run_at c (run_text (run x n) ++ rest) ≡ Ok (run x n, rest)
+        many true few more = counted_again x n rest f.0 (more, few) fol.0
+        many false few more = absurd (omega arith)
+
+pub Scans-run : (counts : Bool) → Scans run_text (IsRun counts) RunFollows (run_at counts)
+Scans-run counts = record { takes = run_takes counts; again = run_again counts }
+
+run_no_dash : (counts : Bool) → NoDash run_text (IsRun counts)
+run_no_dash counts r rest f = ap (next_is 45) (append_assoc (reason_text r.reason) (count_text r.count) rest) ∙ reason_no_dash r.reason (count_text r.count ++ rest) f.0
+
+abbrev pub RunsFollow : List Run → List ℕ → Type 0
+RunsFollow = AllFollow 32 run_text RunFollows
+
+pub Scans-runs : (counts : Bool) → Scans runs_text (All (IsRun counts)) RunsFollow (runs_at counts)
+unfolding runs_at
+Scans-runs counts = Scans-listed 32 run_text (IsRun counts) RunFollows (run_at counts) (Scans-run counts) (run_no_dash counts)
 
 -- ---- lines
 
@@ -219,23 +320,56 @@ Scans-stem =
     (λ x f. (append_assoc bar (decimal x.1.0) bar, f.1.0)) (λ n f. (refl, append_assoc bar (decimal n) bar, (tt, (f, tt)))) in
     record { takes = r.takes; again = λ n rest fits fol. r.again n rest fits (tt, (refl, tt)) }
 
-abbrev four_text : List Pair × (ℕ × (List Reason × Unit {0})) → List ℕ
-four_text x = set_text x.0 ++ (stem_text x.1.0 ++ (reasons_text x.1.1.0 ++ mark_text 10 x.1.1.1))
+abbrev four_text : Fields → List ℕ
+four_text x = set_text x.0 ++ (stem_text x.1.0 ++ (runs_text x.1.1.0 ++ mark_text 10 x.1.1.1))
 
-line_same : (set : List Pair) (n : ℕ) (reasons : List Reason) → entry_text (record { set = set; stem = n; reasons = reasons }) ≡ four_text (set, (n, (reasons, tt)))
-line_same set n reasons = simp append_assoc
+line_same : (set : List Pair) (n : ℕ) (runs : List Run) → line_text (record { set = set; stem = n; runs = runs }) ≡ four_text (set, (n, (runs, tt)))
+line_same set n runs = simp append_assoc
 
-pub Scans-entry : Scans entry_text IsEntry Always entry_at
-unfolding entry_at
-Scans-entry =
-    let four = Scans-both Scans-set (Scans-both Scans-stem (Scans-both Scans-reasons (Scans-mark 10))) in
-    let r = Scans-via entry_text IsEntry entry_from (λ (e : Entry). (e.set, (e.stem, (e.reasons, tt)))) four
-    (λ x f. (line_same x.0 x.1.0 x.1.1.0, record { ascends = f.0.0; pairs = f.0.1; stem = f.1.0; reasons = f.1.1.0 }))
-    (λ e f. (refl, line_same e.set e.stem e.reasons, ((f.ascends, f.pairs), (f.stem, (f.reasons, tt))))) in
+pub Scans-line : (counts : Bool) → Scans line_text (IsWritten counts) Always (via written_from (fields_at counts))
+unfolding fields_at
+Scans-line counts =
+    let four = Scans-both Scans-set (Scans-both Scans-stem (Scans-both (Scans-runs counts) (Scans-mark 10))) in
+    let r = Scans-via line_text (IsWritten counts) written_from (λ (w : Written). (w.set, (w.stem, (w.runs, tt)))) four
+    (λ x f. (line_same x.0 x.1.0 x.1.1.0, record { ascends = f.0.0; pairs = f.0.1; stem = f.1.0; runs = f.1.1.0 }))
+    (λ w f. (refl, line_same w.set w.stem w.runs, ((f.ascends, f.pairs), (f.stem, (f.runs, tt))))) in
     record {
       takes = r.takes;
-      again = λ e rest fits fol. r.again e rest fits (
-        all_follow 44 pair_text PairFollows e.set _ (λ x tail. refl) (λ x. refl) refl,
-        (tt, (all_follow 32 reason_text ReasonFollows e.reasons _ (λ x tail. refl) (λ x. refl) refl, tt)),
+      again = λ w rest fits fol. r.again w rest fits (
+        all_follow 44 pair_text PairFollows w.set _ (λ x tail. refl) (λ x. refl) refl,
+        (tt, (all_follow 32 run_text RunFollows w.runs _ (λ x tail. (refl, refl)) (λ x. (refl, refl)) refl, tt)),
       );
     }
+
+-- what a line means is what it is read as
+abbrev meaning : Written × List ℕ → Result (Entry × List ℕ) Stopped
+meaning w = Ok (meant w.0, w.1)
+
+abbrev line_of : Fields × List ℕ → Result (Written × List ℕ) Stopped
+line_of x = Ok (written_from x.0, x.1)
+
+abbrev entry_in : Fields × List ℕ → Result (Entry × List ℕ) Stopped
+entry_in x = Ok (entry_from x.0, x.1)
+
+means_so : (v : Result (Fields × List ℕ) Stopped) → (v >>= entry_in) ≡ ((v >>= line_of) >>= meaning)
+means_so (Ok x) = refl
+means_so (Err e) = refl
+
+means_read : (counts : Bool) (bytes : List ℕ) → entry_at counts bytes ≡ (via written_from (fields_at counts) bytes >>= meaning)
+unfolding entry_at
+means_read counts bytes = means_so (fields_at counts bytes)
+
+-- a line that was read
+pub line_read : (counts : Bool) (bytes : List ℕ) (e : Entry) (after : List ℕ) → entry_at counts bytes ≡ Ok (e, after) → (w : Written) × (meant w ≡ e) × (bytes ≡ line_text w ++ after) × IsWritten counts w
+line_read counts bytes e after is =
+    let a = bind_ok (via written_from (fields_at counts) bytes) meaning (e, after) (sym (means_read counts bytes) ∙ is) in
+    let t = (Scans-line counts).takes bytes a.0 a.1 in
+    let left : Entry × List ℕ = (meant a.0.0, a.0.1) in
+    let right : Entry × List ℕ = (e, after) in
+    let same : left ≡ right = ok_is {E = Stopped} left right a.2 in
+    (a.0.0, ap (λ (p : Entry × List ℕ). p.0) same, t.0 ∙ ap (λ (p : Entry × List ℕ). line_text a.0.0 ++ p.1) same, t.1)
+
+-- and a line that stands there is read
+pub line_again : (counts : Bool) (w : Written) (rest : List ℕ) → IsWritten counts w → entry_at counts (line_text w ++ rest) ≡ Ok (meant w, rest)
+line_again counts w rest is =
+    means_read counts (line_text w ++ rest) ∙ ap (λ (v : Result (Written × List ℕ) Stopped). v >>= meaning) ((Scans-line counts).again w rest is tt)

@@ -7,7 +7,8 @@ use Rattle.ips_refute.specs.declared.nogoods.Pair.{Pair}
 use Rattle.ips_refute.specs.declared.nogoods.Reason.{Reason}
 use Rattle.ips_refute.specs.declared.nogoods.Reason.TheVariants.{Test, Earlier}
 use Rattle.ips_refute.specs.declared.reading.BadLine.{BadLine}
-use Rattle.ips_refute.specs.Text.{Entry}
+use Rattle.ips_refute.specs.declared.runs.Run.{Run}
+use Rattle.ips_refute.specs.Text.{Entry, Written, most, reasons_of}
 
 -- a reader of which only this matters: whether it stops
 abbrev pub Scanner : Type 0 → Type 0
@@ -72,9 +73,24 @@ reason_at (b ∷ bytes) =
     then via (λ t. Test t) small_at bytes
     else (if b == 110 then via (λ n. Earlier n) small_at bytes else Err (stop_at (b ∷ bytes)))
 
--- reasons joined by one blank, or `-`
-unfoldable pub reasons_at : Scanner (List Reason)
-reasons_at = listed_at 32 reason_at
+-- a count: a number from 2 to the most that may be written as one
+unfoldable pub count_at : Scanner ℕ
+count_at bytes = do
+  x ← small_at bytes
+  if nat_lt 1 x.0 && nat_lt x.0 (most + 1) then Ok x else Err (stop_at bytes)
+
+abbrev pub run : Reason → ℕ → Run
+run reason count = record { reason = reason; count = count }
+
+-- a reason, and behind it `*` and a count where counts may be written
+unfoldable pub run_at : Bool → Scanner Run
+run_at counts bytes = do
+  x ← reason_at bytes
+  if counts && next_is 42 x.1 then via (run x.0) count_at (drop 1 x.1) else Ok (run x.0 1, x.1)
+
+-- runs joined by one blank, or `-`
+unfoldable pub runs_at : Bool → Scanner (List Run)
+runs_at counts = listed_at 32 (run_at counts)
 
 -- the number between two bars
 abbrev pub between : Unit {0} × (ℕ × Unit {0}) → ℕ
@@ -84,13 +100,24 @@ between x = x.1.0
 unfoldable pub stem_at : Scanner ℕ
 stem_at = via between (both bar_at (both small_at bar_at))
 
--- a nogood of the fields that were read
-abbrev pub entry_from : List Pair × (ℕ × (List Reason × Unit {0})) → Entry
-entry_from x = record { set = x.0; stem = x.1.0; reasons = x.1.1.0 }
+-- the fields of a line
+abbrev pub Fields : Type 0
+Fields = List Pair × (ℕ × (List Run × Unit {0}))
 
--- a nogood's line
-unfoldable pub entry_at : Scanner Entry
-entry_at = via entry_from (both set_at (both stem_at (both reasons_at (mark_at 10))))
+unfoldable pub fields_at : Bool → Scanner Fields
+fields_at counts = both set_at (both stem_at (both (runs_at counts) (mark_at 10)))
+
+-- a nogood of the fields that were read, as it was written
+abbrev pub written_from : Fields → Written
+written_from x = record { set = x.0; stem = x.1.0; runs = x.1.1.0 }
+
+-- and what it means
+abbrev pub entry_from : Fields → Entry
+entry_from x = record { set = x.0; stem = x.1.0; reasons = reasons_of x.1.1.0 }
+
+-- a nogood's line, and what it means
+unfoldable pub entry_at : Bool → Scanner Entry
+entry_at counts = via entry_from (fields_at counts)
 
 -- a nogood's line behind so many, or its number where it isn't of the grammar
 abbrev pub numbered : {A : Type 0} → ℕ → Result A (Stop (Unit {0})) → Result A BadLine
@@ -98,5 +125,5 @@ numbered count (Ok x) = Ok x
 numbered count (Err s) = Err (record { line = count + 2 })
 
 -- a nogood's line behind so many
-abbrev pub line_at : ℕ → List ℕ → Result (Entry × List ℕ) BadLine
-line_at count bytes = numbered count (entry_at bytes)
+abbrev pub line_at : Bool → ℕ → List ℕ → Result (Entry × List ℕ) BadLine
+line_at counts count bytes = numbered count (entry_at counts bytes)

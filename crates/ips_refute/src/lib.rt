@@ -13,6 +13,7 @@ mod nogoods;
 mod printing;
 mod puzzle;
 mod reading;
+mod runs;
 mod table;
 
 pub use checking::{check, refutes};

@@ -1,8 +1,8 @@
 //! Refutations and what they are made of.
 
-ghost use Rattle.std.specs.Prelude.{◌≡◌, IfOk, Ok, List, All};
+ghost use Rattle.std.specs.Prelude.{◌≡◌, ℕ, IfOk, Ok, List, All};
 ghost use Rattle.ips_text.specs.Reading.{Gives, IfBad};
-ghost use Rattle.ips_refute.specs.Text.{Entry, IsEntry, IsBadLine, entries, refutation_text};
+ghost use Rattle.ips_refute.specs.Text.{Entry, IsEntry, IsBadLine, IsTextOf, entries, refutation_text};
 
 use crate::printing::print_refutation;
 use crate::reading::{BadLine, read_refutation};
@@ -47,9 +47,10 @@ pub struct Refutation {
 }
 
 impl Refutation {
-    /// The text of the refutation: the line `refutation 1`, and for each nogood a line `<set> | <stem> | <reasons>`. A set is `-`,
+    /// The text of the refutation: the line `refutation 2`, and for each nogood a line `<set> | <stem> | <reasons>`. A set is `-`,
     /// or its pairs, each written `<stem>.<candidate>`, joined by `,`. The reasons are `-`, or `t<test>` and `n<nogood>` joined by
-    /// one blank. Numbers are decimal, and each line ends with a newline.
+    /// one blank. Two or more equal reasons in a row are written once with their count, as `t<test>*<count>`, in runs of as many as
+    /// there are, but at most 200,002. Numbers are decimal, and each line ends with a newline.
     pub fn print(&self, alloc: Global) -> Result<Text, AllocError>
         ensures { IfOk result (λ text. text ≡ refutation_text (entries self.now.nogoods.items)) }
     {
@@ -57,13 +58,14 @@ impl Refutation {
     }
 
     /// Reads the text of a refutation, which has to be all of the bytes. The pairs of each set have to stand by ascending stem,
-    /// each stem once, and each number is below 2^32. What is answered need not be a refutation of any puzzle: that is for
-    /// `check` to say.
+    /// each stem once, and each number is below 2^32. A reason may have a count from 2 to 200,002, and equal reasons need not be
+    /// joined into one. Behind the line `refutation 1` no counts are written. What is answered need not be a refutation of any
+    /// puzzle: that is for `check` to say.
     ///
     /// `BadLine` has the number, from 1, of the first line that isn't of this grammar; a last line without its newline isn't.
     pub fn read(alloc: Global, bytes: &[u8]) -> Result<Refutation, Or<BadLine>>
-        ensures found { IfOk result (λ r. All IsEntry (entries r.nogoods.items) × (bytes.now ≡ refutation_text (entries r.nogoods.items))) }
-        ensures only { (es : List Entry) → All IsEntry es → bytes.now ≡ refutation_text es → Gives (λ r. entries r.nogoods.items) result (Ok es) }
+        ensures found { IfOk result (λ r. All IsEntry (entries r.nogoods.items) × IsTextOf (entries r.nogoods.items) bytes.now) }
+        ensures only { (es : List Entry) → IsTextOf es bytes.now → Gives (λ r. entries r.nogoods.items) result (Ok es) }
         ensures line { IfBad result (λ bad. IsBadLine bytes.now bad.line) }
     {
         let nogoods = read_refutation(alloc, bytes)?;
@@ -71,7 +73,8 @@ impl Refutation {
     }
 }
 
-/// The law of refutations' texts: no two refutations have one text.
+/// The law of refutations' texts: what is printed is a text of the refutation, and no text is one of two refutations.
 pub fn refutations_read_back()
-    ensures { (es fs : List Entry) → All IsEntry es → All IsEntry fs → refutation_text es ≡ refutation_text fs → es ≡ fs }
+    ensures printed { (es : List Entry) → All IsEntry es → IsTextOf es (refutation_text es) }
+    ensures one { (es fs : List Entry) (text : List ℕ) → IsTextOf es text → IsTextOf fs text → es ≡ fs }
 {}

@@ -1,10 +1,11 @@
 //! The one spelling of each refutation.
 
-ghost use Rattle.std.specs.Prelude.{◌≡◌, ◌++◌, ◌∷◌, [], OnOk, IfOk, string_bytes};
-ghost use Rattle.std.specs.List.{flat_map};
-ghost use Rattle.ips_refute.specs.Text.{entries, entry_of, entry_text, pair_text, reason_text, set_text, reasons_text, refutation_text};
+ghost use Rattle.std.specs.Prelude.{◌≡◌, ◌≤◌, ◌++◌, ◌∷◌, [], OnOk, IfOk, map, string_bytes};
+ghost use Rattle.std.specs.List.{flat_map, join_with_byte};
+ghost use Rattle.ips_refute.specs.Text.{entries, entry_of, entry_text, pair_text, reason_text, run_text, runs_behind, runs_of, runs_text, set_text, refutation_text};
 
 use crate::nogoods::{Nogood, Pair, Reason};
+use crate::runs::{MOST, Run, is_same};
 use ips_text::Text;
 use std::alloc::{AllocError, Global};
 
@@ -13,7 +14,7 @@ pub fn print_refutation(alloc: Global, nogoods: &[Nogood]) -> Result<Text, Alloc
     ensures { IfOk result (λ text. text ≡ refutation_text (entries nogoods.now)) }
 {
     let mut out = String::new(alloc);
-    out.push_str("refutation 1\n")?;
+    out.push_str("refutation 2\n")?;
     push_nogoods(&mut out, nogoods)?;
     Ok(Text::from_string(out))
 }
@@ -78,24 +79,46 @@ fn push_pair(out: &mut String, pair: Pair) -> Result<(), AllocError>
 
 // Writes reasons.
 fn push_reasons(out: &mut String, reasons: &[Reason]) -> Result<(), AllocError>
-    ensures { OnOk result (string_bytes out.new ≡ string_bytes out.old ++ reasons_text reasons.now) }
+    ensures { OnOk result (string_bytes out.new ≡ string_bytes out.old ++ runs_text (runs_of reasons.now)) }
 {
     let Some((first, others)) = reasons.split_first() else {
         out.push_str("-")?;
         return Ok(());
     };
-    push_reason(out, *first)?;
-    push_more_reasons(out, others)?;
-    Ok(())
+    push_runs(out, *first, others)
 }
 
-// Writes each reason behind a blank.
-fn push_more_reasons(out: &mut String, reasons: &[Reason]) -> Result<(), AllocError>
-    ensures { OnOk result (string_bytes out.new ≡ string_bytes out.old ++ flat_map (λ r. 32 ∷ reason_text r) reasons.now) }
+// Writes the runs of the reasons.
+fn push_runs(out: &mut String, first: Reason, others: &[Reason]) -> Result<(), AllocError>
+    ensures { OnOk result (string_bytes out.new ≡ string_bytes out.old ++ join_with_byte 32 (map run_text (runs_behind first 1 others.now))) }
 {
-    for reason in reasons {
-        out.push_str(" ")?;
-        push_reason(out, *reason)?;
+    let mut run = Run {
+        reason: first,
+        count: 1,
+    };
+    for reason in others {
+        if is_same(run.reason, *reason) && run.count < MOST {
+            run.count += 1;
+        } else {
+            push_run(out, run)?;
+            out.push_str(" ")?;
+            run = Run {
+                reason: *reason,
+                count: 1,
+            };
+        }
+    }
+    push_run(out, run)
+}
+
+// Writes a run.
+fn push_run(out: &mut String, run: Run) -> Result<(), AllocError>
+    ensures { OnOk result (string_bytes out.new ≡ string_bytes out.old ++ run_text run) }
+{
+    push_reason(out, run.reason)?;
+    if run.count != 1 {
+        out.push_str("*")?;
+        write!(out, "{}", run.count)?;
     }
     Ok(())
 }

@@ -1,13 +1,14 @@
 //! Refutations, each at the front of a text.
 
-ghost use Rattle.std.specs.Prelude.{◌≡◌, ℕ, ◌<◌, ◌^◌, ◌++◌, IfOk, Ok, IfNone, IfSome, List, All};
+ghost use Rattle.std.specs.Prelude.{◌≡◌, ℕ, ◌<◌, ◌^◌, ◌++◌, Bool, true, false, IfOk, Ok, IfNone, IfSome, List, All};
 ghost use Rattle.ips_text.specs.Reading.{Gives, IfBad, Sees, one_or_more};
-ghost use Rattle.ips_refute.specs.Text.{Entry, IsEntry, IsBadLine, entries, entry_of, header, refutation_text};
+ghost use Rattle.ips_refute.specs.Text.{Entry, IsEntry, IsBadLine, IsTextOf, entries, entry_of, header};
 ghost use Rattle.ips_refute.specs.Reading as reading;
-ghost use Rattle.ips_refute.specs.Reading.{small_at, mark_at, pair_at, pairs_at, set_at, reason_at, reasons_at, bar_at, entry_at};
+ghost use Rattle.ips_refute.specs.Reading.{small_at, mark_at, pair_at, pairs_at, set_at, reason_at, count_at, run_at, runs_at, bar_at, entry_at};
 
 use crate::ascending::ascend;
 use crate::nogoods::{Nogood, Pair, Reason};
+use crate::runs::{MOST, Run, expanded};
 use ips_text::{Or, Stop, behind, number};
 use std::alloc::Global;
 
@@ -20,37 +21,64 @@ pub struct BadLine {
 
 /// The nogoods of a refutation's text.
 pub fn read_refutation(alloc: Global, bytes: &[u8]) -> Result<Vec<Nogood>, Or<BadLine>>
-    ensures found { IfOk result (λ ns. All IsEntry (entries ns.items) × (bytes.now ≡ refutation_text (entries ns.items))) }
-    ensures only { (es : List Entry) → All IsEntry es → bytes.now ≡ refutation_text es → Gives (λ ns. entries ns.items) result (Ok es) }
+    ensures found { IfOk result (λ ns. All IsEntry (entries ns.items) × IsTextOf (entries ns.items) bytes.now) }
+    ensures only { (es : List Entry) → IsTextOf es bytes.now → Gives (λ ns. entries ns.items) result (Ok es) }
     ensures line { IfBad result (λ bad. IsBadLine bytes.now bad.line) }
 {
-    let Some(lines) = behind_header(bytes) else {
+    let Some((counts, lines)) = behind_header(bytes) else {
         return Err(Or::Bad(BadLine { line: 1 }));
     };
     let mut rest = lines;
     let mut nogoods = Vec::new(alloc);
     while !rest.is_empty() {
-        let (nogood, after) = line(alloc, nogoods.len(), rest)?;
+        let (nogood, after) = line(alloc, counts, nogoods.len(), rest)?;
         nogoods.push(nogood)?;
         rest = after;
     }
     Ok(nogoods)
 }
 
-// What stands behind the first line.
-fn behind_header(bytes: &[u8]) -> Option<&[u8]>
-    ensures none { IfNone result ((rest : List ℕ) → bytes.now ≡ header ++ rest → ⊥) }
-    ensures some { IfSome result (λ rest. bytes.now ≡ header ++ rest.now) }
+// Whether counts may be written, and what stands behind the first line.
+fn behind_header(bytes: &[u8]) -> Option<(bool, &[u8])>
+    ensures none { IfNone result ((counts : Bool) (rest : List ℕ) → bytes.now ≡ header counts ++ rest → ⊥) }
+    ensures some { IfSome result (λ x. bytes.now ≡ header x.0 ++ x.1.now) }
+{
+    match behind_counted(bytes) {
+        Some(rest) => Some((true, rest)),
+        None => match behind_plain(bytes) {
+            Some(rest) => Some((false, rest)),
+            None => None,
+        },
+    }
+}
+
+// What stands behind `refutation 2`.
+fn behind_counted(bytes: &[u8]) -> Option<&[u8]>
+    ensures none { IfNone result ((rest : List ℕ) → bytes.now ≡ header true ++ rest → ⊥) }
+    ensures some { IfSome result (λ rest. bytes.now ≡ header true ++ rest.now) }
+{
+    bytes.strip_prefix(b"refutation 2\n")
+}
+
+// What stands behind `refutation 1`.
+fn behind_plain(bytes: &[u8]) -> Option<&[u8]>
+    ensures none { IfNone result ((rest : List ℕ) → bytes.now ≡ header false ++ rest → ⊥) }
+    ensures some { IfSome result (λ rest. bytes.now ≡ header false ++ rest.now) }
 {
     bytes.strip_prefix(b"refutation 1\n")
 }
 
 // A nogood's line, behind so many nogoods.
-fn line(alloc: Global, count: usize, bytes: &[u8]) -> Result<(Nogood, &[u8]), Or<BadLine>>
+fn line(
+    alloc: Global,
+    counts: bool,
+    count: usize,
+    bytes: &[u8],
+) -> Result<(Nogood, &[u8]), Or<BadLine>>
     requires { count < 2 ^ 63 }
-    ensures { Gives (λ x. (entry_of x.0, x.1.now)) result (reading.line_at count bytes.now) }
+    ensures { Gives (λ x. (entry_of x.0, x.1.now)) result (reading.line_at counts count bytes.now) }
 {
-    match nogood(alloc, bytes) {
+    match nogood(alloc, counts, bytes) {
         Ok(read) => Ok(read),
         Err(Or::Bad(_)) => Err(Or::Bad(BadLine {
             line: count as u64 + 2,
@@ -60,14 +88,15 @@ fn line(alloc: Global, count: usize, bytes: &[u8]) -> Result<(Nogood, &[u8]), Or
 }
 
 // A nogood's line.
-#[tactic(auto, unfolding(crate::specs::Reading::entry_at))]
-fn nogood(alloc: Global, bytes: &[u8]) -> Result<(Nogood, &[u8]), Or<Stop<()>>>
-    ensures { Gives (λ x. (entry_of x.0, x.1.now)) result (entry_at bytes.now) }
+#[tactic(auto, unfolding(crate::specs::Reading::entry_at, crate::specs::Reading::fields_at))]
+fn nogood(alloc: Global, counts: bool, bytes: &[u8]) -> Result<(Nogood, &[u8]), Or<Stop<()>>>
+    ensures { Gives (λ x. (entry_of x.0, x.1.now)) result (entry_at counts bytes.now) }
 {
     let (set, rest) = set(alloc, bytes)?;
     let (stem, rest) = further_stem(rest)?;
-    let (reasons, rest) = reasons(alloc, rest)?;
+    let (runs, rest) = runs(alloc, counts, rest)?;
     let rest = newline(rest)?;
+    let reasons = expanded(alloc, &runs)?;
     let nogood = Nogood { set, stem, reasons };
     Ok((nogood, rest))
 }
@@ -193,41 +222,68 @@ fn stem_and_candidate(bytes: &[u8]) -> Result<(Pair, &[u8]), Stop<()>>
     Ok((Pair { stem, candidate }, rest))
 }
 
-// Reasons joined by one blank, or `-` where there are none.
-#[tactic(auto, unfolding(crate::specs::Reading::reasons_at))]
-fn reasons(alloc: Global, bytes: &[u8]) -> Result<(Vec<Reason>, &[u8]), Or<Stop<()>>>
-    ensures { Gives (λ x. (x.0.items, x.1.now)) result (reasons_at bytes.now) }
+// Runs of reasons joined by one blank, or `-` where there are none.
+#[tactic(auto, unfolding(crate::specs::Reading::runs_at))]
+fn runs(alloc: Global, counts: bool, bytes: &[u8]) -> Result<(Vec<Run>, &[u8]), Or<Stop<()>>>
+    ensures { Gives (λ x. (x.0.items, x.1.now)) result (runs_at counts bytes.now) }
 {
     match bytes {
         [b'-', rest @ ..] => Ok((Vec::new(alloc), rest)),
-        _ => joined_reasons(alloc, bytes),
+        _ => joined_runs(alloc, counts, bytes),
     }
 }
 
-fn joined_reasons(alloc: Global, bytes: &[u8]) -> Result<(Vec<Reason>, &[u8]), Or<Stop<()>>>
-    ensures { Gives (λ x. (x.0.items, x.1.now)) result (one_or_more 32 reason_at bytes.now) }
+fn joined_runs(alloc: Global, counts: bool, bytes: &[u8]) -> Result<(Vec<Run>, &[u8]), Or<Stop<()>>>
+    ensures { Gives (λ x. (x.0.items, x.1.now)) result (one_or_more 32 (run_at counts) bytes.now) }
 {
-    let mut reasons = Vec::new(alloc);
+    let mut runs = Vec::new(alloc);
     let mut rest = bytes;
     loop {
-        let (reason, after) = reason(rest)?;
-        reasons.push(reason)?;
+        let (run, after) = next_run(counts, rest)?;
+        runs.push(run)?;
         let Some(more) = behind(b' ', after) else {
-            return Ok((reasons, after));
+            return Ok((runs, after));
         };
         rest = more;
     }
 }
 
-fn reason(bytes: &[u8]) -> Result<(Reason, &[u8]), Or<Stop<()>>>
-    ensures { Gives (λ x. (x.0, x.1.now)) result (reason_at bytes.now) }
+fn next_run(counts: bool, bytes: &[u8]) -> Result<(Run, &[u8]), Or<Stop<()>>>
+    ensures { Gives (λ x. (x.0, x.1.now)) result (run_at counts bytes.now) }
 {
-    kind_and_number(bytes).map_err(Or::Bad)
+    reason_and_count(counts, bytes).map_err(Or::Bad)
+}
+
+// A reason, and how often it stands in a row.
+#[tactic(auto, unfolding(crate::specs::Reading::run_at))]
+fn reason_and_count(counts: bool, bytes: &[u8]) -> Result<(Run, &[u8]), Stop<()>>
+    ensures { Sees (λ x. (x.0, x.1.now)) result (run_at counts bytes.now) }
+{
+    let (reason, rest) = reason(bytes)?;
+    match rest {
+        [b'*', more @ ..] if counts => {
+            let (count, rest) = count(more)?;
+            Ok((Run { reason, count }, rest))
+        }
+        _ => Ok((Run { reason, count: 1 }, rest)),
+    }
+}
+
+// How often a reason stands in a row.
+#[tactic(auto, unfolding(crate::specs::Reading::count_at))]
+fn count(bytes: &[u8]) -> Result<(u32, &[u8]), Stop<()>>
+    ensures { Sees (λ x. (x.0, x.1.now)) result (count_at bytes.now) }
+{
+    let (count, rest) = small(bytes)?;
+    if count < 2 || count > MOST {
+        return Err(stop(bytes));
+    }
+    Ok((count, rest))
 }
 
 // A reason: a number behind its kind.
 #[tactic(auto, unfolding(crate::specs::Reading::reason_at))]
-fn kind_and_number(bytes: &[u8]) -> Result<(Reason, &[u8]), Stop<()>>
+fn reason(bytes: &[u8]) -> Result<(Reason, &[u8]), Stop<()>>
     ensures { Sees (λ x. (x.0, x.1.now)) result (reason_at bytes.now) }
 {
     match bytes {

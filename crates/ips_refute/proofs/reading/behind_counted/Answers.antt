@@ -1,0 +1,8 @@
+use Rattle.std.proofs.Common.{rules, true}
+use Rattle.std.proofs.lemmas.Slice.Eq.{strip_prefix_is}
+use Rattle.std.proofs.lemmas.Bool.Decides.{Decides-eqb}
+use Rattle.ips_refute.specs.Text.{header}
+use Rattle.ips_refute.proofs.reading.behind_counted.Goals as goal
+
+pub returns : goal.returns
+returns c = let h = strip_prefix_is Decides-eqb c.args.bytes.now (header true) c.strip_prefix.result c.strip_prefix.ensures.cases in search rules
