@@ -1,4 +1,3 @@
-pub mod Filled
 pub mod Copies
 pub mod Walks
 pub mod Changes

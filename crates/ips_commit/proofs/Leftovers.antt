@@ -18,7 +18,7 @@ none_of : (e : Option Entry) → is_some e ≡ false → e ≡ None
 none_of None is = refl
 none_of (Some x) is = cc
 
-some_of : (e : Option Entry) → is_some e ≡ true → e ≡ None → ⊥
+pub some_of : (e : Option Entry) → is_some e ≡ true → e ≡ None → ⊥
 some_of None is none = cc
 some_of (Some x) is none = cc
 

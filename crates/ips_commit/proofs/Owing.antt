@@ -27,10 +27,11 @@ use Rattle.ips_journal.specs.Reading.{journal_of}
 use Rattle.ips_journal.proofs.JournalLaws.{one_text}
 use Rattle.ips_commit.specs.Pending.{IsBare, IsDone, IsSwept, HasNoOtherMark, is_swept}
 use Rattle.ips_commit.specs.Phases.{Opens, AreSafelyLaid, HasBegun}
-use Rattle.ips_commit.proofs.OwnNames.{swept_private, gate_unswept, marks_stay, none_alike}
+use Rattle.ips_commit.proofs.OwnNames.{swept_private, gate_unswept, marks_stay}
 use Rattle.ips_commit.proofs.Leftovers.{bare_of}
 use Rattle.ips_commit.proofs.Swept.{removed_gone, removed_none}
 use Rattle.ips_commit.proofs.Lays.{next_of, rest_of}
+use Rattle.ips_folder.proofs.Crashes.{alike_none}
 
 pub nodes_of : (t : Image) → IsImage t → HasNodes t
 nodes_of t formed = record { self = formed.self }
@@ -134,7 +135,7 @@ module _ {F : Type 0} (o : Outside F) (sane : IsOutside o) where
       pub laid_marks : (names : List (List ℕ)) → HasNoOtherMark t names → HasNoOtherMark (o.state new).held names
       laid_marks names others q b off =
           let within = subst (λ (u : Image). Agrees (freed left) (met (stage_of t) left t) t u) (sym laid_held) (laid_within (stage_of t) left t) in
-          none_alike ((o.state new).held.look q) (t.look q) (within.but_mode q (marks_stay q b left (left_allowed journal_text steps marks a t is_open.ready))) (others q b off)
+          alike_none ((o.state new).held.look q) (t.look q) (within.but_mode q (marks_stay q b left (left_allowed journal_text steps marks a t is_open.ready))) (others q b off)
 
   -- ---- while the gate opens and closes
 

@@ -8,7 +8,7 @@ use Rattle.ips_steps.specs.Steps.{Step, Gone, Fresh, Mode, Put, Symlink, Hard, s
 use Rattle.ips_steps.specs.Private.{records_name, journal_name, gate_name, mark_front, begins, is_private}
 use Rattle.ips_steps.specs.Journal.{may_name, step_allowed, allowed}
 use Rattle.ips_steps.proofs.Lists.{clash}
-use Rattle.ips_steps.proofs.PrivateNames.{begins_front, mark_private}
+use Rattle.ips_steps.proofs.PrivateNames.{begins_front, mark_private, mark_parent}
 use Rattle.ips_commit.specs.Pending.{is_swept}
 
 -- ---- the names one by one
@@ -146,10 +146,6 @@ no_mark_without t formed none q b =
 
 -- ---- no step is at or above a mark
 
-mark_parent : parent mark_front ≡ Some records_name
-unfolding records_name mark_front
-mark_parent = refl
-
 above_front : (p f q : List ℕ) → begins f q ≡ true → covers p q ≡ true → (begins f p || covers p f) ≡ true
 above_front [] [] q b c = refl
 above_front [] (y ∷ f) [] b c = cc
@@ -200,11 +196,3 @@ step_leaves q b (Hard p to) may = unnamed_mark p q b (and_parts _ _ may).0
 pub marks_stay : (q : List ℕ) → begins mark_front q ≡ true → (steps : List Step) → allowed steps ≡ true → freed steps q ≡ false
 marks_stay q b [] may = refl
 marks_stay q b (s ∷ rest) may = let parts = and_parts (step_allowed s) (allowed rest) may in or_from _ _ (step_leaves q b s parts.0) (marks_stay q b rest parts.1)
-
--- what is absent stays so under another mode
-pub none_alike : (x y : Option Entry) → with_mode 0 x ≡ with_mode 0 y → y ≡ None → x ≡ None
-none_alike (Some (Dir m f)) y h n = cc
-none_alike (Some (File m b)) y h n = cc
-none_alike (Some (Link g)) y h n = cc
-none_alike (Some Other) y h n = cc
-none_alike None y h n = refl

@@ -10,28 +10,23 @@ use Rattle.std.proofs.lemmas.List.Folds.{list_all-append}
 use Rattle.ips_text.specs.Path.{IsPath, is_dots}
 use Rattle.ips_steps.specs.Steps.{stage_name, stage_path}
 use Rattle.ips_steps.specs.Private.{records_name, journal_name, gate_name, mark_front, mark_name}
-use Rattle.ips_repo.proofs.Joined.{is_name_byte, IsFileName, joined_path}
+use Rattle.ips_repo.proofs.Joined.{is_name_byte, IsFileName, joined_path, pkg_name}
+use Rattle.ips_journal.proofs.FieldForms.{number_long}
 
 var : IsFileName (codes "var")
 var = record { bytes = refl; some = omega arith; few = omega arith; no_dots = refl }
 
-pkg : IsFileName (codes "pkg")
-pkg = record { bytes = refl; some = omega arith; few = omega arith; no_dots = refl }
-
 stage : IsFileName (codes "stage")
 stage = record { bytes = refl; some = omega arith; few = omega arith; no_dots = refl }
 
-pub records_path : IsPath (codes "var/pkg")
-records_path = joined_path (codes "var" ∷ codes "pkg" ∷ []) (var, pkg) (omega arith)
-
 pub stage_is_path : IsPath (codes "var/pkg/stage")
-stage_is_path = joined_path (codes "var" ∷ codes "pkg" ∷ codes "stage" ∷ []) (var, (pkg, stage)) (omega arith)
+stage_is_path = joined_path (codes "var" ∷ codes "pkg" ∷ codes "stage" ∷ []) (var, (pkg_name, stage)) (omega arith)
 
 pub journal_path : IsPath (codes "var/pkg/journal")
-journal_path = joined_path (codes "var" ∷ codes "pkg" ∷ codes "journal" ∷ []) (var, (pkg, record { bytes = refl; some = omega arith; few = omega arith; no_dots = refl })) (omega arith)
+journal_path = joined_path (codes "var" ∷ codes "pkg" ∷ codes "journal" ∷ []) (var, (pkg_name, record { bytes = refl; some = omega arith; few = omega arith; no_dots = refl })) (omega arith)
 
 pub gate_path : IsPath (codes "var/pkg/gate")
-gate_path = joined_path (codes "var" ∷ codes "pkg" ∷ codes "gate" ∷ []) (var, (pkg, record { bytes = refl; some = omega arith; few = omega arith; no_dots = refl })) (omega arith)
+gate_path = joined_path (codes "var" ∷ codes "pkg" ∷ codes "gate" ∷ []) (var, (pkg_name, record { bytes = refl; some = omega arith; few = omega arith; no_dots = refl })) (omega arith)
 
 -- ---- numbers
 
@@ -63,23 +58,20 @@ no_dots_of (b ∷ []) all = digit_no_dot b (and_parts (is_digit b) true all).0
 no_dots_of (b ∷ c ∷ []) all = ap (λ (x : Bool). x && (c == 46)) (digit_no_dot b (and_parts (is_digit b) _ all).0)
 no_dots_of (b ∷ c ∷ d ∷ ds) all = refl
 
-short : (n : ℕ) → n < 2 ^ 64 → length (decimal n) ≤ 20
-short n lt = length-decimal-le 20 n (omega arith) (omega arith) lt
-
 number : (n : ℕ) → n < 2 ^ 64 → IsFileName (decimal n)
 number n lt = record {
   bytes = names_of (decimal n) (all_digits n lt);
   some = decimal_nonempty n lt;
-  few = let le = short n lt in omega arith;
+  few = let le = number_long n lt in omega arith;
   no_dots = no_dots_of (decimal n) (all_digits n lt);
 }
 
 pub content_is_path : (n : ℕ) → n < 2 ^ 64 → IsPath (stage_path n)
 unfolding stage_name
-content_is_path n lt = let le = short n lt in joined_path (codes "var" ∷ codes "pkg" ∷ codes "stage" ∷ decimal n ∷ []) (var, (pkg, (stage, number n lt))) (omega arith)
+content_is_path n lt = let le = number_long n lt in joined_path (codes "var" ∷ codes "pkg" ∷ codes "stage" ∷ decimal n ∷ []) (var, (pkg_name, (stage, number n lt))) (omega arith)
 
 mark_word : (n : ℕ) → n < 2 ^ 64 → IsFileName (codes "done." ++ decimal n)
-mark_word n lt = let le = short n lt in record {
+mark_word n lt = let le = number_long n lt in record {
   bytes = list_all-append is_name_byte (codes "done.") (decimal n) ∙ names_of (decimal n) (all_digits n lt);
   some = omega arith;
   few = omega arith;
@@ -88,4 +80,4 @@ mark_word n lt = let le = short n lt in record {
 
 pub mark_is_path : (n : ℕ) → n < 2 ^ 64 → IsPath (mark_name n)
 unfolding mark_front
-mark_is_path n lt = let le = short n lt in joined_path (codes "var" ∷ codes "pkg" ∷ (codes "done." ++ decimal n) ∷ []) (var, (pkg, mark_word n lt)) (omega arith)
+mark_is_path n lt = let le = number_long n lt in joined_path (codes "var" ∷ codes "pkg" ∷ (codes "done." ++ decimal n) ∷ []) (var, (pkg_name, mark_word n lt)) (omega arith)

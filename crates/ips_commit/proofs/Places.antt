@@ -20,6 +20,7 @@ use Rattle.ips_commit.specs.declared.fault.CommitFault.{CommitFault}
 use Rattle.ips_commit.specs.declared.fault.CommitFault.TheVariants as fault
 use Rattle.ips_commit.specs.Recovering.{AreCounted, IsJournalled, IsPlaced, ReadsWhole, SaysOfText, SaysOfFinding, unread_as}
 use Rattle.ips_commit.proofs.Owing.{ready_text}
+use Rattle.ips_commit.proofs.Leftovers.{some_of}
 
 -- ---- what a reader answers, where the folder was only read before
 
@@ -86,10 +87,6 @@ failed_as answer e P is at = subst (λ (r : Result (Unit {0}) StepFault). OnOk r
 
 -- ---- marks counted
 
-one_mark_more : (e : Option Entry) → is_some e ≡ true → e ≡ None → ⊥
-one_mark_more None there none = cc
-one_mark_more (Some x) there none = cc
-
 pub stand_more : (t u : Image) (count : ℕ) (p : List ℕ) (there : Bool) → u ≡ t → p ≡ mark_name (count + 1) → there ≡ is_some (u.look p) → there ≡ true
     → ((i : ℕ) → i < count → t.look (mark_name (i + 1)) ≡ None → ⊥) → (i : ℕ) → i < count + 1 → t.look (mark_name (i + 1)) ≡ None → ⊥
 stand_more t u count p there same at found is before i lt none = elim (cases_lt i count) [
@@ -97,7 +94,7 @@ stand_more t u count p there same at found is before i lt none = elim (cases_lt 
   | inr more ↦
       let last : i ≡ count = omega arith in
       let stands : is_some (t.look (mark_name (count + 1))) ≡ true = ap is_some (ap t.look (sym at)) ∙ ap (λ (v : Image). is_some (v.look p)) (sym same) ∙ sym found ∙ is in
-      one_mark_more (t.look (mark_name (count + 1))) stands (ap (λ (k : ℕ). t.look (mark_name (k + 1))) (sym last) ∙ none)
+      some_of (t.look (mark_name (count + 1))) stands (ap (λ (k : ℕ). t.look (mark_name (k + 1))) (sym last) ∙ none)
 ]
 
 pub counted_here : (t u : Image) (total count : ℕ) (p : List ℕ) (there : Bool) → u ≡ t → p ≡ mark_name (count + 1) → there ≡ is_some (u.look p) → there ≡ false

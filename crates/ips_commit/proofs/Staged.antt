@@ -18,7 +18,7 @@ use Rattle.ips_steps.specs.Private.{records_name, journal_name, gate_name, mark_
 use Rattle.ips_steps.specs.Journal.{IsJournal}
 use Rattle.ips_steps.specs.Owed.{Old, FolderOwes}
 use Rattle.ips_steps.proofs.Again.{again_but}
-use Rattle.ips_steps.proofs.PrivateNames.{all_clear, begins_front, visible_agrees}
+use Rattle.ips_steps.proofs.PrivateNames.{all_clear, begins_front, visible_agrees, stage_parent, journal_parent}
 use Rattle.ips_steps.proofs.Owing.{owes_sweeping}
 use Rattle.ips_journal.specs.Text.{journal_text}
 use Rattle.ips_journal.specs.declared.staged.Staged.{Staged}
@@ -147,14 +147,6 @@ journal_is_swept = refl
 stage_is_swept : is_swept stage_name ≡ true
 unfolding stage_name
 stage_is_swept = refl
-
-stage_parent : parent stage_name ≡ Some records_name
-unfolding stage_name records_name
-stage_parent = refl
-
-journal_parent : parent journal_name ≡ Some records_name
-unfolding journal_name records_name
-journal_parent = refl
 
 mark_is_swept : (q : List ℕ) → begins mark_front q ≡ true → is_swept q ≡ true
 mark_is_swept q is = or_right (covers stage_name q) _ (or_right (covers journal_name q) (begins mark_front q) is)

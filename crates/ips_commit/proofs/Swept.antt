@@ -20,6 +20,7 @@ use Rattle.ips_steps.specs.Steps.{stage_name}
 use Rattle.ips_steps.specs.Private.{journal_name, mark_front, begins}
 use Rattle.ips_steps.proofs.Lists.{clash}
 use Rattle.ips_commit.specs.Pending.{IsSwept, is_swept}
+use Rattle.ips_steps.proofs.PrivateNames.{begins_below}
 
 -- ---- a write at a path, among those at which a run may write
 
@@ -36,15 +37,6 @@ pub begins_is : (p s : List ℕ) → pointwise ◌==◌ p (take (length p) s) �
 begins_is [] s = refl
 begins_is (a ∷ p) [] = refl
 begins_is (a ∷ p) (b ∷ s) = ap (λ (x : Bool). (a == b) && x) (begins_is p s)
-
-pub begins_below : (f p q : List ℕ) → begins f p ≡ true → covers p q ≡ true → begins f q ≡ true
-begins_below [] p q b c = refl
-begins_below (x ∷ f) [] q b c = cc
-begins_below (x ∷ f) (y ∷ p) [] b c = cc
-begins_below (x ∷ f) (y ∷ p) (z ∷ q) b c =
-    let bs = and_parts (x == y) (begins f p) b in
-    let cs = and_parts (y == z) (covers p q) c in
-    and_from _ _ (eq-eqb x z (eqb-true x y bs.0 ∙ eqb-true y z cs.0)) (begins_below f p q bs.1 cs.1)
 
 -- what isn't a mark's is not at or below a mark
 pub off_mark : (p : List ℕ) → begins mark_front p ≡ true → (q : List ℕ) → begins mark_front q ≡ false → covers p q ≡ false

@@ -14,6 +14,7 @@ use Rattle.ips_fmri.specs.Order.{IsAtMost, IfStamped, Incorporates, version_cmp}
 use Rattle.ips_fmri.proofs.Orders.{versions_tell}
 use Rattle.ips_fmri.proofs.Prefixes.{prefix_tells}
 use Rattle.ips_depend.specs.Matching.{is_at_least, is_incorporated, is_stamped_as}
+use Rattle.ips_text.proofs.Truths.{some_same}
 
 -- where the answer isn't `Less`, the first fact doesn't hold
 not_ge : (r : Ordering) → is_ge r ≡ true → r ≡ Less → ⊥
@@ -28,9 +29,6 @@ pub at_least_tells : (v floor : Parts) → Decides (is_at_least v floor) (IsAtMo
 at_least_tells v floor =
     let t = versions_tell v floor in
     (λ e less. not_ge (version_cmp v floor) e (t.less less), λ h. ge_unless (version_cmp v floor) _ _ _ t.holds h)
-
-some_same : (x y : ℕ) → (let o : Option ℕ = Some x in o) ≡ Some y → x ≡ y
-some_same x y e = cc
 
 stamps_decide : (x y : Option ℕ) → Decides (option_eq eqb x y) (x ≡ y)
 stamps_decide None None = (λ e. refl, λ e. refl)

@@ -23,7 +23,7 @@ use Rattle.ips_folder.proofs.Kept.{Alike, IsKept, begun_kept, replay_kept}
 
 -- ---- with mode 0
 
-alike_none : (x y : Option Entry) → with_mode 0 x ≡ with_mode 0 y → y ≡ None → x ≡ None
+pub alike_none : (x y : Option Entry) → with_mode 0 x ≡ with_mode 0 y → y ≡ None → x ≡ None
 alike_none (Some (Dir m f)) y e is = let none : with_mode 0 y ≡ None = ap (with_mode 0) is in cc
 alike_none (Some (File m b)) y e is = let none : with_mode 0 y ≡ None = ap (with_mode 0) is in cc
 alike_none (Some (Link g)) y e is = let none : with_mode 0 y ≡ None = ap (with_mode 0) is in cc

@@ -10,8 +10,9 @@ use Rattle.ips_folder.specs.History.{Moment}
 use Rattle.ips_folder.specs.Crash.{without, is_name, junk_in, IsJunked}
 use Rattle.ips_folder.specs.Junk.{HasDirs, HasJunk}
 use Rattle.ips_folder.proofs.Kept.{IsKept}
-use Rattle.ips_folder.proofs.Leavings.{last, name_touched}
+use Rattle.ips_folder.proofs.Leavings.{name_touched}
 use Rattle.ips_folder.proofs.Junks.{parent_junk, covers_junk, some_or_none}
+use Rattle.ips_text.proofs.Truths.{or_true}
 
 -- what stands below a touched path is touched
 below_touched : (m : Moment) (p q : List ℕ) → IsKept m → m.state.whole p ≡ true → covers p q ≡ true → m.state.whole q ≡ true
@@ -23,7 +24,7 @@ below_touched m p q kept on c = kept.names q ∙ go m.touched (sym (kept.names p
       where
         step : (b : Bool) → covers x p ≡ b → (list_any (λ x. covers x p) ps ≡ true → list_any (λ x. covers x q) ps ≡ true) → (b || list_any (λ x. covers x p) ps) ≡ true → (covers x q || list_any (λ x. covers x q) ps) ≡ true
         step true is rest h = ap (λ (b : Bool). b || list_any (λ x. covers x q) ps) (covers_trans x p q is c)
-        step false is rest h = rw (rest h) (last (covers x q))
+        step false is rest h = rw (rest h) (or_true (covers x q))
 
 module _ (m : Moment) (kept : IsKept m) (is_named : List ℕ → Bool) (same_names : (q : List ℕ) → is_named q ≡ is_name m q) (gone dirs left : Image) (is_gone : gone ≡ without m.state.whole m.zeroed)
     (formed : IsImage dirs) (formed_left : IsImage left) (has_dirs : HasDirs is_named gone dirs) (has_junk : HasJunk is_named dirs left) where

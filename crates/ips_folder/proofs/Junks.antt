@@ -10,16 +10,16 @@ use Rattle.std.proofs.lemmas.Bool.{and_parts, or_parts, false_from_ne_true, eqb-
 use Rattle.std.proofs.lemmas.Cmp.{nat_cmp_total, nat_list_cmp_total, tied_itself}
 use Rattle.ips_text.specs.Ancestry.{same_path, covers, parent, behind}
 use Rattle.ips_text.specs.Path.{IsPath}
-use Rattle.ips_text.proofs.Ancestry.{same_path-true, same_path-self, covers-self, same_covers, uncovered}
+use Rattle.ips_text.proofs.Ancestry.{same_path-true, same_path-self, covers-self, same_covers, uncovered, parent_covers}
 use Rattle.ips_outside.specs.Image.{Entry, Dir, File, Link, Other, Image, IsImage, is_dir, is_file, has_parent, dir_or_none}
 use Rattle.ips_outside.specs.Change.{placed}
 use Rattle.ips_outside.proofs.Placed.{look_placed, parent_kept}
 use Rattle.ips_outside.proofs.Trees.{nothing_below, alone, alone-back}
-use Rattle.ips_outside.proofs.Children.{parent_covers}
 use Rattle.ips_text.proofs.Ancestry.{covers-parent}
 use Rattle.ips_folder.specs.Crash.{junk_in}
 use Rattle.ips_folder.specs.Junk.{with_dir, HasDirs, AddsJunk, HasJunk}
 use Rattle.ips_folder.proofs.Names.{by_bytes}
+use Rattle.ips_text.proofs.Orders.{one_way}
 
 -- ---- order
 
@@ -42,12 +42,6 @@ parent_less q r is = above_less r q (parent_covers q r is) (false_from_ne_true _
     let self : covers q r ≡ true = ap (covers q) one ∙ covers-self q in
     let off = covers-parent q r is in
     cc))
-
-not_both : (p q : List ℕ) → slice_cmp nat_cmp p q ≡ Less → slice_cmp nat_cmp q p ≡ Less → ⊥
-not_both p q a b =
-    let self = nat_list_cmp_total.trans p q p a b in
-    let tied = tied_itself nat_list_cmp_total p in
-    cc
 
 -- ---- what a directory that is put changes
 
@@ -110,7 +104,7 @@ module _ (t : Image) (p : List ℕ) (formed : IsImage t) (absent : t.look p ≡ 
       go : (o : Option (List ℕ)) → parent q ≡ o → dir_or_none (with_dir p t) o ≡ dir_or_none t o
       go (Some r) is = ap is_dir (with_dir_other r (false_from_ne_true _ (λ same.
           let one : p ≡ r = same_path-true p r same in
-          not_both q p before (subst (λ (x : List ℕ). slice_cmp nat_cmp x q ≡ Less) (sym one) (parent_less q r is)))))
+          one_way q p before (subst (λ (x : List ℕ). slice_cmp nat_cmp x q ≡ Less) (sym one) (parent_less q r is)))))
       go None is = refl
 
 pub head_listed : (p : Vec ℕ Global) (rest : List (Vec ℕ Global)) → in_list (p ∷ rest) p.items ≡ true
@@ -146,7 +140,7 @@ not_before p (k ∷ rest) q all here = ⊎_elim
     let e : k.items ≡ q = same_path-true k.items q one in
     let f : p.items ≡ q = same_path-true p.items q same in
     let less : slice_cmp nat_cmp q q ≡ Less = subst (λ (x : List ℕ). slice_cmp nat_cmp x q ≡ Less) f (subst (λ (x : List ℕ). slice_cmp nat_cmp p.items x ≡ Less) e all.0) in
-    not_both q q less less))
+    one_way q q less less))
     (λ later. not_before p rest q all.1 later)
     (one_of (same_path k.items q) (in_list rest q) here)
   where

@@ -15,10 +15,7 @@ use Rattle.ips_folder.specs.declared.stop.Choice.TheVariants as choice
 use Rattle.ips_folder.specs.History.{Moment, begun, replay}
 use Rattle.ips_folder.specs.Crash.{without, is_name, IsJunked, IsLeftBy}
 use Rattle.ips_folder.proofs.Kept.{IsKept, begun_kept, replay_kept}
-
-pub last : (b : Bool) → (b || true) ≡ true
-last true = refl
-last false = refl
+use Rattle.ips_text.proofs.Truths.{or_true}
 
 -- a touched name is touched
 pub name_touched : (m : Moment) (q : List ℕ) → IsKept m → is_name m q ≡ true → m.state.whole q ≡ true
@@ -30,7 +27,7 @@ name_touched m q kept name = kept.names q ∙ go m.touched name
       where
         step : (s : Bool) → same_path p q ≡ s → (list_any (λ p. same_path p q) ps ≡ true → list_any (λ p. covers p q) ps ≡ true) → (s || list_any (λ p. same_path p q) ps) ≡ true → (covers p q || list_any (λ p. covers p q) ps) ≡ true
         step true is rest name = ap (λ (b : Bool). b || list_any (λ p. covers p q) ps) (same_covers p q is)
-        step false is rest name = rw (rest name) (last (covers p q))
+        step false is rest name = rw (rest name) (or_true (covers p q))
 
 without_agrees : (gone loose : List ℕ → Bool) (t : Image) → Agrees gone loose t (without gone t)
 without_agrees gone loose t = record {

@@ -12,20 +12,12 @@ use Rattle.ips_filter.specs.Settings.{Set, value_at}
 use Rattle.ips_filter.specs.Facet.{Outranks, IsMet, Decides, HasFacet}
 use Rattle.ips_grammar.proofs.Decided.{Decided, with_it, both, either, unless, where_so, unrefuted, is_true, is_below, same_number, one_of}
 use Rattle.ips_grammar.proofs.Stars.{matches}
+use Rattle.ips_filter.proofs.Facets.{all_at}
 
 abbrev Facets : Type 0
 Facets = List (List ℕ × Bool)
 
 -- ---- patterns that are set
-
--- what holds of all patterns holds of one that is set
-pattern_stands : (P : List ℕ → Type 0) (es : Facets) (q : List ℕ) (v : Bool) → AllByRecursion (λ e. P e.0) es → value_at es q ≡ Some v → P q
-pattern_stands P [] q v all at = absurd (none-some v at)
-pattern_stands P (e ∷ es) q v all at = go (pattern_stands P es q v all.1) (bytes_eq q e.0) refl
-  where
-    go : (value_at es q ≡ Some v → P q) → (t : Bool) → bytes_eq q e.0 ≡ t → P q
-    go rest true same = subst P (sym ((bytes_eq-Decides q e.0).0 same)) all.0
-    go rest false other = rest (sym (ap (λ (t : Bool). cond t (Some e.1) (value_at es q)) other) ∙ at)
 
 -- the pattern is set, and what it is set to has the property
 abbrev SetSo : Facets → (List ℕ → Bool → Type 0) → List ℕ → Type 0
@@ -43,7 +35,7 @@ some_pattern es P decide = go (one_of (λ (e : List ℕ × Bool). SetSo es P e.0
   where
     go : ((e : List ℕ × Bool) × SetSo es P e.0) ⊎ AllByRecursion (λ (e : List ℕ × Bool). SetSo es P e.0 → ⊥) es → Decided ((q : List ℕ) × SetSo es P q)
     go (inl found) = inl (found.0.0, found.1)
-    go (inr none) = inr (λ w. pattern_stands (λ q. SetSo es P q → ⊥) es w.0 w.1.0 none w.1.1 w.1)
+    go (inr none) = inr (λ w. all_at (λ q. SetSo es P q → ⊥) es w.0 w.1.0 none w.1.1 w.1)
 
 every_pattern : (es : Facets) (P : List ℕ → Bool → Type 0) → ((q : List ℕ) (v : Bool) → Decided (P q v)) → Decided ((q : List ℕ) (v : Bool) → value_at es q ≡ Some v → P q v)
 every_pattern es P decide = go (some_pattern es (λ q v. P q v → ⊥) (λ q v. unless (decide q v)))

@@ -10,7 +10,7 @@ use Rattle.ips_action.specs.declared.attrs.Attr.{Attr}
 use Rattle.ips_action.specs.Attrs.{is_same, IsBefore, AreAttrs, values_of, values_in, Gathers}
 use Rattle.ips_action.specs.Gathering.{single}
 use Rattle.ips_action.proofs.KeyOrder.{by_bytes, same_true, same_self, before_other, before_trans, equal_is, turned}
-use Rattle.ips_action.proofs.One.{later_none}
+use Rattle.ips_action.proofs.One.{later_none, all_later}
 
 -- the attributes with one more value, before the other values of its key; the attributes behind the first have it already
 abbrev put_by : Ordering → Pair → Attr → List Attr → List Attr → List Attr
@@ -27,10 +27,6 @@ gather [] = []
 gather (p ∷ pairs) = put p (gather pairs)
 
 -- ---- they stand in order
-
-all_later : (attrs : List Attr) (a b : List ℕ) → IsBefore a b → AllByRecursion (λ (x : Attr). IsBefore b x.key) attrs → AllByRecursion (λ (x : Attr). IsBefore a x.key) attrs
-all_later [] a b h g = tt
-all_later (x ∷ attrs) a b h g = (before_trans a b x.key h g.0, all_later attrs a b h g.1)
 
 put_all : (P : List ℕ → Type 0) (p : Pair) (attrs : List Attr) → AllByRecursion (λ (a : Attr). P a.key) attrs → P p.key → AllByRecursion (λ (a : Attr). P a.key) (put p attrs)
 put_all P p [] h g = (g, tt)

@@ -14,6 +14,7 @@ use Rattle.ips_filter.specs.Facet.{HasFacet}
 use Rattle.ips_filter.specs.Admitted.{is_variant, has_value, HasTag, MeetsVariants, MeetsAllFacets, IsTrueTag, MeetsSomeFacet, Admits}
 use Rattle.ips_grammar.proofs.Decided.{Decided, with_it, both, either, unless, where_so, unrefuted, is_true, same_bytes, one_of}
 use Rattle.ips_grammar.proofs.Facets.{has_facet}
+use Rattle.ips_text.proofs.Truths.{or_true}
 
 -- ---- keys of attributes
 
@@ -50,10 +51,6 @@ value_first Q v values h value has = elim (or_cases (bytes_eq value v) (has_valu
   | inl same ↦ subst Q (sym ((bytes_eq-Decides value v).0 same)) h.0
   | inr later ↦ h.1 value later
 ]
-
-or_true : (a : Bool) → (a || true) ≡ true
-or_true true = refl
-or_true false = refl
 
 every_value : (Q : List ℕ → Type 0) → ((value : List ℕ) → Decided (Q value)) → (values : List (List ℕ)) → Decided ((value : List ℕ) → has_value values value ≡ true → Q value)
 every_value Q decide [] = inl (λ value has. absurd (true≢false (sym has)))

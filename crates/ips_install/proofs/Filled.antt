@@ -7,66 +7,7 @@ use Rattle.ips_folder.specs.Calls.{IsSole, has_mode}
 use Rattle.ips_text.proofs.Ancestry.{same_path-self}
 use Rattle.ips_outside.proofs.Images.{image_ext}
 use Rattle.ips_outside.proofs.Placed.{look_placed, placed_sole}
-
--- bytes behind bytes
-more_twice : (a b : List ℕ) (e : Option Entry) → more_bytes b (more_bytes a e) ≡ more_bytes (a ++ b) e
-more_twice a b (Some (Dir m f)) = refl
-more_twice a b (Some (File m x)) = ap (λ (y : List ℕ). Some (File m y)) (append_assoc x a b)
-more_twice a b (Some (Link g)) = refl
-more_twice a b (Some Other) = refl
-more_twice a b None = refl
-
-more_none : (e : Option Entry) → more_bytes [] e ≡ e
-more_none (Some (Dir m f)) = refl
-more_none (Some (File m x)) = ap (λ (y : List ℕ). Some (File m y)) (append-nil x)
-more_none (Some (Link g)) = refl
-more_none (Some Other) = refl
-more_none None = refl
-
-more_file : (bytes : List ℕ) (e : Option Entry) → is_file (more_bytes bytes e) ≡ is_file e
-more_file bytes (Some (Dir m f)) = refl
-more_file bytes (Some (File m x)) = refl
-more_file bytes (Some (Link g)) = refl
-more_file bytes (Some Other) = refl
-more_file bytes None = refl
-
-pub appended_twice : (p a b : List ℕ) (t : Image) → appended p b (appended p a t) ≡ appended p (a ++ b) t
-appended_twice p a b t = image_ext _ _ (λ q. at (same_path p q) (t.look q)) (λ x y. refl)
-  where
-    at : (s : Bool) (e : Option Entry) → cond s (more_bytes b (cond s (more_bytes a e) e)) (cond s (more_bytes a e) e) ≡ cond s (more_bytes (a ++ b) e) e
-    at true e = more_twice a b e
-    at false e = refl
-
-pub appended_none : (p : List ℕ) (t : Image) → appended p [] t ≡ t
-appended_none p t = image_ext _ _ (λ q. at (same_path p q) (t.look q)) (λ x y. refl)
-  where
-    at : (s : Bool) (e : Option Entry) → cond s (more_bytes [] e) e ≡ e
-    at true e = more_none e
-    at false e = refl
-
--- a file with one name stays one
-pub sole_appended : (p bytes : List ℕ) (t : Image) → IsSole t p → IsSole (appended p bytes t) p
-sole_appended p bytes t h = record { file = rw (same_path-self p) (more_file bytes (t.look p) ∙ h.file); sole = h.sole }
-
--- a file that was made has one name
-pub sole_placed : (p : List ℕ) (m : ℕ) (bytes : List ℕ) (t : Image) → IsSole (placed p (Some (File m bytes)) t) p
-sole_placed p m bytes t = record { file = rw (look_placed p (Some (File m bytes)) t) refl; sole = λ q same. placed_sole p q (Some (File m bytes)) t same }
-
-pub appended_placed : (p : List ℕ) (m : ℕ) (bytes : List ℕ) (t : Image) → appended p bytes (placed p (Some (File m [])) t) ≡ placed p (Some (File m bytes)) t
-appended_placed p m bytes t = image_ext _ _ (λ q. at (same_path p q) (cond (covers p q) None (t.look q))) (λ x y. refl)
-  where
-    at : (s : Bool) (e : Option Entry) → cond s (more_bytes bytes (cond s (Some (File m [])) e)) (cond s (Some (File m [])) e) ≡ cond s (Some (File m bytes)) e
-    at true e = refl
-    at false e = refl
-
-pub moded_placed : (p : List ℕ) (m old : ℕ) (bytes : List ℕ) (t : Image) → moded m p (placed p (Some (File old bytes)) t) ≡ placed p (Some (File m bytes)) t
-moded_placed p m old bytes t = image_ext _ _ (λ q. at q (same_path p q) refl ((placed p (Some (File old bytes)) t).same p q) refl) (λ x y. refl)
-  where
-    at : (q : List ℕ) (s : Bool) → same_path p q ≡ s → (n : Bool) → (placed p (Some (File old bytes)) t).same p q ≡ n
-        → cond (s || n) (with_mode m (cond s (Some (File old bytes)) (cond (covers p q) None (t.look q)))) (cond s (Some (File old bytes)) (cond (covers p q) None (t.look q))) ≡ cond s (Some (File m bytes)) (cond (covers p q) None (t.look q))
-    at q true is n own = refl
-    at q false is true own = let one : q ≡ p = placed_sole p q (Some (File old bytes)) t own in let self = same_path-self p in absurd (let bad : same_path p q ≡ true = ap (same_path p) one ∙ self in cc)
-    at q false is false own = refl
+use Rattle.ips_folder.proofs.Filled.{more_twice, more_none, more_file, sole_placed, appended_placed, moded_placed}
 
 -- a file that was made and filled
 module _ (p bytes : List ℕ) (t mid u : Image) (made : mid ≡ placed p (Some (File 384 [])) t) (copied : u ≡ appended p bytes mid) where

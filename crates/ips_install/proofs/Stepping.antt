@@ -23,6 +23,7 @@ use Rattle.ips_install.specs.Laying.{CanLay, HasNext, LaysFile, LaysFirst, LaysS
 use Rattle.ips_install.proofs.Places.{map_at, all_at}
 use Rattle.ips_install.proofs.Numbers.{puts, number_at, front_same}
 use Rattle.ips_text.proofs.Lists.{element}
+use Rattle.ips_steps.proofs.Laid.{flip}
 
 -- ---- a step of a list
 
@@ -37,9 +38,6 @@ named_at [] k s q stands off = cc
 named_at (x ∷ rest) zero s q stands off = let one : x ≡ s = cc in subst (λ (y : Step). same_path (path_of y) q ≡ false) one (or_parts (same_path (path_of x) q) (named rest q) off).0
 named_at (x ∷ rest) (suc k) s q stands off = named_at rest k s q stands (or_parts (same_path (path_of x) q) (named rest q) off).1
 
-flip_off : (p q : List ℕ) → same_path p q ≡ false → same_path q p ≡ false
-flip_off p q off = false_from_ne_true (same_path q p) (λ same. clash (same_path p q) (same_path-sym q p same) off)
-
 -- no earlier step has the path of a step
 front_named : (steps : List Step) (k : ℕ) (s : Step) → distinct steps ≡ true → slice_get steps k ≡ Some s → named (take k steps) (path_of s) ≡ false
 front_named [] k s once stands = cc
@@ -47,7 +45,7 @@ front_named (x ∷ rest) zero s once stands = refl
 front_named (x ∷ rest) (suc k) s once stands =
     let parts = and_parts (not (named rest (path_of x))) (distinct rest) once in
     or_from (same_path (path_of x) (path_of s)) (named (take k rest) (path_of s))
-    (flip_off (path_of s) (path_of x) (named_at rest k s (path_of x) stands (not-true (named rest (path_of x)) parts.0)))
+    (flip (path_of s) (path_of x) (named_at rest k s (path_of x) stands (not-true (named rest (path_of x)) parts.0)))
     (front_named rest k s parts.1 stands)
 
 -- ---- nothing comes to stand where no step makes anything

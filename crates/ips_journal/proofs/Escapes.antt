@@ -10,6 +10,8 @@ use Rattle.ips_text.specs.Path.{parts}
 use Rattle.ips_text.specs.Quote.{is_plain, quoted_byte, quoted, shown, AreBytes}
 use Rattle.ips_journal.specs.Escape.{is_kept, escaped_byte, escaped}
 use Rattle.ips_journal.proofs.Cuts.{IsClear, clear_append}
+use Rattle.ips_text.proofs.Fronts.{some_part}
+use Rattle.ips_text.proofs.Shown.{behind_byte}
 
 -- ---- one byte
 
@@ -165,20 +167,6 @@ pub escaped_quoted : (x : List ℕ) → escaped false x ≡ quoted x
 unfolding quoted
 escaped_quoted [] = refl
 escaped_quoted (b ∷ x) = rw (one_quoted b, escaped_quoted x) (sym (flat_map-cons quoted_byte b x))
-
-some_part : (bs : List ℕ) → (x : List ℕ) × (xs : List (List ℕ)) × (parts bs ≡ x ∷ xs)
-some_part [] = ([], [], refl)
-some_part (b ∷ bs) = go (eqb b 47) (parts bs)
-  where
-    go : (t : Bool) (rest : List (List ℕ)) → (x : List ℕ) × (xs : List (List ℕ)) × (cond t ([] ∷ rest) (onto_first b rest) ≡ x ∷ xs)
-    go true rest = ([], rest, refl)
-    go false [] = (b ∷ [], [], refl)
-    go false (x ∷ xs) = (b ∷ x, xs, refl)
-
-behind_byte : (b : ℕ) (x : List ℕ) (xs : List (List ℕ)) → join_with_byte 47 (map quoted ((b ∷ x) ∷ xs)) ≡ quoted_byte b ++ join_with_byte 47 (map quoted (x ∷ xs))
-unfolding quoted
-behind_byte b x [] = refl
-behind_byte b x (y ∷ ys) = append_assoc (quoted_byte b) (quoted x) (47 ∷ join_with_byte 47 (map quoted (y ∷ ys)))
 
 one_shown : (b : ℕ) → eqb b 47 ≡ false → escaped_byte true b ≡ quoted_byte b
 one_shown b e = go (is_plain b) (eqb b 47) e

@@ -95,8 +95,5 @@ shown_long p = omega (arith, escaped_long true p, ap length (escaped_shown p))
 pub target_clear : (t : List ℕ) → AreBytes t → IsClear (quoted t)
 target_clear t h = subst IsClear (escaped_quoted t) (escaped_clear false t h)
 
-pub target_apart : (s t : List ℕ) → AreBytes s → AreBytes t → quoted s ≡ quoted t → s ≡ t
-target_apart s t hs ht e = escaped_apart false s t hs ht (escaped_quoted s ∙ e ∙ sym (escaped_quoted t))
-
 pub quoted_long : (t : List ℕ) → length (quoted t) ≤ 3 * length t
 quoted_long t = omega (arith, escaped_long false t, ap length (escaped_quoted t))

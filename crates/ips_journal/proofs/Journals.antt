@@ -13,15 +13,14 @@ use Rattle.ips_journal.specs.Reading.{puts_in}
 use Rattle.ips_journal.specs.Holding.{IsNumberSmall, IsSafe, IsStepLine}
 use Rattle.ips_journal.proofs.Cuts.{cut_once}
 use Rattle.ips_journal.proofs.StepLines.{line_apart, not_end, step_one_line, end_one_line}
+use Rattle.ips_text.proofs.Truths.{both_true}
+use Rattle.ips_steps.proofs.Lists.{proper_more}
 
 -- ---- one step more
 
 and_assoc : (a b c : Bool) → (a && (b && c)) ≡ ((a && b) && c)
 and_assoc true b c = refl
 and_assoc false b c = refl
-
-both_true : (a b : Bool) → a ≡ true → b ≡ true → (a && b) ≡ true
-both_true a b ea eb = rw (ea, eb) refl
 
 allowed_more : (front more : List Step) → allowed (front ++ more) ≡ (allowed front && allowed more)
 allowed_more [] more = refl
@@ -37,10 +36,6 @@ numbered_more n (Put k m p ∷ front) more =
     ap (λ (b : Bool). (k == n) && b) (numbered_more (n + 1) front more ∙ ap (λ (j : ℕ). numbered (n + 1) front && numbered j more) same) ∙ and_assoc (k == n) (numbered (n + 1) front) (numbered (n + (1 + puts_in front)) more)
 numbered_more n (Symlink p target ∷ front) more = numbered_more n front more
 numbered_more n (Hard p to ∷ front) more = numbered_more n front more
-
-proper_more : (front more : List Step) → AllProper front → AllProper more → AllProper (front ++ more)
-proper_more [] more hf hm = hm
-proper_more (s ∷ front) more hf hm = (hf.0, proper_more front more hf.1 hm)
 
 proper_parts : (front more : List Step) → AllProper (front ++ more) → AllProper front × AllProper more
 proper_parts [] more h = (tt, h)

@@ -11,7 +11,8 @@ use Rattle.ips_journal.specs.Escape.{escaped}
 use Rattle.ips_journal.specs.Line.{has, IsCut}
 use Rattle.ips_journal.proofs.Bytes.{path_bytes}
 use Rattle.ips_journal.proofs.Escapes.{escaped_apart, escaped_quoted, escaped_shown}
-use Rattle.ips_journal.proofs.StepLines.{two_fields, mode_whole, path_whole, number_whole, path_short, target_short}
+use Rattle.ips_journal.proofs.StepLines.{two_fields, mode_whole, path_whole, number_whole, target_short}
+use Rattle.ips_outside.proofs.Rooms.{path_fits}
 
 pub on_ok : {T E : Type 0} (r : Result T E) (b : Bool) (P : Type 0) → b ≡ is_ok r → b ≡ true → OnOk r P → P
 on_ok (Ok x) b P e t h = h
@@ -35,7 +36,7 @@ module _ (bytes list : List ℕ) where
 
 -- where the bytes are no escaped form of what there is room for, they are no path's
 pub no_path : (bytes : List ℕ) (room : ℕ) → 4095 ≤ room → ((list : List ℕ) → AreBytes list → length list ≤ room → bytes ≡ escaped true list → ⊥) → (p : List ℕ) → IsPath p → bytes ≡ shown p → ⊥
-no_path bytes room le none p h e = none p (path_bytes p h) (omega (arith, path_short p h)) (e ∙ sym (escaped_shown p))
+no_path bytes room le none p h e = none p (path_bytes p h) (omega (arith, path_fits p h)) (e ∙ sym (escaped_shown p))
 
 pub no_target : (bytes : List ℕ) (room : ℕ) → 4095 ≤ room → ((list : List ℕ) → AreBytes list → length list ≤ room → bytes ≡ escaped false list → ⊥) → (t : List ℕ) → IsTarget t → AreBytes t → bytes ≡ quoted t → ⊥
 no_target bytes room le none t h ht e = none t ht (omega (arith, target_short t h)) (e ∙ sym (escaped_quoted t))

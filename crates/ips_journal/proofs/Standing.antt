@@ -22,9 +22,6 @@ use Rattle.ips_journal.proofs.Journals.{journal_more, journal_last, last_told, p
 
 -- ---- writing
 
-pub mapped_more : {A B : Type 0} (f : A → B) (xs : List A) (i : ℕ) (x : A) → i < length xs → x ≡ get_or xs i x → map f (take (i + 1) xs) ≡ map f (take i xs) ++ f x ∷ []
-mapped_more f xs i x lt is = ap (map f) (take_more xs i x lt) ∙ map-append f (take i xs) (get_or xs i x ∷ []) ∙ ap (λ y. map f (take i xs) ++ f y ∷ []) (sym is)
-
 pub line_written : (text start new rest : List ℕ) (steps more : List Step) (s : Step) → ((x : List ℕ) → text ++ x ≡ start ++ step_lines steps x) → new ≡ text ++ line (step_line s) [] → more ≡ steps ++ s ∷ []
     → new ++ rest ≡ start ++ step_lines more rest
 line_written text start new rest steps more s so_far e m =

@@ -19,7 +19,9 @@ use Rattle.ips_journal.specs.Line.{has}
 use Rattle.ips_journal.specs.Holding.{IsNumberSmall, step_by}
 use Rattle.ips_journal.specs.declared.parts.Parts.{Parts}
 use Rattle.ips_journal.proofs.Cuts.{cut_once, clear_lacks, lacks_append}
-use Rattle.ips_journal.proofs.FieldForms.{mode_apart, mode_clear, number_clear, number_long, path_clear, path_apart, shown_long, target_clear, target_apart, quoted_long}
+use Rattle.ips_journal.proofs.FieldForms.{mode_apart, mode_clear, number_clear, number_long, path_clear, path_apart, shown_long, target_clear, quoted_long}
+use Rattle.ips_text.proofs.Quotes.{quoted_apart}
+use Rattle.ips_outside.proofs.Rooms.{path_fits}
 
 -- the letter that the lines of a sort begin with
 abbrev letter : Sort → ℕ
@@ -117,7 +119,7 @@ fields_apart (Put i m p) (Put j n q) k hs ht ns nt e =
 fields_apart (Symlink p x) (Symlink q y) k hs ht ns nt e =
     let cut = two_fields (shown p) (quoted x) (shown q) (quoted y) (path_whole p hs.0) (path_whole q ht.0) e in
     let path = path_apart p q hs.0 ht.0 cut.0 in
-    let says = target_apart x y hs.2 ht.2 cut.1 in
+    let says = quoted_apart x y hs.2 ht.2 cut.1 in
     rw (path, says) refl
 fields_apart (Hard p x) (Hard q y) k hs ht ns nt e =
     let cut = two_fields (shown p) (shown x) (shown q) (shown y) (path_whole p hs.0) (path_whole q ht.0) e in
@@ -167,9 +169,6 @@ step_one_line s h n = lacks_append 10 (word (sort_of s)) (fields_of s) (word_lin
 pub end_one_line : (n : ℕ) → n < 2 ^ 64 → has 10 (end_line n) ≡ false
 end_one_line n lt = clear_lacks 10 (decimal n) (omega arith) (number_clear n lt)
 
-pub path_short : (p : List ℕ) → IsPath p → length p ≤ 1023
-path_short p h = elim (cases_lt 1023 (length p)) [ inl long ↦ absurd (h TooLong (inl long)) | inr few ↦ few ]
-
 pub target_short : (t : List ℕ) → IsTarget t → length t ≤ 4095
 target_short t h = elim (cases_lt 4095 (length t)) [ inl long ↦ absurd (h target.TooLong long) | inr few ↦ few ]
 
@@ -182,12 +181,12 @@ word_short sort.Link = omega arith
 word_short sort.Hard = omega arith
 
 fields_short : (s : Step) → IsProper s → IsNumberSmall s → length (fields_of s) ≤ 15355
-fields_short (Gone p) h n = omega (arith, shown_long p, path_short p h)
-fields_short (Fresh m p) h n = omega (arith, shown_long p, path_short p h.0)
-fields_short (Mode m p) h n = omega (arith, shown_long p, path_short p h.0)
-fields_short (Put i m p) h n = omega (arith, shown_long p, path_short p h.0, number_long i n, length-append (decimal i) (32 ∷ (mode_text m ++ 32 ∷ shown p)))
-fields_short (Symlink p x) h n = omega (arith, shown_long p, path_short p h.0, quoted_long x, target_short x h.1, length-append (shown p) (32 ∷ quoted x))
-fields_short (Hard p x) h n = omega (arith, shown_long p, path_short p h.0, shown_long x, path_short x h.1, length-append (shown p) (32 ∷ shown x))
+fields_short (Gone p) h n = omega (arith, shown_long p, path_fits p h)
+fields_short (Fresh m p) h n = omega (arith, shown_long p, path_fits p h.0)
+fields_short (Mode m p) h n = omega (arith, shown_long p, path_fits p h.0)
+fields_short (Put i m p) h n = omega (arith, shown_long p, path_fits p h.0, number_long i n, length-append (decimal i) (32 ∷ (mode_text m ++ 32 ∷ shown p)))
+fields_short (Symlink p x) h n = omega (arith, shown_long p, path_fits p h.0, quoted_long x, target_short x h.1, length-append (shown p) (32 ∷ quoted x))
+fields_short (Hard p x) h n = omega (arith, shown_long p, path_fits p h.0, shown_long x, path_fits x h.1, length-append (shown p) (32 ∷ shown x))
 
 -- with its newline it fits the buffer
 pub step_short : (s : Step) → IsProper s → IsNumberSmall s → length (step_line s) < 16384

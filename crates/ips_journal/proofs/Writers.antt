@@ -13,6 +13,7 @@ use Rattle.ips_journal.specs.Text.{head_line, line, step_line, end_line, headed,
 use Rattle.ips_journal.specs.Writing.{IsWritten}
 use Rattle.ips_journal.specs.declared.writer.JournalWriter.{JournalWriter}
 use Rattle.ips_journal.proofs.Standing.{line_written}
+use Rattle.ips_folder.proofs.Filled.{more_file, sole_appended}
 
 more_of : (more file : List ℕ) (e : Option Entry) → file_bytes e ≡ Some file → file_bytes (more_bytes more e) ≡ Some (file ++ more)
 more_of more file (Some (Dir m f)) is = cc
@@ -25,17 +26,6 @@ more_of more file None is = cc
 pub appended_bytes : (p more file : List ℕ) (t : Image) → file_bytes (t.look p) ≡ Some file → file_bytes ((appended p more t).look p) ≡ Some (file ++ more)
 appended_bytes p more file t is = rw (same_path-self p) (more_of more file (t.look p) is)
 
-more_file : (more : List ℕ) (e : Option Entry) → is_file (more_bytes more e) ≡ is_file e
-more_file more (Some (Dir m f)) = refl
-more_file more (Some (File m b)) = refl
-more_file more (Some (Link g)) = refl
-more_file more (Some Other) = refl
-more_file more None = refl
-
--- a file with one name is so still
-pub sole_more : (p more : List ℕ) (t : Image) → IsSole t p → IsSole (appended p more t) p
-sole_more p more t own = record { file = rw (same_path-self p) (more_file more (t.look p) ∙ own.file); sole = own.sole }
-
 module _ (w : JournalWriter) (t : Image) (steps : List Step) (is : IsWritten w t steps) where
   -- what was gathered is appended
   pub appended_all : (v : JournalWriter) (u : Image) (p bytes : List ℕ) → bytes ≡ w.gathered.items → p ≡ journal_name → u ≡ appended p bytes t → v.gathered.items ≡ [] → v.steps ≡ w.steps → IsWritten v u steps
@@ -44,7 +34,7 @@ module _ (w : JournalWriter) (t : Image) (steps : List Step) (is : IsWritten w t
       subst (λ (x : Image). IsWritten v x steps) (sym here) (record {
         file = is.file ++ w.gathered.items;
         stands = appended_bytes journal_name w.gathered.items is.file t is.stands;
-        sole = sole_more journal_name w.gathered.items t is.sole;
+        sole = sole_appended journal_name w.gathered.items t is.sole;
         text = λ rest. ap (λ (x : List ℕ). ((is.file ++ w.gathered.items) ++ x) ++ rest) none ∙ ap (λ (x : List ℕ). x ++ rest) (append-nil (is.file ++ w.gathered.items)) ∙ is.text rest;
         counted = same ∙ is.counted;
       })

@@ -46,7 +46,7 @@ mode_two true c e e' n x y g h = g refl
 mode_two false true e e' n x y g h = refl
 mode_two false false e e' n x y g h = h refl
 
-same_two : (c d x y z : Bool) → (c ≡ false → d ≡ false → y ≡ z) → cond (c || d) x y ≡ cond (c || d) x z
+pub same_two : (c d x y z : Bool) → (c ≡ false → d ≡ false → y ≡ z) → cond (c || d) x y ≡ cond (c || d) x z
 same_two true d x y z h = refl
 same_two false true x y z h = refl
 same_two false false x y z h = h refl refl
@@ -62,7 +62,7 @@ moded_look : (n l : Bool) (w : ℕ) (x y : Option Entry) → with_mode 0 x ≡ w
 moded_look true l w x y e h le = mode_any w x y e
 moded_look false l w x y e h le = h le
 
-moded_mode : (n : Bool) (w : ℕ) (x : Option Entry) → with_mode 0 (cond n (with_mode w x) x) ≡ with_mode 0 x
+pub moded_mode : (n : Bool) (w : ℕ) (x : Option Entry) → with_mode 0 (cond n (with_mode w x) x) ≡ with_mode 0 x
 moded_mode true w x = mode_over 0 w x
 moded_mode false w x = refl
 
@@ -75,7 +75,7 @@ moded_agrees w p free loose t u fp h = record {
   same = λ a b fa fb. h.same a b fa fb;
 }
 
-redirected : (s c : Bool) (to a : List ℕ) (free : List ℕ → Bool) → (c && not s) ≡ false → free to ≡ false → (c ≡ false → free a ≡ false) → free (cond s to a) ≡ false
+pub redirected : (s c : Bool) (to a : List ℕ) (free : List ℕ → Bool) → (c && not s) ≡ false → free to ≡ false → (c ≡ false → free a ≡ false) → free (cond s to a) ≡ false
 redirected true c to a free b ft h = ft
 redirected false true to a free b ft h = cc
 redirected false false to a free b ft h = h refl

@@ -13,7 +13,7 @@ use Rattle.std.specs.Cmp.{nat_cmp_is}
 use Rattle.ips_outside.proofs.Maps.{one_path}
 use Rattle.ips_outside.proofs.Rooms.{stands}
 use Rattle.ips_text.specs.Ancestry.{same_path, covers, is_below, parent, behind}
-use Rattle.ips_text.proofs.Ancestry.{same_path-true, same_path-self, covers_short, parent_length, covers-parent, at_parent_of}
+use Rattle.ips_text.proofs.Ancestry.{same_path-true, same_path-self, covers_short, parent_length, covers-parent, at_parent_of, parent_covers}
 use Rattle.ips_outside.specs.Image.{IsImage}
 use Rattle.ips_outside.specs.Table.{kind_at, image_of}
 use Rattle.ips_outside.specs.Order.{comes_after, front_below, IsNextBelow, IsNoneBelow}
@@ -132,18 +132,6 @@ between_past (a ∷ p) (x ∷ q) f l =
     (λ eq. ⊎_elim (λ lt'. absurd (omega (arith, eq.0))) (λ eq'. and_from (a == x) (covers p q) (eq-eqb a x eq.0) (between_past p q eq.1 eq'.1)) down) up
 
 -- ---- children
-
-pub parent_covers : (q d : List ℕ) → parent q ≡ Some d → covers d q ≡ true
-parent_covers [] d is = cc
-parent_covers (a ∷ q) d is = go (parent q) (parent_covers q) is
-  where
-    last : (s : Bool) → (a == 47) ≡ s → cond s (Some []) None ≡ Some d → covers d (a ∷ q) ≡ true
-    last true e is = let root : [] ≡ d = cc in subst (λ (x : List ℕ). covers x (a ∷ q) ≡ true) root e
-    last false e is = cc
-
-    go : (o : Option (List ℕ)) → ((r : List ℕ) → o ≡ Some r → covers r q ≡ true) → behind a o ≡ Some d → covers d (a ∷ q) ≡ true
-    go (Some r) up is = let shape : a ∷ r ≡ d = cc in subst (λ (x : List ℕ). covers x (a ∷ q) ≡ true) shape (and_from (a == a) (covers r q) (eq-eqb a a refl) (up r refl))
-    go None up is = last (a == 47) refl is
 
 -- a child stands below its directory
 pub child_below : (dir q : List ℕ) → parent q ≡ Some dir → is_below dir q ≡ true

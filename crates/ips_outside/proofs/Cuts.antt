@@ -13,6 +13,7 @@ use Rattle.ips_outside.specs.declared.table.Kind.{Kind}
 use Rattle.ips_outside.specs.declared.table.Kind.TheVariants as kind
 use Rattle.ips_outside.specs.declared.table.Node.{Node}
 use Rattle.ips_outside.proofs.Trees.{node_within, file_at-node, file_of-get, file_of-set_here, file_of-set_other}
+use Rattle.ips_text.proofs.Truths.{or_true}
 
 -- how far the nodes are cut
 abbrev pub IsCutTo : List Node → List Bool → ℕ → List Node → Type 0
@@ -72,10 +73,6 @@ all_cut first nodes kept cut n = cut n ∙ go (get_or kept n true) refl
 
 -- ---- which nodes are kept
 
-or_last : (b : Bool) → (b || true) ≡ true
-or_last true = refl
-or_last false = refl
-
 one_is : (k : Option Kind) (n : ℕ) → one_node (node_of k) (Some n) ≡ true → node_of k ≡ Some n
 one_is k n one = go (node_of k) one
   where
@@ -113,7 +110,7 @@ module _ (entries : List (Vec ℕ Global × Kind)) (count : ℕ) (is_named : Lis
       here q n off true one is =
           let unnamed : is_named path.items ≡ false = ap is_named (same_path-true path.items q one) ∙ off in
           let node = is_one (Some kind) n is in
-          inl (marked n ∙ rw (node, unnamed) (or_last (get_or flags n true)))
+          inl (marked n ∙ rw (node, unnamed) (or_true (get_or flags n true)))
       here q n off false one is = inr is
 
       from : (n : ℕ) → n < count → (b : Bool) → get_or flags n true ≡ b → (b || (one_node (node_of (Some kind)) (Some n) && not (is_named path.items))) ≡ true → (q : List ℕ) × (node_of (kind_at entries q) ≡ Some n) × (is_named q ≡ false)

@@ -6,7 +6,7 @@ use Rattle.ips_outside.specs.Image.{Entry, Image, Agrees, with_mode}
 use Rattle.ips_outside.specs.Change.{placed, joined, moded, names}
 use Rattle.ips_outside.specs.State.{State, nowhere, MayLeave, Changed, MayChange, Within, written, mode_set, settled}
 use Rattle.ips_text.proofs.Ancestry.{uncovered}
-use Rattle.ips_outside.proofs.Agree.{mode_over}
+use Rattle.ips_outside.proofs.Agree.{mode_over, moded_mode}
 
 pub agrees_self : (free loose : List ℕ → Bool) (t : Image) → Agrees free loose t t
 agrees_self free loose t = record { look = λ q f l. refl; but_mode = λ q f. refl; same = λ a b f g. refl }
@@ -69,14 +69,10 @@ joined_within p to t = record {
   same = λ a b f g. rw (f, g, uncovered p a f, uncovered p b g) refl;
 }
 
-moded_but : (n : Bool) (m : ℕ) (x : Option Entry) → with_mode 0 (cond n (with_mode m x) x) ≡ with_mode 0 x
-moded_but true m x = mode_over 0 m x
-moded_but false m x = refl
-
 pub moded_within : (m : ℕ) (p : List ℕ) (t : Image) → Agrees nowhere (names t p) t (moded m p t)
 moded_within m p t = record {
   look = λ q f l. rw l refl;
-  but_mode = λ q f. moded_but (names t p q) m (t.look q);
+  but_mode = λ q f. moded_mode (names t p q) m (t.look q);
   same = λ a b f g. refl;
 }
 

@@ -15,6 +15,7 @@ use Rattle.ips_outside.specs.declared.table.Node.{Node}
 use Rattle.ips_outside.specs.declared.refusal.TreeFault.TheVariants.{NoParent, Taken}
 use Rattle.ips_outside.proofs.Images.{image_ext}
 use Rattle.ips_outside.proofs.Formed.{placed_formed, joined_formed, moded_formed, appended_formed, marked_formed}
+use Rattle.ips_text.proofs.Truths.{or_true}
 
 pub on_err : {T E P : Type 0} (r : Result T E) → P → OnErr r P
 on_err (Ok x) p = tt
@@ -221,10 +222,6 @@ module _ (old new : List (Vec ℕ Global × Kind)) (nodes : List Node) (p : List
   formed_file path small = added_formed (image_of old nodes) (image_of new (nodes ++ node ∷ [])) p (Some (File node.mode node.bytes.items)) formed (no_fault (image_of old nodes) p can).0 path (lt-ltb node.mode 4096 small) image_file
 
 -- ---- one node changed
-
-or_true : (b : Bool) → (b || true) ≡ true
-or_true true = refl
-or_true false = refl
 
 pub file_of-set_here : (nodes : List Node) (n : ℕ) (node : Node) → n < length nodes → file_of (set nodes n node) n ≡ Some (File node.mode node.bytes.items)
 file_of-set_here [] n node lt = absurd (omega arith)

@@ -11,10 +11,9 @@ use Rattle.std.proofs.lemmas.List.Elements.{All-contains}
 use Rattle.std.proofs.lemmas.Map.Keys.{sorted_head, sorted_tail}
 use Rattle.ips_text.specs.Kept.{Kept}
 use Rattle.ips_text.specs.Ancestry.{same_path, covers, is_below, parent}
-use Rattle.ips_text.proofs.Ancestry.{same_path-true, same_path-self, covers_trans, parent_length, at_parent_of}
+use Rattle.ips_text.proofs.Ancestry.{same_path-true, same_path-self, covers_trans, parent_length, at_parent_of, parent_covers}
 use Rattle.ips_outside.specs.Order.{comes_after, front_below}
 use Rattle.ips_outside.proofs.Order.{front_after, below_from, after_trans}
-use Rattle.ips_outside.proofs.Children.{parent_covers}
 use Rattle.ips_meaning.specs.declared.entry.Entry.{Entry}
 use Rattle.ips_meaning.specs.declared.entry.Entry.TheVariants.{Dir, Hard}
 use Rattle.ips_meaning.specs.Together.{IsDirWanted, IsFileWanted, LeadsToWanted, HangTogether}

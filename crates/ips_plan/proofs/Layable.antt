@@ -23,7 +23,7 @@ use Rattle.ips_steps.specs.Steps as step
 use Rattle.ips_steps.specs.Steps.{Step, Stage, bytes_of, path_of, frees, freed, named, distinct, sound, can_lay, possible}
 use Rattle.ips_steps.specs.Outcome.{back, source, made, bare, with_modes, outcome}
 use Rattle.ips_steps.proofs.Lists.{clash, same_path-sym}
-use Rattle.ips_steps.proofs.ByPath.{freed_by}
+use Rattle.ips_steps.proofs.ByPath.{freed_by, made_next}
 use Rattle.ips_steps.proofs.Laid.{fits_outcome, outcome_kept}
 use Rattle.ips_install.specs.Layable.{IsPlain, HasEach, AreLayable}
 use Rattle.ips_meaning.specs.declared.entry.Entry.{Entry}
@@ -155,14 +155,6 @@ source_own (step.Fresh m p ∷ rest) q off = source_own rest q (λ r s one. off 
 source_own (step.Mode m p ∷ rest) q off = source_own rest q (λ r s one. off r s (later_of (step.Mode m p) rest (step.Hard r s) one))
 source_own (step.Put n m p ∷ rest) q off = source_own rest q (λ r s one. off r s (later_of (step.Put n m p) rest (step.Hard r s) one))
 source_own (step.Symlink p target ∷ rest) q off = source_own rest q (λ r s one. off r s (later_of (step.Symlink p target) rest (step.Hard r s) one))
-
-made_next : (stage : Stage) (s : Step) (rest : List Step) (q : List ℕ) → same_path (path_of s) q ≡ false → made stage (s ∷ rest) q ≡ made stage rest q
-made_next stage (step.Gone p) rest q off = refl
-made_next stage (step.Fresh m p) rest q off = rw off refl
-made_next stage (step.Mode m p) rest q off = refl
-made_next stage (step.Put n m p) rest q off = rw off refl
-made_next stage (step.Symlink p target) rest q off = rw off refl
-made_next stage (step.Hard p to) rest q off = refl
 
 -- what a step makes at its path is what the list makes there
 made_by : (stage : Stage) (steps : List Step) (s : Step) (e : Option image.Entry) → AllFollow steps → Contains steps s → ((rest : List Step) → made stage (s ∷ rest) (path_of s) ≡ e) → made stage steps (path_of s) ≡ e

@@ -17,10 +17,7 @@ use Rattle.ips_meaning.specs.Together.{HasProperParts, AreProper}
 use Rattle.ips_plan.specs.Planned.{payload_of}
 use Rattle.ips_plan.specs.StepsFor.{can_come, step_at, link_step, links, puts, AreNumbered}
 use Rattle.ips_plan.proofs.InOrder.{Entries}
-
-proper_both : (xs ys : List Step) → AllProper xs → AllProper ys → AllProper (xs ++ ys)
-proper_both [] ys px py = py
-proper_both (s ∷ xs) ys px py = (px.0, proper_both xs ys px.1 py)
+use Rattle.ips_steps.proofs.Lists.{proper_more}
 
 puts_both : (xs ys : List Step) → puts (xs ++ ys) ≡ puts xs + puts ys
 puts_both [] ys = omega arith
@@ -46,7 +43,7 @@ numbered_both n (step.Hard p to ∷ xs) ys nx ny = numbered_both n xs ys nx ny
 -- more steps that put so many more
 pub both_numbered : (count more : ℕ) (xs ys : List Step) → AreNumbered count xs → AllProper ys → numbered count ys ≡ true → puts ys ≡ more → AreNumbered (count + more) (xs ++ ys)
 both_numbered count more xs ys before proper numbers puts_are = record {
-  proper = proper_both xs ys before.proper proper;
+  proper = proper_more xs ys before.proper proper;
   numbers = numbered_both 0 xs ys before.numbers (let at : 0 + puts xs ≡ count = omega (arith, before.puts_are) in ap (λ (k : ℕ). numbered k ys) at ∙ numbers);
   puts_are = omega (arith, puts_both xs ys, before.puts_are, puts_are);
 }

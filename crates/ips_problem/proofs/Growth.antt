@@ -19,7 +19,7 @@ use Rattle.ips_request.specs.Stems.{has, put, put_all, firsts, stems_of}
 use Rattle.ips_request.specs.Case.{Case, said}
 use Rattle.ips_request.specs.Candidates.{candidates}
 use Rattle.ips_request.specs.Manifests.{Needed, IsManifestFault, all_manifests_limit, bytes_read, needed}
-use Rattle.ips_request.proofs.Lookups.{next_of, put_all_append}
+use Rattle.ips_request.proofs.Lookups.{put_all_append}
 use Rattle.ips_problem.specs.declared.rows.Numbered as numbers
 use Rattle.ips_problem.specs.declared.rows.Row as declared
 use Rattle.ips_problem.specs.Fault.{AreRead, IsFirstFault, all_bytes, manifests_at, manifests_of}
@@ -28,12 +28,9 @@ use Rattle.ips_problem.specs.Posed.{Numbered, Row, numbered, row_of, still_avoid
 use Rattle.ips_problem.specs.Seen.{seen_row, seen_test}
 use Rattle.ips_problem.proofs.Offering.{drawn_alike, tests_alike}
 use Rattle.ips_problem.specs.Gathered.{AreReadBehind, IsFaultAmong, IsGoneThrough, IsPosedBy, IsReadBehind, IsReadOf, IsRowOf, asked_at, tests_asked}
+use Rattle.ips_text.proofs.Lists.{all_append, take_item}
 
 -- ---- lists
-
-pub all_append : {X : Type 0} (P : X → Type 0) (xs ys : List X) → AllByRecursion P xs → AllByRecursion P ys → AllByRecursion P (xs ++ ys)
-all_append P [] ys h t = t
-all_append P (x ∷ xs) ys h t = (h.0, all_append P xs ys h.1 t)
 
 -- more stands behind what stood there
 pub list_next : {X : Type 0} (init now new before more after : List X) → after ≡ before ++ more → now ≡ init ++ before → new ≡ now ++ more → new ≡ init ++ after
@@ -93,7 +90,7 @@ read_more c before mid now stem vs reads v x h r =
 pub read_next : (c : Case) (before mid now : ℕ) (stem : List ℕ) (vs : List Parts) (i : ℕ) (v : Parts) (reads : List Read) (x : Read) → i < length vs → v ≡ get_or vs i v
     → AreReadBehind c before mid stem (take i vs) reads → IsReadBehind c mid now stem v x → AreReadBehind c before now stem (take (i + 1) vs) (reads ++ x ∷ [])
 read_next c before mid now stem vs i v reads x l at h r =
-    subst (λ ws. AreReadBehind c before now stem ws (reads ++ x ∷ [])) (sym (next_of vs i v l at)) (read_more c before mid now stem (take i vs) reads v x h r)
+    subst (λ ws. AreReadBehind c before now stem ws (reads ++ x ∷ [])) (sym (take_item vs i v l at)) (read_more c before mid now stem (take i vs) reads v x h r)
 
 -- the first that has a fault
 pub fault_next : (settings : Set) (c : Case) (before mid : ℕ) (stem : List ℕ) (vs : List Parts) (i : ℕ) (v : Parts) (reads : List Read) (why : ProblemFault) → i < length vs → v ≡ get_or vs i v
@@ -314,11 +311,6 @@ gathered_next c cur k stem rows tests total now row at g r h few more after othe
     (subst (λ (n : ℕ). IsGoneThrough c (put_all cur (drawn_in c stem)) n others asked now) (sym a)
     (subst (λ rs. IsGoneThrough c (put_all cur (drawn_in c stem)) (k + 1) rs asked now) (sym known)
     (subst (λ ts. IsGoneThrough c (put_all cur (drawn_in c stem)) (k + 1) (rows ++ row_of c stem ∷ []) ts now) (sym asks) whole)))
-
--- the stems of packages in memory
-pub stems_installed : (ps : List Package) → map (λ (p : Package). p.stem) ps ≡ map (λ (p : Installed). p.stem) (map installed ps)
-stems_installed [] = refl
-stems_installed (p ∷ ps) = ap (λ ss. p.stem ∷ ss) (stems_installed ps)
 
 -- where the list begins
 pub gathered_none : (c : Case) (stems : List (List ℕ)) (k : ℕ) (rows : List Row) (tests : List Numbered) (total : ℕ) → stems ≡ firsts (seeds c) → k ≡ 0 → rows ≡ [] → tests ≡ [] → total ≡ 0 → IsGoneThrough c stems k rows tests total

@@ -17,6 +17,7 @@ use Rattle.ips_request.specs.Case.{Case, Reading, IsReading, at_version, facts_o
 use Rattle.ips_request.specs.Candidates.{greatest, is_version, may_come, tell_obsolete}
 use Rattle.ips_request.specs.Manifests.{FaultOf, IsFetched, IsFetchFault, IsFileFault, IsOwnFault, IsThere, bytes_of}
 use Rattle.ips_problem.specs.Gathered.{Got, GotFault, IsJudgedRead, IsReadBehind}
+use Rattle.ips_request.proofs.Lookups.{there_mapped}
 
 -- ---- what a manifest says
 
@@ -61,10 +62,6 @@ stands_at_own : (o : Option Installed) (v : Parts) → is_some (at_version o v) 
 stands_at_own None v = refl
 stands_at_own (Some p) v = some_where (is_same_version v p.version) p
 
-still_some : {A B : Type 0} (f : A → B) (o : Option A) → is_some o ≡ is_some (option_map f o)
-still_some f None = refl
-still_some f (Some x) = refl
-
 -- a manifest that was judged, by what is told of its version
 pub judged_so : {A : Type 0} (settings : Set) (c : Case) (stem : List ℕ) (v w : Parts) (lines : List Line) (read : Read) (see : A → Installed) (mine : Option A) → w ≡ v → read.version ≡ w → read.manifest.lines.items ≡ lines
     → LinesAsk settings lines read.tests.items → read.gone ≡ tell_obsolete lines → read.comes ≡ may_come c stem w → read.stands ≡ is_some mine → option_map see mine ≡ own c stem w
@@ -75,7 +72,7 @@ judged_so settings c stem v w lines read see mine same version manifest asks gon
   asks = asks;
   gone = gone;
   comes = comes ∙ ap (may_come c stem) same;
-  stands = stands ∙ still_some see mine ∙ ap is_some found ∙ stands_at_own (installed_at c stem) w ∙ ap (is_version (installed_version c stem)) same;
+  stands = stands ∙ there_mapped see mine ∙ ap is_some found ∙ stands_at_own (installed_at c stem) w ∙ ap (is_version (installed_version c stem)) same;
   newest = newest ∙ ap (is_version (greatest c stem)) same;
 }
 

@@ -10,7 +10,6 @@ use Rattle.ips_depend.specs.Selection.{Selection, is_present}
 use Rattle.ips_depend.specs.Dependency.{grouped, stems}
 use Rattle.ips_state.specs.State.{Ascend}
 use Rattle.ips_request.specs.Stems.{stems_of}
-use Rattle.ips_request.proofs.Lookups.{flat_next}
 use Rattle.ips_problem.specs.declared.rows.Row.{Row}
 use Rattle.ips_problem.specs.Avoided.{AreAvoided, IsMissed, absent_stem, missed_among, missed_by}
 use Rattle.ips_problem.specs.Posed.{Numbered, Posed, is_number, version_at, picked}
@@ -18,6 +17,7 @@ use Rattle.ips_problem.specs.Seen.{puzzle_of, seen_row}
 use Rattle.ips_problem.proofs.Members.{Among, among_left, among_right, among_cases, among_map, among_mapped, among_contained, contained_among}
 use Rattle.ips_problem.proofs.Looking.{picked_with}
 use Rattle.ips_problem.proofs.Picking.{chosen_at, is_number_true}
+use Rattle.ips_text.proofs.Lists.{flat_item}
 
 -- what a choice picks of the stem with a number is the version of the candidate that it has for the number
 pub version_told : {X : Type 0} (version : X → Parts) (keys : List (String Global)) (rows : List Row) (choice : List ℕ) (stem : List ℕ) (i : ℕ) (row : Row) (o : Option X)
@@ -38,7 +38,7 @@ pub gathered_more : {X Y : Type 0} (h : X → List Y) (before : List Y) (xs : Li
     → old ≡ before ++ flat_map h (take i xs) → new ≡ old ++ h x → new ≡ before ++ flat_map h (take (i + 1) xs)
 gathered_more {Y = Y} h before xs i x old new l at is added =
     added ∙ ap (λ (a : List Y). a ++ h x) is ∙ append_assoc before (flat_map h (take i xs)) (h x)
-    ∙ ap (λ (a : List Y). before ++ a) (sym (flat_next h xs i x l at))
+    ∙ ap (λ (a : List Y). before ++ a) (sym (flat_item h xs i x l at))
 
 -- ---- which stems are missed
 

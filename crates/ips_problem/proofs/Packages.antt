@@ -22,13 +22,14 @@ use Rattle.ips_manifest.specs.declared.package.Package.{Package}
 use Rattle.ips_refute.specs.Meaning.{pairs}
 use Rattle.ips_state.specs.State.{Ascend, Installed, installed}
 use Rattle.ips_request.specs.Stems.{stems_of}
-use Rattle.ips_request.proofs.StemLists.{AreDistinct, own_number, same_stem}
+use Rattle.ips_request.proofs.StemLists.{AreDistinct, own_number, same_stem, none_or_some}
 use Rattle.ips_problem.specs.declared.rows.Row as declared
 use Rattle.ips_problem.specs.Posed.{Offer, Row, Posed, candidate_of, number_of, picked, version_at, version_of}
 use Rattle.ips_problem.specs.Seen.{puzzle_of, seen_row}
 use Rattle.ips_problem.specs.Taken.{AreTaken, offer_at, package_of, package_with, selected_at, selected_below}
 use Rattle.ips_problem.proofs.Members.{Among, among_left, among_right, among_cases, among_at, place_among, contained_at, at_contained}
 use Rattle.ips_problem.proofs.Picking.{chosen_at}
+use Rattle.ips_text.proofs.Lists.{element}
 
 -- ---- one stem more
 
@@ -103,11 +104,6 @@ stems_in packages = map (λ (q : Installed). q.stem) packages
 -- two numbers don't have one stem
 one_number : (p : Posed) (i n : ℕ) (stem : List ℕ) → AreDistinct p.stems → slice_get p.stems i ≡ Some stem → slice_get p.stems n ≡ Some stem → i ≡ n
 one_number p i n stem d e f = same_Some i n (sym (own_number p.stems i stem d e) ∙ own_number p.stems n stem d f)
-
-element : {X : Type 0} (xs : List X) (k : ℕ) → k < length xs → (x : X) × (slice_get xs k ≡ Some x)
-element [] k l = absurd (omega arith)
-element (x ∷ xs) zero l = (x, refl)
-element (x ∷ xs) (suc k) l = element xs k (omega arith)
 
 distinct_below : (p : Posed) (choice : List ℕ) → AreDistinct p.stems → (n : ℕ) → AreDistinct (stems_in (selected_below p choice n))
 distinct_below p choice d zero = λ i j z l m. absurd (omega arith)
@@ -187,10 +183,6 @@ version_selected (Some row) (Some k) = go (slice_get row.candidates k)
     go None = refl
     go (Some None) = refl
     go (Some (Some offer)) = refl
-
-none_or_some : {X : Type 0} (o : Option X) → (o ≡ None) ⊎ ((x : X) × (o ≡ Some x))
-none_or_some None = inl refl
-none_or_some (Some x) = inr (x, refl)
 
 -- the selection has what is selected at its version
 picked_selected : (p : Posed) (choice : List ℕ) (i : ℕ) (q : Installed) → AreDistinct p.stems → selected_at p choice i ≡ Some q → picked p (pairs choice) q.stem ≡ Some q.version

@@ -17,6 +17,7 @@ use Rattle.ips_depend.specs.Holds.{holds}
 use Rattle.ips_depend.proofs.Absence.{holds_alike}
 use Rattle.ips_request.specs.Stems.{has}
 use Rattle.ips_problem.specs.Posed.{Numbered, Posed, IsFormed, candidate_of, version_at, number_of, picked, before, spared, stems_of_test, greatest_of, is_number, decides, breaks, breaks_at, last_at, meaning_of}
+use Rattle.ips_refute.proofs.Tables.{one_rest}
 
 -- ---- dependencies
 
@@ -83,10 +84,6 @@ candidate_contained (q ∷ set) i k e = elim (cases_Bool (q.stem == i)) [
       let (j, l, f) = candidate_contained set i k (sym (cond-false (q.stem == i) (Some q.candidate) (candidate_of set i) h) ∙ e) in
       (suc j, omega arith, f)
 ]
-
--- no two pairs of the rest are of one stem
-pub one_rest : (q : Pair) (set : List Pair) → OnePerStem (q ∷ set) → OnePerStem set
-one_rest q set one i j d l h e = one (suc i) (suc j) d (omega arith) (omega arith) e
 
 -- of a set with one pair for each stem, what is in it is its candidate
 pub contained_candidate : (set : List Pair) (i k : ℕ) → OnePerStem set → Contains set (paired i k) → candidate_of set i ≡ Some k

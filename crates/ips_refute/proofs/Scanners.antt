@@ -6,28 +6,16 @@ use Rattle.std.specs.Prelude.{map}
 use Rattle.std.specs.List.{join_with_byte}
 use Rattle.ips_text.specs.declared.refusal.Stop.{Stop}
 use Rattle.ips_text.specs.Reading.{◌>>=◌, next_is, both, via, separated, one_or_more, AllFit}
-use Rattle.ips_text.proofs.Readers.{bind_ok, chosen, ok_is, next_parts, next_same, one_more}
+use Rattle.ips_text.proofs.Readers.{bind_ok, chosen, ok_is, next_parts, next_same, one_more, fit_cons, spell_cons, count_length}
 use Rattle.ips_text.specs.declared.refusal.Or.{Or}
 use Rattle.ips_text.specs.declared.refusal.Or.TheVariants.{Bad, OutOfMemory}
 use Rattle.ips_text.specs.Reading.{Fails}
-use Rattle.ips_text.proofs.Loops.{with_front, reads_stop}
+use Rattle.ips_text.proofs.Loops.{with_front, reads_stop, bind_same, cond_same, is_shorter}
 use Rattle.ips_refute.specs.Text.{listed_text}
 use Rattle.ips_refute.specs.Reading.{Scanner, listed_at}
 
 abbrev pub Stopped : Type 0
 Stopped = Stop (Unit {0})
-
-bind_same : {A B E : Type 0} (v : Result A E) (f g : A → Result B E) → ((x : A) → v ≡ Ok x → f x ≡ g x) → (v >>= f) ≡ (v >>= g)
-bind_same (Ok x) f g h = h x refl
-bind_same (Err d) f g h = refl
-
-cond_same : {A : Type 0} (b : Bool) (x y z : A) → (b ≡ true → x ≡ y) → cond b x z ≡ cond b y z
-cond_same true x y z h = h refl
-cond_same false x y z h = refl
-
--- what is left is shorter
-is_shorter : (bytes spelled rest after : List ℕ) (mark : ℕ) → bytes ≡ spelled ++ rest → rest ≡ mark ∷ after → length after < length bytes
-is_shorter bytes spelled rest after mark e cut = omega (arith, ap length e, ap length cut, length-append spelled rest)
 
 regroup : {A : Type 0} (front : List A) (x : A) (read : Result (List A × List ℕ) Stopped) → with_front front (read >>= λ xs. Ok (x ∷ xs.0, xs.1)) ≡ with_front (front ++ x ∷ []) read
 regroup {A} front x (Ok z) = ap (λ (xs : List A). Ok (xs, z.1)) (sym (append_assoc front (x ∷ []) z.0))
@@ -84,15 +72,6 @@ AllFollow mark spell Follows [] rest = Unit {0}
 AllFollow mark spell Follows (x ∷ []) rest = Follows x rest × (next_is mark rest ≡ false)
 AllFollow mark spell Follows (x ∷ y ∷ xs) rest = Follows x ((mark ∷ join_with_byte mark (map spell (y ∷ xs))) ++ rest) × AllFollow mark spell Follows (y ∷ xs) rest
 
-fit_cons : {A : Type 0} (Fits : A → Type 0) (x : A) (xs : List A) → Fits x → AllFit Fits xs → AllFit Fits (x ∷ xs)
-fit_cons Fits x [] f h = f
-fit_cons Fits x (y ∷ xs) f h = (f, h)
-
-spell_cons : {A : Type 0} (mark : ℕ) (spell : A → List ℕ) (Fits : A → Type 0) (x : A) (xs : List A) → AllFit Fits xs
-    → join_with_byte mark (map spell (x ∷ xs)) ≡ spell x ++ (mark ∷ join_with_byte mark (map spell xs))
-spell_cons mark spell Fits x [] h = absurd h
-spell_cons mark spell Fits x (y ∷ xs) h = refl
-
 separated_takes : {A : Type 0} (mark : ℕ) (spell : A → List ℕ) (Fits : A → Type 0) (Follows : A → List ℕ → Type 0) (r : Scanner A) → Scans spell Fits Follows r
     → (count : ℕ) (bytes : List ℕ) (z : List A × List ℕ) → length bytes < count → separated mark r count bytes ≡ Ok z
     → (bytes ≡ join_with_byte mark (map spell z.0) ++ z.1) × AllFit Fits z.0
@@ -132,11 +111,6 @@ separated_again {A} mark spell Fits Follows r reads (suc count) (x ∷ y ∷ xs)
     ∙ ap (λ (v : Result (A × List ℕ) Stopped). v >>= one_more mark r count) (reads.again x ((mark ∷ others) ++ rest) fits.0 fol.0)
     ∙ ap (λ (b : Bool). cond b (via (λ xs. x ∷ xs) (separated mark r count) (others ++ rest)) (Ok (x ∷ [], mark ∷ (others ++ rest)))) (next_same mark)
     ∙ ap (λ (v : Result (List A × List ℕ) Stopped). v >>= λ xs. Ok (x ∷ xs.0, xs.1)) (separated_again mark spell Fits Follows r reads count (y ∷ xs) rest (omega arith) fits.1 fol.1)
-
-count_length : {A : Type 0} (mark : ℕ) (spell : A → List ℕ) (xs : List A) → length xs ≤ suc (length (join_with_byte mark (map spell xs)))
-count_length mark spell [] = omega arith
-count_length mark spell (x ∷ []) = omega arith
-count_length mark spell (x ∷ y ∷ xs) = omega (arith, count_length mark spell (y ∷ xs), length-append (spell x) (mark ∷ join_with_byte mark (map spell (y ∷ xs))))
 
 -- where each value may stand before a mark, and the last one before the rest
 pub all_follow : {A : Type 0} (mark : ℕ) (spell : A → List ℕ) (Follows : A → List ℕ → Type 0) (xs : List A) (rest : List ℕ)

@@ -23,6 +23,7 @@ use Rattle.ips_digest.specs.Name.{IsName, spelling}
 use Rattle.ips_digest.specs.declared.name.PayloadName.{PayloadName}
 use Rattle.ips_digest.specs.declared.name.PayloadName.TheVariants.{Sha1, Sha256}
 use Rattle.ips_repo.proofs.Joined.{is_name_byte, IsFileName}
+use Rattle.ips_text.proofs.Truths.{not_true}
 
 -- an ASCII byte
 abbrev is_low : ℕ → Bool
@@ -224,10 +225,6 @@ hex_digits [] h = refl
 hex_digits (b ∷ bytes) h =
     let fits : b < 256 = h 0 in
     rw (table_digit (b / 16) (omega arith), table_digit (b % 16) (omega arith), hex_digits bytes (λ k. h (suc k))) refl
-
-not_true : (t : Bool) → not t ≡ true → t ≡ false
-not_true true e = sym e
-not_true false e = refl
 
 digit_name : (b : ℕ) → is_digit_byte b ≡ true → (is_name_byte b ≡ true) × ((b == 46) ≡ false)
 digit_name b e = let h = and_parts (is_name_byte b) (not (b == 46)) e in (h.0, not_true (b == 46) h.1)

@@ -7,6 +7,7 @@ use Rattle.std.proofs.lemmas.Bool.{agree_below_at, and_parts, cases_lt}
 use Rattle.std.proofs.lemmas.Bool.Decides.{nat_tests}
 use Rattle.ips_repo.specs.Mark.{is_blank, mark, without_blanks, is_mark_line, has_mark_line}
 use Rattle.ips_repo.specs.Scan.{Scanned, is_whole, advanced, stepped, scanned, finds}
+use Rattle.ips_text.proofs.Truths.{or_false, or_assoc}
 
 -- so many bytes of the mark
 abbrev IsCount : Option ℕ → Type 0
@@ -22,14 +23,6 @@ completes (Some n) line = pointwise ◌==◌ (without_blanks line) (drop n mark)
 abbrev finds_in : Option ℕ → List (List ℕ) → Bool
 finds_in m [] = false
 finds_in m (line ∷ lines) = completes m line || list_any is_mark_line lines
-
-or_false : (b : Bool) → b ≡ (b || false)
-or_false true = refl
-or_false false = refl
-
-or_assoc : (a b c : Bool) → ((a || b) || c) ≡ (a || (b || c))
-or_assoc true b c = refl
-or_assoc false b c = refl
 
 finds_in-new : (lines : List (List ℕ)) → finds_in (Some 0) lines ≡ list_any is_mark_line lines
 finds_in-new [] = refl

@@ -10,16 +10,7 @@ use Rattle.std.proofs.lemmas.List.Folds.{list_any-append}
 use Rattle.std.proofs.lemmas.Option.{none-some, slice_get-map, slice_get_within, get_or_from_slice_get}
 use Rattle.ips_action.proofs.KeyOrder.{equal_is}
 use Rattle.ips_request.specs.Stems.{has}
-use Rattle.ips_request.proofs.Lookups.{or_false}
-
-or_twice : (b r : Bool) → (b || r) ≡ (b || (b || r))
-or_twice true r = refl
-or_twice false r = refl
-
-or_swapped : (a b r : Bool) → (a || (b || r)) ≡ (b || (a || r))
-or_swapped true true r = refl
-or_swapped true false r = refl
-or_swapped false b r = refl
+use Rattle.ips_text.proofs.Truths.{or_false, or_twice, or_swapped}
 
 -- a stem that was put in by its bytes is there, and so are the others
 pub has_inserted : (x s : List ℕ) (ks : List (List ℕ)) → has x (insert_key (slice_cmp nat_cmp) ks s) ≡ (bytes_eq x s || has x ks)

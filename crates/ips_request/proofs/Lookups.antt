@@ -22,6 +22,8 @@ use Rattle.ips_request.specs.Case.{Naming}
 use Rattle.ips_request.specs.Subject.{seen_naming}
 use Rattle.ips_request.specs.declared.asking.Naming as declared
 use Rattle.ips_request.proofs.StemLists.{AreDistinct, same_stem, number_found}
+use Rattle.ips_text.proofs.Truths.{or_false, or_assoc}
+use Rattle.ips_text.proofs.Lists.{take_item}
 
 -- ---- stems that are put in
 
@@ -39,28 +41,16 @@ pub put_all_append : (xs ys zs : List (List ℕ)) → put_all xs (ys ++ zs) ≡ 
 put_all_append xs [] zs = refl
 put_all_append xs (y ∷ ys) zs = put_all_append (put xs y) ys zs
 
--- the front of a list with the next element
-pub next_of : {X : Type 0} (xs : List X) (i : ℕ) (x : X) → i < length xs → x ≡ get_or xs i x → take (i + 1) xs ≡ take i xs ++ x ∷ []
-next_of xs i x l at = take_more xs i x l ∙ ap (λ y. take i xs ++ y ∷ []) (sym at)
-
 -- more stems are put in behind those of before
 pub put_next : (init cur new before more after : List (List ℕ)) → after ≡ before ++ more → cur ≡ put_all init before → new ≡ put_all cur more → new ≡ put_all init after
 put_next init cur new before more after split done now = now ∙ ap (λ c. put_all c more) done ∙ sym (put_all_append init before more) ∙ sym (ap (put_all init) split)
 
 -- ---- stems that are put in once
 
-pub or_false : (b : Bool) → b ≡ (b || false)
-or_false true = refl
-or_false false = refl
-
 or_same : (b c : Bool) → (c ≡ true → b ≡ true) → b ≡ (b || c)
 or_same true c w = refl
 or_same false true w = w refl
 or_same false false w = refl
-
-or_behind : (a b c : Bool) → ((a || b) || c) ≡ (a || (b || c))
-or_behind true b c = refl
-or_behind false b c = refl
 
 has_put : (x s : List ℕ) (xs : List (List ℕ)) → has x (put xs s) ≡ (has x xs || bytes_eq x s)
 has_put x s xs = cond_both (has s xs) xs (xs ++ s ∷ []) (λ l. has x l ≡ (has x xs || bytes_eq x s))
@@ -69,7 +59,7 @@ has_put x s xs = cond_both (has s xs) xs (xs ++ s ∷ []) (λ l. has x l ≡ (ha
 
 has_put_all : (x : List ℕ) (more xs : List (List ℕ)) → has x (put_all xs more) ≡ (has x xs || has x more)
 has_put_all x [] xs = or_false (has x xs)
-has_put_all x (s ∷ more) xs = has_put_all x more (put xs s) ∙ ap (λ b. b || has x more) (has_put x s xs) ∙ or_behind (has x xs) (bytes_eq x s) (has x more)
+has_put_all x (s ∷ more) xs = has_put_all x more (put xs s) ∙ ap (λ b. b || has x more) (has_put x s xs) ∙ or_assoc (has x xs) (bytes_eq x s) (has x more)
 
 -- stems are the same with each of them once
 pub has_once : (x : List ℕ) (xs : List (List ℕ)) → has x (firsts xs) ≡ has x xs
@@ -195,13 +185,10 @@ there_mapped f (Some x) = refl
 
 -- ---- lists of lists
 
-pub flat_next : {X A : Type 0} (f : X → List A) (xs : List X) (i : ℕ) (x : X) → i < length xs → x ≡ get_or xs i x → flat_map f (take (i + 1) xs) ≡ flat_map f (take i xs) ++ f x
-flat_next f xs i x l at = ap (flat_map f) (next_of xs i x l at) ∙ flat_map-append f (take i xs) (x ∷ []) ∙ ap (λ ys. flat_map f (take i xs) ++ ys) (append-nil (f x))
-
 -- ---- filters
 
 filtered_next : {X : Type 0} (p : X → Bool) (xs : List X) (i : ℕ) (x : X) → i < length xs → x ≡ get_or xs i x → filter p (take (i + 1) xs) ≡ filter p (take i xs) ++ cond (p x) (x ∷ []) []
-filtered_next p xs i x l at = ap (filter p) (next_of xs i x l at) ∙ filter-append p (take i xs) (x ∷ [])
+filtered_next p xs i x l at = ap (filter p) (take_item xs i x l at) ∙ filter-append p (take i xs) (x ∷ [])
 
 pub filter_kept : {X : Type 0} (p : X → Bool) (xs old : List X) (i : ℕ) (x : X) → i < length xs → x ≡ get_or xs i x → old ≡ filter p (take i xs) → p x ≡ true → old ++ x ∷ [] ≡ filter p (take (i + 1) xs)
 filter_kept p xs old i x l at done e = ap (λ ys. ys ++ x ∷ []) done ∙ sym (filtered_next p xs i x l at ∙ ap (λ ys. filter p (take i xs) ++ ys) (cond-true (p x) (x ∷ []) [] e))

@@ -19,9 +19,10 @@ use Rattle.ips_request.specs.Case.{Case, Naming, is_installed, is_named}
 use Rattle.ips_request.specs.Named.{AreKnown, AreNamed, IsFirstUnnamed, IsUnnamed, Names, limited}
 use Rattle.ips_request.specs.Stems.{stems_of, firsts}
 use Rattle.ips_request.specs.Subject.{catalog_of, repo_of, seen_naming}
-use Rattle.ips_request.proofs.Lookups.{firsts_once, next_of}
+use Rattle.ips_request.proofs.Lookups.{firsts_once}
 use Rattle.ips_request.proofs.Named.{named_more}
 use Rattle.ips_request.proofs.StemLists.{AreDistinct, distinct_firsts}
+use Rattle.ips_text.proofs.Lists.{take_item}
 
 -- no two of stems that ascend are the same
 pub ascending_distinct : (xs : List (List ℕ)) → Ascend xs → AreDistinct xs
@@ -53,7 +54,7 @@ namings_more publisher known ps old new i p n stems l at done is same limit adde
     let here : f n ≡ stems.items = ap (λ v. v.items) same in
     let mapped = ap (map f) added ∙ map_push f old n in
     let one = map_push seen_naming old n in
-    let long = ap (λ (qs : List Pattern). limited qs (map f old ++ f n ∷ [])) (next_of ps i p l at) ∙ limited_more publisher known (take i ps) (map f old) p (f n) done.named in
+    let long = ap (λ (qs : List Pattern). limited qs (map f old ++ f n ∷ [])) (take_item ps i p l at) ∙ limited_more publisher known (take i ps) (map f old) p (f n) done.named in
     record {
       named = subst (AreNamed publisher known (take (i + 1) ps)) (sym mapped) (named_more publisher known ps (map f old) i p (f n) l at done.named (subst (Names publisher known p) (sym here) is));
       limits = ap (map seen_naming) added ∙ one ∙ ap (λ ls. ls ++ seen_naming n ∷ []) done.limits ∙ ap (λ (v : Option Parts). limited (take i ps) (map f old) ++ record { stems = f n; limit = v } ∷ []) limit

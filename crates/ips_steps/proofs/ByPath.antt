@@ -41,7 +41,7 @@ later_apart x rest s off later = false_from_ne_true _ (λ same. clash (named res
 
 -- ---- entries that are made
 
-made_next : (stage : Stage) (s : Step) (rest : List Step) (q : List ℕ) → same_path (path_of s) q ≡ false → made stage (s ∷ rest) q ≡ made stage rest q
+pub made_next : (stage : Stage) (s : Step) (rest : List Step) (q : List ℕ) → same_path (path_of s) q ≡ false → made stage (s ∷ rest) q ≡ made stage rest q
 made_next stage (Gone p) rest q off = refl
 made_next stage (Fresh m p) rest q off = rw off refl
 made_next stage (Mode m p) rest q off = refl

@@ -16,7 +16,7 @@ use Rattle.ips_steps.proofs.Lists.{clash, same_path-sym, not_freed, made_unnamed
 other : (rest : List Step) (p x : List ℕ) → named rest p ≡ false → named rest x ≡ true → same_path p x ≡ false
 other rest p x off on = false_from_ne_true _ (λ s. clash (named rest x) on (ap (named rest) (sym (same_path-true p x s)) ∙ off))
 
-flip : (p x : List ℕ) → same_path p x ≡ false → same_path x p ≡ false
+pub flip : (p x : List ℕ) → same_path p x ≡ false → same_path x p ≡ false
 flip p x off = false_from_ne_true _ (λ s. clash _ (same_path-sym x p s) off)
 
 module _ (stage : Stage) (p : List ℕ) (e : Option Entry) (t : Image) (rest : List Step) (new : named rest p ≡ false) (settled : freed rest p ≡ true → e ≡ None) where

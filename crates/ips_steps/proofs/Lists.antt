@@ -7,7 +7,8 @@ use Rattle.ips_outside.specs.Change.{names}
 use Rattle.ips_steps.specs.Steps.{Step, Gone, Fresh, Mode, Put, Symlink, Hard, Stage, path_of, frees, freed, at_parent, parent_freed, named}
 use Rattle.ips_steps.specs.Outcome.{back, source, made, with_modes}
 use Rattle.ips_text.proofs.Ancestry.{same_path-true, same_path-self, uncovered, at_parent_of}
-use Rattle.ips_outside.proofs.Agree.{mode_over}
+use Rattle.ips_outside.proofs.Agree.{mode_over, moded_mode}
+use Rattle.ips_steps.specs.Journal.{AllProper}
 
 pub clash : {A : Type 0} (b : Bool) → b ≡ true → b ≡ false → A
 clash b t f = absurd (let h : true ≡ false = sym t ∙ f in cc)
@@ -123,10 +124,6 @@ modes_none f t (Symlink p target ∷ rest) a = modes_none f t rest a
 modes_none f t (Hard p to ∷ rest) a = modes_none f t rest a
 modes_none f t (Mode m p ∷ rest) a = ap (with_modes f rest t a) (no_mode (not (f p) && names t p a) m) ∙ modes_none f t rest a
 
-but_mode : (b : Bool) (m : ℕ) (e : Option Entry) → with_mode 0 (cond b (with_mode m e) e) ≡ with_mode 0 e
-but_mode true m e = mode_over 0 m e
-but_mode false m e = refl
-
 -- and nothing but the mode is another
 pub modes_but : (f : List ℕ → Bool) (t : Image) (rest : List Step) (a : List ℕ) (e : Option Entry) → with_mode 0 (with_modes f rest t a e) ≡ with_mode 0 e
 modes_but f t [] a e = refl
@@ -135,4 +132,8 @@ modes_but f t (Fresh m p ∷ rest) a e = modes_but f t rest a e
 modes_but f t (Put k m p ∷ rest) a e = modes_but f t rest a e
 modes_but f t (Symlink p target ∷ rest) a e = modes_but f t rest a e
 modes_but f t (Hard p to ∷ rest) a e = modes_but f t rest a e
-modes_but f t (Mode m p ∷ rest) a e = modes_but f t rest a _ ∙ but_mode (not (f p) && names t p a) m e
+modes_but f t (Mode m p ∷ rest) a e = modes_but f t rest a _ ∙ moded_mode (not (f p) && names t p a) m e
+
+pub proper_more : (front more : List Step) → AllProper front → AllProper more → AllProper (front ++ more)
+proper_more [] more hf hm = hm
+proper_more (s ∷ front) more hf hm = (hf.0, proper_more front more hf.1 hm)

@@ -7,7 +7,7 @@ use Rattle.ips_outside.specs.State.{nowhere}
 use Rattle.ips_steps.specs.Steps.{Step, Gone, Fresh, Mode, Put, Symlink, Hard, stage_name, stage_path, stage_of, frees, freed, at_parent, clear_of, all_clear_of}
 use Rattle.ips_steps.specs.Private.{records_name, journal_name, gate_name, mark_front, mark_name, begins, is_private, visible}
 use Rattle.ips_steps.specs.Journal.{may_name, step_allowed, allowed}
-use Rattle.ips_text.proofs.Ancestry.{same_path-true, covers-self, covers_trans, at_parent_of}
+use Rattle.ips_text.proofs.Ancestry.{same_path-true, covers-self, covers_trans, at_parent_of, parent_covers}
 use Rattle.ips_outside.proofs.Images.{image_ext}
 use Rattle.ips_steps.proofs.Lists.{clash}
 
@@ -32,18 +32,6 @@ pub visible_agrees : (t u : Image) → Agrees is_private nowhere t u → visible
 visible_agrees t u h = visible_alike t u (λ q seen. h.look q seen refl) h.same
 
 -- ---- paths below one another
-
-pub parent_covers : (p q : List ℕ) → parent p ≡ Some q → covers q p ≡ true
-parent_covers [] q e = cc
-parent_covers (a ∷ p) q e = go (parent p) (parent_covers p) e
-  where
-    last : (b : Bool) → (a == 47) ≡ b → cond b (Some []) None ≡ Some q → covers q (a ∷ p) ≡ true
-    last true is shape = let none : q ≡ [] = cc in subst (λ (x : List ℕ). covers x (a ∷ p) ≡ true) (sym none) is
-    last false is shape = cc
-
-    go : (o : Option (List ℕ)) → ((r : List ℕ) → o ≡ Some r → covers r p ≡ true) → behind a o ≡ Some q → covers q (a ∷ p) ≡ true
-    go (Some r) up shape = let is : q ≡ a ∷ r = cc in subst (λ (x : List ℕ). covers x (a ∷ p) ≡ true) (sym is) (and_from (a == a) _ (eq-eqb a a refl) (up r refl))
-    go None up shape = last (a == 47) refl shape
 
 -- two paths at or above one are one above the other
 covers_chain : (p q r : List ℕ) → covers p r ≡ true → covers q r ≡ true → (covers p q || covers q p) ≡ true
@@ -75,7 +63,7 @@ covers_front (a ∷ p) (b ∷ f) d c =
     let back : (b == a) ≡ true = eq-eqb b a (sym (eqb-true a b cs.0)) in
     rw (cs.0, back) (covers_front p f d cs.1)
 
-begins_below : (f p q : List ℕ) → begins f p ≡ true → covers p q ≡ true → begins f q ≡ true
+pub begins_below : (f p q : List ℕ) → begins f p ≡ true → covers p q ≡ true → begins f q ≡ true
 begins_below [] p q b c = refl
 begins_below (x ∷ f) [] q b c = cc
 begins_below (x ∷ f) (y ∷ p) [] b c = cc
@@ -119,19 +107,19 @@ mark_private q b = or_right (covers stage_name q) _ (or_right (covers journal_na
 
 -- ---- no step is at or above a private name
 
-stage_parent : parent stage_name ≡ Some records_name
+pub stage_parent : parent stage_name ≡ Some records_name
 unfolding stage_name records_name
 stage_parent = refl
 
-journal_parent : parent journal_name ≡ Some records_name
+pub journal_parent : parent journal_name ≡ Some records_name
 unfolding journal_name records_name
 journal_parent = refl
 
-gate_parent : parent gate_name ≡ Some records_name
+pub gate_parent : parent gate_name ≡ Some records_name
 unfolding gate_name records_name
 gate_parent = refl
 
-mark_parent : parent mark_front ≡ Some records_name
+pub mark_parent : parent mark_front ≡ Some records_name
 unfolding mark_front records_name
 mark_parent = refl
 

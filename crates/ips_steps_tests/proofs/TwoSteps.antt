@@ -12,6 +12,7 @@ use Rattle.ips_journal.specs.declared.staged.Staged.{Staged}
 use Rattle.ips_journal.specs.declared.staged.Staged.TheVariants.{Payload, Bytes, Standing}
 use Rattle.ips_commit.specs.Contents.{IsStanding, IsSeen, AreSeen, AreStanding}
 use Rattle.ips_commit.specs.Staging.{CanStage}
+use Rattle.ips_steps.proofs.PrivateNames.{gate_parent}
 
 abbrev pub two : List Step
 two = Put 0 420 (codes "a") ∷ Hard (codes "b") (codes "a") ∷ []
@@ -54,10 +55,6 @@ two_can steps staged t is bytes one stands dir shut = subst (λ (l : List Step).
   records = dir;
   shut = shut;
 })
-
-gate_parent : parent gate_name ≡ Some records_name
-unfolding gate_name records_name
-gate_parent = refl
 
 -- nothing stands at the gate, and the folder of the records does
 pub can_open : (t : Image) → is_dir (t.look records_name) ≡ true → t.look gate_name ≡ None → CanMake t gate_name

@@ -8,11 +8,7 @@ use Rattle.std.proofs.lemmas.Bool.{both_ways}
 use Rattle.ips_manifest.specs.declared.package.Package.{Package}
 use Rattle.ips_state.specs.State.{Ascend, Installed, installed}
 use Rattle.ips_choice_tests.proofs.problem.image.Goals as goal
-
-is_less : (o : Ordering) → is_lt o ≡ true → o ≡ Less
-is_less Less e = refl
-is_less Equal e = cc
-is_less Greater e = cc
+use Rattle.ips_text.proofs.Orders.{less_is}
 
 two_ascend : (ps : List Package) (first second : Package) → ps ≡ first ∷ second ∷ [] → slice_cmp nat_cmp first.stem second.stem ≡ Less → Ascend (map (λ (p : Installed). p.stem) (map installed ps))
 unfolding IsStrictlySortedBy
@@ -26,7 +22,7 @@ pub returns : goal.returns
 returns c = record {
   installed = two_ascend c.push-2.new.self.items c.args.first c.args.second
       (c.in_ok-push-2.ensures.items ∙ ap (λ (ps : List Package). ps ++ c.args.second ∷ []) (c.in_ok-push.ensures.items ∙ ap (λ (ps : List Package). ps ++ c.args.first ∷ []) c.new-installed.ensures.items))
-      (sym c.cmp.ensures ∙ is_less c.cmp.result (sym c.is_lt.ensures ∙ c.if-not-is_lt.false));
+      (sym c.cmp.ensures ∙ less_is c.cmp.result (sym c.is_lt.ensures ∙ c.if-not-is_lt.false));
   avoid = none_ascends c.new-4.result.items c.new-4.ensures.items;
   freeze = c.in_ok-freeze.ensures.order;
   frozen = c.in_ok-freeze.ensures.frozen;

@@ -6,7 +6,7 @@ use Rattle.ips_outside.specs.State.{State, nowhere}
 use Rattle.ips_outside.specs.Outside.{readable}
 use Rattle.ips_folder.specs.Calls.{IsSole}
 use Rattle.ips_folder.proofs.Runs.{keeps_then}
-use Rattle.ips_apply.proofs.Filled.{sole_placed}
+use Rattle.ips_folder.proofs.Filled.{sole_placed}
 use Rattle.ips_commit.proofs.Swept.{wrote}
 use Rattle.ips_commit.proofs.Written.{filled_file, bytes_read}
 use Rattle.ips_commit.proofs.contents.write_copy.Goals as goal

@@ -3,7 +3,7 @@ use Rattle.ips_text.specs.Ancestry.{covers}
 use Rattle.ips_outside.specs.Image.{File}
 use Rattle.ips_outside.specs.State.{State}
 use Rattle.ips_folder.specs.Calls.{IsSole}
-use Rattle.ips_apply.proofs.Filled.{sole_placed}
+use Rattle.ips_folder.proofs.Filled.{sole_placed}
 use Rattle.ips_commit.proofs.Swept.{wrote, wrote_then}
 use Rattle.ips_commit.proofs.Written.{filled_file}
 use Rattle.ips_commit.proofs.contents.write_file.Goals as goal

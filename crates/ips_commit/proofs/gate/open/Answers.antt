@@ -6,7 +6,7 @@ use Rattle.ips_outside.specs.State.{State, nowhere}
 use Rattle.ips_folder.specs.Calls.{IsSole, Keeps}
 use Rattle.ips_folder.proofs.Runs.{keeps_then, one_sync}
 use Rattle.ips_steps.specs.Private.{gate_name}
-use Rattle.ips_apply.proofs.Filled.{sole_placed}
+use Rattle.ips_folder.proofs.Filled.{sole_placed}
 use Rattle.ips_commit.proofs.Swept.{wrote, wrote_then}
 use Rattle.ips_commit.proofs.Written.{filled_file}
 use Rattle.ips_commit.proofs.GateOpens.{on_err, not_begun, not_written, not_now, not_synced, never, opens, not_behind}

@@ -8,7 +8,7 @@ use Rattle.ips_folder.specs.Calls.{CanMake, IsSole, Keeps}
 use Rattle.ips_folder.proofs.Runs.{keeps_then, one_sync}
 use Rattle.ips_steps.specs.Private.{journal_name}
 use Rattle.ips_steps.specs.View.{step_of}
-use Rattle.ips_apply.proofs.Filled.{sole_placed}
+use Rattle.ips_folder.proofs.Filled.{sole_placed}
 use Rattle.ips_commit.proofs.Swept.{wrote}
 use Rattle.ips_commit.proofs.staging.write_safely.Goals as goal
 

@@ -7,8 +7,8 @@ use Rattle.ips_steps.specs.Steps.{Step}
 use Rattle.ips_steps.specs.Private.{journal_name}
 use Rattle.ips_steps.specs.View.{step_of}
 use Rattle.ips_journal.specs.Writing.{IsWritten}
-use Rattle.ips_journal.proofs.Standing.{mapped_more}
 use Rattle.ips_commit.proofs.staging.write_steps.Goals as goal
+use Rattle.ips_text.proofs.Lists.{map_item}
 
 pub loop-step-init : goal.loop-step-init
 loop-step-init g c = record { kind = refl; faults = refl; written = c.requires; moments = λ told. begun g.F.Source.outside (covers journal_name) nowhere c.args.folder.now (g.met.F.Source.sane.only_now c.args.folder.now) }
@@ -26,7 +26,7 @@ loop-step-preserved g c =
     record {
       kind = c.step.ensures.same_kind ∙ inv.kind;
       faults = c.step.ensures.cause.steady (answered c.step.result _ c.in_ok-step.was) ∙ inv.faults;
-      written = λ told. subst (IsWritten c.step.new.self (g.F.Source.outside.state c.step.new.folder).held) (sym (mapped_more step_of c.args.steps.now c.loop-step.step-index c.step-item.result c.loop-step-test.true c.step-item.is))
+      written = λ told. subst (IsWritten c.step.new.self (g.F.Source.outside.state c.step.new.folder).held) (sym (map_item step_of c.args.steps.now c.loop-step.step-index c.step-item.result c.loop-step-test.true c.step-item.is))
           (c.in_ok-step.ensures.written (inv.kind ∙ told) (map step_of (take c.loop-step.step-index c.args.steps.now)) (inv.written told));
       moments = λ told. keeps_then g.F.Source.outside (covers journal_name) nowhere c.args.folder.now c.loop-step.folder c.step.new.folder (inv.moments told) (c.step.ensures.any_moment (inv.kind ∙ told));
     }

@@ -7,8 +7,8 @@ use Rattle.ips_folder.proofs.Runs.{keeps_then}
 use Rattle.ips_repo.specs.Payload.{Reading, IsFrontOf}
 use Rattle.ips_repo.proofs.Calls.{answered, reads_then}
 use Rattle.ips_install.proofs.Keeping.{path_written}
-use Rattle.ips_install.proofs.Filled.{appended_twice}
 use Rattle.ips_install.proofs.laying.copy_payload.Goals as goal
+use Rattle.ips_folder.proofs.Filled.{appended_twice}
 
 pub pieces-preserved : goal.pieces-preserved
 pieces-preserved g c = record {

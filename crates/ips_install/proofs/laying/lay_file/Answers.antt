@@ -7,8 +7,9 @@ use Rattle.ips_digest.specs.declared.name.PayloadName.{PayloadName}
 use Rattle.ips_repo.specs.Files.{file_at}
 use Rattle.ips_repo.specs.Payload.{digest_by}
 use Rattle.ips_install.proofs.Keeping.{path_written, mode_written}
-use Rattle.ips_install.proofs.Filled.{sole_placed, filled_mode, filled_sole, filled_moded}
+use Rattle.ips_install.proofs.Filled.{filled_mode, filled_sole, filled_moded}
 use Rattle.ips_install.proofs.laying.lay_file.Goals as goal
+use Rattle.ips_folder.proofs.Filled.{sole_placed}
 
 pub returns-in_default-clause-any_moment : goal.returns-in_default-clause-any_moment
 returns-in_default-clause-any_moment g c = λ told.

@@ -1,5 +1,5 @@
-use Rattle.ips_text.proofs.Ancestry.{covers-self, covers_trans, parent_length}
-use Rattle.ips_outside.proofs.Children.{parent_covers, longer_below, short_is, has_above}
+use Rattle.ips_text.proofs.Ancestry.{covers-self, covers_trans, parent_length, parent_covers}
+use Rattle.ips_outside.proofs.Children.{longer_below, short_is, has_above}
 use Rattle.ips_outside.proofs.listing.child_above.Goals as goal
 
 pub loop-above-init : goal.loop-above-init

@@ -2,13 +2,14 @@ use Rattle.std.proofs.Common.{◌≡◌, ℕ, ◌+◌, ◌++◌, ◌<◌, ◌∙
 use Rattle.std.proofs.lemmas.List.{get_or_default, length-take-le}
 use Rattle.ips_depend.specs.Dependency.{Dependency}
 use Rattle.ips_request.specs.Stems.{stems_of, put_all}
-use Rattle.ips_request.proofs.Lookups.{flat_next, next_of, put_next}
+use Rattle.ips_request.proofs.Lookups.{put_next}
 use Rattle.ips_problem.specs.Gathered.{asked_at, tests_asked}
 use Rattle.ips_problem.specs.Posed.{numbered}
 use Rattle.ips_problem.specs.Reach.{stems_wanted}
 use Rattle.ips_problem.specs.Seen.{seen_test}
 use Rattle.ips_problem.proofs.Growth.{list_next, tests_asked_more}
 use Rattle.ips_problem.proofs.growing.add_row.Goals as goal
+use Rattle.ips_text.proofs.Lists.{take_item, flat_item}
 
 pub loop-candidate-preserved : goal.loop-candidate-preserved
 loop-candidate-preserved c =
@@ -25,9 +26,9 @@ loop-candidate-preserved c =
     let cur = stems_of c.loop-candidate.stems.keys in
     let wants = λ (o : Option ℕ). stems_wanted (asked_at reads o) in
     let place : 0 + length (take i os) ≡ i = omega (arith, length-take-le i os (omega (arith, l))) in
-    let more = ap (tests_asked stem 0 reads) (next_of os i o l at) ∙ tests_asked_more stem 0 reads (take i os) o ∙ ap (λ (n : ℕ). tests_asked stem 0 reads (take i os) ++ numbered stem n (asked_at reads o)) place in (
+    let more = ap (tests_asked stem 0 reads) (take_item os i o l at) ∙ tests_asked_more stem 0 reads (take i os) o ∙ ap (λ (n : ℕ). tests_asked stem 0 reads (take i os) ++ numbered stem n (asked_at reads o)) place in (
       list_next (map seen_test c.args.tests.now.items) now (map seen_test c.add_all.new.tests.items) (tests_asked stem 0 reads (take i os)) (numbered stem i (asked_at reads o)) (tests_asked stem 0 reads (take (i + 1) os))
           more c.loop-candidate.invariant.0 (c.in_ok-add_all.ensures.tests ∙ ap (λ (ds : List Dependency). now ++ numbered stem i ds) wanted),
       put_next (stems_of c.args.stems.now.keys) cur (stems_of c.add_all.new.stems.keys) (flat_map wants (take i os)) (wants o) (flat_map wants (take (i + 1) os))
-          (flat_next wants os i o l at) c.loop-candidate.invariant.1 (c.in_ok-add_all.ensures.stems ∙ ap (λ (ds : List Dependency). put_all cur (stems_wanted ds)) wanted),
+          (flat_item wants os i o l at) c.loop-candidate.invariant.1 (c.in_ok-add_all.ensures.stems ∙ ap (λ (ds : List Dependency). put_all cur (stems_wanted ds)) wanted),
     )

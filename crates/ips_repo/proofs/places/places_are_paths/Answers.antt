@@ -6,7 +6,7 @@ use Rattle.ips_text.specs.Quote.{quoted}
 use Rattle.ips_fmri.specs.Version.{version_text}
 use Rattle.ips_digest.specs.Name.{spelling}
 use Rattle.ips_repo.specs.Places as place
-use Rattle.ips_repo.proofs.Joined.{IsFileName, joined_path}
+use Rattle.ips_repo.proofs.Joined.{IsFileName, joined_path, pkg_name}
 use Rattle.ips_repo.proofs.FileNames.{stem_name, publisher_name, version_name, payload_digits}
 use Rattle.ips_repo.proofs.places.places_are_paths.Goals as goal
 
@@ -18,9 +18,6 @@ word_catalog = record { bytes = refl; some = omega arith; few = omega arith; no_
 
 word_base : IsFileName (codes "catalog.base.C")
 word_base = record { bytes = refl; some = omega arith; few = omega arith; no_dots = refl }
-
-word_pkg : IsFileName (codes "pkg")
-word_pkg = record { bytes = refl; some = omega arith; few = omega arith; no_dots = refl }
 
 word_file : IsFileName (codes "file")
 word_file = record { bytes = refl; some = omega arith; few = omega arith; no_dots = refl }
@@ -41,7 +38,7 @@ returns-clause-manifests c = λ publisher stem version p s v.
     let quoted_stem = stem_name stem s in
     let number = version_name version v in
     let names : List (List ℕ) = codes "publisher" ∷ publisher ∷ codes "pkg" ∷ quoted stem ∷ quoted (version_text version) ∷ [] in
-    subst IsPath (manifest_joined publisher (quoted stem) (quoted (version_text version))) (joined_path names (word_publisher, (name, (word_pkg, (quoted_stem, number)))) (simp length-append (omega (arith, name.few, quoted_stem.few, number.few))))
+    subst IsPath (manifest_joined publisher (quoted stem) (quoted (version_text version))) (joined_path names (word_publisher, (name, (pkg_name, (quoted_stem, number)))) (simp length-append (omega (arith, name.few, quoted_stem.few, number.few))))
 
 pub returns-clause-payloads : goal.returns-clause-payloads
 returns-clause-payloads c = λ publisher payload p n.
