@@ -1,5 +1,5 @@
 -- What the words on lists of steps say at a path.
-use Rattle.std.proofs.Common.{◌≡◌, ℕ, Bool, true, false, cond, not, ◌&&◌, ◌||◌, List, [], ◌∷◌, Option, Some, None, refl, sym, ◌∙◌, ap, subst, inl, inr, ◌⊎◌}
+use Rattle.std.proofs.Common.{◌≡◌, ℕ, Bool, true, false, cond, not, ◌&&◌, ◌||◌, List, [], ◌∷◌, Option, Some, None, refl, sym, ◌∙◌, ap, subst, inl, inr, ◌⊎◌, ◌++◌}
 use Rattle.std.proofs.lemmas.Bool.{and_right, or_parts, or_right, or_left, or_cases, false_from_ne_true}
 use Rattle.ips_text.specs.Ancestry.{same_path, covers, parent}
 use Rattle.ips_outside.specs.Image.{Entry, Image, with_mode}
