@@ -23,13 +23,6 @@ more_none (Some (Link g)) = refl
 more_none (Some Other) = refl
 more_none None = refl
 
-more_file : (bytes : List ℕ) (e : Option Entry) → is_file (more_bytes bytes e) ≡ is_file e
-more_file bytes (Some (Dir m f)) = refl
-more_file bytes (Some (File m x)) = refl
-more_file bytes (Some (Link g)) = refl
-more_file bytes (Some Other) = refl
-more_file bytes None = refl
-
 file_mode : (e : Option Entry) → is_file e ≡ true → has_mode e ≡ true
 file_mode (Some (Dir m f)) h = cc
 file_mode (Some (File m x)) h = refl
@@ -54,10 +47,6 @@ appended_none p t = image_ext _ _ (λ q. at (same_path p q) (t.look q)) (λ x y.
     at : (s : Bool) (e : Option Entry) → cond s (more_bytes [] e) e ≡ e
     at true e = more_none e
     at false e = refl
-
--- a file with one name stays one
-pub sole_appended : (p bytes : List ℕ) (t : Image) → IsSole t p → IsSole (appended p bytes t) p
-sole_appended p bytes t h = record { file = rw (same_path-self p) (more_file bytes (t.look p) ∙ h.file); sole = h.sole }
 
 -- a file that was made has one name
 pub sole_placed : (p : List ℕ) (m : ℕ) (bytes : List ℕ) (t : Image) → IsSole (placed p (Some (File m bytes)) t) p

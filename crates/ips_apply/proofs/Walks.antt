@@ -15,7 +15,8 @@ use Rattle.ips_text.proofs.Ancestry.{uncovered}
 use Rattle.ips_outside.proofs.Images.{image_ext}
 use Rattle.ips_outside.proofs.Placed.{look_placed, placed_twice, parent_kept}
 use Rattle.ips_apply.specs.Acting.{acted, all_acted, CanAct}
-use Rattle.ips_apply.proofs.Filled.{sole_placed, sole_appended, filled}
+use Rattle.ips_journal.proofs.Writers.{sole_appended}
+use Rattle.ips_apply.proofs.Filled.{sole_placed, filled}
 
 -- ---- a hard link made where something was cleared
 

@@ -28,7 +28,7 @@ use Rattle.ips_commit.specs.Pending.{HasNoOtherMark}
 use Rattle.ips_commit.specs.Staging.{IsStaged}
 use Rattle.ips_commit.specs.Phases.{Opens, AreSafelyLaid, StopsAt, LaysTo, HasBegun, Lays}
 use Rattle.ips_commit.proofs.OwnNames.{unmarked_gate}
-use Rattle.ips_commit.proofs.Lays.{next_of}
+use Rattle.ips_commit.proofs.Lays.{next_of, front_less}
 use Rattle.ips_commit.proofs.Owing.{ready_text, owes_less, laying_owed, laid_left, laid_held, laid_means, laid_ready, laid_marks, opening_owed, gate_opened}
 
 -- ---- a list that is ready isn't stuck
@@ -38,15 +38,6 @@ at_front [] [] s is = cc
 at_front [] (x ∷ left) s is = let same : s ≡ x = cc in ap Some (sym same)
 at_front (y ∷ laid) [] s is = cc
 at_front (y ∷ laid) (x ∷ left) s is = let rest : laid ++ s ∷ [] ≡ take (length (laid ++ s ∷ [])) left = cc in at_front laid left s rest
-
-pub front_of : (laid left : List Step) (s : Step) → laid ++ s ∷ [] ≡ take (length (laid ++ s ∷ [])) left → laid ≡ take (length laid) left
-front_of [] left s is = refl
-front_of (y ∷ laid) [] s is = cc
-front_of (y ∷ laid) (x ∷ left) s is =
-    let rest : laid ++ s ∷ [] ≡ take (length (laid ++ s ∷ [])) left = cc in
-    let first : y ≡ x = cc in
-    let tail = front_of laid left s rest in
-    cc
 
 module _ (steps : List Step) (marks : ℕ) (a t : Image) (is_open : IsOpen journal_text steps marks a t) where
   abbrev left : List Step
@@ -62,7 +53,7 @@ module _ (steps : List Step) (marks : ℕ) (a t : Image) (is_open : IsOpen journ
       (in_order steps ((front ++ laid) ++ s ∷ []) stuck.stands.0 is_open.ready.lists (subst (λ (l : List ℕ). IsAt l ((front ++ laid) ++ s ∷ []) stuck.stands.0) text stuck.stands.1)).1 in
       let next = next_of steps (laid ++ s ∷ []) (1000 * marks) begins in
       let k = length laid in
-      let is_front = front_of laid left s next in
+      let is_front = front_less laid left s next in
       let can : can_lay (stage_of t) s (all_laid (stage_of t) (take k left) t) ≡ true = can_at (stage_of t) left k s t (at_front laid left s next) is_open.ready.can in
       let here : can_lay (stage_of t) s (after laid t) ≡ true = subst (λ (l : List Step). can_lay (stage_of t) s (all_laid (stage_of t) l t) ≡ true) (sym is_front) can in
       let within : Agrees (freed left) (met (stage_of t) (take k left) t) t (after (take k left) t) =

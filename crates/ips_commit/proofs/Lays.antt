@@ -25,7 +25,7 @@ use Rattle.ips_journal.proofs.JournalLaws.{one_text, none_bad, in_order}
 -- ---- fronts of a list
 
 -- one less
-front_less : (a all : List Step) (s : Step) → a ++ s ∷ [] ≡ take (length (a ++ s ∷ [])) all → a ≡ take (length a) all
+pub front_less : (a all : List Step) (s : Step) → a ++ s ∷ [] ≡ take (length (a ++ s ∷ [])) all → a ≡ take (length a) all
 front_less a all s is =
     let count : length (a ++ s ∷ []) ≡ length a + 1 = length-append a (s ∷ []) in
     let cut : take (length a) (a ++ s ∷ []) ≡ take (length a) (take (length a + 1) all) = ap (take (length a)) (is ∙ ap (λ (n : ℕ). take n all) count) in

@@ -37,9 +37,9 @@ use Rattle.ips_commit.specs.Pending.{HasNoOtherMark, IsSwept, IsDone, is_swept}
 use Rattle.ips_commit.specs.Phases.{AreSafelyLaid, StopsAt, LaysTo, HasBegun, Lays}
 use Rattle.ips_commit.specs.Recovering.{AreCounted, IsJournalled, IsStuck, IsBadJournal, IsPlaced, CanRollForward, IfBadJournal, SaysOfFinding, SaysOfLaying, SaysOfRecovery}
 use Rattle.ips_commit.proofs.OwnNames.{marks_stay, none_alike}
-use Rattle.ips_commit.proofs.Lays.{next_of, rest_of}
+use Rattle.ips_commit.proofs.Lays.{next_of, front_less, rest_of}
 use Rattle.ips_commit.proofs.Owing.{nodes_of, ready_text, laying_owed, laid_ready, laid_means, sweeping_owed, cleared_of}
-use Rattle.ips_commit.proofs.Committed.{front_of, laid_ok, laid_bad, never_bad}
+use Rattle.ips_commit.proofs.Committed.{laid_ok, laid_bad, never_bad}
 use Rattle.ips_commit.proofs.Places.{same_steps, same_left, placed_open}
 
 -- ---- the steps laid from a place on
@@ -61,7 +61,7 @@ stuck_of t steps count laid line o old at is stops = ⊎_elim
     let begins : front ++ (laid ++ s ∷ []) ≡ take (length (front ++ (laid ++ s ∷ []))) steps =
     subst (λ (l : List Step). l ≡ take (length l) steps) (append_assoc front laid (s ∷ []))
     (in_order steps ((front ++ laid) ++ s ∷ []) stuck.stands.0 is.lists (subst (λ (l : List ℕ). IsAt l ((front ++ laid) ++ s ∷ []) stuck.stands.0) is.text_is stuck.stands.1)).1 in
-    let is_front : laid ≡ take (length laid) left = front_of laid left s (next_of steps (laid ++ s ∷ []) (1000 * count) begins) in
+    let is_front : laid ≡ take (length laid) left = front_less laid left s (next_of steps (laid ++ s ∷ []) (1000 * count) begins) in
     record {
       steps = steps;
       count = count;

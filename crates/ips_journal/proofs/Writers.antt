@@ -32,9 +32,9 @@ more_file more (Some (Link g)) = refl
 more_file more (Some Other) = refl
 more_file more None = refl
 
--- a file with one name is so still
-pub sole_more : (p more : List ℕ) (t : Image) → IsSole t p → IsSole (appended p more t) p
-sole_more p more t own = record { file = rw (same_path-self p) (more_file more (t.look p) ∙ own.file); sole = own.sole }
+-- a file with one name stays one
+pub sole_appended : (p more : List ℕ) (t : Image) → IsSole t p → IsSole (appended p more t) p
+sole_appended p more t own = record { file = rw (same_path-self p) (more_file more (t.look p) ∙ own.file); sole = own.sole }
 
 module _ (w : JournalWriter) (t : Image) (steps : List Step) (is : IsWritten w t steps) where
   -- what was gathered is appended
@@ -44,7 +44,7 @@ module _ (w : JournalWriter) (t : Image) (steps : List Step) (is : IsWritten w t
       subst (λ (x : Image). IsWritten v x steps) (sym here) (record {
         file = is.file ++ w.gathered.items;
         stands = appended_bytes journal_name w.gathered.items is.file t is.stands;
-        sole = sole_more journal_name w.gathered.items t is.sole;
+        sole = sole_appended journal_name w.gathered.items t is.sole;
         text = λ rest. ap (λ (x : List ℕ). ((is.file ++ w.gathered.items) ++ x) ++ rest) none ∙ ap (λ (x : List ℕ). x ++ rest) (append-nil (is.file ++ w.gathered.items)) ∙ is.text rest;
         counted = same ∙ is.counted;
       })
