@@ -1,7 +1,7 @@
 use crate::puzzle::{case_of, pairs, set_of, table_of};
 use crate::table::{Ask, holds, text};
 use ips_refute::{BadLine, Nogood, Pair, Reason, Refutation, check};
-use ips_text::Or;
+use ips_text::{Or, Text};
 use std::alloc::Global;
 use std::process::Abort;
 
@@ -86,31 +86,31 @@ fn reading(rt: &impl Abort, alloc: Global, text: &str) -> String {
 }
 
 const THE_CHECKER_TAKES_WHAT_FOLLOWS_AND_NOTHING_ELSE_TABLE: &str = "
-refutation 1¶0.0 | 1 | t0¶- | 0 | n0¶ -> accepted
+refutation 2¶0.0 | 1 | t0¶- | 0 | n0¶ -> accepted
 # Test 1 is broken by the same two pairs.
-refutation 1¶0.0 | 1 | t1¶- | 0 | n0¶ -> accepted
-refutation 1¶1.0 | 0 | t1¶- | 1 | n0¶ -> accepted
+refutation 2¶0.0 | 1 | t1¶- | 0 | n0¶ -> accepted
+refutation 2¶1.0 | 0 | t1¶- | 1 | n0¶ -> accepted
 # Without the first nogood.
-refutation 1¶- | 0 | n0¶ -> refused
+refutation 2¶- | 0 | n0¶ -> refused
 # No nogood at all, and a last set that isn't empty.
-refutation 1¶ -> refused
-refutation 1¶0.0 | 1 | t0¶ -> refused
+refutation 2¶ -> refused
+refutation 2¶0.0 | 1 | t0¶ -> refused
 # A reason too few, a reason too many, a test and a nogood that aren't there.
-refutation 1¶0.0 | 1 | -¶- | 0 | n0¶ -> refused
-refutation 1¶0.0 | 1 | t0 t1¶- | 0 | n0¶ -> refused
-refutation 1¶0.0 | 1 | t2¶- | 0 | n0¶ -> refused
-refutation 1¶0.0 | 1 | t0¶- | 0 | n1¶ -> refused
-refutation 1¶0.0 | 1 | t0¶- | 0 | n2¶ -> refused
+refutation 2¶0.0 | 1 | -¶- | 0 | n0¶ -> refused
+refutation 2¶0.0 | 1 | t0 t1¶- | 0 | n0¶ -> refused
+refutation 2¶0.0 | 1 | t2¶- | 0 | n0¶ -> refused
+refutation 2¶0.0 | 1 | t0¶- | 0 | n1¶ -> refused
+refutation 2¶0.0 | 1 | t0¶- | 0 | n2¶ -> refused
 # A stem and a candidate that aren't there, and a further stem in the set.
-refutation 1¶0.0 | 2 | t0¶- | 0 | n0¶ -> refused
-refutation 1¶0.1 | 1 | t0¶- | 0 | n0¶ -> refused
-refutation 1¶0.0 | 0 | t0¶- | 0 | n0¶ -> refused
+refutation 2¶0.0 | 2 | t0¶- | 0 | n0¶ -> refused
+refutation 2¶0.1 | 1 | t0¶- | 0 | n0¶ -> refused
+refutation 2¶0.0 | 0 | t0¶- | 0 | n0¶ -> refused
 # Of a stem without candidates, which this puzzle hasn't.
-refutation 1¶- | 2 | -¶ -> refused
+refutation 2¶- | 2 | -¶ -> refused
 ";
 
 const THE_CHECKER_TAKES_WHAT_FOLLOWS_AND_NOTHING_ELSE_LONE: &str =
-    "refutation 1¶- | 2 | -¶ -> accepted";
+    "refutation 2¶- | 2 | -¶ -> accepted";
 
 // A set is taken in any order, but with no stem twice.
 const THE_CHECKER_ASKS_FOR_ONE_PAIR_PER_STEM: &str = "
@@ -123,7 +123,8 @@ const THE_CHECKER_ASKS_FOR_ONE_PAIR_PER_STEM: &str = "
 const READING_TELLS_THE_FIRST_BAD_LINE: &str = "
 -> bad line 1
 refutation 1 -> bad line 1
-refutation 2¶ -> bad line 1
+refutation 3¶ -> bad line 1
+refutation 2¶ -> a refutation
 Refutation 1¶- | 0 | -¶ -> bad line 1
 # A last line without its newline, and an empty line.
 refutation 1¶- | 0 | - -> bad line 2
@@ -146,12 +147,21 @@ refutation 1¶0.0 | 1 | x0¶ -> bad line 2
 refutation 1¶ | 1 | t0¶ -> bad line 2
 refutation 1¶0.0 | - | t0¶ -> bad line 2
 refutation 1¶0.0 | 1 |¶ -> bad line 2
+# Counts: none in version 1, from 2 to 200,002, of runs of any length.
+refutation 1¶0.0 | 1 | t0*3¶ -> bad line 2
+refutation 2¶0.0 | 1 | t0*3¶ -> a refutation
+refutation 2¶0.0 | 1 | t0*2 t0¶ -> a refutation
+refutation 2¶0.0 | 1 | t0*1¶ -> bad line 2
+refutation 2¶0.0 | 1 | t0*02¶ -> bad line 2
+refutation 2¶0.0 | 1 | t0*¶ -> bad line 2
+refutation 2¶0.0 | 1 | n0*200002¶ -> a refutation
+refutation 2¶0.0 | 1 | n0*200003¶ -> bad line 2
 ";
 
 #[test]
 fn reading_gives_the_nogoods(rt: HostRuntime) {
     let alloc = rt.alloc();
-    let text = "refutation 1\n0.12,3.4294967295 | 7 | t0 n10\n- | 0 | -\n";
+    let text = "refutation 2\n0.12,3.4294967295 | 7 | t0 n10\n- | 0 | -\n";
     let refutation = read(&rt, alloc, text);
     let [first, last] = refutation.nogoods.as_slice() else {
         panic!(rt; "two nogoods");
@@ -160,6 +170,29 @@ fn reading_gives_the_nogoods(rt: HostRuntime) {
     assert!(rt; first.stem == 7 && first.set.as_slice() == set.as_slice());
     assert!(rt; first.reasons.as_slice() == [Reason::Test(0), Reason::Earlier(10)].as_slice());
     assert!(rt; last.stem == 0 && last.set.is_empty() && last.reasons.is_empty());
+}
+
+// The text with which a refutation is printed that stands in another.
+fn printed(rt: &impl Abort, alloc: Global, text: &str) -> Text {
+    Refutation::read(alloc, text.as_bytes())
+        .ok()
+        .expect(rt, "a refutation")
+        .print(alloc)
+        .expect(rt, "memory")
+}
+
+#[test]
+fn equal_reasons_are_written_once_with_their_count(rt: HostRuntime) {
+    let alloc = rt.alloc();
+    let shortest = "refutation 2\n0.0 | 1 | t0*3\n- | 0 | n0\n";
+    for text in [
+        "refutation 1\n0.0 | 1 | t0 t0 t0\n- | 0 | n0\n",
+        "refutation 2\n0.0 | 1 | t0 t0 t0\n- | 0 | n0\n",
+        "refutation 2\n0.0 | 1 | t0 t0*2\n- | 0 | n0\n",
+        shortest,
+    ] {
+        assert!(rt; printed(&rt, alloc, text).as_str() == shortest);
+    }
 }
 
 #[test]
@@ -190,7 +223,7 @@ fn checks_and_reads_refutations(rt: HostRuntime) {
         &rt,
         alloc,
         &mut Asked::Reading,
-        21,
+        30,
         READING_TELLS_THE_FIRST_BAD_LINE,
     );
 }

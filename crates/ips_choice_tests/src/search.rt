@@ -58,7 +58,7 @@ impl Ask for Searches {
 fn both_searches_find_the_best_choice_or_a_refutation(rt: HostRuntime) {
     let table = "
         # Two stems of one candidate each that exclude one another.
-        1 1; 0.0 1.0; 0.0 1.0 | 1 -> refutation 1¶0.0 | 1 | t1¶- | 0 | n0¶ / refutation 1¶0.0 | 1 | t0¶- | 0 | n0¶
+        1 1; 0.0 1.0; 0.0 1.0 | 1 -> refutation 2¶0.0 | 1 | t1¶- | 0 | n0¶ / refutation 2¶0.0 | 1 | t0¶- | 0 | n0¶
         1 1; 0.0 1.0; 0.0 1.0 | 0 -> spent / spent
         # A package that requires one of two others; candidate 0 of these is absence.
         1 2 2; 0.0 1.0 2.0 | 2 -> spent / spent
@@ -72,7 +72,7 @@ fn both_searches_find_the_best_choice_or_a_refutation(rt: HostRuntime) {
         | 0 -> chosen / chosen
         # A stem without candidates behind two others.
         2 2 0 | 1 -> spent / spent
-        2 2 0 | 2 -> refutation 1¶- | 2 | -¶ / spent
+        2 2 0 | 2 -> refutation 2¶- | 2 | -¶ / spent
     ";
     holds(&rt, rt.alloc(), &mut Searches {}, 11, table)
 }
@@ -177,7 +177,7 @@ fn by_enumeration(rt: &impl Abort, alloc: Global, case: &Case) -> String {
 // The same of what a search found; a refutation has to be one that `check` accepts.
 fn told(rt: &impl Abort, alloc: Global, puzzle: &Table, found: Found) -> String {
     let text = shown(rt, alloc, puzzle, found);
-    if text.as_str().starts_with("refutation 1\n") {
+    if text.as_str().starts_with("refutation 2\n") {
         return String::from_str(alloc, "refuted").expect(rt, "memory");
     }
     text

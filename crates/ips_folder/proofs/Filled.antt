@@ -9,28 +9,21 @@ use Rattle.ips_outside.proofs.Images.{image_ext}
 use Rattle.ips_outside.proofs.Placed.{look_placed, placed_sole}
 
 -- bytes behind bytes
-pub more_twice : (a b : List ℕ) (e : Option Entry) → more_bytes b (more_bytes a e) ≡ more_bytes (a ++ b) e
+more_twice : (a b : List ℕ) (e : Option Entry) → more_bytes b (more_bytes a e) ≡ more_bytes (a ++ b) e
 more_twice a b (Some (Dir m f)) = refl
 more_twice a b (Some (File m x)) = ap (λ (y : List ℕ). Some (File m y)) (append_assoc x a b)
 more_twice a b (Some (Link g)) = refl
 more_twice a b (Some Other) = refl
 more_twice a b None = refl
 
-pub more_none : (e : Option Entry) → more_bytes [] e ≡ e
+more_none : (e : Option Entry) → more_bytes [] e ≡ e
 more_none (Some (Dir m f)) = refl
 more_none (Some (File m x)) = ap (λ (y : List ℕ). Some (File m y)) (append-nil x)
 more_none (Some (Link g)) = refl
 more_none (Some Other) = refl
 more_none None = refl
 
-pub more_file : (bytes : List ℕ) (e : Option Entry) → is_file (more_bytes bytes e) ≡ is_file e
-more_file bytes (Some (Dir m f)) = refl
-more_file bytes (Some (File m x)) = refl
-more_file bytes (Some (Link g)) = refl
-more_file bytes (Some Other) = refl
-more_file bytes None = refl
-
-pub file_mode : (e : Option Entry) → is_file e ≡ true → has_mode e ≡ true
+file_mode : (e : Option Entry) → is_file e ≡ true → has_mode e ≡ true
 file_mode (Some (Dir m f)) h = cc
 file_mode (Some (File m x)) h = refl
 file_mode (Some (Link g)) h = cc
@@ -55,22 +48,18 @@ appended_none p t = image_ext _ _ (λ q. at (same_path p q) (t.look q)) (λ x y.
     at true e = more_none e
     at false e = refl
 
--- a file with one name stays one
-pub sole_appended : (p bytes : List ℕ) (t : Image) → IsSole t p → IsSole (appended p bytes t) p
-sole_appended p bytes t h = record { file = rw (same_path-self p) (more_file bytes (t.look p) ∙ h.file); sole = h.sole }
-
 -- a file that was made has one name
 pub sole_placed : (p : List ℕ) (m : ℕ) (bytes : List ℕ) (t : Image) → IsSole (placed p (Some (File m bytes)) t) p
 sole_placed p m bytes t = record { file = rw (look_placed p (Some (File m bytes)) t) refl; sole = λ q same. placed_sole p q (Some (File m bytes)) t same }
 
-pub appended_placed : (p : List ℕ) (m : ℕ) (bytes : List ℕ) (t : Image) → appended p bytes (placed p (Some (File m [])) t) ≡ placed p (Some (File m bytes)) t
+appended_placed : (p : List ℕ) (m : ℕ) (bytes : List ℕ) (t : Image) → appended p bytes (placed p (Some (File m [])) t) ≡ placed p (Some (File m bytes)) t
 appended_placed p m bytes t = image_ext _ _ (λ q. at (same_path p q) (cond (covers p q) None (t.look q))) (λ x y. refl)
   where
     at : (s : Bool) (e : Option Entry) → cond s (more_bytes bytes (cond s (Some (File m [])) e)) (cond s (Some (File m [])) e) ≡ cond s (Some (File m bytes)) e
     at true e = refl
     at false e = refl
 
-pub moded_placed : (p : List ℕ) (m old : ℕ) (bytes : List ℕ) (t : Image) → moded m p (placed p (Some (File old bytes)) t) ≡ placed p (Some (File m bytes)) t
+moded_placed : (p : List ℕ) (m old : ℕ) (bytes : List ℕ) (t : Image) → moded m p (placed p (Some (File old bytes)) t) ≡ placed p (Some (File m bytes)) t
 moded_placed p m old bytes t = image_ext _ _ (λ q. at q (same_path p q) refl ((placed p (Some (File old bytes)) t).same p q) refl) (λ x y. refl)
   where
     at : (q : List ℕ) (s : Bool) → same_path p q ≡ s → (n : Bool) → (placed p (Some (File old bytes)) t).same p q ≡ n

@@ -13,7 +13,6 @@ use Rattle.ips_journal.specs.Text.{head_line, line, step_line, end_line, headed,
 use Rattle.ips_journal.specs.Writing.{IsWritten}
 use Rattle.ips_journal.specs.declared.writer.JournalWriter.{JournalWriter}
 use Rattle.ips_journal.proofs.Standing.{line_written}
-use Rattle.ips_folder.proofs.Filled.{more_file, sole_appended}
 
 more_of : (more file : List ℕ) (e : Option Entry) → file_bytes e ≡ Some file → file_bytes (more_bytes more e) ≡ Some (file ++ more)
 more_of more file (Some (Dir m f)) is = cc
@@ -25,6 +24,17 @@ more_of more file None is = cc
 -- the bytes of a file that is appended to
 pub appended_bytes : (p more file : List ℕ) (t : Image) → file_bytes (t.look p) ≡ Some file → file_bytes ((appended p more t).look p) ≡ Some (file ++ more)
 appended_bytes p more file t is = rw (same_path-self p) (more_of more file (t.look p) is)
+
+more_file : (more : List ℕ) (e : Option Entry) → is_file (more_bytes more e) ≡ is_file e
+more_file more (Some (Dir m f)) = refl
+more_file more (Some (File m b)) = refl
+more_file more (Some (Link g)) = refl
+more_file more (Some Other) = refl
+more_file more None = refl
+
+-- a file with one name stays one
+pub sole_appended : (p more : List ℕ) (t : Image) → IsSole t p → IsSole (appended p more t) p
+sole_appended p more t own = record { file = rw (same_path-self p) (more_file more (t.look p) ∙ own.file); sole = own.sole }
 
 module _ (w : JournalWriter) (t : Image) (steps : List Step) (is : IsWritten w t steps) where
   -- what was gathered is appended

@@ -87,7 +87,6 @@ fn held(target: Result<Target, Or<TargetFault>>, bytes: &[u8]) -> &'static str {
         Ok(target) if target.bytes() == bytes => "these bytes",
         Ok(_) => "other bytes",
         Err(Or::Bad(TargetFault::Empty)) => "empty",
-        Err(Or::Bad(TargetFault::NulByte)) => "a nul byte",
         Err(Or::Bad(TargetFault::TooLong)) => "too long",
         Err(Or::OutOfMemory) => "out of memory",
     }
@@ -107,12 +106,13 @@ const TARGETS: &str = "
 # no UTF-8
 0 %ff%01 -> these bytes
 0 nothing -> empty
-0 %00 -> a nul byte
-0 a%00 -> a nul byte
-# the longest, and the first of both faults that is looked for
+# a NUL, which a folder can hold
+0 %00 -> these bytes
+0 a%00 -> these bytes
+# the longest
 4095 nothing -> these bytes
 4096 nothing -> too long
-4096 %00 -> a nul byte
+4095 %00 -> too long
 ";
 
 #[test]
@@ -148,6 +148,8 @@ fn sets_a_target_that_keeps_room(rt: HostRuntime) {
     assert!(rt; target.set(&longest).is_ok());
     assert!(rt; target.bytes() == longest.as_slice());
     assert!(rt; target.set(b"c").is_ok());
-    assert!(rt; target.set(b"d\0") == Err(TargetFault::NulByte));
-    assert!(rt; target.bytes() == b"c".as_slice());
+    assert!(rt; target.set(b"d\0").is_ok());
+    assert!(rt; target.bytes() == b"d\0".as_slice());
+    assert!(rt; target.set(b"") == Err(TargetFault::Empty));
+    assert!(rt; target.bytes() == b"d\0".as_slice());
 }

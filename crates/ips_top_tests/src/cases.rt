@@ -10,13 +10,13 @@ run | -R i -s r install hello -> 0 "done\n"
 run | -R i -s r install hello -> 1 "not yet hello@2 line 4\n"
 run | -R i -s r install hello@1 -> 0 "done\n"
 # no version is admitted, and a wildcard
-run | -R i -s r install hello@3 -> 1 "no solution\nstem 0 hello\nrefutation 1\n- | 0 | -\n"
+run | -R i -s r install hello@3 -> 1 "no solution\nstem 0 hello\nrefutation 2\n- | 0 | -\n"
 run | -R i -s r install h* -> 1 "not yet hello@2 line 4\n"
 # the version that is incorporated, of which then all stands
 run | -R i -s r install inc -> 0 "done\n"
 run | -R i -s r install inc -> 0 "done\n"
 # two that exclude each other: either dependency refutes it
-run | -R i -s r install a b -> 1 "no solution\nstem 0 a 1\nstem 1 b 1\nrefutation 1\n0.0 | 1 | t1\n- | 0 | n0\n"
+run | -R i -s r install a b -> 1 "no solution\nstem 0 a 1\nstem 1 b 1\nrefutation 2\n0.0 | 1 | t1\n- | 0 | n0\n"
 # either is enough, absence of the first comes first, and three beginnings are needed
 run | -R i -s r install --search-limit 2 app -> 1 "search limit 2 spent\n"
 run | -R i -s r install --search-limit 3 app -> 0 "done\n"
