@@ -10,7 +10,7 @@ use Rattle.ips_folder.specs.Calls.{Writes, Keeps, IsSole}
 use Rattle.ips_outside.proofs.Reading.{answered}
 use Rattle.ips_folder.proofs.Runs.{keeps_then, one_read, one_write}
 use Rattle.ips_journal.proofs.Writers.{sole_appended}
-use Rattle.ips_apply.proofs.Filled.{appended_none, appended_twice}
+use Rattle.ips_folder.proofs.Filled.{appended_none, appended_twice}
 
 module _ {F : Type 0} (o : Outside F) (p from : List ℕ) where
   -- what can be read of the file that is copied

@@ -16,7 +16,8 @@ use Rattle.ips_outside.proofs.Images.{image_ext}
 use Rattle.ips_outside.proofs.Placed.{look_placed, placed_twice, parent_kept}
 use Rattle.ips_apply.specs.Acting.{acted, all_acted, CanAct}
 use Rattle.ips_journal.proofs.Writers.{sole_appended}
-use Rattle.ips_apply.proofs.Filled.{sole_placed, filled}
+use Rattle.ips_folder.proofs.Filled.{sole_placed, filled}
+use Rattle.ips_outside.proofs.Agree.{redirected, same_two}
 
 -- ---- a hard link made where something was cleared
 
@@ -31,16 +32,6 @@ clear_twice true c e x = refl
 clear_twice false true e x = refl
 clear_twice false false e x = refl
 
-redirected : (s c : Bool) (to a : List ℕ) (free : List ℕ → Bool) → (c && not s) ≡ false → free to ≡ false → (c ≡ false → free a ≡ false) → free (cond s to a) ≡ false
-redirected true c to a free b ft h = ft
-redirected false true to a free b ft h = cc
-redirected false false to a free b ft h = h refl
-
-under : (c d x y z : Bool) → (c ≡ false → d ≡ false → y ≡ z) → cond (c || d) x y ≡ cond (c || d) x z
-under true d x y z h = refl
-under false true x y z h = refl
-under false false x y z h = h refl refl
-
 joined_cleared : (p to : List ℕ) (t : Image) → covers p to ≡ false → joined p to (placed p None t) ≡ joined p to t
 joined_cleared p to t off = image_ext _ _ looks sames
   where
@@ -52,7 +43,7 @@ joined_cleared p to t off = image_ext _ _ looks sames
     kept a below = redirected (same_path p a) (covers p a) to a (covers p) below off (λ c. c)
 
     sames : (a b : List ℕ) → (joined p to (placed p None t)).same a b ≡ (joined p to t).same a b
-    sames a b = under (is_below p a) (is_below p b) false _ _ (λ ba bb. rw (kept a ba, kept b bb) refl)
+    sames a b = same_two (is_below p a) (is_below p b) false _ _ (λ ba bb. rw (kept a ba, kept b bb) refl)
 
 -- ---- what all acts of a step make
 

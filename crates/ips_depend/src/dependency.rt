@@ -18,7 +18,7 @@ use std::marker::Model;
 use std::slice;
 
 /// A dependency by its type, with the FMRIs that it names.
-#[derive(Debug, Drop)]
+#[derive(Drop)]
 pub enum Kept {
     Require(Fmri),
     Optional(Fmri),
@@ -39,7 +39,7 @@ pub enum Kept {
 
 /// A dependency of a package (pkg(7), "Depend Actions"): a test on a selection. Contracts see its type and the FMRIs that it
 /// names. A publisher in them is ignored.
-#[derive(Debug, Drop)]
+#[derive(Drop)]
 pub struct Test {
     kept: Kept,
 }

@@ -9,14 +9,14 @@ use Rattle.ips_outside.proofs.Images.{image_ext}
 use Rattle.ips_outside.proofs.Placed.{look_placed, placed_sole}
 
 -- bytes behind bytes
-more_twice : (a b : List ℕ) (e : Option Entry) → more_bytes b (more_bytes a e) ≡ more_bytes (a ++ b) e
+pub more_twice : (a b : List ℕ) (e : Option Entry) → more_bytes b (more_bytes a e) ≡ more_bytes (a ++ b) e
 more_twice a b (Some (Dir m f)) = refl
 more_twice a b (Some (File m x)) = ap (λ (y : List ℕ). Some (File m y)) (append_assoc x a b)
 more_twice a b (Some (Link g)) = refl
 more_twice a b (Some Other) = refl
 more_twice a b None = refl
 
-more_none : (e : Option Entry) → more_bytes [] e ≡ e
+pub more_none : (e : Option Entry) → more_bytes [] e ≡ e
 more_none (Some (Dir m f)) = refl
 more_none (Some (File m x)) = ap (λ (y : List ℕ). Some (File m y)) (append-nil x)
 more_none (Some (Link g)) = refl
@@ -52,14 +52,14 @@ appended_none p t = image_ext _ _ (λ q. at (same_path p q) (t.look q)) (λ x y.
 pub sole_placed : (p : List ℕ) (m : ℕ) (bytes : List ℕ) (t : Image) → IsSole (placed p (Some (File m bytes)) t) p
 sole_placed p m bytes t = record { file = rw (look_placed p (Some (File m bytes)) t) refl; sole = λ q same. placed_sole p q (Some (File m bytes)) t same }
 
-appended_placed : (p : List ℕ) (m : ℕ) (bytes : List ℕ) (t : Image) → appended p bytes (placed p (Some (File m [])) t) ≡ placed p (Some (File m bytes)) t
+pub appended_placed : (p : List ℕ) (m : ℕ) (bytes : List ℕ) (t : Image) → appended p bytes (placed p (Some (File m [])) t) ≡ placed p (Some (File m bytes)) t
 appended_placed p m bytes t = image_ext _ _ (λ q. at (same_path p q) (cond (covers p q) None (t.look q))) (λ x y. refl)
   where
     at : (s : Bool) (e : Option Entry) → cond s (more_bytes bytes (cond s (Some (File m [])) e)) (cond s (Some (File m [])) e) ≡ cond s (Some (File m bytes)) e
     at true e = refl
     at false e = refl
 
-moded_placed : (p : List ℕ) (m old : ℕ) (bytes : List ℕ) (t : Image) → moded m p (placed p (Some (File old bytes)) t) ≡ placed p (Some (File m bytes)) t
+pub moded_placed : (p : List ℕ) (m old : ℕ) (bytes : List ℕ) (t : Image) → moded m p (placed p (Some (File old bytes)) t) ≡ placed p (Some (File m bytes)) t
 moded_placed p m old bytes t = image_ext _ _ (λ q. at q (same_path p q) refl ((placed p (Some (File old bytes)) t).same p q) refl) (λ x y. refl)
   where
     at : (q : List ℕ) (s : Bool) → same_path p q ≡ s → (n : Bool) → (placed p (Some (File old bytes)) t).same p q ≡ n

@@ -7,7 +7,7 @@ use Rattle.ips_folder.specs.Calls.{IsSole, has_mode}
 use Rattle.ips_text.proofs.Ancestry.{same_path-self}
 use Rattle.ips_outside.proofs.Images.{image_ext}
 use Rattle.ips_outside.proofs.Placed.{look_placed, placed_sole}
-use Rattle.ips_folder.proofs.Filled.{more_twice, more_none, more_file, sole_placed, appended_placed, moded_placed}
+use Rattle.ips_folder.proofs.Filled.{more_twice, more_none, sole_placed, appended_placed, moded_placed}
 
 -- a file that was made and filled
 module _ (p bytes : List ℕ) (t mid u : Image) (made : mid ≡ placed p (Some (File 384 [])) t) (copied : u ≡ appended p bytes mid) where

@@ -27,7 +27,7 @@ pub enum PayloadFault {
 
 /// Why nothing, or not all, was laid. Every variant but `Source` and an unfinished `Folder` leaves the image as it was;
 /// so does `Payload`, unless the repository changed while it was read.
-#[derive(Debug, Drop)]
+#[derive(Drop)]
 pub enum InstallFault {
     /// The first payload that isn't intact, and what is wrong with it.
     Payload {

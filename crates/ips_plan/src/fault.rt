@@ -3,7 +3,7 @@
 use ips_text::RelPath;
 
 /// Why there is no plan.
-#[derive(Debug, Drop)]
+#[derive(Drop)]
 pub enum PlanFault {
     /// Something stands at a wanted path that can't become what is wanted there: it is no directory, or no directory is wanted.
     InTheWay {

@@ -29,7 +29,7 @@ pub enum Reason {
 
 /// A set of pairs that is in no solution, and why: each candidate of one further stem, put to the set, gives a set that breaks a
 /// test or contains the set of an earlier nogood.
-#[derive(Debug, Drop)]
+#[derive(Drop)]
 pub struct Nogood {
     /// The pairs.
     pub set: Vec<Pair>,
@@ -40,7 +40,7 @@ pub struct Nogood {
 }
 
 /// Nogoods, each of which may rest on the ones before it. The last one's set is empty where no solution exists.
-#[derive(Debug, Drop)]
+#[derive(Drop)]
 pub struct Refutation {
     /// The nogoods.
     pub nogoods: Vec<Nogood>,

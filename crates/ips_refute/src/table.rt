@@ -5,7 +5,7 @@ ghost use Rattle.std.specs.Prelude.{◌<◌, ◌^◌, All, vec_len};
 use crate::nogoods::Pair;
 
 /// A test of a table: false where all of these pairs are chosen. The stems of the others aren't greater than that of the last.
-#[derive(Debug, Drop)]
+#[derive(Drop)]
 pub struct Rule {
     /// The pair of the greatest stem.
     pub last: Pair,
@@ -14,7 +14,7 @@ pub struct Rule {
 }
 
 /// A puzzle that is written out: the number of candidates of each stem, and the sets of pairs that may not all be chosen.
-#[derive(Debug, Drop)]
+#[derive(Drop)]
 pub struct Table {
     pub(crate) counts: Vec<u32>,
     pub(crate) rules: Vec<Rule>,

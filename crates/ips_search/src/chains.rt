@@ -8,7 +8,7 @@ use std::alloc::{AllocError, Global};
 
 /// Numbers that were put at stems, in ascending order: `heads` has, by stem, one more than the greatest number there, and `links`,
 /// by number, one more than the next smaller one at its stem; 0 where there is none.
-#[derive(Debug, Drop)]
+#[derive(Drop)]
 pub struct Chains {
     pub heads: Vec<u32>,
     pub links: Vec<u32>,

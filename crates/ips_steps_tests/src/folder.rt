@@ -7,7 +7,7 @@ ghost use Rattle.ips_folder.specs.Memory.{mem_folder};
 
 use crate::outside::tree_of;
 use crate::script::{bytes, call_of, first, look_shown, path, words};
-use ips_folder::{Choice, Folder, ListFault, MemFolder, Stop};
+use ips_folder::{Choice, Folder, MemFolder, Stop};
 use ips_outside::{Failed, Look, Source, Tree, TreeFault};
 use ips_text::{Or, RelPath, octal};
 use std::alloc::Global;

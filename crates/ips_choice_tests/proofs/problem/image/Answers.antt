@@ -23,7 +23,7 @@ returns c = record {
   installed = two_ascend c.push-2.new.self.items c.args.first c.args.second
       (c.in_ok-push-2.ensures.items ∙ ap (λ (ps : List Package). ps ++ c.args.second ∷ []) (c.in_ok-push.ensures.items ∙ ap (λ (ps : List Package). ps ++ c.args.first ∷ []) c.new-installed.ensures.items))
       (sym c.cmp.ensures ∙ less_is c.cmp.result (sym c.is_lt.ensures ∙ c.if-not-is_lt.false));
-  avoid = none_ascends c.new-4.result.items c.new-4.ensures.items;
+  avoid = none_ascends c.new-3.result.items c.new-3.ensures.items;
   freeze = c.in_ok-freeze.ensures.order;
   frozen = c.in_ok-freeze.ensures.frozen;
 }
