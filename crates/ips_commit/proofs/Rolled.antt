@@ -36,7 +36,8 @@ use Rattle.ips_commit.specs.declared.fault.CommitFault.TheVariants as fault
 use Rattle.ips_commit.specs.Pending.{HasNoOtherMark, IsSwept, IsDone, is_swept}
 use Rattle.ips_commit.specs.Phases.{AreSafelyLaid, StopsAt, LaysTo, HasBegun, Lays}
 use Rattle.ips_commit.specs.Recovering.{AreCounted, IsJournalled, IsStuck, IsBadJournal, IsPlaced, CanRollForward, IfBadJournal, SaysOfFinding, SaysOfLaying, SaysOfRecovery}
-use Rattle.ips_commit.proofs.OwnNames.{marks_stay, none_alike}
+use Rattle.ips_commit.proofs.OwnNames.{marks_stay}
+use Rattle.ips_folder.proofs.Crashes.{alike_none}
 use Rattle.ips_commit.proofs.Lays.{next_of, front_less, rest_of}
 use Rattle.ips_commit.proofs.Owing.{nodes_of, ready_text, laying_owed, laid_ready, laid_means, sweeping_owed, cleared_of}
 use Rattle.ips_commit.proofs.Committed.{laid_ok, laid_bad, never_bad}
@@ -129,7 +130,7 @@ module _ {F : Type 0} (o : Outside F) (sane : IsOutside o) (old at : F) (told : 
       pub roll_marks : (names : List (List ℕ)) → HasNoOtherMark t names → HasNoOtherMark (o.state at).held names
       roll_marks names others q b off =
           let within = subst (λ (u : Image). Agrees (freed left) (met (stage_of t) left t) t u) (sym held_left) (laid_within (stage_of t) left t) in
-          none_alike ((o.state at).held.look q) (t.look q) (within.but_mode q (drop_frees (1000 * count) steps q (marks_stay q b steps is.lists.names))) (others q b off)
+          alike_none ((o.state at).held.look q) (t.look q) (within.but_mode q (drop_frees (1000 * count) steps q (marks_stay q b steps is.lists.names))) (others q b off)
 
       pub roll_done : (new : F) → IsDone (visible (o.state at).held) (o.state new) → IsDone (visible (after left t)) (o.state new)
       roll_done new done = subst (λ (u : Image). IsDone (visible u) (o.state new)) held_left done

@@ -4,7 +4,9 @@ ghost use Rattle.std.specs.Prelude.{◌≡◌, IsErr};
 ghost use Rattle.ips_outside.specs.Outside.{HasCause, OneMore};
 ghost use Rattle.ips_host.specs.Silent.{silent, silent_is_sane};
 
+use crate::calls;
 use crate::fault::counted;
+use crate::opened::{Opened, Reading, append, read};
 use crate::root::Root;
 use ips_folder::{Folder, ListFault, Listing};
 use ips_outside::{Failed, Look, Source};
@@ -20,7 +22,11 @@ use std::rt::{Processes, Runtime};
 /// nothing of what was written there before.
 #[derive(Drop)]
 pub struct HostFolder<R: Runtime + Processes> {
+    rt: R,
     root: Root<R>,
+    reading: Reading<R::File, R::A>,
+    // The file that was made or appended to last.
+    appending: Opened<R::File, R::A>,
     faults: u64,
     changes: u64,
 }
@@ -30,8 +36,14 @@ impl<R: Runtime + Processes> HostFolder<R> {
     pub fn new(rt: R, root: Text) -> HostFolder<R>
         ensures { (⟦<HostFolder<R> as Source>⟧.outside).faults result ≡ 0 }
     {
+        let root = Root::new(&rt, root);
+        let reading = Reading::none(&rt);
+        let appending = Opened::none(rt.alloc());
         HostFolder {
-            root: Root::new(rt, root),
+            rt,
+            root,
+            reading,
+            appending,
             faults: 0,
             changes: 0,
         }
@@ -53,69 +65,73 @@ impl<R: Runtime + Processes> Source for HostFolder<R> {
     ghost sane = { silent_is_sane (λ s. s.faults) (λ s. s.changes) };
 
     fn look(&mut self, path: &RelPath) -> Result<Look, Failed> {
-        let answer = self.root.look(path);
+        let answer = calls::look(&self.rt, &mut self.root, path);
         counted(&mut self.faults, answer)
     }
 
     fn read(&mut self, path: &RelPath, at: u64, buf: &mut [u8]) -> Result<usize, Failed> {
-        let answer = self.root.read(path, at, buf);
+        let answer = read(&self.rt, &mut self.root, &mut self.reading, path, at, buf);
         counted(&mut self.faults, answer)
     }
 }
 
 impl<R: Runtime + Processes> Folder for HostFolder<R> {
     fn list(&mut self, alloc: Global, dir: &RelPath) -> Result<Listing, ListFault> {
-        let answer = self.root.list(alloc, dir);
+        let answer = calls::list(&self.rt, &mut self.root, alloc, dir);
         Ok(counted(&mut self.faults, answer)?)
     }
 
     fn target(&mut self, alloc: Global, path: &RelPath) -> Result<Vec<u8>, ListFault> {
-        let answer = self.root.target(alloc, path);
+        let answer = calls::target(&self.rt, &mut self.root, alloc, path);
         Ok(counted(&mut self.faults, answer)?)
     }
 
     fn same(&mut self, a: &RelPath, b: &RelPath) -> Result<bool, Failed> {
-        let answer = self.root.same(a, b);
+        let answer = calls::same(&self.rt, &mut self.root, a, b);
         counted(&mut self.faults, answer)
     }
 
     fn make_dir(&mut self, path: &RelPath, mode: u16) -> Result<(), Failed> {
-        let answer = self.root.make_dir(path, mode);
+        let answer = calls::make_dir(&self.rt, &mut self.root, path, mode);
         self.changed(answer)
     }
 
     fn make_file(&mut self, path: &RelPath) -> Result<(), Failed> {
-        let answer = self.root.make_file(path);
+        let answer = calls::make_file(&self.rt, &mut self.root, &mut self.appending, path);
         self.changed(answer)
     }
 
     fn append(&mut self, path: &RelPath, bytes: &[u8]) -> Result<(), Failed> {
-        let answer = self.root.append(path, bytes);
+        let answer = append(&self.rt, &mut self.root, &mut self.appending, path, bytes);
         self.changed(answer)
     }
 
     fn make_link(&mut self, path: &RelPath, target: &[u8]) -> Result<(), Failed> {
-        let answer = self.root.make_link(path, target);
+        let answer = calls::make_link(&self.rt, &mut self.root, path, target);
         self.changed(answer)
     }
 
     fn make_hard(&mut self, path: &RelPath, to: &RelPath) -> Result<(), Failed> {
-        let answer = self.root.make_hard(path, to);
+        let answer = calls::make_hard(&self.rt, &mut self.root, path, to);
         self.changed(answer)
     }
 
     fn remove(&mut self, path: &RelPath) -> Result<(), Failed> {
-        let answer = self.root.remove(path);
+        self.reading.let_go(path);
+        self.appending.let_go(path);
+        let answer = calls::remove(&self.rt, &mut self.root, path);
         self.changed(answer)
     }
 
     fn set_mode(&mut self, path: &RelPath, mode: u16) -> Result<(), Failed> {
-        let answer = self.root.set_mode(path, mode);
+        let answer = calls::set_mode(&self.rt, &mut self.root, &self.appending, path, mode);
         self.changed(answer)
     }
 
     fn sync(&mut self) -> Result<(), Failed> {
-        let answer = self.root.sync();
+        self.reading.close();
+        self.appending.close();
+        let answer = calls::sync(&self.rt, &mut self.root);
         self.changed(answer)
     }
 }

@@ -4,9 +4,11 @@
 //! exactly where that count rose.
 #![tactic(auto)]
 
+mod calls;
 mod fault;
 mod folder;
 mod listing;
+mod opened;
 mod programs;
 mod root;
 mod sink;

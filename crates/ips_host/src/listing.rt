@@ -7,7 +7,7 @@ use std::io;
 use std::io::{Error, ErrorKind, Read};
 
 /// The children that a directory holds, from the names in it, each of which ends with a NUL. No read ends inside a name.
-pub fn list<N: Read>(alloc: Global, names: &mut N, dir: &RelPath) -> io::Result<Listing> {
+pub fn list_names<N: Read>(alloc: Global, names: &mut N, dir: &RelPath) -> io::Result<Listing> {
     let mut paths = Vec::new(alloc);
     let mut foreign = false;
     let mut buffer = [0; 4096];

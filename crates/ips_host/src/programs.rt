@@ -8,8 +8,10 @@ use std::rt::{Processes, Runtime};
 
 /// Makes safe from a crash what was written to the file system on which the path stands.
 pub fn sync_file_system<R: Runtime + Processes>(rt: &R, path: &str) -> io::Result<()> {
-    let mut command = Command::new(rt.alloc(), "/bin/sync")?;
-    sync_by(rt, &mut command, path)
+    match Command::new(rt.alloc(), "/bin/sync") {
+        Ok(mut command) => sync_by(rt, &mut command, path),
+        Err(e) => Err(e.into()),
+    }
 }
 
 fn sync_by<R: Runtime + Processes>(
@@ -17,7 +19,9 @@ fn sync_by<R: Runtime + Processes>(
     command: &mut Command<R::A>,
     path: &str,
 ) -> io::Result<()> {
-    command.arg("-f")?.arg("--")?.arg(path)?;
+    for word in ["-f", "--", path] {
+        command.arg(word)?;
+    }
     command
         .stdin(Stdio::null())
         .stdout(Stdio::null())
@@ -36,8 +40,10 @@ pub fn run_program<R: Runtime + Processes>(rt: &R, words: &[Text]) -> io::Result
     let Some((program, arguments)) = words.split_first() else {
         return Err(ErrorKind::InvalidInput.into());
     };
-    let mut command = Command::new(rt.alloc(), program.as_str())?;
-    run_by(rt, &mut command, arguments)
+    match Command::new(rt.alloc(), program.as_str()) {
+        Ok(mut command) => run_by(rt, &mut command, arguments),
+        Err(e) => Err(e.into()),
+    }
 }
 
 fn run_by<R: Runtime + Processes>(

@@ -3,7 +3,9 @@
 ghost use Rattle.std.specs.Prelude.{◌≡◌};
 ghost use Rattle.ips_host.specs.Silent.{silent, silent_is_sane};
 
+use crate::calls::look;
 use crate::fault::counted;
+use crate::opened::{Reading, read};
 use crate::root::Root;
 use ips_outside::{Failed, Look, Source};
 use ips_text::{RelPath, Text};
@@ -15,7 +17,9 @@ use std::rt::{Processes, Runtime};
 /// meantime.
 #[derive(Drop)]
 pub struct HostSource<R: Runtime + Processes> {
+    rt: R,
     root: Root<R>,
+    reading: Reading<R::File, R::A>,
     faults: u64,
 }
 
@@ -24,8 +28,12 @@ impl<R: Runtime + Processes> HostSource<R> {
     pub fn new(rt: R, root: Text) -> HostSource<R>
         ensures { (⟦<HostSource<R> as Source>⟧.outside).faults result ≡ 0 }
     {
+        let root = Root::new(&rt, root);
+        let reading = Reading::none(&rt);
         HostSource {
-            root: Root::new(rt, root),
+            rt,
+            root,
+            reading,
             faults: 0,
         }
     }
@@ -37,12 +45,12 @@ impl<R: Runtime + Processes> Source for HostSource<R> {
     ghost sane = { silent_is_sane (λ s. s.faults) (λ s. 0) };
 
     fn look(&mut self, path: &RelPath) -> Result<Look, Failed> {
-        let answer = self.root.look(path);
+        let answer = look(&self.rt, &mut self.root, path);
         counted(&mut self.faults, answer)
     }
 
     fn read(&mut self, path: &RelPath, at: u64, buf: &mut [u8]) -> Result<usize, Failed> {
-        let answer = self.root.read(path, at, buf);
+        let answer = read(&self.rt, &mut self.root, &mut self.reading, path, at, buf);
         counted(&mut self.faults, answer)
     }
 }

@@ -13,9 +13,25 @@ pub struct Standard<R: Runtime + Processes> {
     third: R::File,
 }
 
-/// Opens `/dev/null` as often as there are standard descriptors, to be read: where standard output is one of them, a write
-/// to it is still an error.
-pub fn take_standard<R: Runtime + Processes>(rt: &R) -> io::Result<Standard<R>> {
+/// Opens `/dev/null`, where that isn't done yet, as often as there are standard descriptors, to be read: where standard
+/// output is one of them, a write to it is still an error.
+pub fn take_standard<R: Runtime + Processes>(
+    rt: &R,
+    standard: &mut Option<Standard<R>>,
+) -> io::Result<()> {
+    if standard.is_some() {
+        return Ok(());
+    }
+    match opened(rt) {
+        Ok(taken) => {
+            *standard = Some(taken);
+            Ok(())
+        }
+        Err(e) => Err(e),
+    }
+}
+
+fn opened<R: Runtime + Processes>(rt: &R) -> io::Result<Standard<R>> {
     let how = null_to_read();
     let first = how.open(rt, "/dev/null")?;
     let second = how.open(rt, "/dev/null")?;

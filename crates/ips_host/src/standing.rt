@@ -1,12 +1,12 @@
 //! What stands at a path of the host, and its permission bits.
 
-ghost use Rattle.std.specs.Prelude.{◌≡◌, ◌%◌};
+ghost use Rattle.std.specs.Prelude.{◌≡◌, ◌%◌, IfOk};
 ghost use Rattle.ips_outside.specs.Outside.{IsSmall};
 ghost use Rattle.std.specs.Fs.{metadata_mode, metadata_len, file_type, IsDir, IsFile, IsSymlink};
 
 use ips_outside::Look;
-use std::fs::{Files, Metadata, Permissions};
-use std::io::ErrorKind;
+use std::fs::{Files, Metadata, OpenFile, Permissions};
+use std::io::{Error, ErrorKind};
 use std::os::unix::fs::{MetadataExt, PermissionsExt};
 use std::{fs, io};
 
@@ -64,4 +64,53 @@ pub fn give_mode<R: Files>(rt: &R, place: &str, mode: u16) -> io::Result<()> {
     } else {
         Err(ErrorKind::Unsupported.into())
     }
+}
+
+/// Gives the directory or file that was just made at the place just this mode, where it hasn't it.
+pub fn keep_mode<R: Files>(rt: &R, place: &str, mode: u16) -> io::Result<()> {
+    if mode_of(&fs::symlink_metadata(rt, place)?) == mode {
+        Ok(())
+    } else {
+        give_mode(rt, place, mode)
+    }
+}
+
+/// Gives the open file just this mode, which is looked at again.
+pub fn give_open_mode<F: OpenFile>(file: &F, mode: u16) -> io::Result<()> {
+    file.set_permissions(Permissions::from_mode(u32::from(mode)))?;
+    if mode_of(&file.metadata()?) == mode {
+        Ok(())
+    } else {
+        Err(ErrorKind::Unsupported.into())
+    }
+}
+
+/// Gives the directory or file at the place just this mode, where one stands.
+pub fn set_mode_at<R: Files>(rt: &R, place: &str, mode: u16) -> io::Result<()> {
+    match standing(rt, place)? {
+        Some(metadata) if metadata.is_dir() || metadata.is_file() => give_mode(rt, place, mode),
+        _ => Err(nothing_there()),
+    }
+}
+
+/// What a look at the place answers.
+pub fn look_at<R: Files>(rt: &R, place: &str) -> io::Result<Look>
+    ensures { IfOk result IsSmall }
+{
+    match standing(rt, place)? {
+        Some(metadata) => Ok(look_of(&metadata)),
+        None => Ok(Look::Absent),
+    }
+}
+
+/// What the host says of the file at the place.
+pub fn file_at<R: Files>(rt: &R, place: &str) -> io::Result<Metadata> {
+    match standing(rt, place)? {
+        Some(metadata) if metadata.is_file() => Ok(metadata),
+        _ => Err(nothing_there()),
+    }
+}
+
+pub fn nothing_there() -> Error {
+    ErrorKind::NotFound.into()
 }

@@ -5,3 +5,4 @@ pub mod Judged
 pub mod Gone
 pub mod Endings
 pub mod Laws
+pub mod Bounds

@@ -13,5 +13,5 @@ mod physical;
 
 pub use fault::{LineFault, ManifestFault};
 pub use line::Line;
-pub use manifest::{Manifest, manifests_read_back};
+pub use manifest::{Manifest, faults_have_lines, manifests_read_back};
 pub use package::Package;

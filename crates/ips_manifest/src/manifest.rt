@@ -1,10 +1,11 @@
 //! Manifests.
 
-ghost use Rattle.std.specs.Prelude.{◌≡◌, ◌++◌, ◌+◌, ◌<◌, ◌^◌, List, ℕ, Ok, IfOk, OnOk, length, map, string_bytes};
+ghost use Rattle.std.specs.Prelude.{◌≡◌, ◌++◌, ◌+◌, ◌<◌, ◌≤◌, ◌^◌, List, ℕ, Ok, IfOk, OnOk, length, map, string_bytes};
 ghost use Rattle.std.specs.List.{list_any, AllByRecursion};
 ghost use Rattle.ips_text.specs.Reading.{Gives, IfBad};
 ghost use Rattle.ips_action.specs.Attrs.{is_same};
 ghost use Rattle.ips_manifest.specs.declared.line.Line as declared;
+ghost use Rattle.ips_manifest.specs.declared.fault.ManifestFault as declared_fault;
 ghost use Rattle.ips_manifest.specs.Manifest as spec;
 ghost use Rattle.ips_manifest.specs.Manifest.{IsManifestOf, IsFaultOf, manifest_text, renumbered, StandsOnLine};
 
@@ -116,3 +117,8 @@ pub fn manifests_read_back()
 {
     actions_read_back();
 }
+
+/// The law of a fault's line: it is at most the number of the text's bytes.
+pub fn faults_have_lines()
+    ensures { (bytes : List ℕ) (fault : declared_fault.ManifestFault) → IsFaultOf bytes fault → fault.line ≤ length bytes }
+{}

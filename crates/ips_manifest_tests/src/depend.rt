@@ -1,26 +1,30 @@
-ghost use Rattle.std.specs.Prelude.{◌&&◌, if◌then◌else◌, bytes_eq, codes, None};
+ghost use Rattle.std.specs.Prelude.{if◌then◌else◌, bytes_eq, codes, false, None};
 
 use crate::table::{Ask, columns, holds, text};
 use ips_depend::{BadDepend, Test, View, tests_of};
 use ips_filter::Settings;
-use ips_fmri::Version;
+use ips_fmri::{Fmri, Version};
 use ips_manifest::Manifest;
 use ips_text::Or;
 use std::alloc::Global;
 use std::process::Abort;
 
-// Two stems, each absent or at a version, of which the first may be spared.
+// Two stems, each absent or at a version, and spared or not; the first was absent or at a version before.
 #[derive(Drop)]
 struct Chosen {
     a: Option<Version>,
     b: Option<Version>,
-    spared: bool,
+    old_a: Option<Version>,
+    a_spared: bool,
+    b_spared: bool,
 }
 
 impl View for Chosen {
     ghost selection = { λ v stem. if bytes_eq stem (codes "a") then v.a else (if bytes_eq stem (codes "b") then v.b else None) };
 
-    ghost spares = { λ v stem. v.spared && bytes_eq stem (codes "a") };
+    ghost old_selection = { λ v stem. if bytes_eq stem (codes "a") then v.old_a else None };
+
+    ghost spares = { λ v stem. if bytes_eq stem (codes "a") then v.a_spared else (if bytes_eq stem (codes "b") then v.b_spared else false) };
 
     fn version(&self, stem: &str) -> Option<&Version> {
         if stem == "a" {
@@ -32,8 +36,21 @@ impl View for Chosen {
         None
     }
 
+    fn before(&self, stem: &str) -> Option<&Version> {
+        if stem == "a" {
+            return self.old_a.as_ref();
+        }
+        None
+    }
+
     fn spared(&self, stem: &str) -> bool {
-        self.spared && stem == "a"
+        if stem == "a" {
+            return self.a_spared;
+        }
+        if stem == "b" {
+            return self.b_spared;
+        }
+        false
     }
 }
 
@@ -47,12 +64,14 @@ fn read(rt: &impl Abort, alloc: Global, text: &str) -> Vec<Test> {
         .expect(rt, "an answer")
 }
 
-// What the words say is chosen, as `a=1.9 b=2 spared`.
+// What the words say is chosen, as `a=1.9 b=2 spared`, where `a` is spared; `old=1` is what `a` was before.
 fn view_of(rt: &impl Abort, alloc: Global, words: &str) -> Chosen {
     let mut chosen = Chosen {
         a: None,
         b: None,
-        spared: false,
+        old_a: None,
+        a_spared: false,
+        b_spared: false,
     };
     for word in words.split_whitespace() {
         let (stem, version) = word.split_once('=').unwrap_or((word, "0"));
@@ -62,7 +81,9 @@ fn view_of(rt: &impl Abort, alloc: Global, words: &str) -> Chosen {
         match stem {
             "a" => chosen.a = Some(version),
             "b" => chosen.b = Some(version),
-            "spared" => chosen.spared = true,
+            "old" => chosen.old_a = Some(version),
+            "spared" => chosen.a_spared = true,
+            "b-spared" => chosen.b_spared = true,
             _ => panic!(rt; "no such word"),
         }
     }
@@ -144,8 +165,27 @@ type=group fmri=a | b=1 -> fails
 type=group fmri=a | spared -> holds
 # The second stem isn't spared.
 type=group fmri=b | a=1 spared -> fails
+# Of any number of packages one that is new enough, or all of them are spared.
+type=group-any fmri=a@2 fmri=b | a=1 -> fails
+type=group-any fmri=a@2 fmri=b | a=2 -> holds
+type=group-any fmri=a@2 fmri=b | b=1 -> holds
+type=group-any fmri=a@2 fmri=b | spared -> fails
+type=group-any fmri=a@2 fmri=b | b-spared -> fails
+type=group-any fmri=a@2 fmri=b | spared b-spared -> holds
 type=parent fmri=a@9 | -> holds
 type=parent fmri=a fmri=b | a=1 -> holds
+# What was selected before is asked, and no more than that.
+type=origin fmri=a@2 | old=1 -> fails
+type=origin fmri=a@2 | old=1 a=2 -> fails
+type=origin fmri=a@2 | old=2 -> holds
+type=origin fmri=a@2 | -> holds
+type=origin fmri=a@2 | a=1 -> holds
+type=origin fmri=a | old=1 -> holds
+# On the image that the system runs from, which is no matter of this one.
+type=origin fmri=a@2 root-image=true | old=1 -> holds
+type=origin fmri=a@2 root-image=false root-image=true | old=1 -> holds
+type=origin fmri=a@2 root-image=false | old=1 -> fails
+type=origin fmri=a@2 root-image=TRUE | old=1 -> fails
 ";
 
 fn bad_line(rt: &impl Abort, alloc: Global, text: &str) -> String {
@@ -165,17 +205,22 @@ fn bad_line(rt: &impl Abort, alloc: Global, text: &str) -> String {
 }
 
 const THE_FIRST_ACTION_THAT_IS_NO_DEPENDENCY_IS_TOLD: &str = r"
-depend type=origin fmri=a -> 1
-set name=a¶depend type=group-any fmri=a fmri=b -> 2
+depend type=origin fmri=a -> none
+set name=a¶depend type=group-any fmri=a fmri=b -> none
 depend type=Require fmri=a -> 1
+depend type=Origin fmri=a -> 1
+set name=a¶depend type=group_any fmri=a fmri=b -> 2
 # More than one FMRI.
 depend type=require fmri=a fmri=b -> 1
 depend type=group fmri=a fmri=a -> 1
 depend type=conditional predicate=b fmri=a fmri=c -> 1
+depend type=origin fmri=a fmri=b -> 1
 # No predicate, or one too many.
 depend type=conditional fmri=a -> 1
 depend type=require predicate=b fmri=a -> 1
 depend type=require-any predicate=b fmri=a -> 1
+depend type=group-any predicate=b fmri=a -> 1
+depend type=origin predicate=b fmri=a -> 1
 # What is no FMRI.
 depend type=require fmri=a@1.x -> 1
 depend type=conditional predicate=a@ fmri=a -> 1
@@ -184,11 +229,11 @@ depend type=parent fmri=/a -> 1
 # The first such line, by its first physical line.
 depend type=require fmri=a¶# c¶¶depend \¶type=no fmri=a¶depend type=no fmri=a¶ -> 4
 # A line that isn't taken isn't judged.
-depend type=origin fmri=a variant.arch=sparc¶depend type=no fmri=b variant.arch=i386 -> 2
-depend type=origin fmri=a variant.arch=sparc¶set name=depend type=origin¶ -> none
+depend type=no fmri=a variant.arch=sparc¶depend type=no fmri=b variant.arch=i386 -> 2
+depend type=no fmri=a variant.arch=sparc¶set name=depend type=no¶ -> none
 ";
 
-// Of each dependency the stems that it mentions, how many it wants, and the stem of a group dependency.
+// Of each dependency the stems that it mentions, how many it wants, and the stems of a group dependency.
 fn told(rt: &impl Abort, alloc: Global, text: &str) -> String {
     let mut out = String::new(alloc);
     for test in &read(rt, alloc, text) {
@@ -196,14 +241,22 @@ fn told(rt: &impl Abort, alloc: Global, text: &str) -> String {
             out.push_str(fmri.stem.as_str()).expect(rt, "memory");
             out.push_str(" ").expect(rt, "memory");
         }
-        let group = match test.group() {
-            Some(fmri) => fmri.stem.as_str(),
-            None => "-",
-        };
         let wants = test.wants();
-        write!(out, "{wants} {group};").expect(rt, "memory");
+        write!(out, "{wants}").expect(rt, "memory");
+        add_group(rt, &mut out, test.group());
+        out.push_str(";").expect(rt, "memory");
     }
     out
+}
+
+fn add_group(rt: &impl Abort, out: &mut String, group: &[Fmri]) {
+    if group.is_empty() {
+        out.push_str(" -").expect(rt, "memory");
+    }
+    for fmri in group {
+        out.push_str(" ").expect(rt, "memory");
+        out.push_str(fmri.stem.as_str()).expect(rt, "memory");
+    }
 }
 
 const TESTS_MENTION_AND_WANT_STEMS: &str = "
@@ -214,7 +267,9 @@ depend type=exclude fmri=a -> a 0 -;
 depend fmri=a predicate=b type=conditional -> b a 1 -;
 depend type=require-any fmri=a fmri=c fmri=b -> a c b 3 -;
 depend type=group fmri=g/h -> g/h 1 g/h;
+depend type=group-any fmri=a fmri=c fmri=b -> a c b 3 a c b;
 depend type=parent fmri=a fmri=b -> a b 0 -;
+depend type=origin fmri=a -> 0 -;
 # They stand in the order of their lines.
 depend type=require fmri=a¶depend type=optional fmri=a¶depend type=incorporate fmri=a@1¶depend type=exclude fmri=a¶depend fmri=a predicate=b type=conditional¶depend type=require-any fmri=a fmri=c fmri=b¶depend type=group fmri=g/h¶depend type=parent fmri=a fmri=b -> a 1 -;a 0 -;a 0 -;a 0 -;b a 1 -;a c b 3 -;g/h 1 g/h;a b 0 -;
 depend type=optional fmri=a¶depend type=require fmri=b¶depend type=group fmri=c¶ -> a 0 -;b 1 -;c 1 c;
@@ -223,19 +278,19 @@ depend type=optional fmri=a¶depend type=require fmri=b¶depend type=group fmri=
 #[test]
 fn judges_dependencies(rt: HostRuntime) {
     let alloc = rt.alloc();
-    holds(&rt, alloc, &mut Asked::Holds, 37, SENTENCES);
+    holds(&rt, alloc, &mut Asked::Holds, 53, SENTENCES);
     holds(
         &rt,
         alloc,
         &mut Asked::Bad,
-        16,
+        21,
         THE_FIRST_ACTION_THAT_IS_NO_DEPENDENCY_IS_TOLD,
     );
     holds(
         &rt,
         alloc,
         &mut Asked::Told,
-        10,
+        12,
         TESTS_MENTION_AND_WANT_STEMS,
     );
 }

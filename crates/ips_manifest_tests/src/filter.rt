@@ -9,7 +9,8 @@ use std::process::Abort;
 //
 // - `set NAME VALUE` sets a variant; `turn PATTERN on`, `off` or `away` sets a facet.
 // - `copy` makes the copy anew; `swap` goes on with the copy in place of the settings.
-// - `variant NAME` and `facet NAME` are looked up; `variant-at N` and `facet-at N` are the entries by number.
+// - `variant NAME` and `facet NAME` are looked up; `variant-at N` and `facet-at N` are the entries by number; `variants` and
+//   `facets` are all of them.
 // - `takes WORDS` is whether a directory with these words is taken; `admits LINE` the same of any action.
 #[derive(Drop)]
 struct Script {
@@ -42,6 +43,8 @@ impl Ask for Script {
             "facet" => told(rt, alloc, named(self.settings.facet(rest))),
             "variant-at" => self.variant_at(rt, alloc, rest),
             "facet-at" => self.facet_at(rt, alloc, rest),
+            "variants" => self.variants(rt, alloc),
+            "facets" => self.facets(rt, alloc),
             "takes" => {
                 let line = format!(in alloc;
                     "dir path=usr mode=0755 owner=root group=sys {rest}"
@@ -114,6 +117,23 @@ impl Script {
         }
     }
 
+    fn variants(&self, rt: &impl Abort, alloc: Global) -> String {
+        let mut out = String::new(alloc);
+        for (name, value) in &self.settings.variants(alloc).expect(rt, "memory") {
+            write!(out, "{name} {value};").expect(rt, "memory");
+        }
+        out
+    }
+
+    fn facets(&self, rt: &impl Abort, alloc: Global) -> String {
+        let mut out = String::new(alloc);
+        for (pattern, on) in &self.settings.facets(alloc).expect(rt, "memory") {
+            let on = named(*on);
+            write!(out, "{pattern} {on};").expect(rt, "memory");
+        }
+        out
+    }
+
     fn admits(&self, rt: &impl Abort, alloc: Global, line: &str) -> String {
         let action = parse_line(alloc, line).ok().expect(rt, "an answer");
         let is = self.settings.admits(&action);
@@ -134,11 +154,14 @@ variant-at 0 -> variant.arch i386
 variant-at 1 -> variant.debug true
 variant-at 2 -> variant.opensolaris.zone global
 variant-at 3 -> none
+variants -> variant.arch i386;variant.debug true;variant.opensolaris.zone global;
 # The copy hasn't what was set later.
 swap -> done
 variant-at 1 -> variant.opensolaris.zone global
 variant-at 2 -> none
+variants -> variant.arch i386;variant.opensolaris.zone global;
 facet-at 0 -> none
+facets ->
 ";
 
 const THE_LONGEST_PATTERN_DECIDES_A_FACET: &str = "
@@ -168,6 +191,8 @@ facet-at 0 -> facet.* off
 facet-at 1 -> facet.*.pdf on
 facet-at 5 -> facet.locale.* off
 facet-at 6 -> none
+facets -> facet.* off;facet.*.pdf on;facet.dev?l on;facet.doc.*n on;facet.doc.m* off;facet.locale.* off;
+variants ->
 ";
 
 const AN_ACTION_IS_TAKEN_BY_ITS_VARIANTS_AND_FACETS: &str = "
@@ -207,14 +232,14 @@ fn settings_take_actions(rt: HostRuntime) {
         &rt,
         alloc,
         &mut blank_script(alloc),
-        16,
+        19,
         A_VARIANT_HAS_ITS_LAST_VALUE_AND_FALSE_WHERE_IT_IS_NOT_SET,
     );
     holds(
         &rt,
         alloc,
         &mut blank_script(alloc),
-        25,
+        27,
         THE_LONGEST_PATTERN_DECIDES_A_FACET,
     );
     holds(

@@ -3,7 +3,7 @@ use Rattle.std.proofs.lemmas.Result.{err_from_is_err_and}
 use Rattle.ips_outside.specs.Image.{Image}
 use Rattle.ips_outside.specs.State.{State}
 use Rattle.ips_repo.specs.Payload.{IsFrontOf}
-use Rattle.ips_repo.proofs.Calls.{no_fault, handed_on, reads_then, reads_as}
+use Rattle.ips_outside.proofs.Reading.{no_fault, handed_on, reads_then, reads_as}
 use Rattle.ips_install.specs.declared.fault.InstallFault.{InstallFault}
 use Rattle.ips_install.specs.declared.fault.InstallFault.TheVariants as failure
 use Rattle.ips_install.specs.Checking.{IsVerified, IsPrepared, SaysOfBytes}

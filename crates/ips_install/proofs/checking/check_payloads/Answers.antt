@@ -6,7 +6,7 @@ use Rattle.ips_outside.specs.Image.{Image}
 use Rattle.ips_outside.specs.State.{State}
 use Rattle.ips_digest.specs.declared.name.PayloadName.{PayloadName}
 use Rattle.ips_digest.specs.declared.name.PayloadName.TheVariants.{Sha1}
-use Rattle.ips_repo.proofs.Calls.{no_fault, reads_then}
+use Rattle.ips_outside.proofs.Reading.{no_fault, reads_then}
 use Rattle.ips_install.specs.Fault.{SaysOfPayloads}
 use Rattle.ips_install.specs.Checking.{IsPrepared, names_of, SaysOfPayload}
 use Rattle.ips_install.proofs.Checked.{named_more, prepared_more, first_wrong}

@@ -2,7 +2,7 @@ use Rattle.std.proofs.Common.{◌≡◌, refl, sym, ◌∙◌, subst}
 use Rattle.std.proofs.lemmas.Result.{err_from_is_err_and}
 use Rattle.ips_digest.specs.declared.name.PayloadName.{PayloadName}
 use Rattle.ips_repo.specs.Payload.{digest_by}
-use Rattle.ips_repo.proofs.Calls.{answered, reads_as}
+use Rattle.ips_outside.proofs.Reading.{answered, reads_as}
 use Rattle.ips_install.proofs.Checked.{whole_file, whole_judged, judged_fault, judged_steady}
 use Rattle.ips_install.proofs.checking.verify.Goals as goal
 

@@ -10,7 +10,7 @@ use Rattle.ips_steps.specs.Steps.{freed, named}
 use Rattle.ips_steps.specs.View.{step_of}
 use Rattle.ips_steps.specs.declared.step.Step as program
 use Rattle.ips_steps.proofs.Lists.{clash}
-use Rattle.ips_repo.proofs.Calls.{no_fault, handed_on}
+use Rattle.ips_outside.proofs.Reading.{no_fault, handed_on}
 use Rattle.ips_install.specs.Laid.{IsContent, AreLaid, AreIntact}
 use Rattle.ips_install.specs.Fault.{SaysOfPayloads}
 use Rattle.ips_install.specs.Checking.{IsPrepared, names_of}

@@ -5,7 +5,7 @@ use Rattle.ips_outside.specs.State.{State}
 use Rattle.ips_outside.specs.Change.{appended}
 use Rattle.ips_folder.proofs.Runs.{keeps_then}
 use Rattle.ips_repo.specs.Payload.{Reading, IsFrontOf}
-use Rattle.ips_repo.proofs.Calls.{answered, reads_then}
+use Rattle.ips_outside.proofs.Reading.{answered, reads_then}
 use Rattle.ips_install.proofs.Keeping.{path_written}
 use Rattle.ips_install.proofs.laying.copy_payload.Goals as goal
 use Rattle.ips_folder.proofs.Filled.{appended_twice}

@@ -1,7 +1,7 @@
 use Rattle.std.proofs.Common.{◌≡◌, true, false, nat_lt, length, Err, is_ok, sym, ◌∙◌, ap, subst}
 use Rattle.std.proofs.lemmas.Result.{err_from_is_err_and}
 use Rattle.ips_outside.proofs.Faults.{cause_as}
-use Rattle.ips_repo.proofs.Calls.{handed_on}
+use Rattle.ips_outside.proofs.Reading.{handed_on}
 use Rattle.ips_install.specs.Laying.{IsLayingFault}
 use Rattle.ips_install.specs.declared.fault.InstallFault.{InstallFault}
 use Rattle.ips_install.specs.declared.fault.InstallFault.TheVariants as fault

@@ -8,7 +8,7 @@ use Rattle.ips_folder.proofs.Runs.{keeps_then, keeps_wider, begun}
 use Rattle.ips_steps.specs.Steps.{path_of, frees, freed, named}
 use Rattle.ips_steps.specs.View.{step_of}
 use Rattle.ips_steps.proofs.AtTurn.{frees_at}
-use Rattle.ips_repo.proofs.Calls.{no_fault, reads_none, reads_then}
+use Rattle.ips_outside.proofs.Reading.{no_fault, reads_none, reads_then}
 use Rattle.ips_install.specs.Laid.{IsContent}
 use Rattle.ips_install.specs.Checking.{IsPrepared, names_of}
 use Rattle.ips_install.specs.Laying.{LaysStep}

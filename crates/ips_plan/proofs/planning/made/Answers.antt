@@ -6,7 +6,7 @@ use Rattle.ips_outside.specs.declared.outside.Look.{Look}
 use Rattle.ips_outside.specs.Image.{Image}
 use Rattle.ips_outside.specs.State.{State}
 use Rattle.ips_outside.specs.Outside.{look_of}
-use Rattle.ips_repo.proofs.Calls.{reads_then}
+use Rattle.ips_outside.proofs.Reading.{reads_then}
 use Rattle.ips_steps.specs.Steps.{Step}
 use Rattle.ips_meaning.specs.declared.entry.Entry.{Entry}
 use Rattle.ips_plan.specs.Planned.{payload_of}

@@ -2,7 +2,7 @@ use Rattle.std.proofs.Common.{◌+◌, ◌∙◌, [], Global, Vec, ap, refl, sub
 use Rattle.std.proofs.lemmas.Result.{err_from_is_err_and}
 use Rattle.ips_text.specs.declared.refusal.Or.TheVariants.{Bad}
 use Rattle.ips_outside.specs.State.{State}
-use Rattle.ips_repo.proofs.Calls.{handed_on, no_fault, reads_none, reads_then}
+use Rattle.ips_outside.proofs.Reading.{handed_on, no_fault, reads_none, reads_then}
 use Rattle.ips_request.specs.declared.fault.ProblemFault.TheVariants as fault
 use Rattle.ips_request.specs.declared.read.Read.{Read}
 use Rattle.ips_request.specs.Manifests.{IsManifestFault}

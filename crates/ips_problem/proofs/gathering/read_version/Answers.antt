@@ -1,7 +1,7 @@
 use Rattle.std.proofs.Common.{refl}
 use Rattle.ips_text.specs.declared.refusal.Or.TheVariants.{Bad}
 use Rattle.ips_manifest.specs.declared.manifest.Manifest.{Manifest}
-use Rattle.ips_repo.proofs.Calls.{handed_on, no_fault, reads_as}
+use Rattle.ips_outside.proofs.Reading.{handed_on, no_fault, reads_as}
 use Rattle.ips_request.specs.declared.fault.ProblemFault.TheVariants as fault
 use Rattle.ips_request.specs.declared.read.Read.{Read}
 use Rattle.ips_request.specs.Case.{own}

@@ -1,7 +1,7 @@
 use Rattle.std.proofs.Common.{◌≡◌, ℕ, ◌∙◌, List, Some, ap, length, map, refl, slice_get, subst, sym}
 use Rattle.std.proofs.lemmas.List.{length_push, map_push}
 use Rattle.ips_text.specs.declared.refusal.Or.TheVariants.{Bad}
-use Rattle.ips_repo.proofs.Calls.{handed_on, reads_as}
+use Rattle.ips_outside.proofs.Reading.{handed_on, reads_as}
 use Rattle.ips_request.specs.declared.fault.ProblemFault.TheVariants as fault
 use Rattle.ips_request.specs.Manifests.{needed}
 use Rattle.ips_request.specs.Stems.{stems_of}

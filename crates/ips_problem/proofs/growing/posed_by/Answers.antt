@@ -2,7 +2,7 @@ use Rattle.std.proofs.Common.{◌∙◌, ap, refl, subst}
 use Rattle.std.proofs.lemmas.Result.{err_from_is_err_and}
 use Rattle.ips_text.specs.declared.refusal.Or.TheVariants.{Bad}
 use Rattle.ips_outside.specs.State.{State}
-use Rattle.ips_repo.proofs.Calls.{handed_on, no_fault, reads_as, reads_none, reads_then}
+use Rattle.ips_outside.proofs.Reading.{handed_on, no_fault, reads_as, reads_none, reads_then}
 use Rattle.ips_request.specs.declared.fault.ProblemFault.TheVariants as fault
 use Rattle.ips_request.specs.Subject.{case_in, files_of, repo_of}
 use Rattle.ips_request.proofs.Named.{bad_handed}

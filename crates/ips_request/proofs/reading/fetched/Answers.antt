@@ -4,7 +4,7 @@ use Rattle.ips_manifest.specs.declared.manifest.Manifest.{Manifest}
 use Rattle.ips_repo.specs.Files.{file_at}
 use Rattle.ips_repo.specs.Places.{manifest_place}
 use Rattle.ips_repo.specs.declared.fault.RepoFault.TheVariants as repo
-use Rattle.ips_repo.proofs.Calls.{no_fault, reads_as}
+use Rattle.ips_outside.proofs.Reading.{no_fault, reads_as}
 use Rattle.ips_repo.proofs.Manifests.{given_bytes}
 use Rattle.ips_request.specs.declared.fault.ProblemFault.TheVariants as fault
 use Rattle.ips_request.specs.Manifests.{IsFetched, IsFetchFault, name_of}

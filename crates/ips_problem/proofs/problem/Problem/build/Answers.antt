@@ -1,5 +1,5 @@
 use Rattle.std.proofs.Common.{inl, inr}
-use Rattle.ips_repo.proofs.Calls.{reads_none}
+use Rattle.ips_outside.proofs.Reading.{reads_none}
 use Rattle.ips_state.specs.State.{recorded}
 use Rattle.ips_request.specs.declared.asking.Subject.{Subject}
 use Rattle.ips_request.specs.declared.fault.ProblemFault.TheVariants as fault

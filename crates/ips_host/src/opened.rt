@@ -1,0 +1,190 @@
+//! Files that stay open from call to call.
+
+ghost use Rattle.std.specs.Prelude.{◌≤◌, IfOk, length};
+
+use crate::root::{Root, find};
+use crate::standing::{nothing_there, standing};
+use ips_text::{RelPath, covers};
+use std::alloc::{Alloc, AllocError, Allocator};
+use std::fs::OpenOptions;
+use std::io::{Read, Seek, SeekFrom, Write};
+use std::rt::{Processes, Runtime};
+use std::{io, mem};
+
+/// A file that stays open, with its path below the root, or none, so that a long file is opened once and not once for
+/// each piece. That serves while nobody else writes below the root.
+#[derive(Drop)]
+pub struct Opened<F: Drop, A: Allocator> {
+    path: Vec<u8, A>,
+    file: Option<F>,
+    at: u64,
+}
+
+/// The two files that were read last.
+#[derive(Drop)]
+pub struct Reading<F: Drop, A: Allocator> {
+    pub last: Opened<F, A>,
+    pub before: Opened<F, A>,
+}
+
+impl<F: Drop, A: Allocator> Opened<F, A> {
+    /// No file.
+    pub fn none(alloc: A) -> Opened<F, A> {
+        Opened {
+            path: Vec::new(alloc),
+            file: None,
+            at: 0,
+        }
+    }
+
+    pub fn close(&mut self) {
+        self.file = None;
+    }
+
+    /// Closes the file where it is at or below the path: what is taken away comes here first, since an open file
+    /// outlives its path.
+    pub fn let_go(&mut self, path: &RelPath) {
+        if covers(path.bytes(), self.path.as_slice()) {
+            self.file = None;
+        }
+    }
+
+    /// The file, where it is the one at the path.
+    pub fn file_at(&self, path: &RelPath) -> Option<&F> {
+        if self.path.as_slice() == path.bytes() {
+            self.file.as_ref()
+        } else {
+            None
+        }
+    }
+
+    /// Keeps a file that was just opened, and closes the one before it.
+    pub fn keep(&mut self, path: &RelPath, file: F) -> Result<(), AllocError> {
+        self.file = Some(file);
+        self.at = 0;
+        self.path.clear();
+        self.path.extend_from_slice(path.bytes())
+    }
+}
+
+impl<F: Drop, A: Allocator> Reading<F, A> {
+    /// No files.
+    pub fn none<R: Alloc<A = A>>(rt: &R) -> Reading<F, A> {
+        Reading {
+            last: Opened::none(rt.alloc()),
+            before: Opened::none(rt.alloc()),
+        }
+    }
+
+    pub fn close(&mut self) {
+        self.last.close();
+        self.before.close();
+    }
+
+    pub fn let_go(&mut self, path: &RelPath) {
+        self.last.let_go(path);
+        self.before.let_go(path);
+    }
+}
+
+/// Opens the file at the path, if one stands there. What else stands there isn't opened: a named pipe would block.
+pub fn open<R: Runtime + Processes>(
+    rt: &R,
+    root: &mut Root<R>,
+    opened: &mut Opened<R::File, R::A>,
+    path: &RelPath,
+    how: &OpenOptions,
+) -> io::Result<()> {
+    opened.close();
+    if !find(rt, root, path)? {
+        return Ok(());
+    }
+    match standing(rt, root.place())? {
+        Some(metadata) if metadata.is_file() => {
+            Ok(opened.keep(path, how.open(rt, root.place())?)?)
+        }
+        _ => Ok(()),
+    }
+}
+
+/// Reads from the place `at` on, and answers how many bytes: 0 at the end, and where no file stands.
+pub fn read<R: Runtime + Processes>(
+    rt: &R,
+    root: &mut Root<R>,
+    reading: &mut Reading<R::File, R::A>,
+    path: &RelPath,
+    at: u64,
+    buf: &mut [u8],
+) -> io::Result<usize>
+    ensures { IfOk result (λ count. count ≤ length buf.old) }
+{
+    if reading.last.file_at(path).is_none() {
+        mem::swap(&mut reading.last, &mut reading.before);
+        if reading.last.file_at(path).is_none() {
+            open(
+                rt,
+                root,
+                &mut reading.last,
+                path,
+                OpenOptions::new().read(true),
+            )?;
+        }
+    }
+    read_at(&mut reading.last, at, buf)
+}
+
+// The host's offsets are below 2^63, and so are the sizes of its files.
+fn read_at<F: Read + Seek + Drop, A: Allocator>(
+    opened: &mut Opened<F, A>,
+    at: u64,
+    buf: &mut [u8],
+) -> io::Result<usize>
+    ensures { IfOk result (λ count. count ≤ length buf.old) }
+{
+    match &mut opened.file {
+        Some(file) if at <= i64::MAX as u64 => read_from(file, &mut opened.at, at, buf),
+        _ => Ok(0),
+    }
+}
+
+fn read_from<F: Read + Seek>(
+    file: &mut F,
+    position: &mut u64,
+    at: u64,
+    buf: &mut [u8],
+) -> io::Result<usize>
+    ensures { IfOk result (λ count. count ≤ length buf.old) }
+{
+    if *position != at {
+        file.seek(SeekFrom::Start(at))?;
+    }
+    *position = u64::MAX;
+    let count = file.read(buf)?;
+    *position = at.saturating_add(count as u64);
+    Ok(count)
+}
+
+/// Puts bytes at the end of a file.
+pub fn append<R: Runtime + Processes>(
+    rt: &R,
+    root: &mut Root<R>,
+    appending: &mut Opened<R::File, R::A>,
+    path: &RelPath,
+    bytes: &[u8],
+) -> io::Result<()> {
+    if appending.file_at(path).is_none() {
+        open(rt, root, appending, path, OpenOptions::new().append(true))?;
+    }
+    let answer = write_to(&mut appending.file, bytes);
+    if answer.is_err() {
+        appending.close();
+    }
+    answer
+}
+
+fn write_to<F: Write>(file: &mut Option<F>, bytes: &[u8]) -> io::Result<()> {
+    match file {
+        Some(file) => file.write_all(bytes),
+        None => Err(nothing_there()),
+    }
+}
