@@ -269,6 +269,13 @@ fn recovers_after_stops(
     false
 }
 
+// Whether nobody else may enter the stage, and the gate is a file that says that it is open.
+fn is_staged(rt: &impl Abort, alloc: Global, tree: &Tree) -> bool {
+    let stage = path(rt, alloc, "var/pkg/stage");
+    let gate = path(rt, alloc, "var/pkg/gate");
+    tree.look(&stage) == Look::Dir { mode: 0o700 } && tree.bytes(&gate) == Some(b"1".as_slice())
+}
+
 // How a change that is stopped there ends once it is mended: as it was, where the gate wasn't open, or else done, also where
 // the recovery is itself stopped three times at each of its calls.
 fn ending(
@@ -282,6 +289,10 @@ fn ending(
         return "done before the stop";
     }
     let is_open = left.look(&gate(rt, alloc)) != Look::Absent;
+    // what was made safe as the gate was opened
+    if is_open && stop.choice == Choice::Before && !is_staged(rt, alloc, &left) {
+        return "not staged";
+    }
     let copy = left.copy(alloc).expect(rt, "memory");
     let (_, mut mended) = mend(rt, alloc, copy, None, kinds);
     if !is_new(rt, alloc, mended.tree()) && (is_open || !is_old(rt, alloc, mended.tree())) {

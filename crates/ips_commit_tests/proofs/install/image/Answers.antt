@@ -3,5 +3,5 @@ use Rattle.ips_folder.specs.History.{Moment}
 use Rattle.ips_commit_tests.proofs.Examples.{image_built}
 use Rattle.ips_commit_tests.proofs.install.image.Goals as goal
 
-pub returns-in-Ok-2 : goal.returns-in-Ok-2
-returns-in-Ok-2 g c = ap (λ (m : Moment). m.state.held) c.in-Ok-2.ensures.begins.moment ∙ image_built c.named.ensures.named c.new-tree.ensures c.in-Ok.ensures.made
+pub returns : goal.returns
+returns g c = ap (λ (m : Moment). m.state.held) c.in-Ok-2.ensures.begins.moment ∙ image_built c.named.ensures.named c.new-tree.ensures c.in-Ok.ensures.made
