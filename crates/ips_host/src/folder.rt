@@ -23,7 +23,7 @@ use std::rt::{Processes, Runtime};
 #[derive(Drop)]
 pub struct HostFolder<R: Runtime + Processes> {
     rt: R,
-    root: Root<R>,
+    root: Root<R::File, R::A>,
     reading: Reading<R::File, R::A>,
     // The file that was made or appended to last.
     appending: Opened<R::File, R::A>,

@@ -18,7 +18,7 @@ use std::rt::{Processes, Runtime};
 #[derive(Drop)]
 pub struct HostSource<R: Runtime + Processes> {
     rt: R,
-    root: Root<R>,
+    root: Root<R::File, R::A>,
     reading: Reading<R::File, R::A>,
     faults: u64,
 }

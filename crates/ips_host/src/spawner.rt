@@ -30,7 +30,7 @@ impl<R: Runtime + Processes> Spawner for HostSpawner<R> {
     ghost running = { silent_spawner (λ s. s.faults) };
 
     fn run(&mut self, words: &[Text]) -> Result<u8, Failed> {
-        let answer = run_program(&self.rt, words);
+        let answer = run_program(&self.rt, self.rt.alloc(), words);
         counted(&mut self.faults, answer)
     }
 }
