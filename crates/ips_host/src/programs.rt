@@ -13,9 +13,10 @@ pub fn sync_file_system<P: Processes, A: Allocator + Clone>(
     alloc: A,
     path: &str,
 ) -> io::Result<()> {
-    match Command::new(alloc, "/bin/sync") {
-        Ok(mut command) => sync_by(processes, &mut command, path),
-        Err(e) => Err(e.into()),
+    let mut made = Command::new(alloc, "/bin/sync");
+    match &mut made {
+        Ok(command) => sync_by(processes, command, path),
+        Err(e) => Err((*e).into()),
     }
 }
 
@@ -66,9 +67,10 @@ fn run<P: Processes, A: Allocator + Clone>(
     program: &str,
     arguments: &[Text],
 ) -> io::Result<u8> {
-    match Command::new(alloc, program) {
-        Ok(mut command) => run_by(processes, &mut command, arguments),
-        Err(e) => Err(e.into()),
+    let mut made = Command::new(alloc, program);
+    match &mut made {
+        Ok(command) => run_by(processes, command, arguments),
+        Err(e) => Err((*e).into()),
     }
 }
 
