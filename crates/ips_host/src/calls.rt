@@ -13,18 +13,22 @@ use crate::standing::{
 use ips_folder::Listing;
 use ips_outside::Look;
 use ips_text::RelPath;
-use std::alloc::Global;
+use std::alloc::{Alloc, Global};
 use std::fs::{DirBuilder, Files, OpenFile, OpenOptions};
 use std::io::{Error, ErrorKind};
 use std::os::unix::fs::{DirBuilderExt, MetadataExt, OpenOptionsExt};
-use std::rt::{Processes, Runtime};
+use std::rt::Processes;
 use std::{fs, io};
 
 // The greatest length of a path of the host, PATH_MAX of Linux.
 const TARGET_ROOM: usize = 4096;
 
 /// What stands at the path.
-pub fn look<R: Runtime + Processes>(rt: &R, root: &mut Root<R>, path: &RelPath) -> io::Result<Look>
+pub fn look<R: Files + Alloc>(
+    rt: &R,
+    root: &mut Root<R::File, R::A>,
+    path: &RelPath,
+) -> io::Result<Look>
     ensures { IfOk result IsSmall }
 {
     if find(rt, root, path)? {
@@ -35,9 +39,9 @@ pub fn look<R: Runtime + Processes>(rt: &R, root: &mut Root<R>, path: &RelPath) 
 }
 
 /// Makes a directory of just this mode, whatever the process's umask.
-pub fn make_dir<R: Runtime + Processes>(
+pub fn make_dir<R: Files + Alloc>(
     rt: &R,
-    root: &mut Root<R>,
+    root: &mut Root<R::File, R::A>,
     path: &RelPath,
     mode: u16,
 ) -> io::Result<()> {
@@ -52,9 +56,9 @@ fn make_dir_at<R: Files>(rt: &R, place: &str, mode: u16) -> io::Result<()> {
 }
 
 /// Makes an empty file of mode 0600, whatever the process's umask, and leaves it open for `append`.
-pub fn make_file<R: Runtime + Processes>(
+pub fn make_file<R: Files + Alloc>(
     rt: &R,
-    root: &mut Root<R>,
+    root: &mut Root<R::File, R::A>,
     appending: &mut Opened<R::File, R::A>,
     path: &RelPath,
 ) -> io::Result<()> {
@@ -84,9 +88,9 @@ fn keep_open_mode<F: OpenFile>(file: &F, mode: u16) -> io::Result<()> {
 }
 
 /// Makes a symbolic link to a target, whatever bytes it has.
-pub fn make_link<R: Runtime + Processes>(
+pub fn make_link<R: Files + Alloc>(
     rt: &R,
-    root: &mut Root<R>,
+    root: &mut Root<R::File, R::A>,
     path: &RelPath,
     target: &[u8],
 ) -> io::Result<()> {
@@ -99,9 +103,9 @@ pub fn make_link<R: Runtime + Processes>(
 }
 
 /// Makes a further name of the file at `to`.
-pub fn make_hard<R: Runtime + Processes>(
+pub fn make_hard<R: Files + Alloc>(
     rt: &R,
-    root: &mut Root<R>,
+    root: &mut Root<R::File, R::A>,
     path: &RelPath,
     to: &RelPath,
 ) -> io::Result<()> {
@@ -112,14 +116,19 @@ pub fn make_hard<R: Runtime + Processes>(
 }
 
 /// Takes away what stands at the path, with all below it. No link is followed.
-pub fn remove<R: Runtime + Processes>(
+pub fn remove<R: Files + Alloc>(
     rt: &R,
-    root: &mut Root<R>,
+    root: &mut Root<R::File, R::A>,
     path: &RelPath,
 ) -> io::Result<()> {
-    if !find(rt, root, path)? {
-        return Ok(());
+    match find(rt, root, path) {
+        Ok(true) => remove_found(rt, root),
+        Ok(false) => Ok(()),
+        Err(e) => Err(e),
     }
+}
+
+fn remove_found<R: Files + Alloc>(rt: &R, root: &mut Root<R::File, R::A>) -> io::Result<()> {
     match standing(rt, root.place())? {
         Some(metadata) if metadata.is_dir() => {
             root.forget();
@@ -131,9 +140,9 @@ pub fn remove<R: Runtime + Processes>(
 }
 
 /// The children of a directory.
-pub fn list<R: Runtime + Processes>(
+pub fn list<R: Files + Alloc>(
     rt: &R,
-    root: &mut Root<R>,
+    root: &mut Root<R::File, R::A>,
     alloc: Global,
     dir: &RelPath,
 ) -> io::Result<Listing> {
@@ -145,9 +154,9 @@ pub fn list<R: Runtime + Processes>(
 }
 
 /// The target of a symbolic link, whatever bytes it has.
-pub fn target<R: Runtime + Processes>(
+pub fn target<R: Files + Alloc>(
     rt: &R,
-    root: &mut Root<R>,
+    root: &mut Root<R::File, R::A>,
     alloc: Global,
     path: &RelPath,
 ) -> io::Result<Vec<u8>> {
@@ -165,9 +174,9 @@ fn target_at(alloc: Global, place: &str) -> io::Result<Vec<u8>> {
 }
 
 /// Whether two files are one: the same node of the same device.
-pub fn same<R: Runtime + Processes>(
+pub fn same<R: Files + Alloc>(
     rt: &R,
-    root: &mut Root<R>,
+    root: &mut Root<R::File, R::A>,
     a: &RelPath,
     b: &RelPath,
 ) -> io::Result<bool> {
@@ -177,9 +186,9 @@ pub fn same<R: Runtime + Processes>(
 }
 
 /// Gives a directory or file just this mode.
-pub fn set_mode<R: Runtime + Processes>(
+pub fn set_mode<R: Files + Alloc>(
     rt: &R,
-    root: &mut Root<R>,
+    root: &mut Root<R::File, R::A>,
     appending: &Opened<R::File, R::A>,
     path: &RelPath,
     mode: u16,
@@ -196,7 +205,10 @@ pub fn set_mode<R: Runtime + Processes>(
 /// Makes safe from a crash what was written to the file system on which the root stands, by the host's program
 /// `sync -f`, which calls syncfs(2) and ends with another status than 0 where the system tells of an error. A bare
 /// `sync` tells of none.
-pub fn sync<R: Runtime + Processes>(rt: &R, root: &mut Root<R>) -> io::Result<()> {
+pub fn sync<R: Files + Alloc + Processes>(
+    rt: &R,
+    root: &mut Root<R::File, R::A>,
+) -> io::Result<()> {
     prepare(rt, root)?;
-    sync_file_system(rt, root.path())
+    sync_file_system(rt, rt.alloc(), root.path())
 }

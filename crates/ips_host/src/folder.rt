@@ -11,9 +11,10 @@ use crate::root::Root;
 use ips_folder::{Folder, ListFault, Listing};
 use ips_outside::{Failed, Look, Source};
 use ips_text::{RelPath, Text};
-use std::alloc::Global;
+use std::alloc::{Alloc, Global};
+use std::fs::Files;
 use std::io;
-use std::rt::{Processes, Runtime};
+use std::rt::Processes;
 
 /// The files below a root of the host, to be read and changed.
 ///
@@ -21,9 +22,9 @@ use std::rt::{Processes, Runtime};
 /// the meantime, that the whole folder stands on one file system, and that after `sync -f` of the root a crash loses
 /// nothing of what was written there before.
 #[derive(Drop)]
-pub struct HostFolder<R: Runtime + Processes> {
+pub struct HostFolder<R: Files + Alloc + Processes + Drop> {
     rt: R,
-    root: Root<R>,
+    root: Root<R::File, R::A>,
     reading: Reading<R::File, R::A>,
     // The file that was made or appended to last.
     appending: Opened<R::File, R::A>,
@@ -31,7 +32,7 @@ pub struct HostFolder<R: Runtime + Processes> {
     changes: u64,
 }
 
-impl<R: Runtime + Processes> HostFolder<R> {
+impl<R: Files + Alloc + Processes + Drop> HostFolder<R> {
     /// The files below this path of the host.
     pub fn new(rt: R, root: Text) -> HostFolder<R>
         ensures { (⟦<HostFolder<R> as Source>⟧.outside).faults result ≡ 0 }
@@ -59,7 +60,7 @@ impl<R: Runtime + Processes> HostFolder<R> {
     }
 }
 
-impl<R: Runtime + Processes> Source for HostFolder<R> {
+impl<R: Files + Alloc + Processes + Drop> Source for HostFolder<R> {
     ghost outside = { silent (λ s. s.faults) (λ s. s.changes) };
 
     ghost sane = { silent_is_sane (λ s. s.faults) (λ s. s.changes) };
@@ -75,7 +76,7 @@ impl<R: Runtime + Processes> Source for HostFolder<R> {
     }
 }
 
-impl<R: Runtime + Processes> Folder for HostFolder<R> {
+impl<R: Files + Alloc + Processes + Drop> Folder for HostFolder<R> {
     fn list(&mut self, alloc: Global, dir: &RelPath) -> Result<Listing, ListFault> {
         let answer = calls::list(&self.rt, &mut self.root, alloc, dir);
         Ok(counted(&mut self.faults, answer)?)

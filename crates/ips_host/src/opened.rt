@@ -6,9 +6,8 @@ use crate::root::{Root, find};
 use crate::standing::{nothing_there, standing};
 use ips_text::{RelPath, covers};
 use std::alloc::{Alloc, AllocError, Allocator};
-use std::fs::OpenOptions;
+use std::fs::{Files, OpenOptions};
 use std::io::{Read, Seek, SeekFrom, Write};
-use std::rt::{Processes, Runtime};
 use std::{io, mem};
 
 /// A file that stays open, with its path below the root, or none, so that a long file is opened once and not once for
@@ -87,30 +86,48 @@ impl<F: Drop, A: Allocator> Reading<F, A> {
     }
 }
 
-/// Opens the file at the path, if one stands there. What else stands there isn't opened: a named pipe would block.
-pub fn open<R: Runtime + Processes>(
+/// Opens the file at the path, if one stands there.
+fn open<R: Files + Alloc>(
     rt: &R,
-    root: &mut Root<R>,
+    root: &mut Root<R::File, R::A>,
     opened: &mut Opened<R::File, R::A>,
     path: &RelPath,
     how: &OpenOptions,
 ) -> io::Result<()> {
     opened.close();
-    if !find(rt, root, path)? {
-        return Ok(());
+    match find(rt, root, path) {
+        Ok(true) => open_at(rt, root.place(), opened, path, how),
+        Ok(false) => Ok(()),
+        Err(e) => Err(e),
     }
-    match standing(rt, root.place())? {
-        Some(metadata) if metadata.is_file() => {
-            Ok(opened.keep(path, how.open(rt, root.place())?)?)
-        }
-        _ => Ok(()),
+}
+
+fn open_at<R: Files, A: Allocator>(
+    rt: &R,
+    place: &str,
+    opened: &mut Opened<R::File, A>,
+    path: &RelPath,
+    how: &OpenOptions,
+) -> io::Result<()> {
+    match open_file(rt, place, how) {
+        Ok(Some(file)) => Ok(opened.keep(path, file)?),
+        Ok(None) => Ok(()),
+        Err(e) => Err(e),
+    }
+}
+
+// What stands there and is no file isn't opened: a named pipe would block.
+fn open_file<R: Files>(rt: &R, place: &str, how: &OpenOptions) -> io::Result<Option<R::File>> {
+    match standing(rt, place)? {
+        Some(metadata) if metadata.is_file() => Ok(Some(how.open(rt, place)?)),
+        _ => Ok(None),
     }
 }
 
 /// Reads from the place `at` on, and answers how many bytes: 0 at the end, and where no file stands.
-pub fn read<R: Runtime + Processes>(
+pub fn read<R: Files + Alloc>(
     rt: &R,
-    root: &mut Root<R>,
+    root: &mut Root<R::File, R::A>,
     reading: &mut Reading<R::File, R::A>,
     path: &RelPath,
     at: u64,
@@ -119,18 +136,29 @@ pub fn read<R: Runtime + Processes>(
     ensures { IfOk result (λ count. count ≤ length buf.old) }
 {
     if reading.last.file_at(path).is_none() {
-        mem::swap(&mut reading.last, &mut reading.before);
-        if reading.last.file_at(path).is_none() {
-            open(
-                rt,
-                root,
-                &mut reading.last,
-                path,
-                OpenOptions::new().read(true),
-            )?;
-        }
+        turn_to(rt, root, reading, path)?;
     }
     read_at(&mut reading.last, at, buf)
+}
+
+// Makes the file at the path the one that was read last.
+fn turn_to<R: Files + Alloc>(
+    rt: &R,
+    root: &mut Root<R::File, R::A>,
+    reading: &mut Reading<R::File, R::A>,
+    path: &RelPath,
+) -> io::Result<()> {
+    mem::swap(&mut reading.last, &mut reading.before);
+    if reading.last.file_at(path).is_some() {
+        return Ok(());
+    }
+    open(
+        rt,
+        root,
+        &mut reading.last,
+        path,
+        OpenOptions::new().read(true),
+    )
 }
 
 // The host's offsets are below 2^63, and so are the sizes of its files.
@@ -165,9 +193,9 @@ fn read_from<F: Read + Seek>(
 }
 
 /// Puts bytes at the end of a file.
-pub fn append<R: Runtime + Processes>(
+pub fn append<R: Files + Alloc>(
     rt: &R,
-    root: &mut Root<R>,
+    root: &mut Root<R::File, R::A>,
     appending: &mut Opened<R::File, R::A>,
     path: &RelPath,
     bytes: &[u8],

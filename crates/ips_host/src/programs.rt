@@ -1,61 +1,97 @@
 //! Programs of the host.
 
 use ips_text::Text;
+use std::alloc::{AllocError, Allocator};
 use std::io;
 use std::io::{Error, ErrorKind};
 use std::process::{Command, Stdio};
-use std::rt::{Processes, Runtime};
+use std::rt::Processes;
 
 /// Makes safe from a crash what was written to the file system on which the path stands.
-pub fn sync_file_system<R: Runtime + Processes>(rt: &R, path: &str) -> io::Result<()> {
-    match Command::new(rt.alloc(), "/bin/sync") {
-        Ok(mut command) => sync_by(rt, &mut command, path),
-        Err(e) => Err(e.into()),
+pub fn sync_file_system<P: Processes, A: Allocator + Clone>(
+    processes: &P,
+    alloc: A,
+    path: &str,
+) -> io::Result<()> {
+    let mut made = Command::new(alloc, "/bin/sync");
+    match &mut made {
+        Ok(command) => sync_by(processes, command, path),
+        Err(e) => Err((*e).into()),
     }
 }
 
-fn sync_by<R: Runtime + Processes>(
-    rt: &R,
-    command: &mut Command<R::A>,
+fn sync_by<P: Processes, A: Allocator + Clone>(
+    processes: &P,
+    command: &mut Command<A>,
     path: &str,
 ) -> io::Result<()> {
-    for word in ["-f", "--", path] {
-        command.arg(word)?;
-    }
+    name_file_system(command, path)?;
     command
         .stdin(Stdio::null())
         .stdout(Stdio::null())
         .stderr(Stdio::null());
-    if command.status(rt)?.success() {
+    if command.status(processes)?.success() {
         Ok(())
     } else {
         Err(ErrorKind::Other.into())
     }
 }
 
+fn name_file_system<A: Allocator + Clone>(
+    command: &mut Command<A>,
+    path: &str,
+) -> Result<(), AllocError> {
+    for word in ["-f", "--", path] {
+        command.arg(word)?;
+    }
+    Ok(())
+}
+
 /// Runs the program that the first word names with all the words, waits until it has ended, and answers its status. A
 /// program that a signal ended has none, which is an error. It reads nothing, and what it writes to standard output is
 /// lost, so that the report stands there alone.
-pub fn run_program<R: Runtime + Processes>(rt: &R, words: &[Text]) -> io::Result<u8> {
-    let Some((program, arguments)) = words.split_first() else {
-        return Err(ErrorKind::InvalidInput.into());
-    };
-    match Command::new(rt.alloc(), program.as_str()) {
-        Ok(mut command) => run_by(rt, &mut command, arguments),
-        Err(e) => Err(e.into()),
+pub fn run_program<P: Processes, A: Allocator + Clone>(
+    processes: &P,
+    alloc: A,
+    words: &[Text],
+) -> io::Result<u8> {
+    match words.split_first() {
+        Some((program, arguments)) => run(processes, alloc, program.as_str(), arguments),
+        None => Err(ErrorKind::InvalidInput.into()),
     }
 }
 
-fn run_by<R: Runtime + Processes>(
-    rt: &R,
-    command: &mut Command<R::A>,
+fn run<P: Processes, A: Allocator + Clone>(
+    processes: &P,
+    alloc: A,
+    program: &str,
     arguments: &[Text],
 ) -> io::Result<u8> {
+    let mut made = Command::new(alloc, program);
+    match &mut made {
+        Ok(command) => run_by(processes, command, arguments),
+        Err(e) => Err((*e).into()),
+    }
+}
+
+fn run_by<P: Processes, A: Allocator + Clone>(
+    processes: &P,
+    command: &mut Command<A>,
+    arguments: &[Text],
+) -> io::Result<u8> {
+    add_arguments(command, arguments)?;
+    command.stdin(Stdio::null()).stdout(Stdio::null());
+    status_of(command.status(processes)?.code())
+}
+
+fn add_arguments<A: Allocator + Clone>(
+    command: &mut Command<A>,
+    arguments: &[Text],
+) -> Result<(), AllocError> {
     for argument in arguments {
         command.arg(argument.as_str())?;
     }
-    command.stdin(Stdio::null()).stdout(Stdio::null());
-    status_of(command.status(rt)?.code())
+    Ok(())
 }
 
 // A status is a byte.

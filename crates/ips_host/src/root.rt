@@ -6,16 +6,15 @@ use ips_text::{RelPath, Text};
 use std::alloc::{Alloc, AllocError, Allocator};
 use std::collections::BTreeSet;
 use std::fs::{Files, Metadata};
-use std::rt::{Processes, Runtime};
 use std::{io, mem, str};
 
 /// A root, which may be a link, and the way to what is below it, where no link is followed. An empty root has none: an
 /// empty path of the host names nothing (POSIX, Pathname Resolution). That directories stay known serves while nobody
 /// else writes below the root.
 #[derive(Drop)]
-pub struct Root<R: Runtime + Processes> {
-    ways: Ways<R::A>,
-    standard: Option<Standard<R>>,
+pub struct Root<F: Drop, A: Allocator + Clone> {
+    ways: Ways<A>,
+    standard: Option<Standard<F>>,
 }
 
 /// The directories below a root that are known.
@@ -34,8 +33,8 @@ struct Ways<A: Allocator + Clone> {
     aside: String<A>,
 }
 
-impl<R: Runtime + Processes> Root<R> {
-    pub fn new(rt: &R, root: Text) -> Root<R> {
+impl<F: Drop, A: Allocator + Clone> Root<F, A> {
+    pub fn new<R: Alloc<A = A>>(rt: &R, root: Text) -> Root<F, A> {
         Root {
             ways: new_ways(rt, root),
             standard: None,
@@ -81,15 +80,15 @@ fn new_ways<R: Alloc>(rt: &R, root: Text) -> Ways<R::A> {
 }
 
 /// Takes the standard descriptors that the program was started without, before it opens a file.
-pub fn prepare<R: Runtime + Processes>(rt: &R, root: &mut Root<R>) -> io::Result<()> {
+pub fn prepare<R: Files + Alloc>(rt: &R, root: &mut Root<R::File, R::A>) -> io::Result<()> {
     take_standard(rt, &mut root.standard)
 }
 
 /// Finds the host's path, and answers whether there is one: whether all that is above it, below the root, are
 /// directories and no links.
-pub fn find<R: Runtime + Processes>(
+pub fn find<R: Files + Alloc>(
     rt: &R,
-    root: &mut Root<R>,
+    root: &mut Root<R::File, R::A>,
     path: &RelPath,
 ) -> io::Result<bool> {
     if root.path().is_empty() {
@@ -100,7 +99,11 @@ pub fn find<R: Runtime + Processes>(
 }
 
 /// The same, for a call that can't be made where there is none.
-pub fn need<R: Runtime + Processes>(rt: &R, root: &mut Root<R>, path: &RelPath) -> io::Result<()> {
+pub fn need<R: Files + Alloc>(
+    rt: &R,
+    root: &mut Root<R::File, R::A>,
+    path: &RelPath,
+) -> io::Result<()> {
     match find(rt, root, path) {
         Ok(true) => Ok(()),
         Ok(false) => Err(nothing_there()),
@@ -109,9 +112,9 @@ pub fn need<R: Runtime + Processes>(rt: &R, root: &mut Root<R>, path: &RelPath) 
 }
 
 /// Finds the host's path of the file at the path, and answers what the host says of it.
-pub fn need_file<R: Runtime + Processes>(
+pub fn need_file<R: Files + Alloc>(
     rt: &R,
-    root: &mut Root<R>,
+    root: &mut Root<R::File, R::A>,
     path: &RelPath,
 ) -> io::Result<Metadata> {
     need(rt, root, path)?;
@@ -119,22 +122,31 @@ pub fn need_file<R: Runtime + Processes>(
 }
 
 /// Puts a directory into those that are known.
-pub fn know<R: Runtime + Processes>(
+pub fn know<R: Files + Alloc>(
     rt: &R,
-    root: &mut Root<R>,
+    root: &mut Root<R::File, R::A>,
     dir: &RelPath,
 ) -> Result<(), AllocError> {
     add(rt.alloc(), &mut root.ways.known, dir.bytes())
 }
 
 fn find_way<R: Files + Alloc>(rt: &R, ways: &mut Ways<R::A>, text: &str) -> io::Result<bool> {
-    if let Some((above, _)) = text.rsplit_once('/') {
-        if !is_known(ways, above.as_bytes()) && !verify(rt, ways, above)? {
-            return Ok(false);
-        }
-        keep_last(&mut ways.known_last, above.as_bytes())?;
+    let found = match text.rsplit_once('/') {
+        Some((above, _)) => reach(rt, ways, above),
+        None => Ok(true),
+    };
+    if matches!(found, Ok(true)) {
+        join(&mut ways.place, ways.root.as_str(), text)?;
     }
-    join(&mut ways.place, ways.root.as_str(), text)?;
+    found
+}
+
+// Whether the directory's path has directories alone, which is asked of the host where it isn't known.
+fn reach<R: Files + Alloc>(rt: &R, ways: &mut Ways<R::A>, dir: &str) -> io::Result<bool> {
+    if !is_known(ways, dir.as_bytes()) && !verify(rt, ways, dir)? {
+        return Ok(false);
+    }
+    keep_last(&mut ways.known_last, dir.as_bytes())?;
     Ok(true)
 }
 
@@ -142,21 +154,29 @@ fn find_way<R: Files + Alloc>(rt: &R, ways: &mut Ways<R::A>, text: &str) -> io::
 fn verify<R: Files + Alloc>(rt: &R, ways: &mut Ways<R::A>, dir: &str) -> io::Result<bool> {
     ways.below.clear();
     for part in dir.split('/') {
-        go_down(&mut ways.below, part)?;
-        if !is_known(ways, ways.below.as_bytes()) && !verify_below(rt, ways)? {
+        if !verify_next(rt, ways, part)? {
             return Ok(false);
         }
     }
     Ok(true)
 }
 
+fn verify_next<R: Files + Alloc>(rt: &R, ways: &mut Ways<R::A>, part: &str) -> io::Result<bool> {
+    go_down(&mut ways.below, part)?;
+    if is_known(ways, ways.below.as_bytes()) {
+        Ok(true)
+    } else {
+        verify_below(rt, ways)
+    }
+}
+
 fn verify_below<R: Files + Alloc>(rt: &R, ways: &mut Ways<R::A>) -> io::Result<bool> {
     join(&mut ways.place, ways.root.as_str(), ways.below.as_str())?;
-    if !is_directory(rt, ways.place.as_str())? {
-        return Ok(false);
+    let found = is_directory(rt, ways.place.as_str());
+    if matches!(found, Ok(true)) {
+        add(rt.alloc(), &mut ways.known, ways.below.as_bytes())?;
     }
-    add(rt.alloc(), &mut ways.known, ways.below.as_bytes())?;
-    Ok(true)
+    found
 }
 
 fn go_down<A: Allocator>(below: &mut String<A>, part: &str) -> Result<(), AllocError> {

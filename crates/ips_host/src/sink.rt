@@ -8,18 +8,17 @@ use crate::fault::counted;
 use ips_outside::{Failed, Sink};
 use std::io;
 use std::io::{ErrorKind, Print, Write};
-use std::rt::{Processes, Runtime};
 
 /// Standard output.
 ///
 /// Trusted here, and not proved: that what the host answers as written was written.
 #[derive(Drop)]
-pub struct HostSink<R: Runtime + Processes> {
+pub struct HostSink<R: Print + Drop> {
     rt: R,
     faults: u64,
 }
 
-impl<R: Runtime + Processes> HostSink<R> {
+impl<R: Print + Drop> HostSink<R> {
     pub fn new(rt: R) -> HostSink<R>
         ensures { (⟦<HostSink<R> as Sink>⟧.taking).faults result ≡ 0 }
     {
@@ -27,7 +26,7 @@ impl<R: Runtime + Processes> HostSink<R> {
     }
 }
 
-impl<R: Runtime + Processes> Sink for HostSink<R> {
+impl<R: Print + Drop> Sink for HostSink<R> {
     ghost taking = { silent_sink (λ s. s.faults) };
 
     fn write(&mut self, bytes: &[u8]) -> Result<usize, Failed> {

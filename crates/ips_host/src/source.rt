@@ -9,21 +9,22 @@ use crate::opened::{Reading, read};
 use crate::root::Root;
 use ips_outside::{Failed, Look, Source};
 use ips_text::{RelPath, Text};
-use std::rt::{Processes, Runtime};
+use std::alloc::Alloc;
+use std::fs::Files;
 
 /// The files below a root of the host, to be read.
 ///
 /// Trusted here, and not proved: that a look and a read answer what stands there, and that nobody writes there in the
 /// meantime.
 #[derive(Drop)]
-pub struct HostSource<R: Runtime + Processes> {
+pub struct HostSource<R: Files + Alloc + Drop> {
     rt: R,
-    root: Root<R>,
+    root: Root<R::File, R::A>,
     reading: Reading<R::File, R::A>,
     faults: u64,
 }
 
-impl<R: Runtime + Processes> HostSource<R> {
+impl<R: Files + Alloc + Drop> HostSource<R> {
     /// The files below this path of the host.
     pub fn new(rt: R, root: Text) -> HostSource<R>
         ensures { (⟦<HostSource<R> as Source>⟧.outside).faults result ≡ 0 }
@@ -39,7 +40,7 @@ impl<R: Runtime + Processes> HostSource<R> {
     }
 }
 
-impl<R: Runtime + Processes> Source for HostSource<R> {
+impl<R: Files + Alloc + Drop> Source for HostSource<R> {
     ghost outside = { silent (λ s. s.faults) (λ s. 0) };
 
     ghost sane = { silent_is_sane (λ s. s.faults) (λ s. 0) };
