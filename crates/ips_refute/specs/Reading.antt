@@ -79,6 +79,7 @@ count_at bytes = do
   x ← small_at bytes
   if nat_lt 1 x.0 && nat_lt x.0 (most + 1) then Ok x else Err (stop_at bytes)
 
+-- so many equal reasons in a row
 abbrev pub run : Reason → ℕ → Run
 run reason count = record { reason = reason; count = count }
 
@@ -104,6 +105,7 @@ stem_at = via between (both bar_at (both small_at bar_at))
 abbrev pub Fields : Type 0
 Fields = List Pair × (ℕ × (List Run × Unit {0}))
 
+-- the fields of a line, where counts may be written or not
 unfoldable pub fields_at : Bool → Scanner Fields
 fields_at counts = both set_at (both stem_at (both (runs_at counts) (mark_at 10)))
 

@@ -153,6 +153,7 @@ runs_of (x ∷ xs) = runs_behind x 1 xs
 abbrev pub written : Entry → Written
 written e = record { set = e.set; stem = e.stem; runs = runs_of e.reasons }
 
+-- the line of a nogood in its one spelling
 abbrev pub entry_text : Entry → List ℕ
 entry_text e = line_text (written e)
 
