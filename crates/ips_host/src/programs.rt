@@ -13,11 +13,19 @@ pub fn sync_file_system<P: Processes, A: Allocator + Clone>(
     alloc: A,
     path: &str,
 ) -> io::Result<()> {
-    let mut made = Command::new(alloc, "/bin/sync");
-    match &mut made {
-        Ok(command) => sync_by(processes, command, path),
-        Err(e) => Err((*e).into()),
+    match Command::new(alloc, "/bin/sync") {
+        Ok(command) => sync_with(processes, command, path),
+        Err(e) => Err(e.into()),
     }
+}
+
+// Who owns the command does nothing else: to drop it costs as much to check as all of the rest.
+fn sync_with<P: Processes, A: Allocator + Clone>(
+    processes: &P,
+    mut command: Command<A>,
+    path: &str,
+) -> io::Result<()> {
+    sync_by(processes, &mut command, path)
 }
 
 fn sync_by<P: Processes, A: Allocator + Clone>(
@@ -67,11 +75,18 @@ fn run<P: Processes, A: Allocator + Clone>(
     program: &str,
     arguments: &[Text],
 ) -> io::Result<u8> {
-    let mut made = Command::new(alloc, program);
-    match &mut made {
-        Ok(command) => run_by(processes, command, arguments),
-        Err(e) => Err((*e).into()),
+    match Command::new(alloc, program) {
+        Ok(command) => run_with(processes, command, arguments),
+        Err(e) => Err(e.into()),
     }
+}
+
+fn run_with<P: Processes, A: Allocator + Clone>(
+    processes: &P,
+    mut command: Command<A>,
+    arguments: &[Text],
+) -> io::Result<u8> {
+    run_by(processes, &mut command, arguments)
 }
 
 fn run_by<P: Processes, A: Allocator + Clone>(
