@@ -13,6 +13,9 @@ pub enum Asked {
     Offers,
     // An update where a package is obsolete: what is shown of it.
     Obsolete,
+    // An install that looks at what was there before, or is content with one of many: a package of the image, what is avoided, and
+    // what is named.
+    Drawn,
     // A request over faulty packages: its kind, what it names, and what it rejects.
     Faults,
     // An install: the call that fails.
@@ -26,6 +29,7 @@ fn told(rt: &impl Abort, alloc: Global, asked: Asked, row: &str) -> String {
     match asked {
         Asked::Offers => offers_told(rt, alloc, first, second, third, column(row, 3)),
         Asked::Obsolete => obsolete_told(rt, alloc, first == "choice"),
+        Asked::Drawn => drawn_told(rt, alloc, first, second, third),
         Asked::Faults => faults_told(rt, alloc, first, second, third),
         Asked::Failing => failing_told(rt, alloc, number(rt, first)),
     }

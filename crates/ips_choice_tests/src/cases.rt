@@ -39,6 +39,26 @@ const OBSOLETE: &str = r#"
 stems -> g 1; x - 1
 choice -> g@1 avoids x"#;
 
+// A package of the image, what is avoided, and what is named; then what is chosen, and avoided from then on.
+const DRAWN: &str = r#"
+# `base` has to have been at 5 before, so that this change can't bring it there
+base@4 | | base@5 new -> refuted
+base@4 | | new -> refuted
+base@5 | | new -> base@5 new@2 z@1 avoids
+# where it wasn't there it is no matter, and it isn't drawn in
+other@1 | | new -> new@2 other@1 z@1 avoids
+# of a group one package is enough, and absence comes first
+other@1 | | g -> b@1 g@1 other@1 z@1 avoids
+# none is needed where all are avoided
+other@1 | a | g -> b@1 g@1 other@1 z@1 avoids a
+other@1 | b | g -> b@1 g@1 other@1 z@1 avoids b
+other@1 | a b | g -> g@1 other@1 z@1 avoids a b
+# what is asked for isn't avoided any more
+other@1 | a b | g a -> a@1 g@1 other@1 z@1 avoids b
+# what is obsolete is spared: the absent one is avoided from then on, and not the one that is there, though it is too old
+other@1 | | h k -> h@1 k@1 other@1 x@1 z@1 avoids y
+other@1 | | h -> h@1 other@1 z@1 avoids x y"#;
+
 // The kind of request, what it names, and what it rejects.
 const FAULTS: &str = r#"
 install | none | -> NoMatch { pattern: Text { text: "none" } }
@@ -69,6 +89,7 @@ fn requests_pose_puzzles(rt: HostRuntime) {
     for (asked, count, table) in [
         (Asked::Offers, 20u32, OFFERS),
         (Asked::Obsolete, 2u32, OBSOLETE),
+        (Asked::Drawn, 11u32, DRAWN),
         (Asked::Faults, 12u32, FAULTS),
         (Asked::Failing, 3u32, FAILING),
     ] {

@@ -103,15 +103,44 @@ fn freezes(alloc: Global, text: &str) -> Result<Vec<Fmri>, AllocError>
     Ok(freezes)
 }
 
-// An image of the publisher `test` with two packages, by the bytes of their stems, and a freeze, where one is spelled. The error
-// is also that the packages don't stand so.
-fn image(alloc: Global, first: Package, second: Package, freeze: &str) -> Result<State, AllocError>
+// Up to two stems, which a blank divides, by their bytes. The error is also that they don't stand so.
+fn stems_of(alloc: Global, words: &str) -> Result<Vec<Text>, AllocError>
+    ensures { IfOk result (λ v. Ascend v.items) }
+{
+    let mut stems = Vec::new(alloc);
+    if words.is_empty() {
+        return Ok(stems);
+    }
+    let Some((first, second)) = words.split_once(' ') else {
+        stems.push(Text::new(alloc, words)?)?;
+        return Ok(stems);
+    };
+    let first = Text::new(alloc, first)?;
+    let second = Text::new(alloc, second)?;
+    if !first.cmp(&second).is_lt() {
+        return Err(AllocError);
+    }
+    stems.push(first)?;
+    stems.push(second)?;
+    Ok(stems)
+}
+
+// An image of the publisher `test` with two packages, by the bytes of their stems, a freeze, where one is spelled, and the stems
+// that are avoided. The error is also that the packages don't stand so.
+fn image(
+    alloc: Global,
+    first: Package,
+    second: Package,
+    freeze: &str,
+    avoid: &str,
+) -> Result<State, AllocError>
     ensures { IfOk result (λ s. IsLawful (recorded s)) }
 {
     if !first.stem.cmp(&second.stem).is_lt() {
         return Err(AllocError);
     }
     let freeze = freezes(alloc, freeze)?;
+    let avoid = stems_of(alloc, avoid)?;
     let mut installed = Vec::new(alloc);
     installed.push(first)?;
     installed.push(second)?;
@@ -120,7 +149,7 @@ fn image(alloc: Global, first: Package, second: Package, freeze: &str) -> Result
         actuator: None,
         settings: Settings::new(alloc),
         installed,
-        avoid: Vec::new(alloc),
+        avoid,
         freeze,
         mediators: Vec::new(alloc),
         history: Vec::new(alloc),
@@ -244,7 +273,7 @@ fn with_a_and_b(
 {
     let first = package(rt, alloc, "a", version, manifest);
     let second = package(rt, alloc, "b", version, "");
-    image(alloc, first, second, freeze).expect(rt, "an image")
+    image(alloc, first, second, freeze, "").expect(rt, "an image")
 }
 
 // `a` and `b` are installed at 2.1, and `a` requires `c`. The catalog doesn't have these versions. Those at 3 and 5 of `a` and
@@ -313,7 +342,7 @@ fn selection_told(rt: &impl Abort, alloc: Global, packages: &[Package], stems: &
 pub fn obsolete_told(rt: &impl Abort, alloc: Global, shows_choice: bool) -> String {
     let first = package(rt, alloc, "g", "1", "depend fmri=x type=group\n");
     let second = package(rt, alloc, "x", "1", "");
-    let state = image(alloc, first, second, "").expect(rt, "an image");
+    let state = image(alloc, first, second, "", "").expect(rt, "an image");
     let request = request(rt, alloc, "update", "", "");
     let catalog = r#"{"test": {"x": [{"version": "2"}]}}"#;
     let tree = repository(
@@ -323,6 +352,48 @@ pub fn obsolete_told(rt: &impl Abort, alloc: Global, shows_choice: bool) -> Stri
         "x | 2 | set name=pkg.obsolete value=true%0a",
     );
     answer(rt, alloc, &state, &request, tree, 0, shows_choice)
+}
+
+// `new` asks how new `base` was before, `g` and `h` each for one of two packages. `k` asks for `x`. `x` and `y` are obsolete at 2.
+const DRAWN: &str = r#"{"test": {
+    "a": [{"version": "1"}],
+    "b": [{"version": "1"}],
+    "base": [{"version": "5"}],
+    "g": [{"version": "1"}],
+    "h": [{"version": "1"}],
+    "k": [{"version": "1"}],
+    "new": [{"version": "2"}],
+    "x": [{"version": "1"}, {"version": "2"}],
+    "y": [{"version": "1"}, {"version": "2"}]}}"#;
+
+const DRAWN_MANIFESTS: &str = "
+a | 1 |
+b | 1 |
+base | 5 |
+g | 1 | depend fmri=a fmri=b type=group-any%0a
+h | 1 | depend fmri=x@2 fmri=y type=group-any%0a
+k | 1 | depend fmri=x type=require%0a
+new | 2 | depend fmri=base@5 type=origin%0a
+x | 1 |
+x | 2 | set name=pkg.obsolete value=true%0a
+y | 1 |
+y | 2 | set name=pkg.obsolete value=true%0a";
+
+// An install from these over an image with a package and `z`, where stems are avoided.
+pub fn drawn_told(
+    rt: &impl Abort,
+    alloc: Global,
+    installed: &str,
+    avoided: &str,
+    named: &str,
+) -> String {
+    let (stem, version) = installed.split_once('@').expect(rt, "a version");
+    let first = package(rt, alloc, stem, version, "");
+    let second = package(rt, alloc, "z", "1", "");
+    let state = image(alloc, first, second, "", avoided).expect(rt, "an image");
+    let request = request(rt, alloc, "install", named, "");
+    let tree = repository(rt, alloc, DRAWN, DRAWN_MANIFESTS);
+    answer(rt, alloc, &state, &request, tree, 0, true)
 }
 
 const FAULTY: &str = r#"{"test": {
@@ -335,7 +406,7 @@ const FAULTY: &str = r#"{"test": {
 
 const FAULTY_MANIFESTS: &str = "
 d | 1 | %0afrob a=b%0a
-f | 1 | depend fmri=x type=origin%0a";
+f | 1 | depend fmri=x type=no%0a";
 
 // A request over these, and over a manifest that is one byte beyond the limit where it names `large`.
 pub fn faults_told(

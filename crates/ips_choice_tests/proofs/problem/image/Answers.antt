@@ -14,16 +14,12 @@ two_ascend : (ps : List Package) (first second : Package) → ps ≡ first ∷ s
 unfolding IsStrictlySortedBy
 two_ascend ps first second e less = subst (λ (ps : List Package). Ascend (map (λ (p : Installed). p.stem) (map installed ps))) (sym e) ((less, tt), (tt, tt))
 
-none_ascends : (ss : List (List ℕ)) → ss ≡ [] → Ascend ss
-unfolding IsStrictlySortedBy
-none_ascends ss e = subst Ascend (sym e) tt
-
 pub returns : goal.returns
 returns c = record {
   installed = two_ascend c.push-2.new.self.items c.args.first c.args.second
       (c.in_ok-push-2.ensures.items ∙ ap (λ (ps : List Package). ps ++ c.args.second ∷ []) (c.in_ok-push.ensures.items ∙ ap (λ (ps : List Package). ps ++ c.args.first ∷ []) c.new-installed.ensures.items))
       (sym c.cmp.ensures ∙ less_is c.cmp.result (sym c.is_lt.ensures ∙ c.if-not-is_lt.false));
-  avoid = none_ascends c.new-3.result.items c.new-3.ensures.items;
+  avoid = c.in_ok-avoid.ensures;
   freeze = c.in_ok-freeze.ensures.order;
   frozen = c.in_ok-freeze.ensures.frozen;
 }
