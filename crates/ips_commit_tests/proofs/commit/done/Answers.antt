@@ -3,8 +3,7 @@ use Rattle.ips_outside.specs.State.{State}
 use Rattle.ips_steps.specs.View.{step_of}
 use Rattle.ips_steps.specs.Private.{gate_name}
 use Rattle.ips_folder.specs.Calls.{CanMake}
-use Rattle.ips_commit.specs.Staging.{CanStage}
-use Rattle.ips_commit_tests.proofs.TwoSteps.{two_listed, two_can, can_open}
+use Rattle.ips_commit_tests.proofs.TwoSteps.{two_listed, two_can_kept, can_open}
 use Rattle.ips_commit_tests.proofs.commit.done.Goals as goal
 
 pub stage-requires-clause-lists : goal.stage-requires-clause-lists
@@ -12,11 +11,10 @@ stage-requires-clause-lists g c = two_listed _ c.requires.steps
 
 pub stage-requires-clause-can : goal.stage-requires-clause-can
 stage-requires-clause-can g c = λ told.
-    let both = c.in-Ok-true-is_shut.ensures.found c.in-Ok-true-is_shut.field-0-test in
-    subst (λ (s : State). CanStage (map step_of c.args.steps.now) c.args.content.now s.held) (sym c.is_shut.ensures.reads.kept)
-    (two_can _ _ _ c.requires.steps c.requires.one (c.requires.given _) both.0 both.1)
+    let both = c.in-Ok-true.ensures.found c.in-Ok-true.field-0-test in
+    two_can_kept _ _ _ _ c.is_shut.ensures.reads.kept c.requires.steps c.requires.one c.requires.given both.0 both.1
 
 pub commit-requires-clause-gate : goal.commit-requires-clause-gate
 commit-requires-clause-gate g c = λ told.
-    let both = c.in-Ok-true-is_shut-2.ensures.found c.in-Ok-true-is_shut-2.field-0-test in
+    let both = c.in-Ok-true-is_shut.ensures.found c.in-Ok-true-is_shut.field-0-test in
     subst (λ (s : State). CanMake s.held gate_name) (sym c.is_shut-2.ensures.reads.kept) (can_open _ both.0 both.1)
