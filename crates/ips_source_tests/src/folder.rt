@@ -141,6 +141,23 @@ make_hard @ @
 same @ @
 list @";
 
+// What a call says behind its path: that path, where it says `@`.
+fn rest_at<'a>(rest: &'a str, at: &'a str) -> &'a str {
+    if rest == "@" { at } else { rest }
+}
+
+// How many calls were made at the path; each has to fail.
+fn failing_at(rt: &impl Abort, alloc: Global, folder: &mut Files, at: &str) -> u64 {
+    let mut failed = 0u64;
+    for call in FAILING.lines() {
+        let [name, _, rest] = words(call);
+        let answer = answer(rt, alloc, folder, [name, at, rest_at(rest, at)]);
+        assert!(rt; answer.as_slice() == b"failed".as_slice(), "{call} {at}");
+        failed = failed.saturating_add(1);
+    }
+    failed
+}
+
 #[test]
 fn fails_at_each_trap_and_writes_through_no_link(rt: HostRuntime) {
     let alloc = rt.alloc();
@@ -151,13 +168,7 @@ fn fails_at_each_trap_and_writes_through_no_link(rt: HostRuntime) {
     );
     let mut failed = 0u64;
     for at in TRAPPED.split_whitespace() {
-        for call in FAILING.lines() {
-            let [name, _, rest] = words(call);
-            let rest = if rest == "@" { at } else { rest };
-            let answer = answer(&rt, alloc, &mut folder, [name, at, rest]);
-            assert!(rt; answer.as_slice() == b"failed".as_slice(), "{call} {at}");
-            failed = failed.saturating_add(1);
-        }
+        failed = failed.saturating_add(failing_at(&rt, alloc, &mut folder, at));
     }
     assert_eq!(rt; failed, 56);
     assert!(rt;
