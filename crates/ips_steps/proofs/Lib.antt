@@ -1,5 +1,6 @@
 pub mod Laying
 pub mod Again
+pub mod Apart
 pub mod Lists
 pub mod Laid
 pub mod Within
@@ -8,4 +9,5 @@ pub mod AtTurn
 pub mod PrivateNames
 pub mod Numbered
 pub mod Owing
+pub mod Unmarking
 pub mod Examples

@@ -7,7 +7,7 @@ use Rattle.ips_outside.specs.Change.{names}
 use Rattle.ips_steps.specs.Steps.{Step, Gone, Fresh, Mode, Put, Symlink, Hard, Stage, path_of, frees, freed, at_parent, parent_freed, named}
 use Rattle.ips_steps.specs.Outcome.{back, source, made, with_modes}
 use Rattle.ips_text.proofs.Ancestry.{same_path-true, same_path-self, uncovered, at_parent_of}
-use Rattle.ips_outside.proofs.Agree.{mode_over, moded_mode}
+use Rattle.ips_outside.proofs.Agree.{moded_mode}
 use Rattle.ips_steps.specs.Journal.{AllProper}
 
 pub clash : {A : Type 0} (b : Bool) → b ≡ true → b ≡ false → A

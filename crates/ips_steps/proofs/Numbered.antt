@@ -1,11 +1,11 @@
 -- Paths that end in a number: none is at or above another.
-use Rattle.std.proofs.Common.{◌≡◌, ℕ, ◌+◌, ◌%◌, ◌^◌, ◌<◌, Bool, true, false, ◌||◌, ◌==◌, List, [], ◌∷◌, ◌++◌, refl, arith}
-use Rattle.std.proofs.lemmas.Bool.{and_parts, or_parts, or_from, eqb-true, ne_eqb, false_from_ne_true}
-use Rattle.std.proofs.lemmas.Fmt.{decimal_by_steps, decimal_injective}
-use Rattle.std.specs.Fmt.{decimal}
+use Rattle.std.proofs.Common.{◌≡◌, ℕ, ◌+◌, ◌%◌, ◌^◌, ◌<◌, Bool, true, false, ◌||◌, ◌==◌, if◌then◌else◌, zero, suc, ◌/◌, List, [], ◌∷◌, ◌++◌, refl, sym, ap, ◌∙◌, arith}
+use Rattle.std.proofs.lemmas.Bool.{and_parts, or_parts, or_from, eqb-true, ne_eqb, false_from_ne_true, lt-ltb}
+use Rattle.std.proofs.lemmas.Fmt.{decimal_injective}
+use Rattle.std.specs.Fmt.{decimal, digits, digits_onto, digit_glyph}
 use Rattle.ips_text.specs.Ancestry.{covers}
 use Rattle.ips_steps.specs.Steps.{stage_name, stage_path}
-use Rattle.ips_steps.specs.Private.{mark_front, mark_name}
+use Rattle.ips_steps.specs.Private.{mark_front, mark_name, begins}
 use Rattle.ips_steps.proofs.Lists.{clash}
 
 -- a byte is `/`
@@ -13,17 +13,25 @@ abbrev cut : List ℕ → Bool
 cut [] = false
 cut (b ∷ bytes) = (b == 47) || cut bytes
 
-cut_more : (bytes : List ℕ) (b : ℕ) → cut bytes ≡ false → (b == 47) ≡ false → cut (bytes ++ b ∷ []) ≡ false
-cut_more [] b whole off = rw off refl
-cut_more (a ∷ bytes) b whole off = let parts = or_parts (a == 47) (cut bytes) whole in or_from (a == 47) _ parts.0 (cut_more bytes b parts.1 off)
-
 not_cut : (n : ℕ) → (48 + n == 47) ≡ false
 not_cut n = ne_eqb (48 + n) 47 (λ e. omega (arith, e))
 
-number_whole : (n : ℕ) → n < 2 ^ 64 → cut (decimal n) ≡ false
-number_whole = decimal_by_steps (λ n ds. cut ds ≡ false)
-    (λ n small. or_from (48 + n == 47) false (not_cut n) refl)
-    (λ n ds large whole. cut_more ds (48 + n % 10) whole (not_cut (n % 10)))
+small_digit : (n : ℕ) → (digit_glyph false (n % 10) == 47) ≡ false
+small_digit n = rw (lt-ltb (n % 10) 10 (omega arith)) (not_cut (n % 10))
+
+either_whole : (last : Bool) (a b : List ℕ) → cut a ≡ false → cut b ≡ false → cut (if last then a else b) ≡ false
+either_whole true a b wa wb = wa
+either_whole false a b wa wb = wb
+
+digits_whole : (k n : ℕ) (acc : List ℕ) → cut acc ≡ false → cut (digits_onto k 10 false n acc) ≡ false
+digits_whole zero n acc whole = whole
+digits_whole (suc k) n acc whole =
+    let more : cut (digit_glyph false (n % 10) ∷ acc) ≡ false = or_from _ _ (small_digit n) whole in
+    either_whole (n / 10 == 0) _ _ more (digits_whole k (n / 10) (digit_glyph false (n % 10) ∷ acc) more)
+
+number_whole : (n : ℕ) → cut (decimal n) ≡ false
+unfolding digits
+number_whole n = digits_whole 64 n [] refl
 
 covers_whole : (p q : List ℕ) → covers p q ≡ true → cut q ≡ false → p ≡ q
 covers_whole [] [] c whole = refl
@@ -40,10 +48,21 @@ covers_behind [] p q c = c
 covers_behind (a ∷ f) p q c = covers_behind f p q (and_parts (a == a) _ c).1
 
 numbers_apart : (m n : ℕ) → m < 2 ^ 64 → n < 2 ^ 64 → (m ≡ n → ⊥) → covers (decimal m) (decimal n) ≡ true → ⊥
-numbers_apart m n lm ln apart c = apart (decimal_injective m n lm ln (covers_whole (decimal m) (decimal n) c (number_whole n ln)))
+numbers_apart m n lm ln apart c = apart (decimal_injective m n lm ln (covers_whole (decimal m) (decimal n) c (number_whole n)))
 
 pub marks_apart : (m n : ℕ) → m < 2 ^ 64 → n < 2 ^ 64 → (m ≡ n → ⊥) → covers (mark_name m) (mark_name n) ≡ false
 marks_apart m n lm ln apart = false_from_ne_true _ (λ c. numbers_apart m n lm ln apart (covers_behind mark_front (decimal m) (decimal n) c))
+
+-- what begins as the names of marks do, and is at or above a mark's name, is that name
+covers_front : (f p q : List ℕ) → begins f p ≡ true → covers p (f ++ q) ≡ true → cut q ≡ false → p ≡ f ++ q
+covers_front [] p q b c whole = covers_whole p q c whole
+covers_front (a ∷ f) [] q b c whole = cc
+covers_front (a ∷ f) (d ∷ p) q b c whole =
+    let first : d ≡ a = sym (eqb-true a d (and_parts _ _ b).0) in
+    ap (λ (n : ℕ). n ∷ p) first ∙ ap (λ (l : List ℕ). a ∷ l) (covers_front f p q (and_parts _ _ b).1 (and_parts _ _ c).1 whole)
+
+pub one_mark : (p : List ℕ) (n : ℕ) → begins mark_front p ≡ true → covers p (mark_name n) ≡ true → p ≡ mark_name n
+one_mark p n b c = covers_front mark_front p (decimal n) b c (number_whole n)
 
 pub contents_apart : (m n : ℕ) → m < 2 ^ 64 → n < 2 ^ 64 → (m ≡ n → ⊥) → covers (stage_path m) (stage_path n) ≡ false
 contents_apart m n lm ln apart = false_from_ne_true _ (λ c. numbers_apart m n lm ln apart (covers_behind stage_name (47 ∷ decimal m) (47 ∷ decimal n) c))

@@ -1,7 +1,7 @@
 -- Private names: no step of a journal frees or reads them, and without them an image shows what it is.
 use Rattle.std.proofs.Common.{◌≡◌, ℕ, Bool, true, false, cond, not, ◌||◌, ◌==◌, List, [], ◌∷◌, ◌++◌, Option, Some, None, refl, sym, ◌∙◌, ap, subst, inl, inr}
 use Rattle.std.proofs.lemmas.Bool.{and_parts, and_from, or_from, or_right, or_left, or_cases, not-true, not_from_false, eqb-true, eq-eqb, false_from_ne_true}
-use Rattle.ips_text.specs.Ancestry.{same_path, covers, parent, behind}
+use Rattle.ips_text.specs.Ancestry.{same_path, covers, parent}
 use Rattle.ips_outside.specs.Image.{Entry, Dir, File, Link, Other, Image, Agrees, with_mode, file_bytes}
 use Rattle.ips_outside.specs.State.{nowhere}
 use Rattle.ips_steps.specs.Steps.{Step, Gone, Fresh, Mode, Put, Symlink, Hard, stage_name, stage_path, stage_of, frees, freed, at_parent, clear_of, all_clear_of}

@@ -5,7 +5,7 @@ ghost use Rattle.ips_text.specs.Ancestry.{covers};
 ghost use Rattle.ips_outside.specs.Image.{Image, IsImage, Agrees};
 ghost use Rattle.ips_outside.specs.State.{State, MayLeave, Within, IsSettled, nowhere, untouched, settled};
 ghost use Rattle.ips_steps.specs.Steps.{Step, Stage, laid, all_laid, can_lay, possible, sound, frees, freed, meets, met, all_clear_of, distinct, stage_path, stage_of, after};
-ghost use Rattle.ips_steps.specs.Private.{gate_name, mark_name, is_private, visible};
+ghost use Rattle.ips_steps.specs.Private.{gate_name, mark_front, mark_name, begins, is_private, visible};
 ghost use Rattle.ips_steps.specs.Journal.{IsProper, AllProper, allowed};
 ghost use Rattle.ips_steps.specs.Outcome.{outcome, all_fit, IsLaidByPath};
 ghost use Rattle.ips_steps.specs.Owed.{AreMarks, steps_left, IsReady, IsOpen, Owes, FolderOwes, IsPrivate};
@@ -24,6 +24,20 @@ pub fn laid_again_apart()
         → IsTrue (all_clear_of apart steps) → IsTrue (possible stage steps t)
         → Agrees (λ q. freed steps q || apart q) (met stage steps t) t u
         → IsTrue (possible stage steps u) × Agrees apart nowhere (all_laid stage steps t) (all_laid stage steps u) }
+{}
+
+/// A list of a journal reads none of the updater's own names. On images that agree but at paths that a list doesn't read it
+/// is possible on both or on neither, and leaves them so; whether it is sound doesn't matter.
+pub fn laid_apart()
+    ensures each { (apart : List ℕ → Bool) (stage : Stage) (steps : List Step) (t u : Image) → IsTrue (all_clear_of apart steps) → Agrees apart nowhere t u
+        → (possible stage steps u ≡ possible stage steps t) × Agrees apart nowhere (all_laid stage steps t) (all_laid stage steps u) }
+    ensures own { (apart : List ℕ → Bool) (steps : List Step) (t u : Image) → IsTrue (allowed steps) → ((q : List ℕ) → IsTrue (apart q) → IsTrue (is_private q))
+        → stage_of u ≡ stage_of t → Agrees apart nowhere t u
+        → (possible (stage_of u) steps u ≡ possible (stage_of t) steps t) × Agrees apart nowhere (after steps t) (after steps u)
+        × (visible (after steps u) ≡ visible (after steps t)) }
+    ensures marks { (steps : List Step) (t u : Image) → IsTrue (allowed steps) → Agrees (begins mark_front) nowhere t u
+        → (possible (stage_of u) steps u ≡ possible (stage_of t) steps t) × Agrees (begins mark_front) nowhere (after steps t) (after steps u)
+        × (visible (after steps u) ≡ visible (after steps t)) }
 {}
 
 /// A sound list without two steps at one path, possible on an image, leaves what it says of each path, and it is
@@ -77,16 +91,19 @@ pub fn private_touched()
         → IsFalse (s.whole gate_name) → FolderOwes text b (Some (visible s.held)) due s }
 {}
 
-/// Different contents, and different marks, have different files, none of which is below another.
+/// Different contents, and different marks, have different files, none of which is below another. What begins as the names of
+/// marks do is at or above a mark's name only where it is that name.
 pub fn numbered_apart()
     ensures contents { (m n : ℕ) → m < 2 ^ 64 → n < 2 ^ 64 → m ≢ n → IsFalse (covers (stage_path m) (stage_path n)) }
     ensures marks { (m n : ℕ) → m < 2 ^ 64 → n < 2 ^ 64 → m ≢ n → IsFalse (covers (mark_name m) (mark_name n)) }
+    ensures one { (p : List ℕ) (n : ℕ) → IsTrue (begins mark_front p) → IsTrue (covers p (mark_name n)) → p ≡ mark_name n }
 {}
 
 /// From a well-formed image with nothing touched: while the steps that are left are laid behind an open gate, the folder
 /// owes the same; while the gate opens it owes the old image or the new one; and while the gate closes, where the new
-/// image is already seen, it owes that. Where a thousand steps are laid and the next mark is made, it owes the same. While
-/// private names other than the gate are written behind a closed gate, it owes what it owed.
+/// image is already seen, it owes that. Where a thousand steps are laid and the next mark is made, it owes the same. Behind an
+/// open gate it owes the same while names of marks are taken away, other than the first that stand, where these leave the same
+/// steps. While private names other than the gate are written behind a closed gate, it owes what it owed.
 pub fn still_owed()
     ensures laying { (text : List Step → List ℕ) (steps : List Step) (marks : ℕ) (b a : Image) (due : Bool) (old s : State) → IsOpen text steps marks a old.held → IsImage old.held → IsSettled old
         → Within (freed (steps_left marks steps)) (λ q. freed (steps_left marks steps) q || met (stage_of old.held) (steps_left marks steps) old.held q) old s
@@ -99,6 +116,10 @@ pub fn still_owed()
         → marks + 2 < 2 ^ 64 → IsTrue (possible (stage_of old.held) (steps_left (marks + 1) steps) old.held)
         → visible (after (steps_left (marks + 1) steps) old.held) ≡ a → old.held.look (mark_name (marks + 2)) ≡ None
         → Within (covers (mark_name (marks + 1))) nowhere old s → FolderOwes text b (Some a) due s }
+    ensures unmarking { (text : List Step → List ℕ) (steps : List Step) (marks kept : ℕ) (b a : Image) (due : Bool) (free : List ℕ → Bool) (old s : State) → IsOpen text steps marks a old.held
+        → IsSettled old → steps_left kept steps ≡ steps_left marks steps → ((q : List ℕ) → IsTrue (free q) → IsTrue (begins mark_front q))
+        → ((i : ℕ) → i < kept → IsFalse (free (mark_name (i + 1)))) → IsFalse (free (mark_name (marks + 1)))
+        → Within free nowhere old s → FolderOwes text b (Some a) due s }
     ensures sweeping { (text : List Step → List ℕ) (b : Image) (a : Option Image) (due : Bool) (free : List ℕ → Bool) (old s : State) → Owes text b a due old.held → old.held.look gate_name ≡ None
         → IsSettled old → ((q : List ℕ) → IsTrue (free q) → IsTrue (is_private q)) → IsFalse (free gate_name)
         → Within free nowhere old s → FolderOwes text b a due s }
@@ -106,7 +127,7 @@ pub fn still_owed()
 
 /// What is ready stays so, for the same steps and marks: as the gate opens, and whatever of the steps that are left is laid,
 /// once or again. Where a thousand of them are laid, the rest can be laid and means the same; with the next mark they are
-/// that many fewer.
+/// that many fewer. Where names of marks are others, it is ready for as many as stand, if these leave the same steps.
 pub fn still_ready()
     ensures opening { (text : List Step → List ℕ) (steps : List Step) (marks : ℕ) (a t u : Image) → IsReady text steps marks a t → IsImage t
         → Agrees (covers gate_name) nowhere t u → IsReady text steps marks a u }
@@ -118,6 +139,8 @@ pub fn still_ready()
         → marks + 2 < 2 ^ 64 → IsTrue (possible (stage_of t) (steps_left (marks + 1) steps) t)
         → visible (after (steps_left (marks + 1) steps) t) ≡ a → t.look (mark_name (marks + 2)) ≡ None
         → Agrees (covers (mark_name (marks + 1))) nowhere t u → u.look (mark_name (marks + 1)) ≢ None → IsOpen text steps (marks + 1) a u }
+    ensures unmarking { (text : List Step → List ℕ) (steps : List Step) (marks kept : ℕ) (a t u : Image) → IsOpen text steps marks a t
+        → steps_left kept steps ≡ steps_left marks steps → AreMarks u kept → Agrees (begins mark_front) nowhere t u → IsOpen text steps kept a u }
 {}
 
 /// However a run is stopped, the next one can go on. What a crash leaves of a folder owes the same with nothing touched;
