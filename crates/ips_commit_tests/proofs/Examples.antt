@@ -5,7 +5,8 @@ use Rattle.ips_outside.specs.Image.{Image, Dir, nothing}
 use Rattle.ips_outside.specs.Change.{placed}
 use Rattle.ips_steps.specs.Steps.{Step, Fresh, Mode, Put, Symlink, Hard, Stage, possible}
 use Rattle.ips_steps.specs.Journal.{AllProper}
-use Rattle.ips_install.specs.Layable.{AreListed, AreLayable}
+use Rattle.ips_steps.specs.Listed.{AreListed}
+use Rattle.ips_install.specs.Layable.{AreLayable}
 use Rattle.ips_commit_tests.specs.Example.{example, example_image}
 
 pub example_listed : AllProper example → AreListed 2 example

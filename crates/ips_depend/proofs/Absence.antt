@@ -62,7 +62,7 @@ holds_alike (Group f) s t old before spared saved a =
 holds_alike (GroupAny fs) s t old before spared saved a =
     ap (λ (b : Bool). b || list_all (λ (f : Fmri). spared f.stem) fs) (any_same s t fs a.selected) ∙ ap (λ (b : Bool). list_any (is_present t) fs || b) (spared_same spared saved fs a.sparing)
 holds_alike (Parent fs) s t old before spared saved a = refl
-holds_alike (Origin rooted f) s t old before spared saved a = ap (λ (o : Option Parts). rooted || optional_at f o) (a.earlier f.stem)
+holds_alike (Origin rooted f) s t old before spared saved a = ap (λ (o : Option Parts). rooted || optional_at f o) (a.earlier f.stem (first_in f.stem []))
 
 -- a stem that is wanted isn't dropped
 kept : (d : Dependency) (smaller s : Selection) → DropsUnwanted d smaller s → (stem : List ℕ) → IsMentioned d stem → IsWanted d stem → smaller stem ≡ s stem

@@ -56,7 +56,8 @@ abbrev pub LinesAsk : Set → List Line → List Dependency → Type 0
 LinesAsk settings [] ds = ds ≡ []
 LinesAsk settings (line ∷ lines) ds = (first : List Dependency) × (rest : List Dependency) × LineAsks settings line first × LinesAsk settings lines rest × (ds ≡ first ++ rest)
 
--- The line is judged, and asks for no dependency: its type is unknown, it has too few or too many FMRIs, or one of its texts is no FMRI.
+-- The line is judged, and asks for no dependency: its type is unknown, it has too few or too many FMRIs, a predicate is missing or
+-- stands where none belongs, or one of its texts is no FMRI.
 abbrev pub IsBad : Set → Line → Type 0
 IsBad settings line = IsJudged settings line × ((d : Dependency) → Asks line.action.attrs d → ⊥)
 

@@ -1,7 +1,7 @@
 -- What the laws of dependencies speak of.
 use Rattle.std.specs.Prelude.{◌≡◌, ℕ, ◌⊎◌, List, None, Contains}
 use Rattle.ips_depend.specs.Selection.{Selection, Spared}
-use Rattle.ips_depend.specs.Dependency.{Dependency, mentions, wanted, stems}
+use Rattle.ips_depend.specs.Dependency.{Dependency, mentions, objects, wanted, stems}
 
 -- The dependency mentions the stem.
 abbrev pub IsMentioned : Dependency → List ℕ → Type 0
@@ -11,11 +11,12 @@ IsMentioned d stem = Contains (stems (mentions d)) stem
 abbrev pub IsWanted : Dependency → List ℕ → Type 0
 IsWanted d stem = Contains (stems (wanted d)) stem
 
--- Two selections agree at each stem that the dependency mentions, and so do what is spared; and two old ones agree at every stem.
+-- Two selections agree at each stem that the dependency mentions, and so do what is spared; and two old ones agree at each stem
+-- that it is about.
 pub record Agree (d : Dependency) (s t old before : Selection) (spared saved : Spared) : Type 0 where
   pub selected : (stem : List ℕ) → IsMentioned d stem → s stem ≡ t stem
   pub sparing : (stem : List ℕ) → IsMentioned d stem → spared stem ≡ saved stem
-  pub earlier : (stem : List ℕ) → old stem ≡ before stem
+  pub earlier : (stem : List ℕ) → Contains (stems (objects d)) stem → old stem ≡ before stem
 
 -- Of the stems that the dependency mentions, only such as it doesn't want are absent in the smaller selection though they aren't in the other; at the rest the two agree.
 abbrev pub DropsUnwanted : Dependency → Selection → Selection → Type 0

@@ -12,8 +12,8 @@ ghost use Rattle.ips_depend.specs.Laws.{Agree, DropsUnwanted};
 ghost use Rattle.ips_depend.specs.Matching.{is_at_least, is_incorporated};
 ghost use Rattle.ips_depend.specs.Selection.{Selection, Spared};
 
-/// The law that a dependency looks only at what it mentions: where two selections, and what is spared, agree at the stems that
-/// it mentions, and the old selections agree, it holds in both or in neither.
+/// The law that a dependency looks only at what it mentions and is about: where two selections, and what is spared, agree at
+/// the stems that it mentions, and the old selections agree at those that it is about, it holds in both or in neither.
 pub fn judged_by_mentions()
     ensures { (d : Dependency) (s t old before : Selection) (spared saved : Spared) → Agree d s t old before spared saved → holds s old spared d ≡ holds t before saved d }
 {}

@@ -2,8 +2,8 @@
 //!
 //! The `depend` actions that the image takes are read exactly: each is a dependency of one of ten types, or the first that is
 //! none is told by its line. Each type is one sentence over the selected packages, those selected before and the stems that are spared, and `holds`
-//! answers just that sentence. It is a law that a dependency looks only at the stems that it mentions, and that only the stems
-//! that it wants have to be there: the absence of any other breaks none.
+//! answers just that sentence. It is a law that a dependency looks only at the stems that it mentions, of the selection before at
+//! those that it is about, and that only the stems that it wants have to be there: the absence of any other breaks none.
 #![tactic(auto)]
 
 mod copying;

@@ -8,10 +8,9 @@ use Rattle.ips_outside.specs.Image.{Image}
 use Rattle.ips_digest.specs.declared.name.PayloadName.{PayloadName}
 use Rattle.ips_repo.specs.Files.{file_at, HasSize}
 use Rattle.ips_repo.specs.Places.{payload_place}
-use Rattle.ips_repo.specs.Payload.{Reading, payload_limit, IsOpened, payload_in, payload_opening, from_start, IsFrontOf, digest_by, IsOpenFault, IsDamage}
+use Rattle.ips_repo.specs.Payload.{Reading, payload_limit, IsOpened, payload_in, payload_opening, from_start, IsFrontOf, digest_by, IsOpenFault, IsDamage, HasIntact, AreIntact}
 use Rattle.ips_repo.specs.declared.fault.RepoFault.{RepoFault}
 use Rattle.ips_repo.specs.declared.fault.RepoFault.TheVariants as repo
-use Rattle.ips_install.specs.Laid.{HasIntact, AreIntact}
 use Rattle.ips_install.specs.Fault.{IsDamageOf, IsWrong, IsPayloadFault, SaysOfPayloads}
 use Rattle.ips_install.specs.Checking.{IsKnown, IsVerified, IsPrepared, names_of, SaysOfPayload, SaysOfBytes, IsJudged, IsCheckingFault}
 use Rattle.ips_install.specs.declared.fault.PayloadFault.{PayloadFault}

@@ -3,7 +3,7 @@ use Rattle.std.proofs.Common.{◌≡◌, ℕ, Bool, true, false, nat_lt, List, �
 use Rattle.std.proofs.lemmas.Bool.Decides.{nat_tests}
 use Rattle.ips_outside.specs.Image.{Image}
 use Rattle.ips_digest.specs.declared.name.PayloadName.{PayloadName}
-use Rattle.ips_install.specs.Laid.{AreIntact}
+use Rattle.ips_repo.specs.Payload.{AreIntact}
 use Rattle.ips_install.specs.Fault.{SaysOfPayloads, IsInstallFault, is_refusal}
 use Rattle.ips_install.specs.Laying.{IsCopyingFault, IsLayingFault, IsFaultOfLaying}
 use Rattle.ips_install.specs.Checking.{IsCheckingFault}

@@ -8,7 +8,7 @@ use Rattle.ips_outside.specs.Change.{placed, names}
 use Rattle.ips_folder.specs.Calls.{CanMake}
 use Rattle.ips_digest.specs.declared.name.PayloadName.{PayloadName}
 use Rattle.ips_repo.specs.Files.{file_at}
-use Rattle.ips_repo.specs.Payload.{Reading}
+use Rattle.ips_repo.specs.Payload.{Reading, IsPayload}
 use Rattle.ips_steps.specs.Steps.{Step, Gone, Fresh, Mode, Put, Symlink, Hard, Stage, path_of, bytes_of, laid, all_laid, can_lay, frees, freed, named, distinct}
 use Rattle.ips_steps.specs.Journal.{IsProper, AllProper}
 use Rattle.ips_text.proofs.Ancestry.{same_path-true}
@@ -16,8 +16,9 @@ use Rattle.ips_outside.proofs.Agree.{is_dir-alike}
 use Rattle.ips_steps.proofs.Lists.{clash, same_path-sym}
 use Rattle.ips_steps.proofs.AtTurn.{can_at, laid_next, front_frees}
 use Rattle.ips_steps.proofs.Within.{laid_within}
-use Rattle.ips_install.specs.Layable.{is_within, AreListed, IsPlain, HasEach, AreLayable}
-use Rattle.ips_install.specs.Laid.{IsContent, AreContents, AreLaid}
+use Rattle.ips_steps.specs.Listed.{is_within, AreListed, HasEach, AreContents}
+use Rattle.ips_install.specs.Layable.{IsPlain, AreLayable}
+use Rattle.ips_install.specs.Laid.{AreLaid}
 use Rattle.ips_install.specs.Checking.{IsPrepared, names_of}
 use Rattle.ips_install.specs.Laying.{CanLay, HasNext, LaysFile, LaysFirst, LaysStep}
 use Rattle.ips_install.proofs.Places.{map_at, all_at}
@@ -211,7 +212,7 @@ prepared_behind P (r ∷ rest) (suc n) all = prepared_behind P rest n all.1
 
 module _ (tells : Bool) (publisher : List ℕ) (repository : Image) (all : List Reading) (prepared : AllByRecursion (IsPrepared tells publisher repository) all) where
   -- the bytes that were laid are those of a content
-  laid_content : (r : Reading) (mode : ℕ) (path : List ℕ) (t u : Image) (n : ℕ) → slice_get all n ≡ Some r → (lays : LaysFile tells repository r mode path t u) → IsContent tells publisher repository r.name lays.bytes
+  laid_content : (r : Reading) (mode : ℕ) (path : List ℕ) (t u : Image) (n : ℕ) → slice_get all n ≡ Some r → (lays : LaysFile tells repository r mode path t u) → IsPayload tells publisher repository r.name lays.bytes
   laid_content r mode path t u n at lays =
       let here = all_at (IsPrepared tells publisher repository) all prepared n r at in
       record { named = lays.named; held = λ told. ap (file_at repository) (sym here.placed) ∙ lays.held told }
@@ -222,19 +223,19 @@ module _ (tells : Bool) (publisher : List ℕ) (repository : Image) (all : List 
   stage_from (r ∷ rest) h zero = Some h.0.bytes
   stage_from (r ∷ rest) h (suc n) = stage_from rest h.1 n
 
-  contents_from : (l : List Reading) (h : AllByRecursion (IsPrepared tells publisher repository) l) → AreContents (IsContent tells publisher repository) (names_of l) (stage_from l h)
+  contents_from : (l : List Reading) (h : AllByRecursion (IsPrepared tells publisher repository) l) → AreContents (IsPayload tells publisher repository) (names_of l) (stage_from l h)
   contents_from [] h n name is = cc
-  contents_from (r ∷ rest) h zero name is = let one : r.name ≡ name = cc in (h.0.bytes, refl, subst (λ (x : PayloadName). IsContent tells publisher repository x h.0.bytes) one h.0.content)
+  contents_from (r ∷ rest) h zero name is = let one : r.name ≡ name = cc in (h.0.bytes, refl, subst (λ (x : PayloadName). IsPayload tells publisher repository x h.0.bytes) one h.0.content)
   contents_from (r ∷ rest) h (suc n) name is = contents_from rest h.1 n name is
 
-  pub none_laid : (t : Image) → AreLaid (IsContent tells publisher repository) (names_of all) [] t t
+  pub none_laid : (t : Image) → AreLaid (IsPayload tells publisher repository) (names_of all) [] t t
   none_laid t = record { stage = stage_from all prepared; contents = contents_from all prepared; laid = refl }
 
   pub one_laid : (count : ℕ) (steps : List Step) (listed : AreListed count steps) (k : ℕ) (s : Step) → slice_get steps k ≡ Some s → (now : List Reading) → now ≡ drop (puts (take k steps)) all → (t u v : Image)
-      → AreLaid (IsContent tells publisher repository) (names_of all) (take k steps) t u → LaysStep tells repository now s u v → AreLaid (IsContent tells publisher repository) (names_of all) (take (k + 1) steps) t v
+      → AreLaid (IsPayload tells publisher repository) (names_of all) (take k steps) t u → LaysStep tells repository now s u v → AreLaid (IsPayload tells publisher repository) (names_of all) (take (k + 1) steps) t v
   one_laid count steps listed k s stands now left t u v done = go s stands
     where
-      as_said : (x : Step) → slice_get steps k ≡ Some x → v ≡ laid done.stage x u → AreLaid (IsContent tells publisher repository) (names_of all) (take (k + 1) steps) t v
+      as_said : (x : Step) → slice_get steps k ≡ Some x → v ≡ laid done.stage x u → AreLaid (IsPayload tells publisher repository) (names_of all) (take (k + 1) steps) t v
       as_said x at is = record {
         stage = done.stage;
         contents = done.contents;
@@ -242,7 +243,7 @@ module _ (tells : Bool) (publisher : List ℕ) (repository : Image) (all : List 
       }
 
       file : (n m : ℕ) (p : List ℕ) → slice_get steps k ≡ Some (Put n m p) → (l : List Reading) → drop (puts (take k steps)) all ≡ l → LaysFirst tells repository l m p u v
-          → AreLaid (IsContent tells publisher repository) (names_of all) (take (k + 1) steps) t v
+          → AreLaid (IsPayload tells publisher repository) (names_of all) (take (k + 1) steps) t v
       file n m p at [] is lays = absurd lays
       file n m p at (r ∷ rest) is lays =
           let counted = number_at 0 steps k n m p listed.numbers at in
@@ -253,14 +254,14 @@ module _ (tells : Bool) (publisher : List ℕ) (repository : Image) (all : List 
           front_same done.stage stage steps k t listed.numbers (λ j lt. sym (with_other n lays.bytes done.stage j (omega (arith, number, lt)))) in
           record {
             stage = stage;
-            contents = with_contents (IsContent tells publisher repository) (names_of all) done.stage n lays.bytes r.name (map_at (λ (x : Reading). x.name) all n r here) (laid_content r m p u v n here lays) done.contents;
+            contents = with_contents (IsPayload tells publisher repository) (names_of all) done.stage n lays.bytes r.name (map_at (λ (x : Reading). x.name) all n r here) (laid_content r m p u v n here lays) done.contents;
             laid = lays.is
                 ∙ ap (λ b. placed p (Some (File m (bytes_of b))) u) (sym (with_same n lays.bytes done.stage))
                 ∙ ap (laid stage (Put n m p)) (done.laid ∙ front)
                 ∙ sym (laid_next stage steps k (Put n m p) t at);
           }
 
-      go : (x : Step) → slice_get steps k ≡ Some x → LaysStep tells repository now x u v → AreLaid (IsContent tells publisher repository) (names_of all) (take (k + 1) steps) t v
+      go : (x : Step) → slice_get steps k ≡ Some x → LaysStep tells repository now x u v → AreLaid (IsPayload tells publisher repository) (names_of all) (take (k + 1) steps) t v
       go (Gone p) at lays = as_said (Gone p) at lays
       go (Fresh m p) at lays = as_said (Fresh m p) at lays
       go (Mode m p) at lays = as_said (Mode m p) at lays

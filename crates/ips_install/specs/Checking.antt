@@ -3,10 +3,9 @@ use Rattle.std.specs.Prelude.{◌≡◌, ℕ, ◌≤◌, Bool, IsTrue, List, [],
 use Rattle.ips_outside.specs.Image.{Image}
 use Rattle.ips_digest.specs.declared.name.PayloadName.{PayloadName}
 use Rattle.ips_repo.specs.Places.{payload_place}
-use Rattle.ips_repo.specs.Payload.{Reading, IsFrontOf, digest_by, payload_limit}
+use Rattle.ips_repo.specs.Payload.{Reading, IsFrontOf, digest_by, payload_limit, IsPayload}
 use Rattle.ips_install.specs.declared.fault.InstallFault.{InstallFault}
 use Rattle.ips_install.specs.declared.fault.InstallFault.TheVariants.{Payload, Source, Folder, OutOfMemory}
-use Rattle.ips_install.specs.Laid.{IsContent}
 use Rattle.ips_install.specs.Fault.{IsDamageOf, IsWrong, IsPayloadFault}
 
 -- the names of payloads
@@ -33,7 +32,7 @@ pub record IsPrepared (tells : Bool) (publisher : List ℕ) (repository : Image)
   pub nothing_given : r.bytes ≡ []
   pub known : IsTrue tells → IsKnown repository r
   pub bytes : List ℕ
-  pub content : IsContent tells publisher repository r.name bytes
+  pub content : IsPayload tells publisher repository r.name bytes
 
 -- what is told of the payload of this name is a fault of it
 abbrev pub SaysOfPayload : List ℕ → Image → PayloadName → InstallFault → Type 0

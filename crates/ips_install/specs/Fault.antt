@@ -4,12 +4,11 @@ use Rattle.ips_outside.specs.Image.{Image}
 use Rattle.ips_digest.specs.declared.name.PayloadName.{PayloadName}
 use Rattle.ips_repo.specs.Files.{file_at, HasSize}
 use Rattle.ips_repo.specs.Places.{payload_place}
-use Rattle.ips_repo.specs.Payload.{payload_limit, digest_by, is_gzip}
+use Rattle.ips_repo.specs.Payload.{payload_limit, digest_by, is_gzip, HasIntact, AreIntact}
 use Rattle.ips_install.specs.declared.fault.PayloadFault.{PayloadFault}
 use Rattle.ips_install.specs.declared.fault.PayloadFault.TheVariants.{Missing, TooLarge, Damaged, Compressed}
 use Rattle.ips_install.specs.declared.fault.InstallFault.{InstallFault}
 use Rattle.ips_install.specs.declared.fault.InstallFault.TheVariants.{Payload, Source, Folder, OutOfMemory}
-use Rattle.ips_install.specs.Laid.{HasIntact, AreIntact}
 
 -- The digest of the bytes is this other one, and they begin as a gzip file does, or they don't.
 pub record HaveDigest (name : PayloadName) (bytes : List ℕ) (found : PayloadName) (gzip : Bool) : Type 0 where

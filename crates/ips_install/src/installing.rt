@@ -6,8 +6,10 @@ ghost use Rattle.ips_outside.specs.Outside.{HasCause};
 ghost use Rattle.ips_folder.specs.Calls.{Keeps};
 ghost use Rattle.ips_steps.specs.Steps.{freed, named};
 ghost use Rattle.ips_steps.specs.View.{step_of};
-ghost use Rattle.ips_install.specs.Layable.{AreListed, AreLayable};
-ghost use Rattle.ips_install.specs.Laid.{IsContent, AreLaid, AreIntact};
+ghost use Rattle.ips_steps.specs.Listed.{AreListed};
+ghost use Rattle.ips_install.specs.Layable.{AreLayable};
+ghost use Rattle.ips_repo.specs.Payload.{IsPayload, AreIntact};
+ghost use Rattle.ips_install.specs.Laid.{AreLaid};
 ghost use Rattle.ips_install.specs.Fault.{SaysOfPayloads, IsInstallFault, is_refusal};
 ghost use Rattle.ips_install.specs.declared.fault.InstallFault.TheVariants as fault;
 
@@ -39,7 +41,7 @@ pub fn install<S: Source, F: Folder>(
     // Done: the image is the old one with the steps laid, safe from a crash. The bytes of each file have the digest that is the
     // payload's name, whatever the repository does; where it tells what it holds, they are its own.
     ensures laid { IsTrue (F.outside.tells image.old)
-        → OnOk result (AreLaid (IsContent (S.outside.tells repo.old) publisher.now (S.outside.state repo.old).held) contents.items (map step_of steps.items) (F.outside.state image.old).held (F.outside.state image.new).held) }
+        → OnOk result (AreLaid (IsPayload (S.outside.tells repo.old) publisher.now (S.outside.state repo.old).held) contents.items (map step_of steps.items) (F.outside.state image.old).held (F.outside.state image.new).held) }
     ensures intact { IsTrue (S.outside.tells repo.old) → OnOk result (AreIntact publisher.now (S.outside.state repo.old).held contents.items) }
     ensures safe { IsTrue (F.outside.tells image.old) → OnOk result (IsSettled (F.outside.state image.new)) }
 

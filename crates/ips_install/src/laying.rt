@@ -10,9 +10,10 @@ ghost use Rattle.ips_folder.specs.Calls.{CanMake, IsSole, Keeps};
 ghost use Rattle.ips_steps.specs.Steps.{path_of, frees, freed, named};
 ghost use Rattle.ips_steps.specs.Journal.{IsProper};
 ghost use Rattle.ips_steps.specs.View.{step_of};
-ghost use Rattle.ips_repo.specs.Payload.{IsFrontOf};
-ghost use Rattle.ips_install.specs.Layable.{AreListed, AreLayable};
-ghost use Rattle.ips_install.specs.Laid.{IsContent, AreLaid};
+ghost use Rattle.ips_repo.specs.Payload.{IsFrontOf, IsPayload};
+ghost use Rattle.ips_steps.specs.Listed.{AreListed};
+ghost use Rattle.ips_install.specs.Layable.{AreLayable};
+ghost use Rattle.ips_install.specs.Laid.{AreLaid};
 ghost use Rattle.ips_install.specs.Checking.{IsKnown, IsPrepared, names_of};
 ghost use Rattle.ips_install.specs.Laying.{CanLay, changed, HasNext, left_by, LaysFile, LaysFirst, LaysStep, behind_first, IsCopyingFault, IsLayingFault, IsFaultOfLaying};
 ghost use Rattle.ips_install.specs.declared.fault.InstallFault.TheVariants as fault;
@@ -187,7 +188,7 @@ fn lay_steps<S: Source, F: Folder>(
     requires room { 0 < length buffer.old }
     requires prepared { (publisher : List ℕ) × AllByRecursion (IsPrepared (S.outside.tells repo.old) publisher (S.outside.state repo.old).held) payloads.items }
     ensures laid { IsTrue (F.outside.tells image.old) → (publisher : List ℕ) → AllByRecursion (IsPrepared (S.outside.tells repo.old) publisher (S.outside.state repo.old).held) payloads.items
-        → OnOk result (AreLaid (IsContent (S.outside.tells repo.old) publisher (S.outside.state repo.old).held) (names_of payloads.items) (map step_of steps.now) (F.outside.state image.old).held (F.outside.state image.new).held) }
+        → OnOk result (AreLaid (IsPayload (S.outside.tells repo.old) publisher (S.outside.state repo.old).held) (names_of payloads.items) (map step_of steps.now) (F.outside.state image.old).held (F.outside.state image.new).held) }
     ensures any_moment { IsTrue (F.outside.tells image.old) → Keeps F.outside (freed (map step_of steps.now)) (named (map step_of steps.now)) image.old image.new }
     ensures reads { Reads S.outside repo.old repo.new (result ≡ Err fault.Source) }
     ensures cause { HasCause (F.outside.faults image.old) (F.outside.faults image.new) (result ≡ Err (fault.Folder true)) }
@@ -216,7 +217,7 @@ pub(crate) fn lay<S: Source, F: Folder>(
     requires room { 0 < length buffer.old }
     requires prepared { (publisher : List ℕ) × AllByRecursion (IsPrepared (S.outside.tells repo.old) publisher (S.outside.state repo.old).held) payloads.items }
     ensures laid { IsTrue (F.outside.tells image.old) → (publisher : List ℕ) → AllByRecursion (IsPrepared (S.outside.tells repo.old) publisher (S.outside.state repo.old).held) payloads.items
-        → OnOk result (AreLaid (IsContent (S.outside.tells repo.old) publisher (S.outside.state repo.old).held) (names_of payloads.items) (map step_of steps.now) (F.outside.state image.old).held (F.outside.state image.new).held) }
+        → OnOk result (AreLaid (IsPayload (S.outside.tells repo.old) publisher (S.outside.state repo.old).held) (names_of payloads.items) (map step_of steps.now) (F.outside.state image.old).held (F.outside.state image.new).held) }
     ensures safe { IsTrue (F.outside.tells image.old) → OnOk result (IsSettled (F.outside.state image.new)) }
     ensures any_moment { IsTrue (F.outside.tells image.old) → Keeps F.outside (freed (map step_of steps.now)) (named (map step_of steps.now)) image.old image.new }
     ensures reads { Reads S.outside repo.old repo.new (result ≡ Err fault.Source) }

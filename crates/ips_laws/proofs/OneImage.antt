@@ -15,7 +15,7 @@ use Rattle.ips_conflict.specs.Alike.{kind_place}
 use Rattle.ips_conflict.specs.Clash.{HasSureFile, path_key}
 use Rattle.ips_outside.specs.Image.{Image}
 use Rattle.ips_outside.specs.Image as image
-use Rattle.ips_install.specs.Laid.{IsContent}
+use Rattle.ips_repo.specs.Payload.{IsPayload}
 use Rattle.ips_meaning.specs.declared.entry.Entry.{Entry}
 use Rattle.ips_meaning.specs.declared.entry.Entry.TheVariants.{Dir, File, Link, Hard}
 use Rattle.ips_meaning.specs.Want.{IsWanted, IsWantOf, IsFreeOfClashes, PackagesMean}
@@ -62,9 +62,9 @@ one_sharing x y old like p q =
 -- ---- what stands at a path
 
 module _ (publisher : List ℕ) (repository : Image) (kept : List Placed) (free : IsFreeOfClashes kept) (x y : List (List ℕ × Entry)) (like : AreLike x y) (want : IsWantOf kept x) (old a b : Image)
-    (first : IsMeant (IsContent true publisher repository) x old a) (second : IsMeant (IsContent true publisher repository) y old b) where
-  shows : (z : List (List ℕ × Entry)) (new : Image) → IsMeant (IsContent true publisher repository) z old new → (q : List ℕ) (e : Entry) → wanted_at z q ≡ Some e → Shows (IsContent true publisher repository) old new q e
-  shows z new meant q e is = All-contains (λ (w : List ℕ × Entry). Shows (IsContent true publisher repository) old new w.0 w.1) z (q, e) meant.each (wanted_from z q e is)
+    (first : IsMeant (IsPayload true publisher repository) x old a) (second : IsMeant (IsPayload true publisher repository) y old b) where
+  shows : (z : List (List ℕ × Entry)) (new : Image) → IsMeant (IsPayload true publisher repository) z old new → (q : List ℕ) (e : Entry) → wanted_at z q ≡ Some e → Shows (IsPayload true publisher repository) old new q e
+  shows z new meant q e is = All-contains (λ (w : List ℕ × Entry). Shows (IsPayload true publisher repository) old new w.0 w.1) z (q, e) meant.each (wanted_from z q e is)
 
   wanted : (q : List ℕ) (e : Entry) → wanted_at x q ≡ Some e → IsWanted kept q e
   wanted q e is = All-contains (λ (w : List ℕ × Entry). IsWanted kept w.0 w.1) x (q, e) want.each (wanted_from x q e is)
@@ -80,7 +80,7 @@ module _ (publisher : List ℕ) (repository : Image) (kept : List Placed) (free 
       go (Some (File payload mode preserve)) (Some (File name bits way)) here there l =
           let v = shows x a first q (File payload mode preserve) here in
           let w = shows y b second q (File name bits way) there in
-          let held = subst (λ (n : PayloadName). IsContent true publisher repository n v.0) l.0 v.1 in
+          let held = subst (λ (n : PayloadName). IsPayload true publisher repository n v.0) l.0 v.1 in
           let bytes : v.0 ≡ w.0 = same_Some _ _ (sym (held.held refl) ∙ w.1.held refl) in
           v.2 ∙ (λ i. Some (image.File (l.1 i) (bytes i))) ∙ sym w.2
       go (Some (Link target)) (Some (Link other)) here there l = shows x a first q (Link target) here ∙ ap (λ (t : List ℕ). Some (image.Link t)) l ∙ sym (shows y b second q (Link other) there)
@@ -120,7 +120,7 @@ module _ (publisher : List ℕ) (repository : Image) (kept : List Placed) (free 
 
 -- packages that show the same mean one image
 pub one_image : (publisher : List ℕ) (repository : Image) (s : Set) (mediators : List SetMediator) (ps qs : List Package) (x y : List (List ℕ × Entry)) (old a b : Image) → map installed ps ≡ map installed qs
-    → PackagesMean s mediators ps x → PackagesMean s mediators qs y → IsMeant (IsContent true publisher repository) x old a → IsMeant (IsContent true publisher repository) y old b → a ≡ b
+    → PackagesMean s mediators ps x → PackagesMean s mediators qs y → IsMeant (IsPayload true publisher repository) x old a → IsMeant (IsPayload true publisher repository) y old b → a ≡ b
 one_image publisher repository s mediators ps qs x y old a b same m n first second =
     let like = meaning_like s mediators ps qs x y same m n in
     let look = look_alike publisher repository m.taken.kept m.no_clash x y like m.want old a b first second in

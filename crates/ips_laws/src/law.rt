@@ -2,7 +2,7 @@
 
 ghost use Rattle.std.specs.Prelude.{◌≡◌, ℕ, true, List, map};
 ghost use Rattle.ips_outside.specs.Image.{Image};
-ghost use Rattle.ips_install.specs.Laid.{IsContent};
+ghost use Rattle.ips_repo.specs.Payload.{IsPayload};
 ghost use Rattle.ips_manifest.specs.declared.package.Package.{Package};
 ghost use Rattle.ips_filter.specs.Settings.{Set};
 ghost use Rattle.ips_mediate.specs.declared.set.SetMediator.{SetMediator};
@@ -26,7 +26,7 @@ pub fn meaning_is_one()
 pub fn image_is_one()
     ensures { (publisher : List ℕ) (repository : Image) (settings : Set) (mediators : List SetMediator) (ps qs : List Package) (x y : List (List ℕ × Entry)) (old a b : Image)
         → map installed ps ≡ map installed qs → PackagesMean settings mediators ps x → PackagesMean settings mediators qs y
-        → IsMeant (IsContent true publisher repository) x old a → IsMeant (IsContent true publisher repository) y old b → a ≡ b }
+        → IsMeant (IsPayload true publisher repository) x old a → IsMeant (IsPayload true publisher repository) y old b → a ≡ b }
 {}
 
 /// What is done is one image: at `Done` the words, the repository and the old image say what stands at each path, and which paths

@@ -6,8 +6,8 @@ use Rattle.std.proofs.lemmas.List.Elements.{All-weaker}
 use Rattle.ips_digest.specs.declared.name.PayloadName.{PayloadName}
 use Rattle.ips_outside.specs.Image.{Image}
 use Rattle.ips_steps.specs.Steps.{Step, Stage, all_laid}
-use Rattle.ips_install.specs.Layable.{HasEach}
-use Rattle.ips_install.specs.Laid.{AreContents, AreLaid}
+use Rattle.ips_steps.specs.Listed.{HasEach, AreContents}
+use Rattle.ips_install.specs.Laid.{AreLaid}
 use Rattle.ips_meaning.specs.declared.entry.Entry.{Entry}
 use Rattle.ips_meaning.specs.declared.entry.Entry.TheVariants.{Dir, File, Link, Hard}
 use Rattle.ips_plan.specs.Meant.{Shows, IsMeant}

@@ -25,7 +25,8 @@ use Rattle.ips_steps.specs.Outcome.{back, source, made, bare, with_modes, outcom
 use Rattle.ips_steps.proofs.Lists.{clash, same_path-sym}
 use Rattle.ips_steps.proofs.ByPath.{freed_by, made_next}
 use Rattle.ips_steps.proofs.Laid.{fits_outcome, outcome_kept}
-use Rattle.ips_install.specs.Layable.{IsPlain, HasEach, AreLayable}
+use Rattle.ips_steps.specs.Listed.{HasEach}
+use Rattle.ips_install.specs.Layable.{IsPlain, AreLayable}
 use Rattle.ips_meaning.specs.declared.entry.Entry.{Entry}
 use Rattle.ips_meaning.specs.declared.entry.Entry.TheVariants.{Dir, File, Link, Hard}
 use Rattle.ips_meaning.specs.Together.{HangTogether}

@@ -22,7 +22,7 @@ use Rattle.ips_steps.specs.Outcome.{source, last_mode, mode_or, given, IsLaidByP
 use Rattle.ips_steps.proofs.Lists.{clash, same_path-sym}
 use Rattle.ips_steps.proofs.ByPath.{by_path}
 use Rattle.ips_steps.proofs.Within.{all_formed}
-use Rattle.ips_install.specs.Layable.{HasEach}
+use Rattle.ips_steps.specs.Listed.{HasEach}
 use Rattle.ips_meaning.specs.declared.entry.Entry.{Entry}
 use Rattle.ips_meaning.specs.declared.entry.Entry.TheVariants.{Dir, File, Link, Hard}
 use Rattle.ips_plan.specs.Meant.{implicit_mode, directory_over, Shows, wanted_at, wants_file, file_of, shares, IsMeant}

@@ -10,7 +10,7 @@ use Rattle.ips_outside.specs.declared.outside.Look.TheVariants as look
 use Rattle.ips_steps.specs.Steps as step
 use Rattle.ips_steps.specs.Steps.{Step}
 use Rattle.ips_steps.specs.Journal.{IsProper, AllProper, numbered}
-use Rattle.ips_install.specs.Layable.{is_within, AreListed}
+use Rattle.ips_steps.specs.Listed.{is_within, AreListed}
 use Rattle.ips_meaning.specs.declared.entry.Entry.{Entry}
 use Rattle.ips_meaning.specs.declared.entry.Entry.TheVariants.{Dir, File, Link, Hard}
 use Rattle.ips_meaning.specs.Together.{HasProperParts, AreProper}

@@ -6,7 +6,7 @@ use Rattle.ips_digest.specs.declared.name.PayloadName.{PayloadName}
 use Rattle.ips_action.specs.declared.action.Preserve.{Preserve}
 use Rattle.ips_outside.specs.Image.{Image}
 use Rattle.ips_outside.specs.Image as image
-use Rattle.ips_install.specs.Laid.{IsContent}
+use Rattle.ips_repo.specs.Payload.{IsPayload}
 use Rattle.ips_meaning.specs.declared.entry.Entry.{Entry}
 use Rattle.ips_meaning.specs.declared.entry.Entry.TheVariants.{Dir, File, Link, Hard}
 use Rattle.ips_meaning.specs.Together.{LeadsToWanted, HangTogether}
@@ -14,9 +14,9 @@ use Rattle.ips_plan.specs.Meant.{Shows, wanted_at, IsMeant}
 use Rattle.ips_plan.proofs.InOrder.{Entries, wanted_from}
 
 module _ (publisher : List ℕ) (repository : Image) (entries : Entries) (together : HangTogether entries) (old a b : Image)
-    (first : IsMeant (IsContent true publisher repository) entries old a) (second : IsMeant (IsContent true publisher repository) entries old b) where
-  shows : (new : Image) → IsMeant (IsContent true publisher repository) entries old new → (q : List ℕ) (e : Entry) → Contains entries (q, e) → Shows (IsContent true publisher repository) old new q e
-  shows new meant q e one = All-contains (λ (x : List ℕ × Entry). Shows (IsContent true publisher repository) old new x.0 x.1) entries (q, e) meant.each one
+    (first : IsMeant (IsPayload true publisher repository) entries old a) (second : IsMeant (IsPayload true publisher repository) entries old b) where
+  shows : (new : Image) → IsMeant (IsPayload true publisher repository) entries old new → (q : List ℕ) (e : Entry) → Contains entries (q, e) → Shows (IsPayload true publisher repository) old new q e
+  shows new meant q e one = All-contains (λ (x : List ℕ × Entry). Shows (IsPayload true publisher repository) old new x.0 x.1) entries (q, e) meant.each one
 
   file_alike : (q : List ℕ) (payload : PayloadName) (mode : ℕ) (preserve : Preserve) → Contains entries (q, File payload mode preserve) → a.look q ≡ b.look q
   file_alike q payload mode preserve one =

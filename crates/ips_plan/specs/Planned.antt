@@ -11,7 +11,8 @@ use Rattle.ips_outside.specs.Image as image
 use Rattle.ips_digest.specs.declared.name.PayloadName.{PayloadName}
 use Rattle.ips_steps.specs.Steps as step
 use Rattle.ips_steps.specs.Steps.{Step, Stage, path_of, all_laid, freed, named}
-use Rattle.ips_install.specs.Layable.{AreLayable, HasEach}
+use Rattle.ips_steps.specs.Listed.{HasEach}
+use Rattle.ips_install.specs.Layable.{AreLayable}
 use Rattle.ips_meaning.specs.declared.entry.Entry.{Entry}
 use Rattle.ips_meaning.specs.declared.entry.Entry.TheVariants.{Dir, File, Link, Hard}
 use Rattle.ips_plan.specs.declared.fault.PlanFault.{PlanFault}

@@ -2,7 +2,7 @@
 
 ghost use Rattle.std.specs.Prelude.{◌≡◌, ℕ, true, List};
 ghost use Rattle.ips_outside.specs.Image.{Image};
-ghost use Rattle.ips_install.specs.Laid.{IsContent};
+ghost use Rattle.ips_repo.specs.Payload.{IsPayload};
 ghost use Rattle.ips_meaning.specs.declared.entry.Entry.{Entry};
 ghost use Rattle.ips_meaning.specs.Together.{HangTogether};
 ghost use Rattle.ips_meaning.specs.Want.{PackagesMean, PackagesFail};
@@ -16,7 +16,7 @@ ghost use Rattle.ips_plan.specs.Meant.{IsMeant};
 /// two that they mean show the same at each path, and in both the same paths share a file.
 pub fn one_meaning()
     ensures { (publisher : List ℕ) (repository : Image) (entries : List (List ℕ × Entry)) (old a b : Image) → HangTogether entries
-        → IsMeant (IsContent true publisher repository) entries old a → IsMeant (IsContent true publisher repository) entries old b
+        → IsMeant (IsPayload true publisher repository) entries old a → IsMeant (IsPayload true publisher repository) entries old b
         → ((q : List ℕ) → a.look q ≡ b.look q) × ((p q : List ℕ) → a.same p q ≡ b.same p q) }
 {}
 

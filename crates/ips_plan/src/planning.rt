@@ -7,7 +7,7 @@ ghost use Rattle.ips_text.specs.Reading.{IfBad};
 ghost use Rattle.ips_text.specs.declared.refusal.Or.TheVariants.{Bad};
 ghost use Rattle.ips_outside.specs.Outside.{Reads, look_of};
 ghost use Rattle.ips_steps.specs.View.{step_of};
-ghost use Rattle.ips_install.specs.Layable.{AreListed};
+ghost use Rattle.ips_steps.specs.Listed.{AreListed};
 ghost use Rattle.ips_meaning.specs.Together.{HasProperParts, AreProper, HangTogether};
 ghost use Rattle.ips_plan.specs.Planned.{IsPlanOf, IsRefused, payload_of};
 ghost use Rattle.ips_plan.specs.StepsFor as spec;

@@ -1,5 +1,5 @@
 -- Payloads, given piece by piece and judged by their digest.
-use Rattle.std.specs.Prelude.{◌≡◌, ℕ, ◌<◌, ◌≤◌, Bool, false, ◌&&◌, ◌==◌, nat_lt, if◌then◌else◌, IsTrue, IsFalse, List, [], ◌∷◌, ◌++◌, length, take, Option, Some, None, Result, Ok, Err}
+use Rattle.std.specs.Prelude.{◌≡◌, ℕ, ◌<◌, ◌≤◌, Bool, false, ◌&&◌, ◌==◌, nat_lt, if◌then◌else◌, IsTrue, IsFalse, List, [], ◌∷◌, ◌++◌, length, take, slice_get, Option, Some, None, Result, Ok, Err}
 use Rattle.ips_text.specs.declared.limits.Which.TheVariants.{PayloadBytes}
 use Rattle.ips_outside.specs.Image.{Image}
 use Rattle.ips_digest.specs.Digest.{algorithm_of, digest_of}
@@ -108,3 +108,17 @@ pub record IsIntact (publisher : List ℕ) (t : Image) (name : PayloadName) (byt
   pub stands : file_at t (payload_place publisher name) ≡ Some bytes
   pub within : length bytes ≤ payload_limit
   pub named : digest_by name bytes ≡ name
+
+-- so is one with some bytes
+abbrev pub HasIntact : List ℕ → Image → PayloadName → Type 0
+HasIntact publisher t name = (bytes : List ℕ) × IsIntact publisher t name bytes
+
+-- so is each of the payloads
+abbrev pub AreIntact : List ℕ → Image → List PayloadName → Type 0
+AreIntact publisher t names = (n : ℕ) (name : PayloadName) → slice_get names n ≡ Some name → HasIntact publisher t name
+
+-- These bytes are a payload of the publisher: their digest is its name, and where the repository tells what it holds, they are
+-- the file at its place.
+pub record IsPayload (tells : Bool) (publisher : List ℕ) (t : Image) (name : PayloadName) (bytes : List ℕ) : Type 0 where
+  pub named : digest_by name bytes ≡ name
+  pub held : IsTrue tells → file_at t (payload_place publisher name) ≡ Some bytes

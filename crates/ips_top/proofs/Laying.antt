@@ -6,8 +6,9 @@ use Rattle.ips_folder.specs.Calls.{Keeps}
 use Rattle.ips_folder.proofs.Runs.{one_read, keeps_then, keeps_wider}
 use Rattle.ips_digest.specs.declared.name.PayloadName.{PayloadName}
 use Rattle.ips_steps.specs.Steps.{Step, Stage, all_laid, freed, named}
-use Rattle.ips_install.specs.Layable.{HasEach}
-use Rattle.ips_install.specs.Laid.{AreContents, AreIntact, AreLaid, IsContent}
+use Rattle.ips_steps.specs.Listed.{HasEach, AreContents}
+use Rattle.ips_repo.specs.Payload.{AreIntact, IsPayload}
+use Rattle.ips_install.specs.Laid.{AreLaid}
 use Rattle.ips_install.specs.Fault.{IsFirstWrong, SaysOfPayloads}
 use Rattle.ips_install.specs.declared.fault.PayloadFault.{PayloadFault}
 use Rattle.ips_install.specs.declared.fault.PayloadFault.TheVariants as payload
@@ -94,13 +95,13 @@ module _ (words : List (List ℕ)) (repository : Image) (r : Reading) (o : Offer
     undone_lines fault.OutOfMemory says idle = tt
 
     -- it was
-    pub is_done : (tells : Bool) (new : Image) → IsTrue tells → AreIntact publisher repository contents → AreLaid (IsContent tells publisher repository) contents steps t new → IsDone words repository r t new
+    pub is_done : (tells : Bool) (new : Image) → IsTrue tells → AreIntact publisher repository contents → AreLaid (IsPayload tells publisher repository) contents steps t new → IsDone words repository r t new
     is_done tells new told intact laid = record {
       could = could_install intact;
-      meant = subst (λ (b : Bool). IsMeant (IsContent b publisher repository) o.want t new) told
-          (subst (IsMeant (IsContent tells publisher repository) o.want t) (sym laid.laid)
-          (meant_by (AreStaged contents laid.stage) (IsContent tells publisher repository) (staged_are (IsContent tells publisher repository) contents laid.stage laid.contents) o.want t (all_laid laid.stage steps t)
-          (plan.means laid.stage (has_each (IsContent tells publisher repository) contents laid.stage laid.contents))));
+      meant = subst (λ (b : Bool). IsMeant (IsPayload b publisher repository) o.want t new) told
+          (subst (IsMeant (IsPayload tells publisher repository) o.want t) (sym laid.laid)
+          (meant_by (AreStaged contents laid.stage) (IsPayload tells publisher repository) (staged_are (IsPayload tells publisher repository) contents laid.stage laid.contents) o.want t (all_laid laid.stage steps t)
+          (plan.means laid.stage (has_each (IsPayload tells publisher repository) contents laid.stage laid.contents))));
     }
 
 -- ---- at every moment

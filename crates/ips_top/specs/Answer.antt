@@ -10,7 +10,7 @@ use Rattle.ips_digest.specs.declared.name.PayloadName.{PayloadName}
 use Rattle.ips_repo.specs.Opening.{opening}
 use Rattle.ips_repo.specs.declared.fault.RepoFault.{RepoFault}
 use Rattle.ips_repo.specs.declared.fault.RepoFault.TheVariants as fault
-use Rattle.ips_install.specs.Laid.{AreIntact, IsContent}
+use Rattle.ips_repo.specs.Payload.{AreIntact, IsPayload}
 use Rattle.ips_install.specs.Fault.{IsFirstWrong}
 use Rattle.ips_install.specs.declared.fault.PayloadFault.{PayloadFault}
 use Rattle.ips_install.specs.declared.fault.PayloadFault.TheVariants as payload
@@ -150,7 +150,7 @@ SaysOfLines words repository r t OutOfMemory = Unit {0}
 -- repository, and every other path is as before.
 pub record IsDone (words : List (List ℕ)) (repository : Image) (r : Reading) (old new : Image) : Type 0 where
   pub could : CouldInstall words repository r old
-  pub meant : IsMeant (IsContent true publisher repository) could.wants.entries old new
+  pub meant : IsMeant (IsPayload true publisher repository) could.wants.entries old new
 
 -- at or below a wanted path, where nothing stands
 abbrev pub is_new : List (List ℕ × Entry) → Image → List ℕ → Bool

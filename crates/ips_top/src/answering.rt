@@ -5,7 +5,7 @@ ghost use Rattle.ips_outside.specs.State.{IsSettled};
 ghost use Rattle.ips_outside.specs.Outside.{HasCause, Reads};
 ghost use Rattle.ips_folder.specs.Calls.{Keeps};
 ghost use Rattle.ips_steps.specs.View.{step_of};
-ghost use Rattle.ips_install.specs.Layable.{AreListed};
+ghost use Rattle.ips_steps.specs.Listed.{AreListed};
 ghost use Rattle.ips_meaning.specs.Together.{AreProper, HangTogether};
 ghost use Rattle.ips_plan.specs.Planned.{IsInTheWay, IsPlanOf, is_covered};
 ghost use Rattle.ips_request.specs.Case.{Reading, IsReading};

@@ -11,7 +11,8 @@ use Rattle.ips_steps.specs.View.{step_of}
 use Rattle.ips_steps.specs.declared.step.Step as program
 use Rattle.ips_steps.proofs.Lists.{clash}
 use Rattle.ips_outside.proofs.Reading.{no_fault, handed_on}
-use Rattle.ips_install.specs.Laid.{IsContent, AreLaid, AreIntact}
+use Rattle.ips_repo.specs.Payload.{IsPayload, AreIntact}
+use Rattle.ips_install.specs.Laid.{AreLaid}
 use Rattle.ips_install.specs.Fault.{SaysOfPayloads}
 use Rattle.ips_install.specs.Checking.{IsPrepared, names_of}
 use Rattle.ips_install.specs.Laying.{IsFaultOfLaying}
@@ -138,10 +139,10 @@ returns-clause-laid g c = λ told.
     let prepared = subst (λ (t : Image). AllByRecursion (IsPrepared (g.S.Source.outside.tells repo) publisher t) items) (sym same)
     (subst (λ (b : Bool). AllByRecursion (IsPrepared b publisher held) items) (sym kind) c.in_ok-payloads.ensures.prepared) in
     let done = c.in_ok-lay.ensures.laid told publisher prepared in
-    subst (λ (l : List program.Step). AreLaid (IsContent tells publisher held) c.args.contents.items (map step_of l) old new) c.as_slice-2.ensures.value
-    (subst (λ (l : List PayloadName). AreLaid (IsContent tells publisher held) l (map step_of c.as_slice-2.result.now) old new) names
-    (subst (λ (b : Bool). AreLaid (IsContent b publisher held) (names_of items) (map step_of c.as_slice-2.result.now) old new) kind
-    (subst (λ (t : Image). AreLaid (IsContent (g.S.Source.outside.tells repo) publisher t) (names_of items) (map step_of c.as_slice-2.result.now) old new) same done)))
+    subst (λ (l : List program.Step). AreLaid (IsPayload tells publisher held) c.args.contents.items (map step_of l) old new) c.as_slice-2.ensures.value
+    (subst (λ (l : List PayloadName). AreLaid (IsPayload tells publisher held) l (map step_of c.as_slice-2.result.now) old new) names
+    (subst (λ (b : Bool). AreLaid (IsPayload b publisher held) (names_of items) (map step_of c.as_slice-2.result.now) old new) kind
+    (subst (λ (t : Image). AreLaid (IsPayload (g.S.Source.outside.tells repo) publisher t) (names_of items) (map step_of c.as_slice-2.result.now) old new) same done)))
 
 pub returns-clause-intact : goal.returns-clause-intact
 returns-clause-intact g c = λ telling.

@@ -9,7 +9,7 @@ use Rattle.ips_steps.specs.Steps.{path_of, frees, freed, named}
 use Rattle.ips_steps.specs.View.{step_of}
 use Rattle.ips_steps.proofs.AtTurn.{frees_at}
 use Rattle.ips_outside.proofs.Reading.{no_fault, reads_none, reads_then}
-use Rattle.ips_install.specs.Laid.{IsContent}
+use Rattle.ips_repo.specs.Payload.{IsPayload}
 use Rattle.ips_install.specs.Checking.{IsPrepared, names_of}
 use Rattle.ips_install.specs.Laying.{LaysStep}
 use Rattle.ips_install.proofs.Places.{map_at, map_long}
@@ -37,7 +37,7 @@ lay_step-requires-clause-can g c = λ told_now.
     let told = sym c.loop-step.invariant.kind ∙ told_now in
     let all = c.args.payloads.items in
     let publisher = c.requires.prepared.0 in
-    step_can (length all) steps c.requires.listed k s stands (IsContent (g.S.Source.outside.tells c.args.repo.now) publisher (g.S.Source.outside.state c.args.repo.now).held) (names_of all) (map_long (λ r. r.name) all)
+    step_can (length all) steps c.requires.listed k s stands (IsPayload (g.S.Source.outside.tells c.args.repo.now) publisher (g.S.Source.outside.state c.args.repo.now).held) (names_of all) (map_long (λ r. r.name) all)
     (g.F.Source.outside.state c.args.image.now).held (g.F.Source.outside.state c.loop-step.image).held (g.met.F.Source.sane.formed c.args.image.now told) (c.requires.layable told) (c.loop-step.invariant.laid told publisher c.requires.prepared.1)
 
 pub lay_step-requires-clause-proper : goal.lay_step-requires-clause-proper

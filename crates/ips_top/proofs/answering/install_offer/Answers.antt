@@ -2,7 +2,8 @@ use Rattle.std.proofs.Common.{◌≡◌, inl, inr, map, Err, false, sym, ◌∙�
 use Rattle.ips_outside.specs.State.{State}
 use Rattle.ips_outside.proofs.Faults.{cause_behind}
 use Rattle.ips_steps.specs.View.{step_of}
-use Rattle.ips_install.specs.Laid.{AreLaid, IsContent}
+use Rattle.ips_repo.specs.Payload.{IsPayload}
+use Rattle.ips_install.specs.Laid.{AreLaid}
 use Rattle.ips_top.specs.Request.{publisher}
 use Rattle.ips_top.specs.Answer.{IsFolderFault, SaysOfLines}
 use Rattle.ips_top.specs.declared.outcome.Outcome.TheVariants.{FolderFault}
@@ -24,7 +25,7 @@ returns-in-Ok-install-clause-done g c = λ told_repo told_image r words is done.
     let steps = map step_of c.in-Ok.field-0.steps.items in
     let new = (g.F.Source.outside.state c.install.new.image).held in
     let reads = c.plan_for.ensures.reads in
-    let laid = subst (λ (s : State). AreLaid (IsContent tells publisher repository) c.in-Ok.field-0.contents.items steps s.held new) reads.kept (c.in-Ok-install.ensures.laid (reads.call.same_kind ∙ told_image)) in
+    let laid = subst (λ (s : State). AreLaid (IsPayload tells publisher repository) c.in-Ok.field-0.contents.items steps s.held new) reads.kept (c.in-Ok-install.ensures.laid (reads.call.same_kind ∙ told_image)) in
     is_done words repository r c.args.offer is (g.F.Source.outside.state c.args.image.now).held steps c.in-Ok.field-0.contents.items (c.in-Ok.ensures.planned told_image) tells new told_repo (c.in-Ok-install.ensures.intact told_repo) laid
 
 pub returns-in-Ok-install-clause-looked : goal.returns-in-Ok-install-clause-looked

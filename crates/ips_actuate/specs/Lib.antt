@@ -1,0 +1,2 @@
+pub mod Actuators
+pub mod Running

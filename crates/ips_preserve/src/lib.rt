@@ -1,0 +1,12 @@
+//! What becomes of a packaged file that may have been edited: the keep table over `preserve`, what happens to the file,
+//! what stands at its path, and whether the payload changed (IPS Developer Guide, "File Actions", `preserve`).
+#![tactic(auto)]
+
+mod case;
+mod deciding;
+mod keep;
+mod places;
+
+pub use case::{Case, Event, Standing};
+pub use deciding::decide;
+pub use keep::Keep;
