@@ -1,5 +1,6 @@
 -- A test of every key below given sizes, which computes: at written-out rows and sizes, `refl` proves that it passes.
-use Rattle.std.proofs.Common.{◌≡◌, ℕ, ◌==◌, Bool, true, List, [], ◌∷◌, slice_index, arith}
+use Rattle.std.proofs.Common.{◌≡◌, ℕ, ◌<◌, ◌==◌, Bool, true, false, List, [], ◌∷◌, slice_index, refl, arith}
+use mir.Val.{bool_byte}
 use Rattle.std.proofs.lemmas.Bool.{agree_below, agree_below_at, eqb-true}
 use Rattle.ips_cases.specs.Cases.{IsKey, IsTable, meeting, value_at}
 use Rattle.ips_cases.specs.declared.row.Row.{Row}
@@ -40,3 +41,12 @@ pub value_at-from_test : (rows : List Row) (a b c d : ℕ) (decision : List ℕ 
     → (key : List ℕ) → IsKey (a ∷ b ∷ c ∷ d ∷ []) key → value_at rows key ≡ decision key
 value_at-from_test rows a b c d decision all key h =
     eqb-true (value_at rows key) (decision key) (each_key-at a b c d (λ key. value_at rows key == decision key) all key h)
+
+-- the place of an answer: 0 for no, 1 for yes
+pub byte_below : (b : Bool) → bool_byte b < 2
+byte_below true = omega arith
+byte_below false = omega arith
+
+pub byte_back : (b : Bool) → (bool_byte b == 1) ≡ b
+byte_back true = refl
+byte_back false = refl

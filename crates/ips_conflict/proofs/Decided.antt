@@ -6,7 +6,7 @@ use Rattle.std.proofs.lemmas.Bool.{ltb-true}
 use Rattle.ips_action.specs.Action.{Fields}
 use Rattle.ips_cases.specs.Cases.{Table, IsKey, HasBadKey, meeting, value_at}
 use Rattle.ips_cases.specs.declared.row.Row.{Row}
-use Rattle.ips_cases.proofs.EachKey.{each_key, IsTable-from_test, value_at-from_test}
+use Rattle.ips_cases.proofs.EachKey.{each_key, IsTable-from_test, value_at-from_test, byte_below, byte_back}
 use Rattle.ips_conflict.specs.Alike.{kind_place, alike, overlaid}
 use Rattle.ips_conflict.specs.Verdict.{decision, decision_at, verdict, IsClashTable, has_place}
 
@@ -28,14 +28,6 @@ key_below k l x y hk hl hx hy (suc (suc zero)) lt = hx
 key_below k l x y hk hl hx hy (suc (suc (suc zero))) lt = hy
 key_below k l x y hk hl hx hy (suc (suc (suc (suc n)))) lt = absurd (omega arith)
 
-byte_small : (b : Bool) → bool_byte b < 2
-byte_small true = omega arith
-byte_small false = omega arith
-
-byte_is : (b : Bool) → (bool_byte b == 1) ≡ b
-byte_is true = refl
-byte_is false = refl
-
 place_small : (a : Fields) (k : ℕ) → has_place a ≡ true → k ≡ kind_place a.kind → k < 9
 place_small a k h e = omega (arith, ltb-true (kind_place a.kind) 9 h, e)
 
@@ -45,9 +37,9 @@ pub found_is : (t : Table) (a b : Fields) (k l x y found : ℕ) (p q : Bool) →
 found_is t a b k l x y found p q is ha hb ek el ex ey ep eq e =
     let key : IsKey (9 ∷ 9 ∷ 2 ∷ 2 ∷ []) (k ∷ l ∷ x ∷ y ∷ []) = record {
       places = refl;
-      below = key_below k l x y (place_small a k ha ek) (place_small b l hb el) (omega (arith, byte_small p, ex)) (omega (arith, byte_small q, ey));
+      below = key_below k l x y (place_small a k ha ek) (place_small b l hb el) (omega (arith, byte_below p, ex)) (omega (arith, byte_below q, ey));
     } in
-    let likeness : (x == 1) ≡ alike a b = ap (λ (n : ℕ). n == 1) ex ∙ byte_is p ∙ ep in
-    let overlay : (y == 1) ≡ overlaid a b = ap (λ (n : ℕ). n == 1) ey ∙ byte_is q ∙ eq in
+    let likeness : (x == 1) ≡ alike a b = ap (λ (n : ℕ). n == 1) ex ∙ byte_back p ∙ ep in
+    let overlay : (y == 1) ≡ overlaid a b = ap (λ (n : ℕ). n == 1) ey ∙ byte_back q ∙ eq in
     let same : decision_at (k ∷ l ∷ x ∷ y ∷ []) ≡ verdict a b = λ i. decision (ek i) (el i) (likeness i) (overlay i) in
     e ∙ is.decides (k ∷ l ∷ x ∷ y ∷ []) key ∙ same

@@ -6,7 +6,7 @@ use Rattle.ips_action.specs.declared.action.Preserve.{Preserve}
 use Rattle.ips_action.specs.declared.action.Preserve.TheVariants as preserve
 use Rattle.ips_cases.specs.Cases.{Table, IsKey, HasBadKey, meeting, value_at}
 use Rattle.ips_cases.specs.declared.row.Row.{Row}
-use Rattle.ips_cases.proofs.EachKey.{each_key, IsTable-from_test, value_at-from_test}
+use Rattle.ips_cases.proofs.EachKey.{each_key, IsTable-from_test, value_at-from_test, byte_below, byte_back}
 use Rattle.ips_preserve.specs.declared.case.Case.{Case}
 use Rattle.ips_preserve.specs.declared.case.Event.{Event}
 use Rattle.ips_preserve.specs.declared.case.Event.TheVariants as event
@@ -48,10 +48,6 @@ standing_below standing.Same = omega arith
 standing_below standing.Different = omega arith
 standing_below standing.NotFile = omega arith
 
-byte_below : (b : Bool) → bool_byte b < 2
-byte_below true = omega arith
-byte_below false = omega arith
-
 key_below : (k l x y : ℕ) → k < 7 → l < 3 → x < 4 → y < 2 → (place : ℕ) → place < 4 → slice_index (k ∷ l ∷ x ∷ y ∷ []) place < slice_index (7 ∷ 3 ∷ 4 ∷ 2 ∷ []) place
 key_below k l x y hk hl hx hy zero lt = hk
 key_below k l x y hk hl hx hy (suc zero) lt = hl
@@ -88,10 +84,6 @@ standing_back standing.Absent = refl
 standing_back standing.Same = refl
 standing_back standing.Different = refl
 standing_back standing.NotFile = refl
-
-byte_back : (b : Bool) → (bool_byte b == 1) ≡ b
-byte_back true = refl
-byte_back false = refl
 
 keep_back : (k : Keep) → keep_of (value_of k) ≡ k
 keep_back answer.Stay = refl
