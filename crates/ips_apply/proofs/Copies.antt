@@ -1,11 +1,11 @@
 -- A file copied to the end of another, part by part.
-use Rattle.std.proofs.Common.{◌≡◌, ℕ, ◌+◌, ◌<◌, ◌≤◌, Bool, true, false, List, [], ◌++◌, length, take, drop, take-add, take_all, Result, Ok, Err, IsErr, is_err, OnOk, refl, sym, ◌∙◌, ap, ap₂, subst, arith, inl, inr}
+use Rattle.std.proofs.Common.{◌≡◌, ℕ, ◌+◌, ◌<◌, ◌≤◌, true, false, List, ◌++◌, length, take, drop, take-add, take_all, Result, Ok, refl, sym, ◌∙◌, ap, subst, arith, inl, inr}
 use Rattle.std.proofs.lemmas.Bool.{cases_lt}
 use Rattle.ips_text.specs.Ancestry.{covers}
 use Rattle.ips_outside.specs.Image.{Image}
 use Rattle.ips_outside.specs.Change.{appended}
 use Rattle.ips_outside.specs.State.{State, nowhere, written}
-use Rattle.ips_outside.specs.Outside.{Outside, IsOutside, HasCause, Reads, readable, IsRead}
+use Rattle.ips_outside.specs.Outside.{Outside, IsOutside, Reads, readable, IsRead}
 use Rattle.ips_folder.specs.Calls.{Writes, Keeps, IsSole}
 use Rattle.ips_outside.proofs.Reading.{answered}
 use Rattle.ips_folder.proofs.Runs.{keeps_then, one_read, one_write}

@@ -1,22 +1,20 @@
 -- A run through a journal, from step to step.
-use Rattle.std.proofs.Common.{◌≡◌, ◌≢◌, ◌⊎◌, ⊎_elim, inl, inr, ℕ, ◌+◌, ◌-◌, ◌^◌, ◌<◌, ◌≤◌, min, Bool, true, false, List, [], ◌∷◌, ◌++◌, length, append_assoc, append-nil, Option, Some, None, is_some, Result, Ok, Err, OnOk, OnErr, IfOk, IfErr, refl, sym, ◌∙◌, ap, ap₂, subst, arith}
+use Rattle.std.proofs.Common.{◌≡◌, inl, inr, ℕ, ◌+◌, ◌<◌, ◌≤◌, Bool, true, false, List, [], ◌∷◌, ◌++◌, length, append_assoc, append-nil, Option, Some, None, is_some, Result, Ok, Err, IfErr, refl, sym, ◌∙◌, ap, subst, arith}
 use Rattle.std.proofs.lemmas.List.{length-append}
-use Rattle.ips_outside.specs.Image.{Image}
 use Rattle.ips_outside.specs.State.{State}
-use Rattle.ips_outside.specs.Outside.{Outside, IsOutside, Reads, HasCause}
+use Rattle.ips_outside.specs.Outside.{Outside, IsOutside, Reads}
 use Rattle.ips_steps.specs.Steps.{Step, laid, can_lay, stage_of}
-use Rattle.ips_steps.specs.Journal.{IsJournal, allowed}
+use Rattle.ips_steps.specs.Journal.{allowed}
 use Rattle.ips_steps.specs.View.{sort_of}
 use Rattle.ips_steps.specs.declared.step.Sort.{Sort}
 use Rattle.ips_kinds.specs.Tallies.{Carrier, taken, counted, all_counted}
 use Rattle.ips_kinds.proofs.Counting.{counted_more, taken_stays}
 use Rattle.ips_folder.proofs.Runs.{begun}
-use Rattle.ips_journal.specs.Text.{journal_text}
-use Rattle.ips_journal.specs.Reading.{Reading, IsAt, Means, TellsLine, journal_of}
+use Rattle.ips_journal.specs.Reading.{Reading, IsAt, Means, TellsLine, TellsNext, journal_of}
 use Rattle.ips_journal.specs.declared.fault.StepFault.{StepFault}
 use Rattle.ips_journal.specs.declared.fault.StepFault.TheVariants.{BadJournal, FolderFault}
-use Rattle.ips_apply.specs.Applied.{ChangedBy, OnBadJournal, BeginsWith, AreLaid, IsImpossible, AreBegun, StopsBy, Ends, Applied, AppliedPart}
-use Rattle.ips_apply.proofs.Turns.{allowed_behind, laid_then_read, journal_stays, stage_stays, changed_more, laid_one_more}
+use Rattle.ips_apply.specs.Applied.{ChangedBy, OnBadJournal, AreLaid, IsReadTo, StopsBy, Ends, Applied, AppliedPart}
+use Rattle.ips_apply.proofs.Turns.{allowed_behind, laid_then_read, journal_stays, changed_more, laid_one_more}
 
 -- So many steps are finished, and the reader stands behind them.
 pub record Going {F : Type 0} (o : Outside F) (old now : F) (start r : Reading) (before kinds : List Carrier) (count : ℕ) : Type 0 where
@@ -47,6 +45,10 @@ going_start o sane old r before is_open = record {
 abbrev WhatIsRead : {F : Type 0} → Outside F → F → Reading → Reading → Result Bool StepFault → Type 0
 WhatIsRead o now r s answer = o.tells now ≡ true → (front : List Step) → IsAt (journal_of (o.state now).held) front r → Means (journal_of (o.state now).held) front s answer
 
+-- what a fault of the reader tells
+abbrev WhatComesNext : {F : Type 0} → Outside F → F → Reading → Result Bool StepFault → Type 0
+WhatComesNext o now r answer = o.tells now ≡ true → (front : List Step) → IsAt (journal_of (o.state now).held) front r → IfErr answer (TellsNext (journal_of (o.state now).held) front)
+
 module _ {F : Type 0} (o : Outside F) (sane : IsOutside o) (old now mid : F) (start r s : Reading) (before kinds : List Carrier) (count : ℕ) (g : Going o old now start r before kinds count)
     (failure : Type 0) (reads : Reads o now mid failure) (answer : Result Bool StepFault) (means : WhatIsRead o now r s answer) (most : ℕ) (room : count < most) where
   -- what the answer means for the text at the start
@@ -66,6 +68,7 @@ module _ {F : Type 0} (o : Outside F) (sane : IsOutside o) (old now mid : F) (st
     few = omega (arith, g.number, room);
     count = sym g.number;
     full = λ off. absurd (let bad : true ≡ false = off in cc);
+    fewer = λ off. omega (arith, g.number, room);
     ends = λ told front at.
         let whole = subst (Means (journal_of (o.state old).held) (front ++ g.done) s) is (meant told front at) in
         ((whole.0, whole.1), laid_then_read o sane g.done old now mid failure (g.told told front at).1 reads);
@@ -73,20 +76,34 @@ module _ {F : Type 0} (o : Outside F) (sane : IsOutside o) (old now mid : F) (st
 
   stopped : (new : F) (e : StepFault) → (o.tells old ≡ true → (front : List Step) → IsAt (journal_of (o.state old).held) front start → StopsBy o (journal_of (o.state old).held) front g.done old new e)
       → AppliedPart o most old new start s before kinds (Err e)
-  stopped new e by = record { steps = g.done; tallies = g.tallies; few = omega (arith, g.number, room); count = tt; full = tt; ends = by }
+  stopped new e by = record { steps = g.done; tallies = g.tallies; few = omega (arith, g.number, room); count = tt; full = tt; fewer = λ off. omega (arith, g.number, room); ends = by }
 
   -- a fault of the reader
-  pub ends_reading : (e : StepFault) → answer ≡ Err e → AppliedPart o most old mid start s before kinds (Err e)
-  ends_reading (BadJournal line) is = stopped mid (BadJournal line)
-      (λ told front at. (laid_then_read o sane g.done old now mid failure (g.told told front at).1 reads, inl (subst (Means (journal_of (o.state old).held) (front ++ g.done) s) is (meant told front at))))
-  ends_reading FolderFault is = stopped mid FolderFault
-      (λ told front at.
-      let both = g.told told front at in
-      let laid = laid_then_read o sane g.done old now mid failure both.1 reads in
-      record { begun = g.done; one_more = inl refl; stands = (r, both.0); can = laid.can; moments = laid.moments })
+  module _ (next : WhatComesNext o now r answer) where
+    comes_next : (line : ℕ) → answer ≡ Err (BadJournal line) → o.tells old ≡ true → (front : List Step) → IsAt (journal_of (o.state old).held) front start → IsReadTo (journal_of (o.state old).held) (front ++ g.done) line
+    comes_next line is told front at =
+        let both = g.told told front at in
+        let may : allowed g.done ≡ true = allowed_behind front g.done both.0.1.listed.names in
+        let same : journal_of (o.state now).held ≡ journal_of (o.state old).held = journal_stays o sane g.done old now may both.1 in
+        let here = subst (λ (text : List ℕ). IfErr answer (TellsNext text (front ++ g.done))) same
+        (next (g.same_kind ∙ told) (front ++ g.done) (subst (λ (text : List ℕ). IsAt text (front ++ g.done) r) (sym same) both.0)) in
+        record { stands = (r, both.0); next = subst (λ (a : Result Bool StepFault). IfErr a (TellsNext (journal_of (o.state old).held) (front ++ g.done))) is here }
 
-  pub ends_reading_as : (result : Result (ℕ × Bool) StepFault) (e : StepFault) → result ≡ Err e → answer ≡ Err e → AppliedPart o most old mid start s before kinds result
-  ends_reading_as result e same is = subst (AppliedPart o most old mid start s before kinds) (sym same) (ends_reading e is)
+    pub ends_reading : (e : StepFault) → answer ≡ Err e → AppliedPart o most old mid start s before kinds (Err e)
+    ends_reading (BadJournal line) is = stopped mid (BadJournal line)
+        (λ told front at. (
+          laid_then_read o sane g.done old now mid failure (g.told told front at).1 reads,
+          inl (subst (Means (journal_of (o.state old).held) (front ++ g.done) s) is (meant told front at)),
+          comes_next line is told front at,
+        ))
+    ends_reading FolderFault is = stopped mid FolderFault
+        (λ told front at.
+        let both = g.told told front at in
+        let laid = laid_then_read o sane g.done old now mid failure both.1 reads in
+        record { begun = g.done; one_more = inl refl; stands = (r, both.0); can = laid.can; moments = laid.moments })
+
+    pub ends_reading_as : (result : Result (ℕ × Bool) StepFault) (e : StepFault) → result ≡ Err e → answer ≡ Err e → AppliedPart o most old mid start s before kinds result
+    ends_reading_as result e same is = subst (AppliedPart o most old mid start s before kinds) (sym same) (ends_reading e is)
 
   told_mid : o.tells old ≡ true → o.tells mid ≡ true
   told_mid told = reads.call.same_kind ∙ g.same_kind ∙ told
@@ -119,14 +136,17 @@ module _ {F : Type 0} (o : Outside F) (sane : IsOutside o) (old now mid : F) (st
         let laid = laid_then_read o sane g.done old now mid failure (g.told told front at).1 reads in
         let here = next_at told front at in
         let lines : s.steps ≡ length (front ++ g.done) + 1 = here.1.steps ∙ length-append (front ++ g.done) (x ∷ []) in
+        let there = here.1.line (omega (arith, lines)) in
+        let numbered : line ≡ length (front ++ g.done) + 2 = omega (arith, number, there, lines) in
         let wrong = judged told in (
           laid_then_read o sane g.done old mid new ⊥ laid wrong.1,
           inr (record {
             step = x;
             stands = (s, here);
             cannot = ap (λ (t : State). can_lay (stage_of t.held) x t.held) wrong.1.kept ∙ wrong.0;
-            number = let there = here.1.line (omega (arith, lines)) in omega (arith, number, there, lines);
+            number = numbered;
           }),
+          record { stands = (r, (g.told told front at).0); next = inr (inl numbered) },
         ))
 
     pub ends_at_step : (new : F) (more : List Carrier) (result : Result (ℕ × Bool) StepFault) (e : StepFault) → more ≡ kinds → result ≡ Err e → TellsLine s.line e → (o.tells mid ≡ true → ChangedBy o x mid new)
@@ -171,6 +191,7 @@ ends_full o most old now start r before kinds count g last = record {
   few = omega (arith, g.number, last);
   count = sym g.number;
   full = λ off. g.number ∙ last;
+  fewer = λ off. absurd (let bad : true ≡ false = off in cc);
   ends = λ told front at. let both = g.told told front at in (both.0, both.1);
 }
 
@@ -197,7 +218,7 @@ module _ {F : Type 0} (o : Outside F) (sane : IsOutside o) (old mid : F) (start 
 
   -- what is read behind the last step that a journal can list
   module _ (part : Result (ℕ × Bool) StepFault) (count : ℕ) (is : part ≡ Ok (count, false)) (applied : Part part) (kind : o.tells mid ≡ o.tells old)
-      (new : F) (s : Reading) (failure : Type 0) (reads : Reads o mid new failure) (answer : Result Bool StepFault) (means : WhatIsRead o mid r s answer) where
+      (new : F) (s : Reading) (failure : Type 0) (reads : Reads o mid new failure) (answer : Result Bool StepFault) (means : WhatIsRead o mid r s answer) (next : WhatComesNext o mid r answer) where
     p : Part (Ok (count, false))
     p = subst Part is applied
 
@@ -208,12 +229,17 @@ module _ {F : Type 0} (o : Outside F) (sane : IsOutside o) (old mid : F) (start 
       here : IsAt (journal_of (o.state old).held) (front ++ p.steps) r × AreLaid o p.steps old mid
       here = p.ends told front at
 
+      same_text : journal_of (o.state mid).held ≡ journal_of (o.state old).held
+      same_text = journal_stays o sane p.steps old mid (allowed_behind front p.steps here.0.1.listed.names) here.1
+
+      here_mid : IsAt (journal_of (o.state mid).held) (front ++ p.steps) r
+      here_mid = subst (λ (text : List ℕ). IsAt text (front ++ p.steps) r) (sym same_text) here.0
+
       meant_last : Means (journal_of (o.state old).held) (front ++ p.steps) s answer
-      meant_last =
-          let may : allowed p.steps ≡ true = allowed_behind front p.steps here.0.1.listed.names in
-          let same : journal_of (o.state mid).held ≡ journal_of (o.state old).held = journal_stays o sane p.steps old mid may here.1 in
-          subst (λ (text : List ℕ). Means text (front ++ p.steps) s answer) same
-          (means (kind ∙ told) (front ++ p.steps) (subst (λ (text : List ℕ). IsAt text (front ++ p.steps) r) (sym same) here.0))
+      meant_last = subst (λ (text : List ℕ). Means text (front ++ p.steps) s answer) same_text (means (kind ∙ told) (front ++ p.steps) here_mid)
+
+      next_last : IfErr answer (TellsNext (journal_of (o.state old).held) (front ++ p.steps))
+      next_last = subst (λ (text : List ℕ). IfErr answer (TellsNext text (front ++ p.steps))) same_text (next (kind ∙ told) (front ++ p.steps) here_mid)
 
       laid_last : AreLaid o p.steps old new
       laid_last = laid_then_read o sane p.steps old mid new failure here.1 reads
@@ -231,7 +257,14 @@ module _ {F : Type 0} (o : Outside F) (sane : IsOutside o) (old mid : F) (start 
     all_read b answered = record { steps = p.steps; tallies = p.tallies; count = omega (arith, p.count, last); ends = last_ends b answered }
 
     last_stops : (e : StepFault) → answer ≡ Err e → (told : o.tells old ≡ true) (front : List Step) → IsAt (journal_of (o.state old).held) front start → StopsBy o (journal_of (o.state old).held) front p.steps old new e
-    last_stops (BadJournal line) failed told front at = (laid_last told front at, inl (subst (Means (journal_of (o.state old).held) (front ++ p.steps) s) failed (meant_last told front at)))
+    last_stops (BadJournal line) failed told front at = (
+      laid_last told front at,
+      inl (subst (Means (journal_of (o.state old).held) (front ++ p.steps) s) failed (meant_last told front at)),
+      record {
+        stands = (r, (here told front at).0);
+        next = subst (λ (a : Result Bool StepFault). IfErr a (TellsNext (journal_of (o.state old).held) (front ++ p.steps))) failed (next_last told front at);
+      },
+    )
     last_stops FolderFault failed told front at =
         let laid = laid_last told front at in
         record { begun = p.steps; one_more = inl refl; stands = (r, (here told front at).0); can = laid.can; moments = laid.moments }

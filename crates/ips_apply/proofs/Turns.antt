@@ -1,13 +1,10 @@
 -- One more step behind a list of them.
-use Rattle.std.proofs.Common.{◌≡◌, ℕ, ◌+◌, Bool, true, false, cond, ◌&&◌, ◌||◌, List, [], ◌∷◌, ◌++◌, unwrap_or, refl, sym, ◌∙◌, ap, ap₂}
+use Rattle.std.proofs.Common.{◌≡◌, ℕ, Bool, true, false, ◌||◌, List, [], ◌∷◌, ◌++◌, unwrap_or, refl, sym, ◌∙◌, ap, ap₂}
 use Rattle.std.proofs.lemmas.Bool.{and_parts, and_from, or_parts, or_from}
 use Rattle.ips_outside.specs.Image.{Image}
-use Rattle.ips_outside.specs.Outside.{Outside, IsOutside, Reads, readable}
-use Rattle.ips_folder.specs.Calls.{Keeps}
-use Rattle.ips_steps.specs.Steps.{Step, Stage, laid, all_laid, can_lay, possible, frees, freed, meets, met, stage_of, after}
+use Rattle.ips_outside.specs.Outside.{Outside, IsOutside, Reads}
+use Rattle.ips_steps.specs.Steps.{Step, Stage, laid, all_laid, can_lay, possible, frees, freed, meets, met, stage_of}
 use Rattle.ips_steps.specs.Journal.{step_allowed, allowed}
-use Rattle.ips_steps.specs.View.{sort_of}
-use Rattle.ips_steps.specs.declared.step.Sort.{Sort}
 use Rattle.ips_steps.proofs.PrivateNames.{journal_kept, same_bytes, same_stage}
 use Rattle.ips_folder.proofs.Runs.{keeps_then, keeps_wider, one_read}
 use Rattle.ips_journal.specs.Reading.{journal_of}

@@ -1,11 +1,11 @@
 -- The acts of a step, done one after another, lay it.
-use Rattle.std.proofs.Common.{◌≡◌, ℕ, zero, suc, ◌+◌, Bool, true, false, cond, not, ◌&&◌, ◌||◌, List, [], ◌∷◌, length, take, take_all, slice_get, Option, Some, None, refl, sym, ◌∙◌, ap, subst, arith}
-use Rattle.std.proofs.lemmas.Bool.{and_parts, or_from, not-true}
-use Rattle.ips_text.specs.Ancestry.{same_path, covers, is_below, parent}
+use Rattle.std.proofs.Common.{◌≡◌, ℕ, zero, suc, ◌+◌, Bool, true, false, cond, List, [], ◌∷◌, take, take_all, slice_get, Option, Some, None, refl, sym, ◌∙◌, ap, subst, arith}
+use Rattle.std.proofs.lemmas.Bool.{and_parts, not-true}
+use Rattle.ips_text.specs.Ancestry.{same_path, covers, is_below}
 use Rattle.ips_outside.specs.Image.{Entry, Dir, File, Link, Image, is_file, has_parent}
-use Rattle.ips_outside.specs.Change.{placed, joined, moded, appended}
-use Rattle.ips_folder.specs.Calls.{CanMake, IsSole}
-use Rattle.ips_steps.specs.Steps.{Step, Gone, Fresh, Mode, Put, Symlink, Hard, Stage, path_of, bytes_of, laid, can_lay, meets}
+use Rattle.ips_outside.specs.Change.{placed, joined}
+use Rattle.ips_folder.specs.Calls.{CanMake}
+use Rattle.ips_steps.specs.Steps.{Step, Gone, Fresh, Mode, Put, Symlink, Hard, Stage, bytes_of, laid, can_lay, meets}
 use Rattle.ips_steps.specs.View.{sort_of}
 use Rattle.ips_kinds.specs.Acts.{acts}
 use Rattle.ips_kinds.specs.declared.kind.Act.{Act}

@@ -1,5 +1,5 @@
 -- What is done to a folder while steps are carried out on it.
-use Rattle.std.specs.Prelude.{◌≡◌, ◌⊎◌, ℕ, ◌+◌, ◌-◌, ◌^◌, ◌≤◌, ◌||◌, min, Bool, true, false, IfOk, IsTrue, IsFalse, List, [], ◌∷◌, ◌++◌, length, Result, Ok, Err}
+use Rattle.std.specs.Prelude.{◌≡◌, ◌⊎◌, ℕ, ◌+◌, ◌-◌, ◌^◌, ◌<◌, ◌≤◌, ◌||◌, min, Bool, true, false, not, IfOk, IsTrue, IsFalse, List, [], ◌∷◌, ◌++◌, length, Result, Ok, Err}
 use Rattle.ips_outside.specs.Image.{Image}
 use Rattle.ips_outside.specs.Outside.{Outside}
 use Rattle.ips_folder.specs.Calls.{Keeps}
@@ -8,7 +8,7 @@ use Rattle.ips_steps.specs.Journal.{IsJournal}
 use Rattle.ips_kinds.specs.Tallies.{Carrier, all_counted}
 use Rattle.ips_journal.specs.Text.{journal_text}
 use Rattle.ips_journal.specs.Bad.{IsBadLine}
-use Rattle.ips_journal.specs.Reading.{Reading, IsAt, journal_of}
+use Rattle.ips_journal.specs.Reading.{Reading, IsAt, IsNextLine, journal_of}
 use Rattle.ips_journal.specs.declared.fault.StepFault.{StepFault}
 use Rattle.ips_journal.specs.declared.fault.StepFault.TheVariants.{BadJournal, FolderFault}
 
@@ -51,10 +51,15 @@ pub record AreBegun {F : Type 0} (o : Outside F) (text : List ℕ) (front steps 
   pub can : IsTrue (possible (stage_of (o.state old).held) steps (o.state old).held)
   pub moments : ChangedByAll o begun old new
 
--- How a run through the steps of the text behind the front was stopped, when these of them were finished: that line is the
--- first that isn't of the grammar, or the step behind isn't possible; or a call on the folder failed.
+-- The text begins with these steps, and the line comes next behind them.
+pub record IsReadTo (text : List ℕ) (steps : List Step) (line : ℕ) : Type 0 where
+  pub stands : BeginsWith text steps
+  pub next : IsNextLine text steps line
+
+-- How a run through the steps of the text behind the front was stopped, when these of them were finished: the line that comes
+-- next is the first that isn't of the grammar, or the step behind isn't possible; or a call on the folder failed.
 abbrev pub StopsBy : {F : Type 0} → Outside F → List ℕ → List Step → List Step → F → F → StepFault → Type 0
-StopsBy o text front steps old new (BadJournal line) = AreLaid o steps old new × (IsBadLine text line ⊎ IsImpossible text (front ++ steps) (o.state new).held line)
+StopsBy o text front steps old new (BadJournal line) = AreLaid o steps old new × (IsBadLine text line ⊎ IsImpossible text (front ++ steps) (o.state new).held line) × IsReadTo text (front ++ steps) line
 StopsBy o text front steps old new FolderFault = AreBegun o text front steps old new
 
 -- How such a run ended: the text ends there, or it was stopped.
@@ -80,12 +85,18 @@ pub record Applied {F : Type 0} (o : Outside F) (old new : F) (r : Reading) (bef
   pub count : IfOk result (λ n. n ≡ min (length steps) (2 ^ 64 - 1))
   pub ends : IsTrue (o.tells old) → (front : List Step) → IsAt (journal_of (o.state old).held) front r → Ends o (journal_of (o.state old).held) front steps old new result
 
--- What a run of at most so many steps does: as many where the text doesn't end before.
+-- whether a run through a part of the steps wasn't stopped, and didn't come to the end
+abbrev pub goes_on : Result (ℕ × Bool) StepFault → Bool
+goes_on (Ok x) = not x.1
+goes_on (Err fault) = false
+
+-- What a run of at most so many steps does: as many where it goes on, and else fewer.
 pub record AppliedPart {F : Type 0} (o : Outside F) (most : ℕ) (old new : F) (start r : Reading) (before now : List Carrier) (result : Result (ℕ × Bool) StepFault) : Type 0 where
   pub steps : List Step
   pub tallies : now ≡ all_counted steps before
   pub few : length steps ≤ most
   pub count : IfOk result (λ x. x.0 ≡ length steps)
   pub full : IfOk result (λ x. IsFalse x.1 → length steps ≡ most)
+  pub fewer : IsFalse (goes_on result) → length steps < most
   pub ends : IsTrue (o.tells old) → (front : List Step) → IsAt (journal_of (o.state old).held) front start
       → EndsPart o (journal_of (o.state old).held) front steps old new r result

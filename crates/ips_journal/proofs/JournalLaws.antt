@@ -1,9 +1,9 @@
 -- Laws of the texts of journals.
-use Rattle.std.proofs.Common.{◌≡◌, ℕ, zero, suc, ◌+◌, ◌^◌, ◌<◌, ◌≤◌, List, [], ◌∷◌, ◌++◌, length, take, inl, inr, ◌⊎◌, refl, sym, ap, ◌∙◌, subst, arith, append_assoc, append-nil, length-append}
+use Rattle.std.proofs.Common.{◌≡◌, ℕ, zero, suc, ◌^◌, ◌<◌, ◌≤◌, List, [], ◌∷◌, ◌++◌, length, take, inl, inr, ◌⊎◌, refl, sym, ap, ◌∙◌, subst, arith, append_assoc, append-nil, length-append}
 use Rattle.std.proofs.Math.Seq.{take-append_seam}
 use Rattle.ips_steps.specs.Steps.{Step}
 use Rattle.ips_steps.specs.Journal.{IsJournal}
-use Rattle.ips_journal.specs.Text.{head_line, line, step_line, step_lines, end_line, headed, journal_text}
+use Rattle.ips_journal.specs.Text.{line, step_line, step_lines, end_line, headed, journal_text}
 use Rattle.ips_journal.specs.Bad.{HasBadStep, GoesOn, IsBadLine}
 use Rattle.ips_journal.specs.Reading.{Reading, IsAt}
 use Rattle.ips_journal.proofs.Journals.{journal_front, journal_told, last_told, step_or_end, end_once, GoesOnFrom, fronts, behind_head, front_of}

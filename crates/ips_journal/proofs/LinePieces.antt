@@ -1,10 +1,9 @@
 -- A line that is read piece by piece.
-use Rattle.std.proofs.Common.{◌≡◌, ℕ, suc, ◌+◌, ◌-◌, ◌^◌, ◌<◌, ◌≤◌, true, false, List, [], ◌∷◌, ◌++◌, length, Option, take, drop, take-add, take_all, inl, inr, refl, sym, ap, ◌∙◌, subst, arith, append_assoc, length-append, length-drop, length-take, length-take-le}
+use Rattle.std.proofs.Common.{◌≡◌, ℕ, ◌+◌, ◌^◌, ◌<◌, ◌≤◌, false, List, ◌∷◌, ◌++◌, length, Option, take, drop, take-add, take_all, inl, inr, refl, sym, ap, ◌∙◌, subst, arith, append_assoc, length-drop, length-take, length-take-le}
 use Rattle.std.proofs.Math.Seq.{drop-append-add}
 use Rattle.std.proofs.lemmas.Bool.{cases_lt}
 use Rattle.std.proofs.lemmas.List.{take-take, take-append-drop, drop-drop}
 use Rattle.ips_outside.specs.Outside.{IsRead}
-use Rattle.ips_journal.specs.Text.{line}
 use Rattle.ips_journal.specs.Line.{has, IsCut, BeginsLine, IsLineFound}
 use Rattle.ips_journal.proofs.Cuts.{lacks_append}
 

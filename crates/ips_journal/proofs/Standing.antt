@@ -1,14 +1,14 @@
 -- What reading and writing a line do to where a reader or a text stands.
-use Rattle.std.proofs.Common.{◌≡◌, ℕ, suc, ◌+◌, ◌-◌, ◌^◌, ◌<◌, ◌≤◌, min, true, false, List, [], ◌∷◌, ◌++◌, length, take, drop, map, get_or, Option, Some, None, IsTrue, Result, Ok, Err, inl, inr, refl, sym, ap, ◌∙◌, subst, arith, append_assoc, append-nil, length-append, length-drop, length-take-le}
+use Rattle.std.proofs.Common.{◌≡◌, ℕ, suc, ◌+◌, ◌-◌, ◌^◌, ◌<◌, ◌≤◌, false, List, [], ◌∷◌, ◌++◌, length, take, drop, Option, Some, None, IsTrue, Result, Ok, Err, inl, inr, refl, sym, ap, ◌∙◌, subst, arith, append_assoc, length-append, length-drop, length-take-le}
 use Rattle.std.proofs.Math.Seq.{take-append-add, take-append_seam}
-use Rattle.std.proofs.lemmas.List.{take_more, map-append, drop-drop, drop_all}
+use Rattle.std.proofs.lemmas.List.{drop-drop, drop_all}
 use Rattle.ips_steps.specs.Steps.{Step}
 use Rattle.ips_steps.specs.Journal.{IsJournal, numbered}
 use Rattle.ips_journal.specs.Text.{head_line, line, step_line, step_lines, end_line, headed, journal_text}
-use Rattle.ips_journal.specs.Bad.{HasBadStep, GoesOn, IsBadLine}
+use Rattle.ips_journal.specs.Bad.{GoesOn, IsBadLine}
 use Rattle.ips_journal.specs.Line.{has, BeginsLine}
-use Rattle.ips_journal.specs.Reading.{Reading, Stands, IsFaultOf, puts_in, text_from}
-use Rattle.ips_journal.specs.Holding.{IsHeaded, IsStepLine, ReadMeans, TellsMore, clipped, seen, step_by}
+use Rattle.ips_journal.specs.Reading.{Reading, Stands, IsFaultOf, IsNextLine, TellsLine, puts_in, text_from}
+use Rattle.ips_journal.specs.Holding.{IsHeaded, IsNextFault, IsStepLine, ReadMeans, TellsMore, clipped, seen, step_by}
 use Rattle.ips_journal.specs.declared.cursor.Cursor.{Cursor}
 use Rattle.ips_journal.specs.declared.parts.Parts.{Parts}
 use Rattle.ips_steps.specs.declared.step.Sort.{Sort}
@@ -76,6 +76,15 @@ module _ (text : List ℕ) (front : List Step) where
       }
       go (s ∷ f) listed count put = absurd (omega (arith, zero, count))
 
+  -- a fault of the first line
+  pub first_fault : (r : Reading) → Stands (text_from front) text front r → r.steps ≡ 0 → (f : StepFault) → IsFaultOf text f → TellsLine 1 f → IsNextFault text front f
+  first_fault r h zero (BadJournal line) bad is = (bad, inl (none front (sym h.steps ∙ zero), is))
+    where
+      none : (f : List Step) → length f ≡ 0 → f ≡ []
+      none [] e = refl
+      none (s ∷ f) e = absurd (omega (arith, e))
+  first_fault r h zero FolderFault bad is = (tt, tt)
+
   -- and where a step was
   pub behind_already : (r : Reading) → Stands (text_from front) text front r → 0 < r.steps → Stands (headed front) text front r
   behind_already r h some = go front h.listed h.steps h.puts h.begins
@@ -95,13 +104,15 @@ module _ (text : List ℕ) (front : List Step) (r : Reading) (h : Stands (headed
   long = omega (arith, headed_long front (drop r.place text), ap length h.begins)
 
   bad_line : (number : ℕ) → number ≡ clipped r.steps 2 → ((s : Step) (more : List ℕ) → IsJournal (front ++ s ∷ []) → drop r.place text ≡ line (step_line s) more → ⊥)
-      → ((more : List ℕ) → drop r.place text ≡ line (end_line (length front)) more → ⊥) → IsBadLine text number
+      → ((more : List ℕ) → drop r.place text ≡ line (end_line (length front)) more → ⊥) → IsBadLine text number × IsNextLine text front number
   bad_line number is no_step no_end =
-      let count : number ≡ suc (suc (length front)) = omega (arith, is, h.steps, long, small) in
-      subst (IsBadLine text) (sym count) (inl (record { front = front; rest = drop r.place text; listed = h.listed; counted = refl; parts = h.begins; no_step = no_step; no_end = no_end }))
+      let count : number ≡ suc (suc (length front)) = omega (arith, is, h.steps, long, small) in (
+        subst (IsBadLine text) (sym count) (inl (record { front = front; rest = drop r.place text; listed = h.listed; counted = refl; parts = h.begins; no_step = no_step; no_end = no_end })),
+        inr (inl (omega (arith, count))),
+      )
 
   -- no line ends within the room
-  pub none_ends : (number room : ℕ) → number ≡ clipped r.steps 2 → room ≡ 16384 → has 10 (take room (drop r.place text)) ≡ false → IsBadLine text number
+  pub none_ends : (number room : ℕ) → number ≡ clipped r.steps 2 → room ≡ 16384 → has 10 (take room (drop r.place text)) ≡ false → IsBadLine text number × IsNextLine text front number
   none_ends number room is size off = bad_line number is
       (λ s more j e. let told = last_told front s j in no_line (step_line s) more (drop r.place text) room (omega (arith, step_short s told.0 told.1)) off e)
       (λ more e. no_line (end_line (length front)) more (drop r.place text) room (omega (arith, end_short (length front) h.listed.count)) off e)
@@ -114,7 +125,7 @@ module _ (text : List ℕ) (front : List Step) (r : Reading) (h : Stands (headed
     line_within = omega (arith, ap length parts, sized, h.place, length-drop r.place text, length-append bytes (10 ∷ drop (count + 1) (drop r.place text)))
 
     -- the line tells no step that may stand there, and isn't the last
-    pub no_such_line : (number : ℕ) → number ≡ clipped r.steps 2 → ((s : Step) → IsStepLine bytes r.puts s → ⊥) → (bytes ≡ end_line r.steps → ⊥) → IsBadLine text number
+    pub no_such_line : (number : ℕ) → number ≡ clipped r.steps 2 → ((s : Step) → IsStepLine bytes r.puts s → ⊥) → (bytes ≡ end_line r.steps → ⊥) → IsBadLine text number × IsNextLine text front number
     no_such_line number is no_step no_end = bad_line number is
         (λ s more j e.
         let told = last_told front s j in
@@ -154,15 +165,17 @@ module _ (text : List ℕ) (front : List Step) (r : Reading) (h : Stands (headed
         (h.listed, whole is ∙ ap (λ (l : List ℕ). headed front (line (end_line (length front)) l)) (drop_all (r.place + (count + 1)) text end))
 
     -- or something is
-    pub more_behind : (number : ℕ) → bytes ≡ end_line r.steps → r.place + (count + 1) < length text → number ≡ clipped (clipped r.steps 2) 1 → IsBadLine text number
+    pub more_behind : (number : ℕ) → bytes ≡ end_line r.steps → r.place + (count + 1) < length text → number ≡ clipped (clipped r.steps 2) 1 → IsBadLine text number × IsNextLine text front number
     more_behind number is there e =
         let third : number ≡ suc (suc (length front + 1)) = omega (arith, e, h.steps, long, small) in
-        subst (IsBadLine text) (sym third) (inr (record { front = front; rest = drop (r.place + (count + 1)) text; listed = h.listed; counted = refl; parts = whole is; there = omega (arith, there, length-drop (r.place + (count + 1)) text) }))
+        let on : GoesOn text (length front + 1) = record { front = front; rest = drop (r.place + (count + 1)) text; listed = h.listed; counted = refl; parts = whole is; there = omega (arith, there, length-drop (r.place + (count + 1)) text) } in
+        (subst (IsBadLine text) (sym third) (inr on), inr (inr (on, omega (arith, third))))
 
     -- what a fault behind the last line tells
-    pub fault_behind : (now : List ℕ) (place number : ℕ) (f : StepFault) → bytes ≡ end_line r.steps → now ≡ text → place ≡ r.place + (count + 1) → number ≡ clipped (clipped r.steps 2) 1 → TellsMore number place now f → IsFaultOf text f
-    fault_behind now place number (BadJournal told) is same at e h = subst (IsBadLine text) (sym h.0) (more_behind number is (omega (arith, h.1, at, ap length same)) e)
-    fault_behind now place number FolderFault is same at e h = tt
+    pub fault_behind : (now : List ℕ) (place number : ℕ) (f : StepFault) → bytes ≡ end_line r.steps → now ≡ text → place ≡ r.place + (count + 1) → number ≡ clipped (clipped r.steps 2) 1 → TellsMore number place now f → IsNextFault text front f
+    fault_behind now place number (BadJournal told) is same at e h =
+        subst (λ (n : ℕ). IsBadLine text n × IsNextLine text front n) (sym h.0) (more_behind number is (omega (arith, h.1, at, ap length same)) e)
+    fault_behind now place number FolderFault is same at e h = (tt, tt)
 
     pub end_behind : (now : List ℕ) (place : ℕ) → bytes ≡ end_line r.steps → now ≡ text → place ≡ r.place + (count + 1) → length now ≤ place → IsJournal front × (text ≡ journal_text front)
     end_behind now place is same at h = all_read is (omega (arith, h, at, ap length same))
@@ -172,9 +185,9 @@ pub kept_buffer : (new old : List ℕ) (len : ℕ) → length new ≡ len → ta
 kept_buffer new old len e = ap (λ (n : ℕ). take n (new ++ drop (length new) old)) (sym e) ∙ take-append_seam new (drop (length new) old)
 
 -- a fault that is handed on
-pub fault_handed : (text : List ℕ) (front : List Step) (new : Cursor) (parts : Parts) (r : Result (Option Sort) StepFault) (f : StepFault) → IsErrAnd r (λ e. e ≡ f) → IsFaultOf text f → ReadMeans text front new parts r
+pub fault_handed : (text : List ℕ) (front : List Step) (new : Cursor) (parts : Parts) (r : Result (Option Sort) StepFault) (f : StepFault) → IsErrAnd r (λ e. e ≡ f) → IsNextFault text front f → ReadMeans text front new parts r
 fault_handed text front new parts (Ok x) f h is = absurd h
-fault_handed text front new parts (Err e) f h is = subst (IsFaultOf text) (sym h) is
+fault_handed text front new parts (Err e) f h is = subst (IsNextFault text front) (sym h) is
 
 -- the step that is lent is no part of where a reader stands
 pub lending : (before : List ℕ → List ℕ) (text : List ℕ) (front : List Step) (c : Cursor) (a b : Option Step) → Stands before text front (seen c a) → Stands before text front (seen c b)

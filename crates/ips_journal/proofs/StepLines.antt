@@ -1,11 +1,10 @@
 -- The lines of steps: which step a line tells.
 use lib.Chars.{codes}
-use Rattle.std.proofs.Common.{◌≡◌, ℕ, suc, cond, eqb, inl, inr, ◌+◌, ◌*◌, ◌^◌, ◌<◌, ◌≤◌, true, false, List, [], ◌∷◌, ◌++◌, length, Option, Some, None, refl, sym, ap, ◌∙◌, arith, length-append}
+use Rattle.std.proofs.Common.{◌≡◌, ℕ, cond, eqb, inl, inr, ◌^◌, ◌<◌, ◌≤◌, false, List, [], ◌∷◌, ◌++◌, length, Option, Some, refl, sym, ap, ◌∙◌, arith, length-append}
 use Rattle.std.specs.Fmt.{decimal}
 use Rattle.std.proofs.lemmas.Fmt.{decimal_injective}
 use Rattle.std.proofs.lemmas.Bool.{cases_lt}
 use Rattle.ips_text.specs.Path.{IsPath}
-use Rattle.ips_text.specs.declared.path.PathFault.TheVariants.{TooLong}
 use Rattle.ips_text.specs.Quote.{quoted, shown}
 use Rattle.ips_steps.specs.Steps.{Step, Gone, Fresh, Mode, Put, Symlink, Hard}
 use Rattle.ips_steps.specs.Targets.{IsTarget}

@@ -2,7 +2,7 @@
 use Rattle.std.specs.Prelude.{◌≡◌, ℕ, zero, suc, ◌+◌, ◌<◌, ◌⊎◌, List, [], ◌∷◌, ◌++◌, length}
 use Rattle.ips_steps.specs.Steps.{Step}
 use Rattle.ips_steps.specs.Journal.{IsJournal}
-use Rattle.ips_journal.specs.Text.{head_line, step_line, end_line, line, headed, journal_text}
+use Rattle.ips_journal.specs.Text.{head_line, step_line, end_line, line, headed}
 
 -- The text begins with the first line and those of so many steps, and what follows begins neither with the line of a
 -- further step nor with the last line.

@@ -1,5 +1,5 @@
 -- What a reader keeps, and what it means.
-use Rattle.std.specs.Prelude.{◌≡◌, ℕ, ◌+◌, ◌-◌, ◌^◌, ◌<◌, ◌≤◌, min, Bool, true, IsTrue, List, [], ◌∷◌, ◌++◌, length, take, drop, Option, Some, None, Result, Ok, Err}
+use Rattle.std.specs.Prelude.{◌≡◌, ℕ, ◌+◌, ◌-◌, ◌^◌, ◌<◌, ◌≤◌, min, true, IsTrue, List, [], ◌∷◌, ◌++◌, length, drop, Option, Some, None, Result, Ok, Err}
 use Rattle.ips_steps.specs.Steps.{Step, Gone, Fresh, Mode, Put, Symlink, Hard}
 use Rattle.ips_steps.specs.Journal.{IsJournal, IsProper, step_allowed, numbered}
 use Rattle.ips_steps.specs.View.{step_of}
@@ -8,7 +8,7 @@ use Rattle.ips_steps.specs.declared.step.Step.TheVariants as step
 use Rattle.ips_steps.specs.declared.step.Sort.{Sort}
 use Rattle.ips_steps.specs.declared.step.Sort.TheVariants as sort
 use Rattle.ips_journal.specs.Text.{head_line, line, headed, journal_text, step_line}
-use Rattle.ips_journal.specs.Reading.{Reading, Stands, IsFaultOf, puts_in, text_from, parent_in, stage_in}
+use Rattle.ips_journal.specs.Reading.{Reading, Stands, IsFaultOf, TellsNext, puts_in, text_from, parent_in, stage_in}
 use Rattle.ips_journal.specs.declared.parts.Parts.{Parts}
 use Rattle.ips_journal.specs.declared.held.Left.{Left}
 use Rattle.ips_journal.specs.declared.held.Left.TheVariants.{OfPath, OfLink, OfHard}
@@ -143,8 +143,12 @@ pub record IsStepLine (bytes : List ℕ) (put : ℕ) (s : Step) : Type 0 where
   pub number : IsTrue (numbered put (s ∷ []))
   pub spelled : bytes ≡ step_line s
 
+-- a fault of the text tells its first bad line, which comes next behind these steps
+abbrev pub IsNextFault : List ℕ → List Step → StepFault → Type 0
+IsNextFault text front fault = IsFaultOf text fault × TellsNext text front fault
+
 -- What reading on means where the steps of the front were read: a step of the parts, the end, or a bad line.
 abbrev pub ReadMeans : List ℕ → List Step → Cursor → Parts → Result (Option Sort) StepFault → Type 0
 ReadMeans text front new parts (Ok (Some sort)) = Stands (text_from (front ++ step_by sort parts ∷ [])) text (front ++ step_by sort parts ∷ []) (seen new None)
 ReadMeans text front new parts (Ok None) = IsJournal front × (text ≡ journal_text front)
-ReadMeans text front new parts (Err fault) = IsFaultOf text fault
+ReadMeans text front new parts (Err fault) = IsNextFault text front fault

@@ -1,5 +1,5 @@
 -- How far a reader of a journal has come, and what its answers mean.
-use Rattle.std.specs.Prelude.{◌≡◌, ℕ, ◌+◌, ◌^◌, ◌<◌, ◌≤◌, Bool, true, false, IsTrue, List, [], ◌∷◌, ◌++◌, length, drop, Option, Some, None, Result, Ok, Err}
+use Rattle.std.specs.Prelude.{◌≡◌, ◌⊎◌, ℕ, ◌+◌, ◌^◌, ◌<◌, ◌≤◌, Bool, true, false, IsTrue, List, [], ◌∷◌, ◌++◌, length, drop, Option, Some, None, Result, Ok, Err}
 use Rattle.ips_text.specs.Ancestry.{parent}
 use Rattle.ips_outside.specs.Image.{Image}
 use Rattle.ips_outside.specs.Outside.{readable}
@@ -7,7 +7,7 @@ use Rattle.ips_steps.specs.Steps.{Step, Gone, Fresh, Mode, Put, Symlink, Hard, p
 use Rattle.ips_steps.specs.Private.{journal_name}
 use Rattle.ips_steps.specs.Journal.{IsJournal}
 use Rattle.ips_journal.specs.Text.{headed, journal_text}
-use Rattle.ips_journal.specs.Bad.{IsBadLine}
+use Rattle.ips_journal.specs.Bad.{GoesOn, IsBadLine}
 use Rattle.ips_journal.specs.declared.fault.StepFault.{StepFault}
 use Rattle.ips_journal.specs.declared.fault.StepFault.TheVariants.{BadJournal, FolderFault}
 
@@ -71,6 +71,16 @@ Means text front new (Err fault) = IsFaultOf text fault
 abbrev pub TellsLine : ℕ → StepFault → Type 0
 TellsLine number (BadJournal line) = line ≡ number
 TellsLine number FolderFault = Unit {0}
+
+-- the number of the line that comes next behind these steps: the first, where they are none; or that behind theirs; or, where
+-- the text is their whole journal and goes on, that behind its last line
+abbrev pub IsNextLine : List ℕ → List Step → ℕ → Type 0
+IsNextLine text front line = ((front ≡ []) × (line ≡ 1)) ⊎ ((line ≡ length front + 2) ⊎ (GoesOn text (length front + 1) × (line ≡ length front + 3)))
+
+-- a fault of the text tells the line that comes next
+abbrev pub TellsNext : List ℕ → List Step → StepFault → Type 0
+TellsNext text front (BadJournal line) = IsNextLine text front line
+TellsNext text front FolderFault = Unit {0}
 
 -- the step's path has this parent, if it has one
 abbrev pub parent_in : Option Step → Option (List ℕ)

@@ -5,7 +5,7 @@ ghost use Rattle.ips_outside.specs.Outside.{Reads};
 ghost use Rattle.ips_steps.specs.Steps.{Step as StepMeant, path_of};
 ghost use Rattle.ips_steps.specs.Journal.{IsProper, step_allowed};
 ghost use Rattle.ips_steps.specs.View.{step_of};
-ghost use Rattle.ips_journal.specs.Reading.{IsAt, Means, TellsLine, journal_of, parent_in, stage_in};
+ghost use Rattle.ips_journal.specs.Reading.{IsAt, Means, TellsLine, TellsNext, journal_of, parent_in, stage_in};
 ghost use Rattle.ips_journal.specs.declared.fault.StepFault.TheVariants as fault;
 
 use crate::beside::Beside;
@@ -68,12 +68,14 @@ impl StepReader {
     }
 
     /// Reads the next step of the journal in the folder. It answers true where there is one, which is then lent by `step`,
-    /// and false at the end. `BadJournal` tells the first line that isn't of the grammar, 1 for an empty text. After the end
-    /// and after a fault the reader only goes back.
+    /// and false at the end. `BadJournal` tells the first line that isn't of the grammar, where that comes next; 1 for an empty
+    /// text. After the end and after a fault the reader only goes back.
     pub fn next<F: Folder>(&mut self, folder: &mut F) -> Result<bool, StepFault>
         requires { IsTrue self.old.is_open }
         ensures means { IsTrue (F.outside.tells folder.old) → (front : List StepMeant) → IsAt (journal_of (F.outside.state folder.old).held) front self.old
             → Means (journal_of (F.outside.state folder.old).held) front self.new result }
+        ensures next { IsTrue (F.outside.tells folder.old) → (front : List StepMeant) → IsAt (journal_of (F.outside.state folder.old).held) front self.old
+            → IfErr result (TellsNext (journal_of (F.outside.state folder.old).held) front) }
         ensures lends { IfOk result (λ more. (is_some self.new.step ≡ more) × (self.new.is_open ≡ more)) }
         ensures fault { OnErr result ((self.new.step ≡ None) × (self.new.is_open ≡ false)) }
         ensures line { IfErr result (TellsLine self.new.line) }

@@ -5,7 +5,7 @@ ghost use Rattle.ips_outside.specs.Outside.{Reads};
 ghost use Rattle.ips_steps.specs.Steps.{Step};
 ghost use Rattle.ips_journal.specs.Text.{head_line, end_line};
 ghost use Rattle.ips_journal.specs.Reading.{Stands, IsFaultOf, TellsLine, text_from, journal_of, puts_in};
-ghost use Rattle.ips_journal.specs.Holding.{HaveRoom, IsBehindHead, IsFresh, IsHeaded, IsMoved, IsSafe, IsStepLine, IsStill, ReadMeans, SameCounts, TellsMore, clipped, seen, step_by};
+ghost use Rattle.ips_journal.specs.Holding.{HaveRoom, IsBehindHead, IsFresh, IsHeaded, IsMoved, IsNextFault, IsSafe, IsStepLine, IsStill, ReadMeans, SameCounts, TellsMore, clipped, seen, step_by};
 ghost use Rattle.ips_journal.specs.declared.parts.Parts.{Parts as PartsMeant};
 ghost use Rattle.ips_journal.specs.declared.fault.StepFault.TheVariants as fault;
 
@@ -86,7 +86,8 @@ impl Cursor {
     fn go_behind_head<F: Folder>(&mut self, folder: &mut F) -> Result<(), StepFault>
         ensures behind { IsTrue (F.outside.tells folder.old) → (front : List Step) → Stands (text_from front) (journal_of (F.outside.state folder.old).held) front (seen self.old None)
             → OnOk result (IsBehindHead (journal_of (F.outside.state folder.old).held) front self.new) }
-        ensures bad { IsTrue (F.outside.tells folder.old) → IfErr result (IsFaultOf (journal_of (F.outside.state folder.old).held)) }
+        ensures bad { IsTrue (F.outside.tells folder.old) → (front : List Step) → Stands (text_from front) (journal_of (F.outside.state folder.old).held) front (seen self.old None)
+            → IfErr result (IsNextFault (journal_of (F.outside.state folder.old).held) front) }
         ensures as_open { self.new.is_open ≡ self.old.is_open }
         ensures line { IfErr result (TellsLine self.new.line) }
         ensures reads { Reads F.outside folder.old folder.new (result ≡ Err fault.FolderFault) }
@@ -101,6 +102,7 @@ impl Cursor {
     fn read_head<F: Folder>(&mut self, folder: &mut F) -> Result<(), StepFault>
         ensures head { IsTrue (F.outside.tells folder.old) → OnOk result (IsHeaded (journal_of (F.outside.state folder.old).held) self.new.place) }
         ensures bad { IsTrue (F.outside.tells folder.old) → IfErr result (IsFaultOf (journal_of (F.outside.state folder.old).held)) }
+        ensures first { IfErr result (TellsLine 1) }
         ensures counts { SameCounts self.old self.new }
         ensures line { IfErr result (TellsLine self.new.line) }
         ensures reads { Reads F.outside folder.old folder.new (result ≡ Err fault.FolderFault) }

@@ -1,7 +1,5 @@
-use Rattle.std.proofs.Common.{◌≡◌, true, false, ℕ, List, Ok, sym, ◌∙◌, ap, subst}
+use Rattle.std.proofs.Common.{◌≡◌, true, false, ℕ, List, sym, ◌∙◌, ap}
 use Rattle.ips_text.specs.Ancestry.{covers}
-use Rattle.ips_outside.specs.Change.{placed}
-use Rattle.ips_steps.specs.Steps.{path_of}
 use Rattle.ips_steps.specs.View.{step_of, sort_of}
 use denote.Enum.Bare.{sameb}
 use Rattle.ips_steps.specs.declared.step.Sort.{Sort}

@@ -1,4 +1,4 @@
-use Rattle.std.proofs.Common.{refl, ◌≡◌, true, ℕ, List, Option, Some, None, sym, ◌∙◌, ap, subst}
+use Rattle.std.proofs.Common.{refl, ◌≡◌, true, Some, None, sym, ◌∙◌, ap, subst}
 use Rattle.ips_steps.specs.Steps.{Put}
 use Rattle.ips_steps.specs.Journal.{step_allowed}
 use Rattle.ips_steps.specs.View.{step_of}

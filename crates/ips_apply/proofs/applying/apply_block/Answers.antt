@@ -1,4 +1,4 @@
-use Rattle.std.proofs.Common.{◌≡◌, ◌≤◌, ◌+◌, ℕ, Bool, true, false, Ok, Err, refl, sym, ◌∙◌, ap, arith}
+use Rattle.std.proofs.Common.{◌≡◌, Bool, Ok, Err, ◌∙◌, ap, arith}
 use Rattle.std.proofs.lemmas.Result.{err_from_is_err_and}
 use Rattle.ips_journal.specs.declared.fault.StepFault.{StepFault}
 use Rattle.ips_journal.specs.declared.fault.StepFault.TheVariants.{FolderFault}
@@ -15,7 +15,7 @@ lay_next-requires-clause-takers g c = takers_stay g.F.Source.outside c.args.fold
 pub returns-in_err-next-clause-applied : goal.returns-in_err-next-clause-applied
 returns-in_err-next-clause-applied g c =
     let left = err_from_is_err_and c.from_residual.result c.from_residual.ensures.1 in
-    ends_reading_as g.F.Source.outside g.met.F.Source.sane c.args.folder.now c.loop-count.folder c.next.new.folder c.args.reader.now c.loop-count.reader c.next.new.self _ _ c.loop-count.count c.loop-count.invariant.going (c.next.result ≡ Err FolderFault) c.next.ensures.reads c.next.result c.next.ensures.means c.args.most c.loop-count-test.true c.from_residual.result c.in_err-next.field-0.0 (left.1 ∙ ap (λ (e : StepFault). Err e) left.2) c.in_err-next.was
+    ends_reading_as g.F.Source.outside g.met.F.Source.sane c.args.folder.now c.loop-count.folder c.next.new.folder c.args.reader.now c.loop-count.reader c.next.new.self _ _ c.loop-count.count c.loop-count.invariant.going (c.next.result ≡ Err FolderFault) c.next.ensures.reads c.next.result c.next.ensures.means c.args.most c.loop-count-test.true c.next.ensures.next c.from_residual.result c.in_err-next.field-0.0 (left.1 ∙ ap (λ (e : StepFault). Err e) left.2) c.in_err-next.was
 
 pub returns-then-not-branch-clause-applied : goal.returns-then-not-branch-clause-applied
 returns-then-not-branch-clause-applied g c =

@@ -1,7 +1,5 @@
-use Rattle.std.proofs.Common.{◌≡◌, IsErr, Some, refl, sym, ◌∙◌, ap, ap₂, subst}
-use Rattle.ips_outside.specs.Image.{Image}
-use Rattle.ips_outside.specs.State.{State}
-use Rattle.ips_steps.specs.Steps.{Step, laid, can_lay, stage_of}
+use Rattle.std.proofs.Common.{◌≡◌, IsErr, sym, ◌∙◌, subst}
+use Rattle.ips_steps.specs.Steps.{Step}
 use Rattle.ips_steps.specs.View.{step_of}
 use Rattle.ips_apply.specs.Applied.{ChangedBy}
 use Rattle.ips_apply.proofs.Changes.{read_then_changed}

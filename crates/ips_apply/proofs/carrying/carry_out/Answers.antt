@@ -1,4 +1,4 @@
-use Rattle.std.proofs.Common.{IsErr, Some, refl, sym, ◌∙◌, ap, arith}
+use Rattle.std.proofs.Common.{Some, refl, ◌∙◌, ap}
 use Rattle.ips_steps.specs.View.{step_of, sort_of}
 use Rattle.ips_kinds.specs.declared.kind.Act.{Act}
 use Rattle.ips_kinds.proofs.Turns.{goes_on}

@@ -1,4 +1,4 @@
-use Rattle.std.proofs.Common.{◌≡◌, ◌-◌, ◌<◌, IsTrue, length}
+use Rattle.std.proofs.Common.{◌≡◌, ◌-◌, ◌<◌, length}
 use Rattle.ips_steps.specs.View.{step_of, sort_of}
 use Rattle.ips_kinds.specs.Acts.{acts}
 use Rattle.ips_apply.proofs.Carried.{InTurn}

@@ -1,6 +1,5 @@
-use Rattle.std.proofs.Common.{sym, ◌∙◌, ap, arith, ◌+◌}
+use Rattle.std.proofs.Common.{sym, ◌∙◌, ap, ◌+◌}
 use Rattle.ips_steps.specs.View.{step_of, sort_of}
-use Rattle.ips_kinds.specs.Tallies.{IsFirstTaker, seen_by}
 use Rattle.ips_apply.proofs.Takers.{none_yet, is_first, none_at_all}
 use Rattle.ips_apply.proofs.carrying.first_taker.Goals as goal
 

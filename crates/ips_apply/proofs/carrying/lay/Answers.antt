@@ -1,6 +1,4 @@
-use Rattle.std.proofs.Common.{true, false, sym, ◌∙◌, ap, rules}
 use Rattle.ips_steps.specs.View.{step_of, sort_of}
-use Rattle.ips_kinds.specs.Tallies.{seen_by, taken}
 use Rattle.ips_outside.proofs.Trees.{on_err}
 use Rattle.ips_apply.proofs.Takers.{it_takes, it_counts, it_stays, clashing}
 use Rattle.ips_apply.proofs.carrying.lay.Goals as goal

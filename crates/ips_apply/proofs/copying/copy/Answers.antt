@@ -1,4 +1,4 @@
-use Rattle.std.proofs.Common.{IsErr, arith}
+use Rattle.std.proofs.Common.{IsErr}
 use Rattle.ips_outside.proofs.Reading.{answered}
 use Rattle.ips_apply.proofs.Copies.{kept_writing, copied_more}
 use Rattle.ips_apply.proofs.copying.copy.Goals as goal

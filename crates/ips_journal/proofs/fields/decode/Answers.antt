@@ -1,7 +1,5 @@
-use Rattle.std.proofs.Common.{◌≡◌, ℕ, ◌<◌, ◌≤◌, List, [], ◌∷◌, ◌++◌, length, take, sym, ◌∙◌, subst, ap, arith, length-take-le, length-set}
+use Rattle.std.proofs.Common.{[], ◌∷◌, take, sym, ◌∙◌, arith, length-take-le, length-set}
 use Rattle.std.proofs.lemmas.List.{take_more_set}
-use Rattle.ips_text.specs.Quote.{AreBytes}
-use Rattle.ips_journal.specs.Escape.{escaped}
 use Rattle.ips_journal.proofs.Bytes.{bytes_append}
 use Rattle.ips_journal.proofs.Cuts.{some_there}
 use Rattle.ips_journal.proofs.Escapes.{none_told, too_long, told_more}

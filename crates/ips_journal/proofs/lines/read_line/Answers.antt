@@ -1,10 +1,10 @@
-use Rattle.std.proofs.Common.{◌≡◌, ◌+◌, ◌-◌, ◌^◌, ◌<◌, ◌≤◌, List, ℕ, IsErr, IsTrue, length, length-take, take, drop, refl, sym, ◌∙◌, ap, subst, arith}
+use Rattle.std.proofs.Common.{◌≡◌, ◌+◌, ◌-◌, ◌<◌, List, ℕ, IsErr, length, length-take, take, drop, refl, sym, ◌∙◌, ap, subst, arith}
 use Rattle.ips_outside.specs.State.{State}
 use Rattle.ips_outside.specs.Outside.{readable}
 use Rattle.ips_journal.specs.Line.{has, IsCut}
 use Rattle.ips_outside.proofs.Reading.{answered, reads_then}
 use Rattle.ips_journal.proofs.Cuts.{found_cuts, none_lacks}
-use Rattle.ips_journal.proofs.LinePieces.{filled_within, piece_read, more_filled, at_end, line_at}
+use Rattle.ips_journal.proofs.LinePieces.{filled_within, piece_read, more_filled, line_at}
 use Rattle.ips_journal.proofs.lines.read_line.Goals as goal
 
 pub shape_of-buffer-in_err-count : goal.shape_of-buffer-in_err-count

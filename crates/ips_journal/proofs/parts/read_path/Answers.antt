@@ -1,4 +1,4 @@
-use Rattle.std.proofs.Common.{◌≡◌, List, ℕ, length, take, arith}
+use Rattle.std.proofs.Common.{◌≡◌, length, take}
 use Rattle.ips_journal.proofs.PartForms.{on_ok, not_ok, path_told, one_path, no_path}
 use Rattle.ips_journal.proofs.parts.read_path.Goals as goal
 

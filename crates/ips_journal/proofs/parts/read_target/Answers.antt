@@ -1,4 +1,4 @@
-use Rattle.std.proofs.Common.{◌≡◌, List, ℕ, length, take, arith}
+use Rattle.std.proofs.Common.{◌≡◌, length, take}
 use Rattle.ips_journal.proofs.PartForms.{on_ok, not_ok, target_told, one_target, no_target}
 use Rattle.ips_journal.proofs.parts.read_target.Goals as goal
 

@@ -1,4 +1,4 @@
-use Rattle.std.proofs.Common.{◌≡◌, ◌≤◌, ◌+◌, arith}
+use Rattle.std.proofs.Common.{arith}
 use Rattle.ips_journal.proofs.Escapes.{written_more}
 use Rattle.ips_journal.proofs.writing.put_escaped.Goals as goal
 

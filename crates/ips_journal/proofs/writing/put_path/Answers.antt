@@ -1,4 +1,4 @@
-use Rattle.std.proofs.Common.{◌≡◌, ◌≤◌, ◌++◌, ℕ, List, length, ◌∙◌, ap, subst, sym, arith}
+use Rattle.std.proofs.Common.{◌++◌, ℕ, List, length, ◌∙◌, ap, arith}
 use Rattle.ips_text.specs.Quote.{shown}
 use Rattle.ips_journal.proofs.Escapes.{escaped_shown}
 use Rattle.ips_journal.proofs.writing.put_path.Goals as goal

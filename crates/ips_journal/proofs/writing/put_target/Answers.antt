@@ -1,4 +1,4 @@
-use Rattle.std.proofs.Common.{◌≡◌, ◌≤◌, ◌++◌, ℕ, List, length, ◌∙◌, ap, subst, sym, arith}
+use Rattle.std.proofs.Common.{◌++◌, ℕ, List, length, ◌∙◌, ap, arith}
 use Rattle.ips_text.specs.Quote.{quoted}
 use Rattle.ips_journal.proofs.Escapes.{escaped_quoted}
 use Rattle.ips_journal.proofs.StepLines.{target_short}

@@ -1,6 +1,4 @@
-use Rattle.std.proofs.Common.{◌≡◌, ◌+◌, ◌∷◌, ◌++◌, [], ℕ, List, map, take, ap, sym, ◌∙◌}
-use Rattle.std.proofs.lemmas.List.{take_more, map-append}
-use Rattle.ips_steps.specs.Steps.{Step}
+use Rattle.std.proofs.Common.{◌+◌, ◌++◌, [], ℕ, List, map, take, ap, ◌∙◌}
 use Rattle.ips_steps.specs.View.{step_of}
 use Rattle.ips_journal.specs.Text.{line, step_line}
 use Rattle.ips_journal.proofs.Standing.{line_written}

@@ -1,9 +1,9 @@
-use Rattle.std.proofs.Common.{◌≡◌, ◌^◌, ◌<◌, List, ℕ, Option, Some, None, IfSome, length, length-take-le, take, ap, sym, ◌∙◌, subst, arith}
+use Rattle.std.proofs.Common.{◌^◌, ◌<◌, List, ℕ, None, length, ap, ◌∙◌, arith}
 use Rattle.ips_outside.specs.State.{State}
 use Rattle.ips_outside.specs.Outside.{readable}
 use Rattle.ips_journal.specs.Reading.{journal_of}
 use Rattle.ips_journal.proofs.LinePieces.{line_found}
-use Rattle.ips_journal.proofs.Standing.{no_first, no_head, head_read, kept_buffer}
+use Rattle.ips_journal.proofs.Standing.{no_first}
 use Rattle.ips_journal.proofs.cursor.Cursor.read_head.Goals as goal
 
 pub returns-in_default-clause-bad : goal.returns-in_default-clause-bad

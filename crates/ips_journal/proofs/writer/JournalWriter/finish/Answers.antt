@@ -1,4 +1,4 @@
-use Rattle.std.proofs.Common.{◌≡◌, ap, ◌∙◌}
+use Rattle.std.proofs.Common.{ap, ◌∙◌}
 use Rattle.ips_outside.specs.State.{State}
 use Rattle.ips_journal.proofs.Writers.{all_written}
 use Rattle.ips_journal.proofs.writer.JournalWriter.finish.Goals as goal

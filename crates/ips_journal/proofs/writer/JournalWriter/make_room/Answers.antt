@@ -1,4 +1,4 @@
-use Rattle.std.proofs.Common.{◌≡◌, ap, refl}
+use Rattle.std.proofs.Common.{ap, refl}
 use Rattle.ips_outside.specs.State.{State}
 use Rattle.ips_journal.proofs.Writers.{appended_all}
 use Rattle.ips_journal.proofs.writer.JournalWriter.make_room.Goals as goal

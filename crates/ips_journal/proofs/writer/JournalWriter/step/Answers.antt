@@ -1,4 +1,3 @@
-use Rattle.std.proofs.Common.{◌≡◌, ap, ◌∙◌}
 use Rattle.ips_steps.specs.View.{step_of}
 use Rattle.ips_journal.proofs.Writers.{step_written}
 use Rattle.ips_journal.proofs.writer.JournalWriter.step.Goals as goal
