@@ -12,3 +12,4 @@ pub mod One
 pub mod Lines
 pub mod ReadBack
 pub mod Told
+pub mod OnLine

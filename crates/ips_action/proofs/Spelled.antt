@@ -25,7 +25,7 @@ digits_ascii text h i = go (cases_lt i (length text))
     go (inr le) = omega (arith, get_or-eq_default text 0 le)
 
 -- what isn't refuted by the digits of a name isn't refuted by a name
-spelled_so : (name : PayloadName) (text : List ℕ) → IsName name → text ≡ spelling name → (AreNameDigits text → ⊥) → ⊥
+pub spelled_so : (name : PayloadName) (text : List ℕ) → IsName name → text ≡ spelling name → (AreNameDigits text → ⊥) → ⊥
 spelled_so name text h e none = let found : None ≡ Some name = read_only text None none name h e in cc
 
 pub name_is_text : (name : PayloadName) (text : List ℕ) → IsName name → text ≡ spelling name → (IsUtf8 text → ⊥) → ⊥

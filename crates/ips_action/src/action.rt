@@ -37,7 +37,7 @@ impl Model for Action {
 }
 
 /// How a file is kept that was changed since it was laid (pkg(7), "File Actions", `preserve`).
-#[derive(Clone, Copy, Debug, PartialEq, Eq, Drop)]
+#[derive(Clone, Copy, Drop)]
 pub enum Preserve {
     /// It isn't kept.
     None,

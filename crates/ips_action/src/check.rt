@@ -14,7 +14,7 @@ use ips_text::{decimal, fault_of, fits_name, octal};
 use std::alloc::{AllocError, Global};
 
 /// What the value of an attribute must be.
-#[derive(Clone, Copy, PartialEq, Eq, Drop)]
+#[derive(Clone, Copy, Drop)]
 pub enum Check {
     /// Anything.
     Anything,

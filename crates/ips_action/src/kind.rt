@@ -5,7 +5,7 @@ ghost use Rattle.ips_action.specs.declared.kind.ActionKind.{ActionKind};
 ghost use Rattle.ips_action.specs.Kind.{kind_name};
 
 /// What an action is about (pkg(7), "Actions").
-#[derive(Clone, Copy, Debug, PartialEq, Eq, Drop)]
+#[derive(Clone, Copy, Drop)]
 pub enum ActionKind {
     /// Describes the package: a name and its values.
     Set,

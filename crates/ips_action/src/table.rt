@@ -7,7 +7,7 @@ use crate::check::Check;
 use crate::kind::ActionKind;
 
 /// How often an attribute may stand in an action.
-#[derive(Clone, Copy, PartialEq, Eq, Drop)]
+#[derive(Clone, Copy, Drop)]
 pub enum Times {
     /// Exactly once.
     Once,

@@ -10,3 +10,4 @@ pub mod Whole
 pub mod Opened
 pub mod Answered
 pub mod Spelled
+pub mod OnLine

@@ -6,7 +6,7 @@ ghost use Rattle.ips_line.specs.Reading.{fault_of, opened};
 use ips_text::Stop;
 
 /// What is wrong. Places are counted in bytes, from 0.
-#[derive(Clone, Copy, Debug, PartialEq, Eq, Drop)]
+#[derive(Clone, Copy, Drop)]
 pub enum WordFault {
     /// The first byte that no line continues, or the length of the text where it ends too early.
     BadWord { place: u64 },
@@ -15,7 +15,7 @@ pub enum WordFault {
 }
 
 /// What is being read.
-#[derive(Clone, Copy, PartialEq, Eq, Drop)]
+#[derive(Clone, Copy, Drop)]
 pub enum Part {
     /// A word.
     Word,

@@ -16,7 +16,7 @@ use ips_text::{Or, Stop, Text};
 use std::alloc::Global;
 
 /// A word that is borrowed from a line.
-#[derive(Clone, Copy, PartialEq, Eq, Drop)]
+#[derive(Clone, Copy, Drop)]
 pub struct Word<'a> {
     /// Its text.
     pub text: &'a str,
@@ -25,7 +25,7 @@ pub struct Word<'a> {
 }
 
 /// A `key=value`.
-#[derive(PartialEq, Eq, Drop)]
+#[derive(Drop)]
 pub struct Pair {
     /// One or more characters other than blank, tab, `=`, `"` and `'`.
     pub key: Text,

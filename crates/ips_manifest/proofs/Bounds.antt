@@ -1,10 +1,13 @@
 -- The line of a fault is one of the text's.
-use Rattle.std.proofs.Common.{◌≡◌, ℕ, suc, ◌+◌, ◌<◌, ◌≤◌, Bool, true, false, cond, ◌==◌, List, [], ◌∷◌, length, Option, Some, None, inl, inr, refl, arith}
+use Rattle.std.proofs.Common.{ℕ, suc, ◌+◌, ◌<◌, ◌≤◌, Bool, true, false, cond, ◌==◌, List, [], ◌∷◌, length, Option, Some, None, Err, inl, inr, arith}
 use Rattle.std.specs.Prelude.{IfSome}
 use Rattle.std.specs.List.{AllByRecursion}
 use Rattle.std.specs.Str.{is_utf8}
+use Rattle.ips_text.specs.declared.refusal.Or.{Or}
+use Rattle.ips_text.specs.declared.refusal.Or.TheVariants.{Bad, OutOfMemory}
+use Rattle.ips_text.specs.Reading.{IfBad}
 use Rattle.ips_manifest.specs.declared.fault.ManifestFault.{ManifestFault}
-use Rattle.ips_manifest.specs.Logical.{Logical, into_first, physical_lines, logical_lines, continued, continues, without_last, unreadable_at, or_else}
+use Rattle.ips_manifest.specs.Logical.{Logical, into_first, physical_lines, logical_lines, continued, continues, unreadable_at, or_else}
 use Rattle.ips_manifest.specs.Manifest.{IsFaultAt, IsFirstIn, IsFaultOf}
 
 -- a text has no more lines than bytes
@@ -61,3 +64,7 @@ fault_within bytes f fault =
     let few = lines_few bytes in
     let lt = first_below (1 + length (physical_lines bytes)) (logical_lines 1 (physical_lines bytes)) f (lines_below (1 + length (physical_lines bytes)) 1 (physical_lines bytes) (omega arith)) fault in
     omega (arith, few, lt)
+
+pub bad_within : (X Y : Type 0) (e : Or ManifestFault) (bytes : List ℕ) → IfBad {X = X} (Err e) (λ f. IsFaultOf bytes f) → IfBad {X = Y} (Err e) (λ f. f.line ≤ length bytes)
+bad_within X Y (Bad f) bytes h = fault_within bytes f h
+bad_within X Y OutOfMemory bytes h = tt

@@ -6,3 +6,4 @@ pub mod Gone
 pub mod Endings
 pub mod Laws
 pub mod Bounds
+pub mod OnLine

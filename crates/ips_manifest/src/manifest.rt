@@ -26,11 +26,14 @@ pub struct Manifest {
 impl Manifest {
     /// Reads a manifest, which has to be all of the bytes: UTF-8 text, one action a line. A line that ends with a backslash goes
     /// on with the next, and the backslash is dropped. Lines that are empty, blank, or begin with `#` behind blanks are skipped.
-    /// A fault is that of the first line that has one.
+    /// A fault is that of the first line that has one. What is read is printed to a text that reads back, since the canonical line
+    /// of each action is UTF-8 without a newline.
     pub fn read(alloc: Global, bytes: &[u8]) -> Result<Manifest, Or<ManifestFault>>
         ensures found { IfOk result (λ manifest. IsManifestOf bytes.now manifest.lines.items) }
         ensures only { (lines : List declared.Line) → IsManifestOf bytes.now lines → Gives (λ m. m.lines.items) result (Ok lines) }
         ensures fault { IfBad result (λ fault. IsFaultOf bytes.now fault) }
+        ensures stand { IfOk result (λ manifest. AllByRecursion StandsOnLine manifest.lines.items) }
+        ensures within { IfBad result (λ fault. fault.line ≤ length bytes.now) }
     {
         let lines = read_lines(alloc, bytes)?;
         Ok(Manifest { lines })
@@ -110,10 +113,13 @@ fn push_lines(alloc: Global, out: &mut String, lines: &[Line]) -> Result<(), All
 }
 
 /// The law of manifests' texts: where each action stands on a line, the canonical text reads as the manifest, with the numbers
-/// 1, 2 and so on; and no two manifests have one text, where the numbers are left out.
+/// 1, 2 and so on; and no two manifests have one text, where the numbers are left out. Each action of a manifest that some
+/// text means stands on a line, so whatever was read is printed to a text that reads back.
 pub fn manifests_read_back()
     ensures one { (lines others : List declared.Line) → AllByRecursion StandsOnLine lines → AllByRecursion StandsOnLine others → manifest_text lines ≡ manifest_text others → map (λ line. line.action) lines ≡ map (λ line. line.action) others }
     ensures back { (lines : List declared.Line) → AllByRecursion StandsOnLine lines → IsManifestOf (manifest_text lines) (renumbered 1 lines) }
+    ensures stand { (bytes : List ℕ) (lines : List declared.Line) → IsManifestOf bytes lines → AllByRecursion StandsOnLine lines }
+    ensures again { (bytes : List ℕ) (lines : List declared.Line) → IsManifestOf bytes lines → IsManifestOf (manifest_text lines) (renumbered 1 lines) }
 {
     actions_read_back();
 }
