@@ -2,6 +2,7 @@ pub mod Kind
 pub mod Target
 pub mod Check
 pub mod Table
+pub mod Held
 pub mod Attrs
 pub mod Gathering
 pub mod Judging

@@ -8,50 +8,95 @@ use ips_line::Pair;
 use ips_text::Text;
 use std::alloc::{AllocError, Global};
 use std::marker::Model;
+use std::slice;
 
-/// The values of an attribute, in their order. Contracts see them as a list of texts.
+/// The values of an attribute, in their order. A single one takes no room for a list. Contracts see them as a list of texts.
 #[derive(Drop)]
 pub struct Values {
-    items: Vec<Text>,
+    held: Held,
+}
+
+/// How values are held.
+#[derive(Drop)]
+pub enum Held {
+    /// One value.
+    One(Text),
+    /// Any number of them.
+    List(Vec<Text>),
 }
 
 impl Model for Values {
     ghost use Rattle.std.specs.Prelude.{List, ℕ};
+    ghost use Rattle.ips_action.specs.Held.{held_values};
 
     ghost Value = { List (List ℕ) };
 
-    ghost view = { λ v. v.items.items };
+    ghost view = { λ v. held_values v.held };
 }
 
 impl Values {
-    /// The values of a list, which isn't copied.
-    pub fn from_vec(items: Vec<Text>) -> Values
-        ensures { result ≡ items.items }
+    /// One value.
+    pub fn one(value: Text) -> Values
+        ensures { result ≡ value ∷ [] }
     {
-        Values { items }
+        Values {
+            held: Held::One(value),
+        }
     }
 
-    /// The list of the values, which isn't copied.
-    pub fn into_vec(self) -> Vec<Text>
-        ensures { result.items ≡ self }
+    /// The values, and one more behind them.
+    pub fn with_more(self, alloc: Global, value: Text) -> Result<Values, AllocError>
+        ensures { IfOk result (λ values. values ≡ self ++ value ∷ []) }
     {
-        self.items
+        let items = match self.held {
+            Held::One(first) => pair(alloc, first, value)?,
+            Held::List(items) => pushed(items, value)?,
+        };
+        Ok(Values {
+            held: Held::List(items),
+        })
     }
 
     /// The values.
     pub fn as_slice(&self) -> &[Text]
         ensures { result.now ≡ self.now }
     {
-        &self.items
+        match &self.held {
+            Held::One(value) => slice::from_ref(value),
+            Held::List(items) => items.as_slice(),
+        }
     }
 
     /// The same values.
     pub fn copy(&self, alloc: Global) -> Result<Values, AllocError>
         ensures { IfOk result (λ values. values ≡ self.now) }
     {
-        let items = copy_texts(alloc, self.as_slice())?;
-        Ok(Values::from_vec(items))
+        match &self.held {
+            Held::One(value) => Ok(Values::one(value.copy(alloc)?)),
+            Held::List(items) => Ok(Values {
+                held: Held::List(copy_texts(alloc, items)?),
+            }),
+        }
     }
+}
+
+// A list of two values.
+fn pair(alloc: Global, first: Text, second: Text) -> Result<Vec<Text>, AllocError>
+    ensures { IfOk result (λ items. items.items ≡ first ∷ second ∷ []) }
+{
+    let mut items = Vec::with_capacity(alloc, 2)?;
+    items.push(first)?;
+    items.push(second)?;
+    Ok(items)
+}
+
+// The list with one more value.
+fn pushed(items: Vec<Text>, value: Text) -> Result<Vec<Text>, AllocError>
+    ensures { IfOk result (λ more. more.items ≡ items.items ++ value ∷ []) }
+{
+    let mut items = items;
+    items.push(value)?;
+    Ok(items)
 }
 
 fn copy_texts(alloc: Global, texts: &[Text]) -> Result<Vec<Text>, AllocError>
@@ -211,6 +256,7 @@ fn gather_sorted(alloc: Global, pairs: Vec<Pair>) -> Result<Vec<Attr>, AllocErro
     for pair in pairs {
         add(alloc, &mut attrs, pair)?;
     }
+    attrs.shrink_to_fit();
     Ok(attrs)
 }
 
@@ -220,37 +266,33 @@ fn add(alloc: Global, attrs: &mut Vec<Attr>, pair: Pair) -> Result<(), AllocErro
 {
     let Pair { key, value } = pair;
     match attrs.pop() {
-        None => attrs.push(single(alloc, key, value)?)?,
-        Some(last) if last.key == key => attrs.push(with_value(last, value)?)?,
+        None => attrs.push(single(key, value))?,
+        Some(last) if last.key == key => attrs.push(with_value(alloc, last, value)?)?,
         Some(last) => {
             attrs.push(last)?;
-            attrs.push(single(alloc, key, value)?)?;
+            attrs.push(single(key, value))?;
         }
     }
     Ok(())
 }
 
 // An attribute with one value.
-fn single(alloc: Global, key: Text, value: Text) -> Result<Attr, AllocError>
-    ensures { IfOk result (λ attr. attr ≡ gathering.single (record { key = key; value = value })) }
+fn single(key: Text, value: Text) -> Attr
+    ensures { result ≡ gathering.single (record { key = key; value = value }) }
 {
-    let mut items = Vec::new(alloc);
-    items.push(value)?;
-    Ok(Attr {
+    Attr {
         key,
-        values: Values::from_vec(items),
-    })
+        values: Values::one(value),
+    }
 }
 
 // The attribute with one more value.
-fn with_value(attr: Attr, value: Text) -> Result<Attr, AllocError>
+fn with_value(alloc: Global, attr: Attr, value: Text) -> Result<Attr, AllocError>
     ensures { IfOk result (λ more. more ≡ record { key = attr.key; values = attr.values ++ value ∷ [] }) }
 {
     let Attr { key, values } = attr;
-    let mut items = values.into_vec();
-    items.push(value)?;
     Ok(Attr {
         key,
-        values: Values::from_vec(items),
+        values: values.with_more(alloc, value)?,
     })
 }

@@ -122,6 +122,7 @@ fn unescaped(alloc: Global, quote: u8, inside: &str) -> Result<Text, AllocError>
         rest = after;
     }
     value.push_str(rest)?;
+    value.shrink_to_fit();
     Ok(Text::from_string(value))
 }
 

@@ -97,6 +97,7 @@ fn read_lines(alloc: Global, bytes: &[u8]) -> Result<Vec<Line>, Or<ManifestFault
         add(&mut lines, rest.number, action)?;
         rest = behind;
     }
+    lines.shrink_to_fit();
     Ok(lines)
 }
 

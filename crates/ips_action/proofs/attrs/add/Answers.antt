@@ -13,4 +13,4 @@ pub returns-in_ok-push-in-Some-2-2 : goal.returns-in_ok-push-in-Some-2-2
 returns-in_ok-push-in-Some-2-2 c =
     let same : is_same c.in-Some.last.key c.args.pair.key ≡ false = cc in
     let e = added_last c.pop.new.self.items c.in-Some.last c.args.pair false same in
-    cc (c.in-Some.ensures.items, c.in_ok-push-in-Some-2.ensures.items, c.in_ok-push-in-Some-2-2.ensures.items, c.in_ok-single-in-Some-2.ensures)
+    cc (c.in-Some.ensures.items, c.in_ok-push-in-Some-2.ensures.items, c.in_ok-push-in-Some-2-2.ensures.items, c.single-in-Some-2.ensures)

@@ -16,4 +16,4 @@ loop-place-preserved c = (
 )
 
 pub returns : goal.returns
-returns c = c.from_string.ensures ∙ c.in_ok-push_str-3.ensures.bytes ∙ unescape_end c.args.quote (string_bytes c.loop-place.value) c.loop-place.rest.now _ (sym c.backslash.ensures ∙ c.in_default.is) c.loop-place.invariant.1
+returns c = c.from_string.ensures ∙ c.shrink_to_fit.ensures.bytes ∙ c.in_ok-push_str-3.ensures.bytes ∙ unescape_end c.args.quote (string_bytes c.loop-place.value) c.loop-place.rest.now _ (sym c.backslash.ensures ∙ c.in_default.is) c.loop-place.invariant.1
