@@ -6,3 +6,8 @@ pub mod Orders
 pub mod Ascending
 pub mod Grammar
 pub mod Escapes
+pub mod Conversions
+pub mod Turns
+pub mod FirstTokens
+pub mod Numbers
+pub mod Outlines

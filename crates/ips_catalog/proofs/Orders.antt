@@ -1,5 +1,5 @@
 -- The packages that a walk answers are in order.
-use Rattle.std.proofs.Common.{◌≡◌, ℕ, suc, Bool, true, false, cond, List, [], ◌∷◌, map, Option, Some, None, Ok, Err, String, Global, string_bytes, string_cmp, Ordering, Less, Equal, Greater, refl, sym, ap, subst, ◌∙◌, inl, inr}
+use Rattle.std.proofs.Common.{◌≡◌, ℕ, suc, Bool, true, false, cond, List, [], ◌∷◌, map, Option, Some, None, Ok, Err, Ordering, Less, Equal, Greater, refl, sym, ap, subst, ◌∙◌, inl, inr}
 use Rattle.std.specs.List.{AllByRecursion}
 use Rattle.std.specs.List.Sorted.{IsStrictlySortedBy}
 use Rattle.std.specs.Map.{keys_of}
@@ -9,9 +9,7 @@ use Rattle.std.specs.Ordering.{nat_cmp, match_ordering, ordering_reverse, is_eq}
 use Rattle.std.specs.BTreeSet.{insert_key}
 use Rattle.std.specs.Fmt.{decimal}
 use Rattle.serde_json.specs.Data.{Data, Items, no_items, item, Members, member}
-use Rattle.serde_json.specs.View.{view, members_view}
 use Rattle.serde_json.specs.Find.{as_array}
-use Rattle.serde_json.proofs.Views.{Entry}
 use Rattle.ips_text.specs.Reading.{◌>>=◌}
 use Rattle.ips_text.proofs.Readers.{bind_ok, ok_is, ok_not_err, chosen}
 use Rattle.ips_fmri.specs.Version.{Parts, version_text}
@@ -22,6 +20,8 @@ use Rattle.ips_catalog.specs.Listed.{Listed, VersionsAscend, IsInOrder, versions
 use Rattle.ips_catalog.specs.Pointer.{pointer}
 use Rattle.ips_catalog.specs.Stem.{is_stem}
 use Rattle.ips_catalog.specs.Reading.{shaped, text_at, version_in, is_among, with_next, entry_at, versions_at, package_at, packages_at}
+use Rattle.ips_catalog.specs.Outline.{package_kept, packages_kept, package_data, packages_data}
+use Rattle.ips_catalog.proofs.Outlines.{Kept}
 
 -- ---- a key put at its place
 
@@ -135,37 +135,28 @@ packages_read publisher key value members packages e =
     let b = bind_ok (packages_at publisher members) (λ others. Ok (a.0 ∷ others)) packages a.2 in
     record { first = a.0; others = b.0; read = a.1; behind = b.1; are = ok_is {E = CatalogFault} (a.0 ∷ b.0) packages b.2 }
 
-stems_are : (publisher : List ℕ) (es : List Entry) (packages : List Listed) → packages_at publisher (members_view es) ≡ Ok packages → map string_bytes (keys_of es) ≡ map (λ listed. listed.stem) packages
+stems_are : (publisher : List ℕ) (es : List Kept) (packages : List Listed) → packages_at publisher (packages_data (packages_kept es)) ≡ Ok packages → keys_of es ≡ map (λ listed. listed.stem) packages
 unfolding packages_at
 stems_are publisher [] packages e = ap (map (λ (l : Listed). l.stem)) (ok_is {E = CatalogFault} [] packages e)
 stems_are publisher (e ∷ es) packages h =
-    let r = packages_read publisher (string_bytes e.0) (view e.1) (members_view es) packages h in
-    let p = package_read publisher (string_bytes e.0) (view e.1) r.first r.read in
-    ap (λ (s : List ℕ). s ∷ map string_bytes (keys_of es)) p.named ∙ ap (λ (ss : List (List ℕ)). r.first.stem ∷ ss) (stems_are publisher es r.others r.behind) ∙ ap (map (λ (l : Listed). l.stem)) r.are
-
-below_bytes : (k : String Global) (ks : List (String Global)) → AllByRecursion (λ y. string_cmp k y ≡ Less) ks → AllByRecursion (λ y. slice_cmp nat_cmp (string_bytes k) y ≡ Less) (map string_bytes ks)
-below_bytes k [] all = tt
-below_bytes k (x ∷ xs) all = (all.0, below_bytes k xs all.1)
-
-bytes_ascend : (ks : List (String Global)) → IsStrictlySortedBy string_cmp ks → IsStrictlySortedBy (slice_cmp nat_cmp) (map string_bytes ks)
-unfolding IsStrictlySortedBy
-bytes_ascend [] up = tt
-bytes_ascend (k ∷ ks) up = (below_bytes k ks up.0, bytes_ascend ks up.1)
+    let r = packages_read publisher e.0 (package_data (package_kept e.1)) (packages_data (packages_kept es)) packages h in
+    let p = package_read publisher e.0 (package_data (package_kept e.1)) r.first r.read in
+    ap (λ (s : List ℕ). s ∷ keys_of es) p.named ∙ ap (λ (ss : List (List ℕ)). r.first.stem ∷ ss) (stems_are publisher es r.others r.behind) ∙ ap (map (λ (l : Listed). l.stem)) r.are
 
 package_ascends : (publisher key : List ℕ) (value : Data) (listed : Listed) → package_at publisher key value ≡ Ok listed → IsStrictlySortedBy version_cmp listed.versions
 unfolding IsStrictlySortedBy
 package_ascends publisher key value listed e = let p = package_read publisher key value listed e in versions_ascend publisher key 0 [] listed.versions p.entries p.versions tt
 
-all_ascend : (publisher : List ℕ) (es : List Entry) (packages : List Listed) → packages_at publisher (members_view es) ≡ Ok packages → VersionsAscend packages
+all_ascend : (publisher : List ℕ) (es : List Kept) (packages : List Listed) → packages_at publisher (packages_data (packages_kept es)) ≡ Ok packages → VersionsAscend packages
 unfolding packages_at
 all_ascend publisher [] packages e = subst VersionsAscend (ok_is {E = CatalogFault} [] packages e) tt
 all_ascend publisher (e ∷ es) packages h =
-    let r = packages_read publisher (string_bytes e.0) (view e.1) (members_view es) packages h in
-    subst VersionsAscend r.are (package_ascends publisher (string_bytes e.0) (view e.1) r.first r.read, all_ascend publisher es r.others r.behind)
+    let r = packages_read publisher e.0 (package_data (package_kept e.1)) (packages_data (packages_kept es)) packages h in
+    subst VersionsAscend r.are (package_ascends publisher e.0 (package_data (package_kept e.1)) r.first r.read, all_ascend publisher es r.others r.behind)
 
-pub in_order : (publisher : List ℕ) (es : List Entry) (packages : List Listed) → IsStrictlySortedBy string_cmp (keys_of es) → packages_at publisher (members_view es) ≡ Ok packages → IsInOrder packages
+pub in_order : (publisher : List ℕ) (es : List Kept) (packages : List Listed) → IsStrictlySortedBy (slice_cmp nat_cmp) (keys_of es) → packages_at publisher (packages_data (packages_kept es)) ≡ Ok packages → IsInOrder packages
 in_order publisher es packages up e = record {
-  stems = subst (IsStrictlySortedBy (slice_cmp nat_cmp)) (stems_are publisher es packages e) (bytes_ascend (keys_of es) up);
+  stems = subst (IsStrictlySortedBy (slice_cmp nat_cmp)) (stems_are publisher es packages e) up;
   versions = all_ascend publisher es packages e;
 }
 

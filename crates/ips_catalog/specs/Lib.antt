@@ -4,3 +4,4 @@ pub mod Seen
 pub mod Stem
 pub mod Reading
 pub mod Catalog
+pub mod Outline

@@ -1,26 +1,28 @@
 //! Catalogs.
 
-ghost use Rattle.std.specs.Prelude.{◌≡◌, ◌<◌, List, [], Ok, IfOk, OnErr, length, map, option_map, slice_get, slice_index_or};
+ghost use Rattle.std.specs.Prelude.{◌≡◌, ◌<◌, List, [], Ok, Some, IfOk, OnErr, length, map, option_map, slice_get, slice_index_or};
 ghost use Rattle.std.specs.List.Sorted.{IsStrictlySortedBy};
 ghost use Rattle.std.specs.Ordering.{nat_cmp};
 ghost use Rattle.ips_fmri.specs.Order.{version_cmp};
 ghost use Rattle.std.specs.Cmp.Lexicographic.{slice_cmp};
-ghost use Rattle.serde_json.specs.View.{view};
 ghost use Rattle.ips_text.specs.Reading.{Gives};
 ghost use Rattle.ips_catalog.specs.Seen.{seen};
 ghost use Rattle.ips_catalog.specs.Listed.{Listed, IsInOrder, versions_of, count_of};
 ghost use Rattle.ips_catalog.specs.Catalog.{IsCatalogText};
-ghost use Rattle.ips_catalog.specs.Reading.{read_catalog, catalog_of, published_at};
+ghost use Rattle.ips_catalog.specs.Reading.{read_catalog, published_at};
+ghost use Rattle.ips_catalog.specs.Outline.{outline_kept, outlined_at, published_kept, published_data};
 
 use crate::fault::CatalogFault;
+use crate::outline::{Outline, Published, read_outline};
 use crate::packages::{Listing, read_packages};
 use crate::pointers::{publisher_pointer, top_pointer};
+use crate::unread::Unread;
 use ips_fmri::Version;
 use ips_text::Or;
-use serde_json::Value;
 use std::alloc::{AllocError, Global};
 use std::cmp::Ordering;
 use std::marker::Model;
+use std::str;
 
 /// The packages of a publisher with their versions (the `catalog.base.C` of a version 4 repository, pkgrepo(1)). Contracts see
 /// the list of its packages, by the bytes of their stems, each with its versions ascending.
@@ -55,10 +57,13 @@ impl Catalog {
         ensures ordered { IfOk result (λ catalog. IsInOrder catalog) }
         ensures exact { Gives (λ c. c) result (read_catalog publisher.now bytes.now) }
     {
-        match Value::from_slice(alloc, bytes) {
-            Ok(value) => read_value(alloc, publisher, &value),
-            Err(error) if error.is_memory() => Err(Or::OutOfMemory),
-            Err(_) => Err(Or::Bad(CatalogFault::NotJson)),
+        let Ok(text) = str::from_utf8(bytes) else {
+            return Err(Or::Bad(CatalogFault::NotJson));
+        };
+        match read_outline(alloc, text, publisher) {
+            Ok(outline) => read_value(alloc, publisher, outline),
+            Err(Unread::NotJson) => Err(Or::Bad(CatalogFault::NotJson)),
+            Err(Unread::OutOfMemory) => Err(Or::OutOfMemory),
         }
     }
 
@@ -112,38 +117,38 @@ impl Catalog {
     }
 }
 
-// The catalog that a JSON value holds.
-#[tactic(auto, unfolding(crate::specs::Reading::catalog_of))]
-fn read_value(alloc: Global, publisher: &str, value: &Value) -> Result<Catalog, Or<CatalogFault>>
-    ensures { Gives (λ c. c) result (catalog_of publisher.now (view value.now)) }
+// The catalog of what is kept of a text.
+#[tactic(auto, unfolding(crate::specs::Reading::published_at))]
+fn read_value(alloc: Global, publisher: &str, outline: Outline) -> Result<Catalog, Or<CatalogFault>>
+    ensures { Gives (λ c. c) result (outlined_at publisher.now (outline_kept outline)) }
 {
-    if !value.is_object() {
-        let pointer = top_pointer(alloc)?;
-        return Err(Or::Bad(CatalogFault::WrongShape { pointer }));
+    match outline {
+        Some(Some(published)) => read_published(alloc, publisher, published),
+        Some(None) => Ok(Catalog {
+            packages: Vec::new(alloc),
+            count: 0,
+        }),
+        None => {
+            let pointer = top_pointer(alloc)?;
+            Err(Or::Bad(CatalogFault::WrongShape { pointer }))
+        }
     }
-    read_published(alloc, publisher, value.get(publisher))
 }
 
-// The catalog of what stands at the publisher's key.
+// The catalog of what is kept at the publisher's key.
 #[tactic(auto, unfolding(crate::specs::Reading::published_at))]
 fn read_published(
     alloc: Global,
     publisher: &str,
-    value: Option<&Value>,
+    published: Published,
 ) -> Result<Catalog, Or<CatalogFault>>
-    ensures { Gives (λ c. c) result (published_at publisher.now (option_map (λ v. view v.now) value.entry)) }
+    ensures { Gives (λ c. c) result (published_at publisher.now (Some (published_data (published_kept published)))) }
 {
-    let Some(value) = value else {
-        return Ok(Catalog {
-            packages: Vec::new(alloc),
-            count: 0,
-        });
-    };
-    let Some(members) = value.as_object() else {
+    let Some(mut members) = published else {
         let pointer = publisher_pointer(alloc, publisher)?;
         return Err(Or::Bad(CatalogFault::WrongShape { pointer }));
     };
-    let packages = read_packages(alloc, publisher, members)?;
+    let packages = read_packages(alloc, publisher, &mut members)?;
     let count = total(&packages)?;
     Ok(Catalog { packages, count })
 }

@@ -2,15 +2,15 @@
 
 ghost use Rattle.std.specs.Prelude.{◌≡◌, ◌∷◌, [], IfOk};
 ghost use Rattle.std.specs.Fmt.{decimal};
-ghost use Rattle.serde_json.specs.View.{view, items_view};
 ghost use Rattle.ips_text.specs.Reading.{Gives};
 ghost use Rattle.ips_catalog.specs.Reading.{text_at, version_in, with_next, entry_at, versions_at};
+ghost use Rattle.ips_catalog.specs.Outline.{entry_data, entries_data};
 
 use crate::fault::{CatalogFault, place};
+use crate::outline::Entry;
 use crate::pointers::{entry_pointer, version_pointer};
 use ips_fmri::Version;
 use ips_text::{Or, Text};
-use serde_json::Value;
 use std::alloc::{AllocError, Global};
 use std::collections::BTreeSet;
 
@@ -19,9 +19,9 @@ pub fn read_versions(
     alloc: Global,
     publisher: &str,
     stem: &str,
-    entries: &[Value],
+    entries: &[Entry],
 ) -> Result<Vec<Version>, Or<CatalogFault>>
-    ensures { Gives (λ v. v.items) result (versions_at publisher.now stem.now 0 [] (items_view entries.now)) }
+    ensures { Gives (λ v. v.items) result (versions_at publisher.now stem.now 0 [] (entries_data entries.now)) }
 {
     let mut versions = BTreeSet::new(alloc);
     for (index, entry) in entries.iter().enumerate() {
@@ -44,10 +44,10 @@ fn add_entry(
     publisher: &str,
     stem: &str,
     index: usize,
-    entry: &Value,
+    entry: &Entry,
     versions: &mut BTreeSet<Version>,
 ) -> Result<(), Or<CatalogFault>>
-    ensures { Gives (λ _. versions.new.keys) result (entry_at publisher.now stem.now index versions.old.keys (view entry.now)) }
+    ensures { Gives (λ _. versions.new.keys) result (entry_at publisher.now stem.now index versions.old.keys (entry_data entry.now)) }
 {
     let text = version_text(alloc, publisher, stem, index, entry)?;
     let version = read_version(alloc, stem, text)?;
@@ -61,18 +61,18 @@ fn version_text<'a>(
     publisher: &str,
     stem: &str,
     index: usize,
-    entry: &'a Value,
+    entry: &'a Entry,
 ) -> Result<&'a str, Or<CatalogFault>>
-    ensures { Gives (λ text. text.now) result (text_at (publisher.now ∷ stem.now ∷ decimal index ∷ []) (view entry.now)) }
+    ensures { Gives (λ text. text.now) result (text_at (publisher.now ∷ stem.now ∷ decimal index ∷ []) (entry_data entry.now)) }
 {
-    if !entry.is_object() {
-        let pointer = entry_pointer(alloc, publisher, stem, index)?;
-        return Err(Or::Bad(CatalogFault::WrongShape { pointer }));
-    }
-    match entry.get("version").and_then(Value::as_str) {
-        Some(text) => Ok(text),
-        None => {
+    match entry {
+        Some(Some(text)) => Ok(text.as_str()),
+        Some(None) => {
             let pointer = version_pointer(alloc, publisher, stem, index)?;
+            Err(Or::Bad(CatalogFault::WrongShape { pointer }))
+        }
+        None => {
+            let pointer = entry_pointer(alloc, publisher, stem, index)?;
             Err(Or::Bad(CatalogFault::WrongShape { pointer }))
         }
     }

@@ -8,9 +8,12 @@
 mod catalog;
 mod entries;
 mod fault;
+mod outline;
 mod packages;
 mod pointers;
+mod skip;
 mod stems;
+mod unread;
 
 pub use catalog::Catalog;
 pub use fault::CatalogFault;

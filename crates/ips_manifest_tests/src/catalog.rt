@@ -118,6 +118,9 @@ const KEEPS_THE_LATER_OF_TWO_EQUAL_KEYS: &str = r#"
 {"test": {"b": []}, "test": {"a": [{"version": "2"}]}} -> 1 1: 2
 {"test": {"a": [{"version": "1", "version": "2"}]}} -> 1 1: 2
 {"test": {"a": 1, "\u0061": [{"version": "2"}]}} -> 1 1: 2
+# A fault of the earlier one isn't told.
+{"test": 5, "test": {"b": [], "a": [{"version": "x"}], "a": [{"version": 1, "version": "2"}]}} -> 2 1: 2
+{"test": {"a": [{"version": "1"}]}, "test": {"b": []}} -> 1 0:
 "#;
 
 const TELLS_WHAT_IS_NO_JSON_TABLE: &str = r#"
@@ -128,12 +131,21 @@ const TELLS_WHAT_IS_NO_JSON_TABLE: &str = r#"
 # Also what isn't looked at has to be JSON.
 {"x": 1e999} -> no json
 {"x": "\ud800"} -> no json
+{"x": [[], {"y": [-1e999]}], "test": 5} -> no json
+{"test": {"a": 1e999}} -> no json
+{"test": {"a": [{"size": 1e999, "version": "x"}]}} -> no json
+{"test": {"a": [{"version": 1e999}]}} -> no json
+{"test": {"a": [{"version": "1", "x": [}]}} -> no json
 "#;
 
 const TELLS_WHAT_IS_NO_JSON_SPELLED: &str = r#"
 {blank} -> no json
-# Nested too deeply.
+# Nested too deeply, and just not.
 {[*200}{]*200} -> no json
+{0x7b}"x": {[*127}{]*127}} -> no json
+{0x7b}"x": {[*126}{]*126}} -> a catalog
+{0x7b}"test": {0x7b}"a": [{0x7b}"x": {[*124}{]*124}, "version": "x"}]}} -> no json
+{0x7b}"test": {0x7b}"a": [{0x7b}"x": {[*123}{]*123}, "version": "x"}]}} -> bad version of a at 0
 # A key that is no UTF-8.
 {0x7b}"{0xff}":1} -> no json
 "#;
@@ -224,21 +236,21 @@ fn reads_catalogs(rt: HostRuntime) {
         &rt,
         alloc,
         &mut Asked::Sizes("a"),
-        4,
+        6,
         KEEPS_THE_LATER_OF_TWO_EQUAL_KEYS,
     );
     holds(
         &rt,
         alloc,
         &mut Asked::Fault("test"),
-        6,
+        11,
         TELLS_WHAT_IS_NO_JSON_TABLE,
     );
     holds(
         &rt,
         alloc,
         &mut Asked::Spelled,
-        3,
+        7,
         TELLS_WHAT_IS_NO_JSON_SPELLED,
     );
     holds(

@@ -1,6 +1,6 @@
 use Rattle.std.proofs.Common.{◌+◌, drop, Result, Ok, ap, sym, ◌∙◌, List}
 use Rattle.std.proofs.lemmas.Result.{err_from_is_err_and}
-use Rattle.serde_json.specs.View.{view, items_view}
+use Rattle.ips_catalog.specs.Outline.{entry_data, entries_data}
 use Rattle.ips_text.specs.Reading.{◌>>=◌}
 use Rattle.ips_fmri.specs.Version.{Parts}
 use Rattle.ips_catalog.specs.declared.fault.CatalogFault.{CatalogFault}
@@ -18,7 +18,7 @@ returns-in_err-add_entry c =
     let entry = c.index-entries-index.result in
     let before = c.loop-index.versions.keys in
     rw (p.1, p.2, c.loop-index.invariant, entry_first publisher stem index before entries entry c.loop-index-test.true c.index-entries-index.is)
-    (fails_then c.in_err-add_entry.field-0.0 (entry_at publisher stem index before (view entry)) (λ (versions : List Parts). versions_at publisher stem (index + 1) versions (items_view (drop (index + 1) entries))) c.in_err-add_entry.ensures)
+    (fails_then c.in_err-add_entry.field-0.0 (entry_at publisher stem index before (entry_data entry)) (λ (versions : List Parts). versions_at publisher stem (index + 1) versions (entries_data (drop (index + 1) entries))) c.in_err-add_entry.ensures)
 
 pub loop-index-preserved : goal.loop-index-preserved
 loop-index-preserved c =
@@ -28,7 +28,7 @@ loop-index-preserved c =
     let index = c.loop-index.index in
     c.loop-index.invariant
     ∙ entry_first publisher stem index c.loop-index.versions.keys entries c.index-entries-index.result c.loop-index-test.true c.index-entries-index.is
-    ∙ ap (λ (r : Result (List Parts) CatalogFault). r >>= λ versions. versions_at publisher stem (index + 1) versions (items_view (drop (index + 1) entries))) c.in_ok-add_entry.ensures
+    ∙ ap (λ (r : Result (List Parts) CatalogFault). r >>= λ versions. versions_at publisher stem (index + 1) versions (entries_data (drop (index + 1) entries))) c.in_ok-add_entry.ensures
 
 pub returns : goal.returns
 returns c =
