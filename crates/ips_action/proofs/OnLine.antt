@@ -20,7 +20,7 @@ use Rattle.ips_action.specs.Action.{Fields, IfName, payload_word, pairs_of, pair
 use Rattle.ips_action.specs.Meaning.{is_path_key, without_slashes, held, Means}
 use Rattle.ips_action.proofs.KeyOrder.{same_true, self_equal}
 use Rattle.ips_action.proofs.Found.{found_at}
-use Rattle.ips_action.proofs.Spelled.{spelled_so}
+use Rattle.ips_action.proofs.Spelled.{low, spelled_so}
 
 -- ---- names of kinds and of payloads
 
@@ -54,16 +54,13 @@ name_can License = letters_can (kind_name License) refl
 name_can Legacy = letters_can (kind_name Legacy) refl
 name_can Signature = letters_can (kind_name Signature) refl
 
-low_digit : (b : ℕ) → is_lower_digit b ≡ true → b < 128
-low_digit b e = grind arith
-
 high_digit : (b : ℕ) → is_lower_digit b ≡ true → 10 < b
 high_digit b e = grind arith
 
 digit_plain : (b : ℕ) → is_lower_digit b ≡ true → Plain_byte b
 digit_plain b e =
     let above = high_digit b e in
-    record { ascii = low_digit b e; other = ap not (ne_eqb b 10 (λ same. absurd (omega arith))) }
+    record { ascii = low b e; other = ap not (ne_eqb b 10 (λ same. absurd (omega arith))) }
 
 digits_can : (bytes : List ℕ) → list_all is_lower_digit bytes ≡ true → CanStand bytes
 digits_can [] h = can_nil

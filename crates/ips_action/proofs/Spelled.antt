@@ -14,7 +14,7 @@ use Rattle.ips_line.specs.Canonical.{pair_text}
 use Rattle.ips_action.specs.declared.attrs.Attr.{Attr}
 use Rattle.ips_action.specs.Action.{pairs_of, pairs_of_one, attr_text}
 
-low : (b : ℕ) → is_lower_digit b ≡ true → b < 128
+pub low : (b : ℕ) → is_lower_digit b ≡ true → b < 128
 low b e = grind arith
 
 digits_ascii : (text : List ℕ) → AllPass is_lower_digit text → IsAscii text
