@@ -1,12 +1,18 @@
 //! The text of a journal, and how it is read from a folder in memory.
 
-ghost use Rattle.std.specs.Prelude.{IsSome};
+ghost use Rattle.std.specs.Prelude.{◌≡◌, [], Some, IsSome, IsTrue};
+ghost use Rattle.ips_outside.specs.Image.{file_bytes};
+ghost use Rattle.ips_folder.specs.Calls.{IsSole};
+ghost use Rattle.ips_folder.specs.Memory.{mem_folder};
+ghost use Rattle.ips_steps.specs.Private.{journal_name};
+ghost use Rattle.ips_journal.specs.Writing.{IsWritten};
 
 use crate::outside::tree_of;
-use crate::script::{call_of, path};
+use crate::script::{bytes, call_of, path};
 use crate::steps::{read_step, sort_word};
 use ips_folder::MemFolder;
-use ips_journal::{StepFault, StepReader, write_steps};
+use ips_journal::{JournalWriter, StepFault, StepReader, write_steps};
+use ips_steps::{Step, Target};
 use ips_text::RelPath;
 use std::alloc::Global;
 use std::process::Abort;
@@ -24,12 +30,23 @@ fn lines_of(rt: &impl Abort, alloc: Global, text: &str) -> Vec<u8> {
 }
 
 // A folder that holds this journal, and of which the call with this number fails.
-fn folder(rt: &impl Abort, alloc: Global, journal: &[u8], fails: u64) -> MemFolder {
+#[tactic(auto, unfolding(ips_steps::specs::Private::journal_name))]
+fn folder(rt: &impl Abort, alloc: Global, journal: &[u8], fails: u64) -> MemFolder
+    ensures sole { IsSole (mem_folder.state result).held journal_name }
+    ensures held { file_bytes ((mem_folder.state result).held.look journal_name) ≡ Some journal.now }
+{
     let mut tree = tree_of(rt, alloc, "dir var 755\ndir var/pkg 755");
-    let made = tree.file(alloc, &path(rt, alloc, "var/pkg/journal"), 0o644, journal);
-    made.ok().expect(rt, "a journal");
+    let Ok(place) = RelPath::parse(alloc, b"var/pkg/journal") else {
+        panic!(rt; "no path");
+    };
+    let Ok(()) = tree.file(alloc, &place, 0o644, journal) else {
+        panic!(rt; "no journal");
+    };
     let fails = Vec::from_slice(alloc, &[fails]).expect(rt, "memory");
-    MemFolder::new(alloc, tree, fails, None).expect(rt, "memory")
+    let Ok(folder) = MemFolder::new(alloc, tree, fails, None) else {
+        panic!(rt; "no memory");
+    };
+    folder
 }
 
 // How many steps the journal has, of which at most ten are read.
@@ -127,20 +144,134 @@ const FIRST_JOURNAL: &str =
     put 1 0644 var/pkg/history;put 2 0644 var/pkg/installed;put 3 0644 var/pkg/manifests/hello;\
     put 4 0644 var/pkg/owners;end 7;";
 
+// The steps, each on a line.
+fn steps_of(rt: &impl Abort, alloc: Global, lines: &str) -> Vec<Step> {
+    let mut steps = Vec::new(alloc);
+    for line in lines.lines() {
+        steps.push(read_step(rt, alloc, line)).expect(rt, "memory");
+    }
+    steps
+}
+
+// Writes the lines of the steps.
+fn put_steps(rt: &impl Abort, writer: &mut JournalWriter, steps: &[Step], folder: &mut MemFolder)
+    requires { IsWritten writer.old (mem_folder.state folder.old).held [] }
+    ensures { IsSole (mem_folder.state folder.new).held journal_name }
+{
+    for step in steps {
+        let Ok(()) = writer.step(folder, step) else {
+            panic!(rt; "a failed call");
+        };
+    }
+}
+
+// What stands at the journal's place, where a writer has written it.
+fn written(rt: &impl Abort, alloc: Global, steps: &[Step]) -> Vec<u8> {
+    let mut folder = folder(rt, alloc, b"", 0);
+    let mut writer = JournalWriter::new(alloc).expect(rt, "memory");
+    put_steps(rt, &mut writer, steps, &mut folder);
+    writer.finish(&mut folder).ok().expect(rt, "no fault");
+    let text = folder.tree().bytes(&path(rt, alloc, "var/pkg/journal"));
+    Vec::from_slice(alloc, text.expect(rt, "a journal")).expect(rt, "memory")
+}
+
 #[test]
 fn writes_the_journal_of_a_first_installation(rt: HostRuntime) {
     let alloc = rt.alloc();
-    let mut steps = Vec::new(alloc);
-    for line in FIRST_INSTALLATION.lines() {
-        steps
-            .push(read_step(&rt, alloc, line))
-            .expect(&rt, "memory");
-    }
+    let steps = steps_of(&rt, alloc, FIRST_INSTALLATION);
     let text = write_steps(alloc, &steps).ok().expect(&rt, "no fault");
     assert!(rt; text.as_slice() == lines_of(&rt, alloc, FIRST_JOURNAL).as_slice());
     let mut reader = StepReader::new(alloc).ok().expect(&rt, "no fault");
     let read = read_all(&mut reader, &mut folder(&rt, alloc, &text, 0));
     assert!(rt; read.ok() == Some(7));
+}
+
+// So many steps that put a file.
+fn many(rt: &impl Abort, alloc: Global, count: u64) -> Vec<Step> {
+    let mut steps = Vec::new(alloc);
+    for number in 0..count {
+        let line = format!(in alloc; "put {number} 0644 usr/share/file{number}").expect(
+            rt, "memory",
+        );
+        steps.push(read_step(rt, alloc, &line)).expect(rt, "memory");
+    }
+    steps
+}
+
+// A step of each sort.
+const EACH_SORT: &str = "gone a
+fresh 0755 b
+mode 0700 var/pkg
+put 0 0644 b/c
+link b/d %2F
+hard b/e b/c";
+
+#[test]
+fn a_writer_writes_the_same_text(rt: HostRuntime) {
+    let alloc = rt.alloc();
+    for count in [0u64, 1, 5_000] {
+        let steps = many(&rt, alloc, count);
+        let text = write_steps(alloc, &steps).ok().expect(&rt, "no fault");
+        assert!(rt;
+            written(&rt, alloc, &steps).as_slice() == text.as_slice(),
+            "{count}"
+        );
+    }
+    for lines in [FIRST_INSTALLATION, EACH_SORT] {
+        let steps = steps_of(&rt, alloc, lines);
+        let text = write_steps(alloc, &steps).ok().expect(&rt, "no fault");
+        assert!(rt;
+            written(&rt, alloc, &steps).as_slice() == text.as_slice(),
+            "{lines}"
+        );
+    }
+}
+
+// Targets as a journal quotes them, and their bytes.
+const TARGETS: &str = "
+%2Fc -> /c
+%00 -> %00
+a%00b%FF -> a%00b%FF
+";
+
+// The target of the journal's first step, which makes a link.
+fn first_target(rt: &impl Abort, alloc: Global, journal: &[u8]) -> Vec<u8> {
+    let mut reader = StepReader::new(alloc).ok().expect(rt, "no fault");
+    let mut folder = folder(rt, alloc, journal, 0);
+    let Ok(true) = reader.next(&mut folder) else {
+        panic!(rt; "no step");
+    };
+    match reader.step() {
+        Step::Link { target, .. } => Vec::from_slice(alloc, target.bytes()).expect(rt, "memory"),
+        _ => Vec::new(alloc),
+    }
+}
+
+#[test]
+fn targets_of_any_bytes_read_back(rt: HostRuntime) {
+    let alloc = rt.alloc();
+    let mut played = 0u64;
+    for row in TARGETS.lines() {
+        let Some((quoted, wanted)) = call_of(row) else {
+            continue;
+        };
+        let wanted = bytes(&rt, alloc, wanted);
+        let mut steps = Vec::new(alloc);
+        let target = Target::parse(alloc, &wanted).ok().expect(&rt, "a target");
+        let path = path(&rt, alloc, "a");
+        steps
+            .push(Step::Link { path, target })
+            .expect(&rt, "memory");
+        let text = write_steps(alloc, &steps).ok().expect(&rt, "no fault");
+        let lines = format!(in alloc; "journal 1\nlink a {quoted}\nend 1\n").expect(&rt, "memory");
+        assert!(rt; text.as_slice() == lines.as_bytes(), "{row}");
+        assert!(rt;
+            first_target(&rt, alloc, &text).as_slice() == wanted.as_slice(),
+            "{row}"
+        );
+        played = played.saturating_add(1);
+    }
+    assert_eq!(rt; played, 3);
 }
 
 fn push_path(rt: &impl Abort, text: &mut String, front: &str, path: &RelPath) {
@@ -165,11 +296,18 @@ fn push_step(rt: &impl Abort, reader: &StepReader, text: &mut String)
     text.push_str("\n").expect(rt, "memory");
 }
 
-// What the reader lends of a journal of which each line but the first and the last is a step.
-fn lent(rt: &impl Abort, alloc: Global, reader: &mut StepReader, folder: &mut MemFolder) -> String {
+// What the reader lends from this line on, of a journal of which each line but the first and the last is a step.
+fn lent(
+    rt: &impl Abort,
+    alloc: Global,
+    reader: &mut StepReader,
+    folder: &mut MemFolder,
+    from: u64,
+) -> String
+    requires { IsTrue reader.old.is_open }
+{
     let mut text = String::new(alloc);
-    reader.rewind();
-    for line in 2..12u64 {
+    for line in from..12u64 {
         if !reader.next(folder).ok().expect(rt, "no fault") {
             break;
         }
@@ -193,11 +331,35 @@ const LENT: &str = "2 Gone usr a/b below usr a
 6 Hard a/c below a
 ";
 
+const LENT_BEHIND_TWO: &str = "4 Put a of var/pkg/stage/0
+5 Link a/b below a
+6 Hard a/c below a
+";
+
 #[test]
 fn lends_each_step_with_its_parent_and_file(rt: HostRuntime) {
     let alloc = rt.alloc();
     let mut reader = StepReader::new(alloc).ok().expect(&rt, "no fault");
     let mut folder = folder(&rt, alloc, &lines_of(&rt, alloc, JOURNAL), 0);
-    let lent = lent(&rt, alloc, &mut reader, &mut folder);
-    assert!(rt; lent.as_str() == LENT, "{lent}");
+    // a new reader stands at the front
+    let text = lent(&rt, alloc, &mut reader, &mut folder, 2);
+    assert!(rt; text.as_str() == LENT, "{text}");
+    reader.rewind();
+    let text = lent(&rt, alloc, &mut reader, &mut folder, 2);
+    assert!(rt; text.as_str() == LENT, "{text}");
+}
+
+#[test]
+fn reads_on_where_it_stands(rt: HostRuntime) {
+    let alloc = rt.alloc();
+    let mut reader = StepReader::new(alloc).ok().expect(&rt, "no fault");
+    let mut folder = folder(&rt, alloc, &lines_of(&rt, alloc, JOURNAL), 0);
+    let Ok(true) = reader.next(&mut folder) else {
+        panic!(rt; "no step");
+    };
+    let Ok(true) = reader.next(&mut folder) else {
+        panic!(rt; "no second step");
+    };
+    let text = lent(&rt, alloc, &mut reader, &mut folder, 4);
+    assert!(rt; text.as_str() == LENT_BEHIND_TWO, "{text}");
 }
