@@ -77,8 +77,8 @@ abbrev pub EndsPart : {F : Type 0} → Outside F → List ℕ → List Step → 
 EndsPart o text front steps old new r (Ok x) = EndsOrNot text (front ++ steps) r x.1 × AreLaid o steps old new
 EndsPart o text front steps old new r (Err fault) = StopsBy o text front steps old new fault
 
--- What a run through a journal does from a reader's place on: some steps are finished, each counted by the first kind that
--- takes it; where the folder tells its image they are those of its journal behind the front that the reader has read.
+-- What `apply` does from a reader's place on: some steps are finished, and each is counted by the first kind that takes it.
+-- Where the folder tells its image, they are the next steps of its journal.
 pub record Applied {F : Type 0} (o : Outside F) (old new : F) (r : Reading) (before now : List Carrier) (result : Result ℕ StepFault) : Type 0 where
   pub steps : List Step
   pub tallies : now ≡ all_counted steps before

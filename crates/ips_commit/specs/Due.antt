@@ -17,9 +17,8 @@ pub record IsSafelyOpen (s : State) : Type 0 where
   pub stands : s.held.look gate_name ≢ None
   pub safe : IsFalse (s.whole gate_name)
 
--- The new image is due since a call, the sync of the gate: its file was written before, and the call made safe what was held.
--- Until then the gate was never safely open, it was right behind the call, and since then the folder owes the new image at
--- every moment.
+-- Committed since one call, the sync of the gate. Before it the gate's file was written, and the gate never safely open.
+-- Behind it the gate is, and at every moment since then the folder owes the new image.
 pub record IsDueSince {F : Type 0} (o : Outside F) (b a : Image) (old new : F) : Type 0 where
   pub before : F
   pub since : F
@@ -30,6 +29,6 @@ pub record IsDueSince {F : Type 0} (o : Outside F) (b a : Image) (old new : F) :
   pub is_open : IsSafelyOpen (o.state since)
   pub owed : Throughout o since new (FolderOwes journal_text b (Some a) true)
 
--- the gate was never safely open; or since it was, the new image is due
+-- The commit point: either the gate was never safely open in this run, or since the call that opened it the new image is due.
 abbrev pub DueOnceOpen : {F : Type 0} → Outside F → Image → Image → F → F → Type 0
 DueOnceOpen o b a old new = Throughout o old new (λ s. IsSafelyOpen s → ⊥) ⊎ IsDueSince o b a old new

@@ -31,7 +31,8 @@ IsPending t Open = t.look gate_name ≢ None
 abbrev pub is_swept : List ℕ → Bool
 is_swept q = covers stage_name q || (covers journal_name q || begins mark_front q)
 
--- nothing has happened yet; or since all that was touched was made safe, only what is swept was changed and touched
+-- Invisible changes alone: either nothing has happened yet; or a sync has made safe what was held, and since then only the
+-- stage, the journal and marks were changed and touched.
 abbrev pub IsBehindGate : State → State → Type 0
 IsBehindGate old s = (s ≡ old) ⊎ Within is_swept nowhere (settled old) s
 

@@ -15,7 +15,8 @@ use Rattle.ips_journal.specs.declared.fault.StepFault.TheVariants.{BadJournal, F
 use Rattle.ips_apply.specs.Applied.{ChangedByAll, IsImpossible}
 use Rattle.ips_commit.specs.Due.{gate_file, IsSafelyOpen}
 
--- The gate was not safely open until the last call of a run, which made its file safe, and is since.
+-- The gate opens: a run of calls of which the last is the sync that makes the gate's file safe. Before it the gate was never
+-- safely open.
 pub record Opens {F : Type 0} (o : Outside F) (old new : F) : Type 0 where
   pub before : F
   pub not_yet : Throughout o old before (λ s. IsSafelyOpen s → ⊥)
@@ -52,8 +53,8 @@ pub record HasBegun {F : Type 0} (o : Outside F) (text : List ℕ) (front : List
   pub next : (all : List Step) → IsJournal all → text ≡ journal_text all → front ++ begun ≡ take (length (front ++ begun)) all
   pub moments : ChangedByAll o begun old new
 
--- What laying the steps of the journal from a reader's place on does: some are finished, each counted by the first kind that
--- takes it; where the folder tells its image they are those of its journal behind the front that the reader has read.
+-- What laying does from a reader's place on: some steps are finished, and each is counted by the first kind that takes it.
+-- Where the folder tells its image, they are the next steps of its journal.
 pub record Lays {F : Type 0} (o : Outside F) (old new : F) (r : Reading) (before now : List Carrier) (result : Result ℕ StepFault) : Type 0 where
   pub steps : List Step
   pub tallies : now ≡ all_counted steps before

@@ -33,7 +33,8 @@ pub record CanRollForward (t : Image) (steps : List Step) (count : ℕ) : Type 0
   pub is : IsJournalled t steps count
   pub can : IsTrue (possible (stage_of t) (steps_left count steps) t)
 
--- Of the steps that the marks leave so many can be laid, and then the next can't; its line has this number.
+-- Redo gets stuck: of the steps that the marks leave so many can be laid, and the next can't. Its line in the journal has this
+-- number.
 pub record IsStuck (t : Image) (line : ℕ) : Type 0 where
   pub steps : List Step
   pub count : ℕ
@@ -55,8 +56,8 @@ IfBadJournal (Err (Bad Unfinished)) P = Unit {0}
 IfBadJournal (Err (Bad (BadJournal line))) P = P line
 IfBadJournal (Err OutOfMemory) P = Unit {0}
 
--- what a fault of a recovery says: an open gate stands as it stood; or the gate was open; or it was, and the journal is bad at
--- that line, where nothing is changed if the line isn't of the grammar
+-- Errors of a recovery. Unchanged: an open gate is as it was. Unfinished: the gate was open. Bad journal: the gate was open,
+-- and that line is bad; where it isn't of the grammar nothing was changed.
 abbrev pub SaysOfRecovery : State → State → CommitFault → Type 0
 SaysOfRecovery old new Unchanged = old.held.look gate_name ≢ None → new ≡ old
 SaysOfRecovery old new Unfinished = old.held.look gate_name ≢ None

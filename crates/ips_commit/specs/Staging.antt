@@ -11,9 +11,8 @@ use Rattle.ips_journal.specs.declared.staged.Staged.{Staged}
 use Rattle.ips_commit.specs.Pending.{is_swept}
 use Rattle.ips_commit.specs.Contents.{AreContents, AreStanding}
 
--- A list of steps that can be staged beside what it puts: it is sound; there is one content for each step that puts one;
--- each that is to be taken from the image is a file there; and whatever bytes the contents have, it is possible. The folder
--- of the records stands, and the gate is closed.
+-- What can be staged on an image: a sound list of steps, with one content for each `put`. It is possible whatever bytes these
+-- have. Contents that are taken from the image are files there. `var/pkg` stands, and the gate is closed.
 pub record CanStage (steps : List Step) (staged : List Staged) (t : Image) : Type 0 where
   pub is_sound : IsTrue (sound steps)
   pub counted : puts_in steps ≡ length staged

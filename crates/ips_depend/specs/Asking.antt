@@ -35,8 +35,8 @@ IsMarked rooted (GroupAny fs) = Unit {0}
 IsMarked rooted (Parent fs) = Unit {0}
 IsMarked rooted (Origin r f) = r ≡ rooted
 
--- A `depend` action with these attributes asks for the dependency: it has its type, a predicate for each of its predicates, and an `fmri` for each FMRI that it is about.
--- One of type origin is on the image that the system runs from, where a `root-image` is `true`.
+-- The dependency of a `depend` action with these attributes: its type, one predicate for each `predicate`, one FMRI for each
+-- `fmri`. Type `origin` speaks of the system that runs where a `root-image` is `true`.
 pub record Asks (attrs : List Attr) (d : Dependency) : Type 0 where
   pub of_type : values_of (codes "type") attrs ≡ type_name (type_of d) ∷ []
   pub predicates : AreWritten (values_of (codes "predicate") attrs) (predicates d)

@@ -18,6 +18,7 @@ pub record Agree (d : Dependency) (s t old before : Selection) (spared saved : S
   pub sparing : (stem : List ℕ) → IsMentioned d stem → spared stem ≡ saved stem
   pub earlier : (stem : List ℕ) → Contains (stems (objects d)) stem → old stem ≡ before stem
 
--- Of the stems that the dependency mentions, only such as it doesn't want are absent in the smaller selection though they aren't in the other; at the rest the two agree.
+-- The smaller selection leaves packages out: of the stems that the dependency mentions it may lack those that the dependency
+-- doesn't pull in. At all others it has the same version.
 abbrev pub DropsUnwanted : Dependency → Selection → Selection → Type 0
 DropsUnwanted d smaller s = (stem : List ℕ) → IsMentioned d stem → (smaller stem ≡ s stem) ⊎ ((smaller stem ≡ None) × (IsWanted d stem → ⊥))

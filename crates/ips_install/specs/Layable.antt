@@ -14,8 +14,8 @@ IsPlain t (Put n m p) = t.look p ≡ None
 IsPlain t (Symlink p target) = t.look p ≡ None
 IsPlain t (Hard p to) = t.look p ≡ None
 
--- The steps can be laid one after another, whatever the bytes of the contents are: no two are at one path, none undoes what an
--- earlier one reads, each can be laid at its turn, and nothing that stands gives way.
+-- Steps that can be laid straight on the image, whatever the bytes of the contents. No two have one path, and none undoes what
+-- an earlier one reads. Each is possible at its turn, and nothing that stands gives way.
 pub record AreLayable (count : ℕ) (t : Image) (steps : List Step) : Type 0 where
   pub once : IsTrue (distinct steps)
   pub is_sound : IsTrue (sound steps)

@@ -11,8 +11,8 @@ use Rattle.ips_journal.specs.Bad.{GoesOn, IsBadLine}
 use Rattle.ips_journal.specs.declared.fault.StepFault.{StepFault}
 use Rattle.ips_journal.specs.declared.fault.StepFault.TheVariants.{BadJournal, FolderFault}
 
--- A reader: how many bytes lie behind it, how many steps, and how many contents among them; the number of the line that was
--- read last, or of the faulty one; the step of that line; and whether neither the end nor a fault was met.
+-- The state of a reader: bytes, steps and contents behind it; the number and the step of the line that it read last, or the
+-- faulty one's number. It is open until it meets the end or a fault.
 pub record Reading : Type 0 where
   pub place : ℕ
   pub steps : ℕ
@@ -60,8 +60,8 @@ abbrev pub IsFaultOf : List ℕ → StepFault → Type 0
 IsFaultOf text (BadJournal line) = IsBadLine text line
 IsFaultOf text FolderFault = Unit {0}
 
--- What an answer of `next` means where the steps of the front were read: one more step stands next and is read; or the text
--- is just the journal of the front; or that line is the first that isn't of the grammar.
+-- What `next` answers behind the steps of the front: true, with one more step; false, where the text is the journal of the
+-- front; or a fault, with the first line that isn't of the grammar.
 abbrev pub Means : List ℕ → List Step → Reading → Result Bool StepFault → Type 0
 Means text front new (Ok true) = (s : Step) × IsAt text (front ++ s ∷ []) new × (new.step ≡ Some s)
 Means text front new (Ok false) = IsJournal front × (text ≡ journal_text front)

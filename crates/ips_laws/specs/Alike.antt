@@ -3,8 +3,8 @@ use Rattle.std.specs.Prelude.{◌≡◌, ℕ, List, [], ◌∷◌}
 use Rattle.ips_meaning.specs.declared.entry.Entry.{Entry}
 use Rattle.ips_meaning.specs.declared.entry.Entry.TheVariants.{Dir, File, Link, Hard}
 
--- Two entries say the same: both are directories of one mode; files with one payload, mode and way to be kept; symbolic links with one
--- target; or hard links that lead to one path. So they differ in nothing but the room of that path.
+-- Two entries are equal but for spare room: directories of one mode; files of one payload, mode and preserve; symbolic links
+-- of one target; hard links to one path.
 abbrev pub IsLike : Entry → Entry → Type 0
 IsLike (Dir mode) (Dir other) = mode ≡ other
 IsLike (File payload mode preserve) (File name bits kept) = (payload ≡ name) × (mode ≡ bits) × (preserve ≡ kept)

@@ -36,7 +36,7 @@ rank_at kept i = option_map_or rank_of (slice_get kept i) 2
 abbrev pub count_cmp : List Placed → ℕ → ℕ → Ordering
 count_cmp kept = then_cmp (on (rank_at kept) nat_cmp) (place_cmp kept)
 
--- The action counts at the path: none other there comes before it.
+-- Of the actions that give one path the first: none other there comes before this one.
 pub record Leads (kept : List Placed) (path : List ℕ) (i : ℕ) : Type 0 where
   pub p : Placed
   pub at : HasKey kept (path_key path) i p

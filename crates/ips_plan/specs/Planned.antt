@@ -97,9 +97,8 @@ rank (step.Hard p to) = 1
 abbrev pub step_cmp : Step → Step → Ordering
 step_cmp s x = ordering_then (nat_cmp (rank s) (rank x)) (slice_cmp nat_cmp (path_of s) (path_of x))
 
--- The steps can be laid straight on the image, and make it what the entries mean, whatever the bytes of the payloads are. They
--- change nothing but wanted paths, and of what stands no more than the modes of directories that have another one; where all
--- stands already there are none.
+-- A plan: steps that can be laid on the image, and make it what the entries mean, whatever the bytes of the payloads. They
+-- change wanted paths alone, and modes of directories that have another one. Where all stands already there are none.
 pub record IsPlanOf (entries : List (List ℕ × Entry)) (t : Image) (steps : List Step) (contents : List PayloadName) : Type 0 where
   pub fit : AllFit t entries
   pub contents_are : contents ≡ payloads_of entries

@@ -27,8 +27,8 @@ pub record AreRead (c : Case) (ns : List Needed) : Type 0 where
   pub each : AllByRecursion (λ (n : Needed). bytes_read c n ≤ manifest_limit) ns
   pub all : all_bytes c ns ≤ all_manifests_limit
 
--- The fault is that of the first needed manifest in the order of reach that has one: the list had grown so far once its first k
--- stems were gone through, and what was needed for these, and of the next one's before this manifest, was read.
+-- The first fault of manifests: k stems in reach were gone through without one, and of the next stem all that is needed before
+-- this manifest was read. The list of stems had grown so far by then.
 pub record IsFirstFault (settings : Set) (c : Case) (why : ProblemFault) : Type 0 where
   pub reach : List (List ℕ)
   pub turn : ℕ

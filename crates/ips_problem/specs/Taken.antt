@@ -32,8 +32,8 @@ selected_at p choice i = package_of (slice_get p.stems i) (offer_at (slice_get p
 abbrev pub package_with : List ℕ → List Installed → Option Installed
 package_with stem packages = find (λ (q : Installed). bytes_eq stem q.stem) packages
 
--- These are the packages that a choice selects, by the bytes of their stems, each stem once. They are those of the selection
--- that the choice makes: it has each stem at the version of its package, and no other stem.
+-- The packages of a choice, by the bytes of their stems, each stem once: just those of the selection that the choice makes,
+-- each at its version.
 pub record AreTaken (p : Posed) (choice : List ℕ) (packages : List Installed) : Type 0 where
   pub order : Ascend (map (λ (q : Installed). q.stem) packages)
   pub each : (q : Installed) → Contains packages q ↔ ((i : ℕ) × (selected_at p choice i ≡ Some q))

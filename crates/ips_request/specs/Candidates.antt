@@ -99,9 +99,9 @@ beyond Update gone xs = present_or_gone gone xs
 beyond Uninstall gone xs = []
 beyond Keep gone xs = []
 
--- The candidates of a stem in a role, out of those that it may come to, newest first. What is asked for is there, and isn't
--- obsolete. What is updated may go where it is obsolete. What stands stays as it is before it changes. What isn't there stays
--- absent before it comes.
+-- The candidates of a stem in its role, of the versions that it may come to. Asked for: present, not obsolete. Updated:
+-- present, or absent where obsolete. Installed otherwise: as it stands, before other versions. Not installed: absent, before
+-- present.
 abbrev pub candidates_in : {X : Type 0} → Role → Kind → (X → Bool) → (X → Bool) → List X → List (Option X)
 candidates_in Refused kind gone stands xs = []
 candidates_in Gone kind gone stands xs = None ∷ []

@@ -83,8 +83,8 @@ abbrev pub IsThere : Option (List ℕ) → (List ℕ → Type 0) → Type 0
 IsThere None P = ⊥
 IsThere (Some bytes) P = P bytes
 
--- The fault of a manifest of the repository that is read behind so many bytes: no file stands, it is too large, it is no
--- manifest, or one of its lines should be a dependency and is none. A call that failed says nothing of it.
+-- The fault of a manifest that is read from the repository behind so many bytes: missing, too large, no manifest, or with a
+-- line that should be a dependency and is none. A failed call says nothing of it.
 abbrev pub IsFileFault : Set → ℕ → Option (List ℕ) → List ℕ → ProblemFault → Type 0
 IsFileFault settings total file name (fault.NoMatch pattern) = ⊥
 IsFileFault settings total file name (fault.Ambiguous pattern stems) = ⊥

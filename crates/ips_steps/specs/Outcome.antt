@@ -89,8 +89,8 @@ makes_at (Put n m p ∷ rest) q = same_path p q || makes_at rest q
 makes_at (Symlink p target ∷ rest) q = same_path p q || makes_at rest q
 makes_at (Hard p to ∷ rest) q = same_path p q || makes_at rest q
 
--- What a list leaves, path by path: what it makes stands there, what it frees and doesn't make is absent, and all else
--- is kept but for the modes that it sets there, of which the last on one file or directory decides.
+-- The image behind a list of steps, path by path: what the list makes stands; what it frees and doesn't make is absent; all
+-- else is kept. Of modes that it sets on one file or directory the last counts.
 pub record IsLaidByPath (stage : Stage) (steps : List Step) (t u : Image) : Type 0 where
   -- what is kept stands as before, but for the last mode given to it
   pub kept : (q : List ℕ) → IsFalse (freed steps q) → u.look q ≡ given (last_mode (freed steps) steps t q) (t.look q)

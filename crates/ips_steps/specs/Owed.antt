@@ -11,12 +11,12 @@ pub record AreMarks (t : Image) (count : ℕ) : Type 0 where
   pub stand : (i : ℕ) → i < count → t.look (mark_name (i + 1)) ≢ None
   pub last : t.look (mark_name (count + 1)) ≡ None
 
--- the steps that are left where this number of marks stands, each of which tells that a thousand more are laid
+-- What is left of the journal behind so many marks (checkpoints): the steps without the first 1,000 of each.
 abbrev pub steps_left : ℕ → List Step → List Step
 steps_left marks steps = drop (1000 * marks) steps
 
--- The journal is the text of this sound list, so many marks stand, and the steps that they leave can be laid; then this
--- image is seen.
+-- Redo is ready: the journal lists this sound list of steps, so many marks (checkpoints) stand, and the steps behind these can
+-- be laid. Laid, they make this image the one that is seen.
 pub record IsReady (text : List Step → List ℕ) (steps : List Step) (marks : ℕ) (a : Image) (t : Image) : Type 0 where
   pub lists : IsJournal steps
   pub is_sound : IsTrue (sound steps)
@@ -30,14 +30,14 @@ pub record IsOpen (text : List Step → List ℕ) (steps : List Step) (marks : �
   pub gate : t.look gate_name ≢ None
   pub ready : IsReady text steps marks a t
 
--- An image owes the one before a request and the one that it means, which is due or not: with a closed gate it shows the
--- first, where the second isn't due, or the second; with an open one it is ready to become the second.
+-- Atomicity of one image, with the old image, the new one, and whether it is due. Gate closed: the new image is seen, or,
+-- where it isn't due, the old one. Gate open: the journal's steps that are left lead to the new one.
 pub data Owes (text : List Step → List ℕ) : Image → Option Image → Bool → Image → Type 0 where
   Old : {b : Image} {a : Option Image} {t : Image} → t.look gate_name ≡ None → visible t ≡ b → Owes text b a false t
   Open : {b : Image} {a : Image} {due : Bool} {t : Image} (steps : List Step) (marks : ℕ) → IsOpen text steps marks a t → Owes text b (Some a) due t
   New : {b : Image} {a : Image} {due : Bool} {t : Image} → t.look gate_name ≡ None → visible t ≡ a → Owes text b (Some a) due t
 
--- A folder owes what its held image owes, and each image that a crash now may leave.
+-- The crash invariant: the image that the folder holds is owed as `Owes` says, and so is each that a crash now may leave.
 pub record FolderOwes (text : List Step → List ℕ) (b : Image) (a : Option Image) (due : Bool) (s : State) : Type 0 where
   pub now : Owes text b a due s.held
   pub left : (c : Image) → MayLeave s c → Owes text b a due c

@@ -60,9 +60,8 @@ DoesNotOpen words t why = AsksForSome words × (opening publisher t ≡ Err why)
 abbrev pub IsTooMuch : List (List ℕ) → Image → Which → ℕ → Type 0
 IsTooMuch words t which count = DoesNotOpen words t (fault.TooLarge which count) ⊎ IsUnposed words t (problem.TooLarge which count)
 
--- Each refusal that has its cause in the repository comes exactly under it: its mark, its catalog, what the patterns name in it, the manifests
--- that are needed, what fits together, and what the chosen packages mean, in this order. Where another outcome comes, a fault and want of
--- memory apart, an image is wanted.
+-- Errors of the repository come exactly under their cause, in this order: mark, catalog, patterns, manifests, the choice, what
+-- the packages mean. At any other outcome but a fault or want of memory an image is wanted.
 abbrev pub SaysOfRepository : List (List ℕ) → Image → Reading → Outcome → Type 0
 SaysOfRepository words t r (Usage place why) = Unit {0}
 SaysOfRepository words t r NoRepository = DoesNotOpen words t fault.NoRepository
@@ -120,8 +119,9 @@ pub record CouldChange (words : List (List ℕ)) (repository : Image) (r : Readi
   pub could : CouldInstall words repository r t
   pub some : AllStand t could.wants.entries → ⊥
 
--- NotYet comes exactly at the first line that can't be installed, or else at what stands in the way; then a payload's fault exactly at the
--- first payload that isn't intact; and an unfinished fault of the image only behind these, where there is something to change.
+-- Errors of the image, in this order: NotYet at the first line that can't be installed, else at what stands in the way; a
+-- payload's fault at the first that isn't intact. An unfinished fault comes only behind these, where something is to be
+-- changed.
 abbrev pub SaysOfLines : List (List ℕ) → Image → Reading → Image → Outcome → Type 0
 SaysOfLines words repository r t (Usage place why) = Unit {0}
 SaysOfLines words repository r t NoRepository = Unit {0}
