@@ -1,2 +1,0 @@
-pub mod Actuators
-pub mod Running
