@@ -1,15 +1,14 @@
 -- Contents written one by one into the stage.
-use Rattle.std.proofs.Common.{◌≡◌, ◌⊎◌, inl, inr, ⊎_elim, ℕ, ◌+◌, ◌%◌, ◌<◌, ◌≤◌, ◌^◌, Bool, true, false, ◌==◌, List, [], ◌∷◌, ◌++◌, length, get_or, slice_get, Option, Some, None, Err, append_assoc, refl, sym, ◌∙◌, ap, subst, arith}
-use Rattle.std.specs.Fmt.{decimal}
+use Rattle.std.proofs.Common.{◌≡◌, ◌⊎◌, inl, inr, ⊎_elim, ℕ, ◌+◌, ◌%◌, ◌<◌, ◌≤◌, ◌^◌, Bool, true, false, ◌==◌, List, [], ◌∷◌, ◌++◌, length, get_or, slice_get, Some, None, Err, append_assoc, refl, sym, ◌∙◌, ap, subst, arith}
 use Rattle.std.proofs.lemmas.Bool.{or_parts, ne_eqb, false_from_ne_true, cases_lt}
 use Rattle.std.proofs.lemmas.Fmt.{decimal_by_steps}
-use Rattle.std.proofs.lemmas.Option.{slice_get_read, slice_get_within}
+use Rattle.std.proofs.lemmas.Option.{slice_get_read}
 use Rattle.ips_text.specs.Ancestry.{covers, parent}
 use Rattle.ips_text.specs.Reading.{IfBad}
 use Rattle.ips_text.specs.declared.refusal.Or.{Or}
 use Rattle.ips_text.specs.declared.refusal.Or.TheVariants.{Bad, OutOfMemory}
 use Rattle.ips_text.proofs.Ancestry.{covers_trans, parent_cut, parent_on}
-use Rattle.ips_outside.specs.Image.{Entry, File, Image, Agrees, is_file, is_dir, file_bytes, has_parent, dir_or_none}
+use Rattle.ips_outside.specs.Image.{File, Image, Agrees, is_file, is_dir, file_bytes, has_parent, dir_or_none}
 use Rattle.ips_outside.specs.State.{nowhere}
 use Rattle.ips_folder.specs.Calls.{CanMake}
 use Rattle.ips_steps.specs.Steps.{stage_name, stage_path, stage_of}
@@ -17,12 +16,11 @@ use Rattle.ips_steps.specs.Private.{is_private}
 use Rattle.ips_steps.proofs.Lists.{clash}
 use Rattle.ips_steps.proofs.Numbered.{contents_apart}
 use Rattle.ips_digest.specs.declared.name.PayloadName.{PayloadName}
-use Rattle.ips_repo.specs.declared.fault.RepoFault.{RepoFault}
 use Rattle.ips_repo.specs.Files.{file_at}
 use Rattle.ips_repo.specs.Places.{payload_place}
 use Rattle.ips_journal.specs.declared.staged.Staged.{Staged}
 use Rattle.ips_journal.specs.declared.staged.Staged.TheVariants.{Payload, Bytes, Standing}
-use Rattle.ips_commit.specs.Contents.{IsContent, IsStanding, IsApart, IsSeen, IsIntactContent, IsPayloadFault, IsFaultOf, SaysOfContent, SaysOfStage, IsFirstFault}
+use Rattle.ips_commit.specs.Contents.{IsContent, IsStanding, IsApart, IsSeen, IsIntactContent, IsPayloadFault, IsFaultOf, SaysOfContent, SaysOfStage}
 use Rattle.ips_commit.specs.declared.fault.StageFault.{StageFault}
 use Rattle.ips_commit.specs.declared.fault.StageFault.TheVariants as stage
 

@@ -1,12 +1,11 @@
 -- The gate as it opens: not safely open until its sync.
-use Rattle.std.proofs.Common.{◌≡◌, ◌≢◌, ◌⊎◌, inl, inr, ⊎_elim, ℕ, ◌≤◌, Bool, true, false, ◌||◌, List, [], ◌∷◌, Option, Some, None, Result, Ok, Err, OnErr, refl, sym, ◌∙◌, ap, subst, arith}
-use Rattle.std.proofs.lemmas.Bool.{or_left, or_right}
+use Rattle.std.proofs.Common.{◌≡◌, ◌⊎◌, inl, inr, ⊎_elim, ℕ, Bool, true, List, None, Result, Ok, Err, OnErr, refl, sym, ◌∙◌, ap, subst, arith}
+use Rattle.std.proofs.lemmas.Bool.{or_left}
 use Rattle.ips_text.specs.Ancestry.{covers}
 use Rattle.ips_text.proofs.Ancestry.{covers-self}
-use Rattle.ips_outside.specs.Image.{Entry, File, Image}
 use Rattle.ips_outside.specs.State.{State, MayChange, nowhere, settled}
 use Rattle.ips_outside.specs.Outside.{Outside, IsOutside, Elapses}
-use Rattle.ips_folder.specs.Calls.{Writes, Syncs, Throughout}
+use Rattle.ips_folder.specs.Calls.{Writes, Throughout}
 use Rattle.ips_folder.proofs.Runs.{started, goes_on, weaker}
 use Rattle.ips_steps.specs.Private.{gate_name}
 use Rattle.ips_steps.proofs.Lists.{clash}

@@ -1,17 +1,17 @@
 -- What is pending, from what was looked at.
-use Rattle.std.proofs.Common.{◌≡◌, ◌≢◌, ◌⊎◌, inl, inr, ⊎_elim, ℕ, ◌<◌, Bool, true, false, cond, ◌||◌, ◌&&◌, List, [], ◌∷◌, ◌++◌, length, map, take, Option, Some, None, is_some, refl, sym, ◌∙◌, ap, subst, arith}
+use Rattle.std.proofs.Common.{◌≡◌, ◌⊎◌, inl, inr, ⊎_elim, ℕ, Bool, true, false, cond, ◌||◌, List, [], ◌∷◌, length, Option, Some, None, is_some, refl, sym, ◌∙◌, ap, subst, arith}
 use Rattle.std.specs.List.{filter, list_all, list_any}
-use Rattle.std.proofs.lemmas.Bool.{and_parts, and_from, or_parts, or_from, or_cases, or_left, or_right, false_from_ne_true}
+use Rattle.std.proofs.lemmas.Bool.{and_parts, and_from, or_parts, or_cases, or_left, or_right}
 use Rattle.ips_text.specs.Ancestry.{same_path, covers, parent}
 use Rattle.ips_text.specs.Kept.{Kept}
 use Rattle.ips_text.proofs.Ancestry.{same_path-true, same_path-self, covers-self}
 use Rattle.ips_outside.specs.Image.{Entry, Image, IsImage, is_dir}
-use Rattle.ips_outside.specs.Children.{is_child, is_directory, bytes_of, AreChildren}
+use Rattle.ips_outside.specs.Children.{is_directory, bytes_of, AreChildren}
 use Rattle.ips_steps.specs.Steps.{stage_name}
-use Rattle.ips_steps.specs.Private.{records_name, journal_name, gate_name, mark_front, begins, is_private}
+use Rattle.ips_steps.specs.Private.{records_name, journal_name, gate_name, mark_front, begins}
 use Rattle.ips_steps.proofs.Lists.{clash}
-use Rattle.ips_steps.proofs.PrivateNames.{stage_private, journal_private, gate_private, mark_private}
-use Rattle.ips_commit.specs.Pending.{IsBare, HasLeftover, HasNoOtherMark, AreMarkNames, IsSwept, is_swept}
+use Rattle.ips_steps.proofs.PrivateNames.{stage_private, journal_private, mark_private}
+use Rattle.ips_commit.specs.Pending.{IsBare, HasLeftover, AreMarkNames, is_swept}
 use Rattle.ips_commit.proofs.OwnNames.{private_cases, absent_below, mark_of, no_mark_without}
 
 none_of : (e : Option Entry) → is_some e ≡ false → e ≡ None

@@ -6,7 +6,13 @@ pub mod Written
 pub mod AllWritten
 pub mod GateOpens
 pub mod Lays
+pub mod Marked
+pub mod Numbered
 pub mod Owing
+pub mod Turned
+pub mod Going
+pub mod Stuck
+pub mod Rolls
 pub mod Committed
 pub mod Staged
 pub mod Places

@@ -1,37 +1,32 @@
 -- What the folder owes in each phase of a commit.
-use Rattle.std.proofs.Common.{◌≡◌, ◌≢◌, ◌⊎◌, inl, inr, ⊎_elim, ℕ, ◌+◌, ◌*◌, Bool, true, false, ◌||◌, List, [], ◌∷◌, ◌++◌, length, take, drop, Option, Some, None, unwrap_or, refl, sym, ◌∙◌, ap, subst}
+use Rattle.std.proofs.Common.{◌≡◌, ℕ, ◌*◌, Bool, true, false, ◌||◌, List, [], length, take, Option, Some, None, unwrap_or, refl, ◌∙◌, ap, subst}
 use Rattle.std.specs.List.{list_any}
 use Rattle.std.proofs.lemmas.Bool.{or_parts, or_from}
 use Rattle.ips_text.specs.Ancestry.{covers}
 use Rattle.ips_text.proofs.Ancestry.{covers-self}
-use Rattle.ips_outside.specs.Image.{Entry, Image, IsImage, Agrees, with_mode, file_bytes}
+use Rattle.ips_outside.specs.Image.{Image, IsImage, Agrees}
 use Rattle.ips_outside.specs.Change.{placed}
-use Rattle.ips_outside.specs.State.{State, Within, IsSettled, nowhere}
-use Rattle.ips_outside.specs.Outside.{Outside, IsOutside, readable}
+use Rattle.ips_outside.specs.State.{Within, IsSettled, nowhere}
+use Rattle.ips_outside.specs.Outside.{Outside, IsOutside}
 use Rattle.ips_outside.proofs.Images.{HasNodes}
 use Rattle.ips_outside.proofs.Moments.{agrees_less}
-use Rattle.ips_outside.proofs.Placed.{look_placed}
 use Rattle.ips_folder.specs.Calls.{Keeps, Throughout}
 use Rattle.ips_folder.proofs.Runs.{joins, weaker, keeps_wider}
-use Rattle.ips_steps.specs.Steps.{Step, Stage, stage_name, stage_of, after, all_laid, freed, met}
+use Rattle.ips_steps.specs.Steps.{Step, stage_name, stage_of, freed, met}
 use Rattle.ips_steps.specs.Private.{gate_name, journal_name, mark_front, begins, is_private, visible}
-use Rattle.ips_steps.specs.Journal.{IsJournal}
-use Rattle.ips_steps.specs.Owed.{AreMarks, steps_left, IsReady, IsOpen, Owes, Old, Open, New, FolderOwes}
+use Rattle.ips_steps.specs.Owed.{steps_left, IsReady, IsOpen, Owes, Old, Open, New, FolderOwes}
 use Rattle.ips_steps.proofs.AtTurn.{front_frees, front_meets}
 use Rattle.ips_steps.proofs.Lists.{clash}
-use Rattle.ips_steps.proofs.Within.{laid_within}
 use Rattle.ips_steps.proofs.PrivateNames.{visible_agrees}
-use Rattle.ips_steps.proofs.Owing.{left_allowed, open_laying, gate_ready, owes_laying, owes_opening, owes_closing, owes_sweeping, closed_seen}
+use Rattle.ips_steps.proofs.Owing.{open_laying, gate_ready, owes_laying, owes_opening, owes_closing, owes_sweeping, closed_seen}
 use Rattle.ips_journal.specs.Text.{journal_text}
 use Rattle.ips_journal.specs.Reading.{journal_of}
-use Rattle.ips_journal.proofs.JournalLaws.{one_text}
-use Rattle.ips_commit.specs.Pending.{IsBare, IsDone, IsSwept, HasNoOtherMark, is_swept}
-use Rattle.ips_commit.specs.Phases.{Opens, AreSafelyLaid, HasBegun}
-use Rattle.ips_commit.proofs.OwnNames.{swept_private, gate_unswept, marks_stay}
+use Rattle.ips_commit.specs.Pending.{IsBare, IsSwept, HasNoOtherMark, is_swept}
+use Rattle.ips_commit.specs.Phases.{Opens}
+use Rattle.ips_commit.proofs.OwnNames.{swept_private, gate_unswept}
 use Rattle.ips_commit.proofs.Leftovers.{bare_of}
 use Rattle.ips_commit.proofs.Swept.{removed_gone, removed_none}
-use Rattle.ips_commit.proofs.Lays.{next_of, rest_of}
-use Rattle.ips_folder.proofs.Crashes.{alike_none}
+use Rattle.ips_commit.proofs.Lays.{HasBegun, next_of}
 
 pub nodes_of : (t : Image) → IsImage t → HasNodes t
 nodes_of t formed = record { self = formed.self }
@@ -91,7 +86,7 @@ owes_less b a t owes = weaken b (Some a) true t owes a refl
     weaken b x due t (New {a = y} gone seen) a is = let same : y ≡ a = cc in New gone (seen ∙ same)
 
 module _ {F : Type 0} (o : Outside F) (sane : IsOutside o) where
-  nodes : (f : F) → o.tells f ≡ true → HasNodes (o.state f).held
+  pub nodes : (f : F) → o.tells f ≡ true → HasNodes (o.state f).held
   nodes f told = nodes_of (o.state f).held (sane.formed f told)
 
   -- ---- while the steps are laid
@@ -103,39 +98,25 @@ module _ {F : Type 0} (o : Outside F) (sane : IsOutside o) where
     abbrev left : List Step
     left = steps_left marks steps
 
-    pub laying_owed : IsSettled (o.state old) → HasBegun o (journal_of t) (take (1000 * marks) steps) old new → (b : Image) (due : Bool) → Throughout o old new (FolderOwes journal_text b (Some a) due)
-    laying_owed clean begun b due =
-        let front = take (1000 * marks) steps in
+    laying_wide : HasBegun o (journal_of t) (take (1000 * marks) steps) old new → Keeps o (freed left) (λ q. freed left q || met (stage_of t) left t q) old new
+    laying_wide begun =
         let next : begun.begun ≡ take (length begun.begun) left = next_of steps begun.begun (1000 * marks) (begun.next steps is_open.ready.lists (ready_text steps marks a t is_open.ready)) in
         let some = take (length begun.begun) left in
         let laid : Keeps o (freed some) (λ q. freed some q || met (stage_of t) some t q) old new =
         subst (λ (l : List Step). Keeps o (freed l) (λ q. freed l q || met (stage_of t) l t q) old new) next begun.moments in
-        let wide : Keeps o (freed left) (λ q. freed left q || met (stage_of t) left t q) old new =
         keeps_wider o (freed some) (λ q. freed some q || met (stage_of t) some t q) (freed left) (λ q. freed left q || met (stage_of t) left t q) old new
         (front_frees left (length begun.begun))
         (λ q none. let parts = or_parts (freed left q) (met (stage_of t) left t q) none in or_from (freed some q) (met (stage_of t) some t q) (front_frees left (length begun.begun) q parts.0) (front_meets (stage_of t) left (length begun.begun) t q parts.1))
-        laid in
-        weaker o old new (Within (freed left) (λ q. freed left q || met (stage_of t) left t q) (o.state old)) (FolderOwes journal_text b (Some a) due)
-        (λ s w. owes_laying journal_text steps marks a b due (o.state old) s is_open (nodes old told) clean w) wide.moments
+        laid
 
-    module _ (laid : List Step) (safely : AreSafelyLaid o (journal_of t) (take (1000 * marks) steps) laid old new) where
-      pub laid_left : laid ≡ left
-      laid_left = rest_of steps laid (1000 * marks) (one_text (take (1000 * marks) steps ++ laid) steps safely.lists is_open.ready.lists (sym safely.text_is ∙ ready_text steps marks a t is_open.ready))
+    pub laying_owed : IsSettled (o.state old) → HasBegun o (journal_of t) (take (1000 * marks) steps) old new → (b : Image) (due : Bool) → Throughout o old new (FolderOwes journal_text b (Some a) due)
+    laying_owed clean begun b due = weaker o old new (Within (freed left) (λ q. freed left q || met (stage_of t) left t q) (o.state old)) (FolderOwes journal_text b (Some a) due)
+        (λ s w. owes_laying journal_text steps marks a b due (o.state old) s is_open (nodes old told) clean w) (laying_wide begun).moments
 
-      pub laid_held : (o.state new).held ≡ after left t
-      laid_held = safely.held ∙ ap (λ (l : List Step). after l t) laid_left
-
-      pub laid_means : visible (o.state new).held ≡ a
-      laid_means = ap visible laid_held ∙ is_open.ready.means
-
-      pub laid_ready : IsReady journal_text steps marks a (o.state new).held
-      laid_ready = (open_laying journal_text steps marks a t (o.state new).held is_open (nodes old told)
-          (subst (λ (u : Image). Agrees (freed left) (met (stage_of t) left t) t u) (sym laid_held) (laid_within (stage_of t) left t))).ready
-
-      pub laid_marks : (names : List (List ℕ)) → HasNoOtherMark t names → HasNoOtherMark (o.state new).held names
-      laid_marks names others q b off =
-          let within = subst (λ (u : Image). Agrees (freed left) (met (stage_of t) left t) t u) (sym laid_held) (laid_within (stage_of t) left t) in
-          alike_none ((o.state new).held.look q) (t.look q) (within.but_mode q (marks_stay q b left (left_allowed journal_text steps marks a t is_open.ready))) (others q b off)
+    pub laying_open : HasBegun o (journal_of t) (take (1000 * marks) steps) old new → IsOpen journal_text steps marks a (o.state new).held
+    laying_open begun =
+        let h = (laying_wide begun).now.agrees in
+        open_laying journal_text steps marks a t (o.state new).held is_open (nodes old told) (record { look = λ q f l. h.look q f (or_from _ _ f l); but_mode = h.but_mode; same = h.same })
 
   -- ---- while the gate opens and closes
 
@@ -157,3 +138,26 @@ module _ {F : Type 0} (o : Outside F) (sane : IsOutside o) where
       → Keeps o is_swept nowhere old new → Throughout o old new (FolderOwes journal_text b a due)
   sweeping_owed b a due old new owes shut clean run = weaker o old new (Within is_swept nowhere (o.state old)) (FolderOwes journal_text b a due)
       (λ s w. owes_sweeping journal_text b a due is_swept (o.state old) s owes shut clean swept_private gate_unswept w) run.moments
+
+  -- ---- the gate closed, and what is left swept
+
+  pub closed_owed : (steps : List Step) (marks : ℕ) (a : Image) (old mid new : F) → o.tells old ≡ true → IsReady journal_text steps marks a (o.state old).held → IsSettled (o.state old)
+      → Keeps o (covers gate_name) nowhere old mid → visible (o.state old).held ≡ a → (o.state mid).held ≡ placed gate_name None (o.state old).held → IsSettled (o.state mid) → Keeps o is_swept nowhere mid new
+      → (b : Image) (due : Bool) → Throughout o old new (FolderOwes journal_text b (Some a) due)
+  closed_owed steps marks a old mid new told ready clean run seen closed safe sweep b due =
+      let t = (o.state old).held in
+      let u = (o.state mid).held in
+      let shut : u.look gate_name ≡ None = ap (λ (w : Image). w.look gate_name) closed ∙ removed_gone gate_name gate_name t (covers-self gate_name) in
+      let shown : visible u ≡ a = ap visible closed ∙ closed_seen t ∙ seen in
+      joins o old mid new (FolderOwes journal_text b (Some a) due)
+      (closing_owed steps marks a old mid told ready clean run seen b due)
+      (sweeping_owed b (Some a) due mid new (New shut shown) shut safe sweep)
+
+-- the marks are gone, and then what else is swept
+pub swept_twice : (names more : List (List ℕ)) (t u v : Image) → ((q : List ℕ) → list_any (λ m. covers m q) names ≡ true → u.look q ≡ None) → ((q : List ℕ) → t.look q ≡ None → u.look q ≡ None) → IsSwept more u v → IsSwept names t v
+swept_twice names more t u v gone none swept = record {
+  stage = swept.stage;
+  journal = swept.journal;
+  marks = λ q is. swept.nothing_new q (gone q is);
+  nothing_new = λ q absent. swept.nothing_new q (none q absent);
+}

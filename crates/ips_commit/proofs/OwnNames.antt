@@ -1,11 +1,13 @@
 -- The updater's own names: what is at and below them, and that no step reaches them.
-use Rattle.std.proofs.Common.{◌≡◌, ◌≢◌, ◌⊎◌, inl, inr, ⊎_elim, ℕ, Bool, true, false, cond, not, ◌||◌, ◌&&◌, ◌==◌, List, [], ◌∷◌, ◌++◌, Option, Some, None, is_some, is_none, refl, sym, ◌∙◌, ap, subst}
-use Rattle.std.proofs.lemmas.Bool.{and_parts, and_from, or_parts, or_from, or_cases, or_left, or_right, eqb-true, eq-eqb, not-true, false_from_ne_true}
-use Rattle.ips_text.specs.Ancestry.{same_path, covers, parent, behind}
-use Rattle.ips_text.proofs.Ancestry.{same_path-true, same_path-self, covers-self, at_parent_of}
-use Rattle.ips_outside.specs.Image.{Entry, Dir, File, Link, Other, Image, IsImage, is_dir, with_mode}
-use Rattle.ips_steps.specs.Steps.{Step, Gone, Fresh, Mode, Put, Symlink, Hard, stage_name, stage_path, frees, freed}
-use Rattle.ips_steps.specs.Private.{records_name, journal_name, gate_name, mark_front, begins, is_private}
+use Rattle.std.proofs.Common.{◌≡◌, ◌⊎◌, inl, inr, ℕ, ◌+◌, ◌%◌, ◌^◌, ◌<◌, Bool, true, false, cond, not, ◌||◌, ◌==◌, List, [], ◌∷◌, ◌++◌, Option, Some, None, is_none, refl, sym, ◌∙◌, ap, subst, arith}
+use Rattle.std.specs.Fmt.{decimal}
+use Rattle.std.proofs.lemmas.Fmt.{decimal_by_steps}
+use Rattle.std.proofs.lemmas.Bool.{and_parts, and_from, or_parts, or_from, or_cases, eqb-true, eq-eqb, ne_eqb, not-true, false_from_ne_true}
+use Rattle.ips_text.specs.Ancestry.{same_path, covers, parent}
+use Rattle.ips_text.proofs.Ancestry.{same_path-true, at_parent_of, parent_on}
+use Rattle.ips_outside.specs.Image.{Entry, Image, IsImage, is_dir, dir_or_none, has_parent}
+use Rattle.ips_steps.specs.Steps.{Step, Gone, Fresh, Mode, Put, Symlink, Hard, stage_name, frees, freed}
+use Rattle.ips_steps.specs.Private.{records_name, journal_name, gate_name, mark_front, mark_name, begins, is_private}
 use Rattle.ips_steps.specs.Journal.{may_name, step_allowed, allowed}
 use Rattle.ips_steps.proofs.Lists.{clash}
 use Rattle.ips_steps.proofs.PrivateNames.{begins_front, mark_private, mark_parent}
@@ -131,6 +133,16 @@ in_records_dir : (d : List ℕ) → (covers records_name (mark_front ++ d) ≡ t
 unfolding records_name mark_front
 in_records_dir d = (refl, refl)
 
+gate_in_records : (covers records_name gate_name ≡ true) × (same_path records_name gate_name ≡ false)
+unfolding records_name gate_name
+gate_in_records = (refl, refl)
+
+-- a number has no parent
+number_alone : (n : ℕ) → n < 2 ^ 64 → parent (decimal n) ≡ None
+number_alone = decimal_by_steps (λ n ds. parent ds ≡ None)
+    (λ n few. ap (λ (b : Bool). cond b (Some []) None) (ne_eqb (48 + n) 47 (λ e. omega (arith, e))))
+    (λ n ds large alone. parent_on ds (48 + n % 10) (ne_eqb (48 + n % 10) 47 (λ e. omega (arith, e))) ∙ alone)
+
 -- where the records' folder is no directory, nothing is in it
 pub no_mark_without : (t : Image) → IsImage t → is_dir (t.look records_name) ≡ false → (q : List ℕ) → begins mark_front q ≡ true → t.look q ≡ None
 no_mark_without t formed none q b =
@@ -143,6 +155,17 @@ no_mark_without t formed none q b =
     go (Some e) is c s =
         let dir : is_dir (t.look records_name) ≡ true = subst (λ (x : Option Entry). (is_none x || is_dir (t.look records_name)) ≡ true) is (formed.below_dirs records_name q c s) in
         clash (is_dir (t.look records_name)) dir none
+
+-- where something stands at the gate, the marks' parent is a directory
+pub mark_parent_of : (t : Image) → IsImage t → (t.look gate_name ≡ None → ⊥) → (n : ℕ) → n < 2 ^ 64 → has_parent t (mark_name n) ≡ true
+mark_parent_of t formed gate n small = go (t.look gate_name) refl
+  where
+    up : (e : Option Entry) → t.look gate_name ≡ e → (is_none e || is_dir (t.look records_name)) ≡ true
+    up e is = subst (λ (x : Option Entry). (is_none x || is_dir (t.look records_name)) ≡ true) is (formed.below_dirs records_name gate_name gate_in_records.0 gate_in_records.1)
+
+    go : (e : Option Entry) → t.look gate_name ≡ e → has_parent t (mark_name n) ≡ true
+    go None is = absurd (gate is)
+    go (Some e) is = ap (dir_or_none t) (parent_of_mark (decimal n) (number_alone n small)) ∙ up (Some e) is
 
 -- ---- no step is at or above a mark
 

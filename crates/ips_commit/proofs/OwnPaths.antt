@@ -1,15 +1,17 @@
 -- The updater's own names are paths.
-use Rattle.std.proofs.Common.{◌≡◌, ℕ, ◌+◌, ◌%◌, ◌/◌, ◌<◌, ◌≤◌, ◌^◌, Bool, true, false, ◌&&◌, ◌==◌, not, List, [], ◌∷◌, ◌++◌, length, length-append, refl, sym, ◌∙◌, ap, subst, arith}
-use Rattle.std.specs.List.{join_with_byte, list_all}
+use Rattle.std.proofs.Common.{◌≡◌, ℕ, ◌+◌, ◌%◌, ◌<◌, ◌^◌, Bool, true, false, ◌&&◌, ◌==◌, List, [], ◌∷◌, ◌++◌, length, length-append, take, drop, refl, ◌∙◌, ap, arith}
+use Rattle.std.specs.List.{list_all}
 use Rattle.std.specs.Prelude.{codes, nat_le}
 use Rattle.std.specs.Fmt.{decimal}
 use Rattle.std.proofs.lemmas.Bool.{and_parts, and_from}
 use Rattle.std.proofs.lemmas.Bool.Decides.{nat_tests}
-use Rattle.std.proofs.lemmas.Fmt.{decimal_by_steps, decimal_nonempty, length-decimal-le}
+use Rattle.std.proofs.lemmas.Fmt.{decimal_by_steps, decimal_nonempty}
 use Rattle.std.proofs.lemmas.List.Folds.{list_all-append}
+use borrow.Rule.Slice.PartMut.{put_mid}
+use Rattle.std.proofs.lemmas.Slice.{take-put_mid}
 use Rattle.ips_text.specs.Path.{IsPath, is_dots}
 use Rattle.ips_steps.specs.Steps.{stage_name, stage_path}
-use Rattle.ips_steps.specs.Private.{records_name, journal_name, gate_name, mark_front, mark_name}
+use Rattle.ips_steps.specs.Private.{mark_front, mark_name}
 use Rattle.ips_repo.proofs.Joined.{is_name_byte, IsFileName, joined_path, pkg_name}
 use Rattle.ips_journal.proofs.FieldForms.{number_long}
 
@@ -81,3 +83,9 @@ mark_word n lt = let le = number_long n lt in record {
 pub mark_is_path : (n : ℕ) → n < 2 ^ 64 → IsPath (mark_name n)
 unfolding mark_front
 mark_is_path n lt = let le = number_long n lt in joined_path (codes "var" ∷ codes "pkg" ∷ (codes "done." ++ decimal n) ∷ []) (var, (pkg_name, mark_word n lt)) (omega arith)
+
+pub mark_written : (n k : ℕ) (first second bytes digits : List ℕ) → first ≡ codes "var/pkg/done." → second ≡ digits → digits ≡ decimal n
+    → take (13 + length digits) (put_mid 13 k (first ++ drop 13 bytes) second) ≡ mark_name n
+unfolding mark_front
+mark_written n k first second bytes digits f s d =
+    take-put_mid 13 k (first ++ drop 13 bytes) second (13 + length digits) (omega (arith, ap length s)) (omega (arith, length-append first (drop 13 bytes), ap length f)) ∙ rw (f, s, d) refl

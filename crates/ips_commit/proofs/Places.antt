@@ -1,7 +1,7 @@
 -- The place in a journal at which a recovery goes on.
-use Rattle.std.proofs.Common.{◌≡◌, ◌≢◌, ◌⊎◌, inl, inr, ⊎_elim, ℕ, ◌+◌, ◌*◌, ◌<◌, ◌≤◌, ◌^◌, Bool, true, false, List, [], ◌∷◌, ◌++◌, length, length-append, take, drop, min, Option, Some, None, is_some, Result, Ok, Err, IfErr, OnOk, refl, sym, ◌∙◌, ap, subst, arith}
+use Rattle.std.proofs.Common.{◌≡◌, ◌⊎◌, inl, inr, ⊎_elim, ℕ, ◌+◌, ◌*◌, ◌<◌, ◌≤◌, ◌^◌, Bool, true, false, List, [], ◌∷◌, ◌++◌, length, length-append, take, drop, min, Option, Some, None, is_some, Result, Ok, Err, IfErr, OnOk, refl, sym, ◌∙◌, ap, subst, arith}
 use Rattle.std.proofs.Math.ListN.{drop_of_length-le}
-use Rattle.std.proofs.lemmas.List.{length-take-le, take_all, take_min}
+use Rattle.std.proofs.lemmas.List.{length-take-le, take_min}
 use Rattle.std.proofs.lemmas.Bool.{cases_lt}
 use Rattle.ips_outside.specs.Image.{Entry, Image}
 use Rattle.ips_outside.specs.State.{State}
@@ -18,7 +18,7 @@ use Rattle.ips_journal.specs.declared.fault.StepFault.TheVariants.{BadJournal, F
 use Rattle.ips_journal.proofs.JournalLaws.{one_text, none_bad, in_order}
 use Rattle.ips_commit.specs.declared.fault.CommitFault.{CommitFault}
 use Rattle.ips_commit.specs.declared.fault.CommitFault.TheVariants as fault
-use Rattle.ips_commit.specs.Recovering.{AreCounted, IsJournalled, IsPlaced, ReadsWhole, SaysOfText, SaysOfFinding, unread_as}
+use Rattle.ips_commit.specs.Recovering.{AreCounted, IsPlaced, ReadsWhole, SaysOfText, SaysOfFinding, unread_as}
 use Rattle.ips_commit.proofs.Owing.{ready_text}
 use Rattle.ips_commit.proofs.Leftovers.{some_of}
 
@@ -140,10 +140,9 @@ take_least : (n m : ℕ) (l : List Step) → length l ≡ m → take (min n m) l
 take_least n m l is = ap (λ (k : ℕ). take (min n k) l) (sym is) ∙ take_min n l
 
 pub placed_at : (t : Image) (total count passed : ℕ) (r : Reading) → (whole : (steps : List Step) × IsJournal steps × (journal_of t ≡ journal_text steps) × (length steps ≡ total)) → AreCounted t total count
-    → passed ≡ min (min (count * 1000) 18446744073709551615) total → IsAt (journal_of t) (take passed whole.0) r → IsPlaced t r
+    → passed ≡ min (min (count * 1000) 18446744073709551615) total → IsAt (journal_of t) (take passed whole.0) r → IsPlaced t r count
 placed_at t total count passed r whole counted is at = record {
   steps = whole.0;
-  count = count;
   is = record { lists = whole.1; text_is = whole.2; marked = subst (λ (n : ℕ). AreCounted t n count) (sym whole.3) counted };
   at = subst (λ (l : List Step). IsAt (journal_of t) l r) (ap (λ (n : ℕ). take n whole.0) least ∙ take_least (1000 * count) total whole.0 whole.3) at;
 }
@@ -157,7 +156,7 @@ placed_at t total count passed r whole counted is at = record {
 -- from what was read, counted and passed
 pub placed_from : (t : Image) (result : Result ℕ StepFault) (total count passed : ℕ) (r : Reading) → result ≡ Ok total → ReadsWhole (journal_of t) result → AreCounted t total count
     → passed ≡ min (min (count * 1000) 18446744073709551615) total
-    → ((steps : List Step) → IsJournal steps → journal_of t ≡ journal_text steps → passed ≤ length steps → IsAt (journal_of t) (take passed steps) r) → IsPlaced t r
+    → ((steps : List Step) → IsJournal steps → journal_of t ≡ journal_text steps → passed ≤ length steps → IsAt (journal_of t) (take passed steps) r) → IsPlaced t r count
 placed_from t result total count passed r is reads counted so_many at =
     let whole = subst (ReadsWhole (journal_of t)) is reads in
     let few : passed ≤ length whole.0 = subst (λ (n : ℕ). passed ≤ n) (sym whole.3) (omega (arith, so_many)) in
@@ -175,44 +174,35 @@ gate_as t u p b same at found = found ∙ ap (λ (v : Image). is_some (v.look p)
 
 -- ---- the place at which an owed list is left
 
-module _ (t : Image) (r : Reading) (placed : IsPlaced t r) (steps : List Step) (marks : ℕ) (a : Image) (is_open : IsOpen journal_text steps marks a t) where
+module _ (t : Image) (r : Reading) (count : ℕ) (placed : IsPlaced t r count) (steps : List Step) (marks : ℕ) (a : Image) (is_open : IsOpen journal_text steps marks a t) where
   pub same_steps : placed.steps ≡ steps
   same_steps = one_text placed.steps steps placed.is.lists is_open.ready.lists (sym placed.is.text_is ∙ ready_text steps marks a t is_open.ready)
 
   -- the marks that stand: as many, or enough for all steps on both sides
-  counts : (placed.count ≡ marks) ⊎ ((length steps ≤ 1000 * placed.count) × (length steps ≤ 1000 * marks))
+  counts : (count ≡ marks) ⊎ ((length steps ≤ 1000 * count) × (length steps ≤ 1000 * marks))
   counts = ⊎_elim
       (λ none. inl (as_many none))
       (λ whole.
-      let all : length steps ≤ 1000 * placed.count = subst (λ (l : List Step). length l ≤ 1000 * placed.count) same_steps whole in
-      let more : placed.count ≤ marks = at_least in
+      let all : length steps ≤ 1000 * count = subst (λ (l : List Step). length l ≤ 1000 * count) same_steps whole in
+      let more : count ≤ marks = at_least in
       inr (all, omega arith))
       placed.is.marked.last
     where
-      at_least : placed.count ≤ marks
-      at_least = elim (cases_lt marks placed.count) [
+      at_least : count ≤ marks
+      at_least = elim (cases_lt marks count) [
         | inl lt ↦ absurd (placed.is.marked.stand marks lt is_open.ready.marked.last)
         | inr ge ↦ ge
       ]
 
-      as_many : t.look (mark_name (placed.count + 1)) ≡ None → placed.count ≡ marks
-      as_many none = elim (cases_lt placed.count marks) [
-        | inl lt ↦ absurd (is_open.ready.marked.stand placed.count lt none)
-        | inr ge ↦ let le : placed.count ≤ marks = at_least in omega arith
+      as_many : t.look (mark_name (count + 1)) ≡ None → count ≡ marks
+      as_many none = elim (cases_lt count marks) [
+        | inl lt ↦ absurd (is_open.ready.marked.stand count lt none)
+        | inr ge ↦ let le : count ≤ marks = at_least in omega arith
       ]
 
   -- so both leave the same steps
-  same_front : take (1000 * placed.count) steps ≡ take (1000 * marks) steps
-  same_front = ⊎_elim
-      (λ same. ap (λ (n : ℕ). take (1000 * n) steps) same)
-      (λ both. take_all (1000 * placed.count) steps both.0 ∙ sym (take_all (1000 * marks) steps both.1))
-      counts
-
-  pub same_left : steps_left placed.count steps ≡ steps_left marks steps
+  pub same_left : steps_left count steps ≡ steps_left marks steps
   same_left = ⊎_elim
       (λ same. ap (λ (n : ℕ). drop (1000 * n) steps) same)
       (λ both. drop_of_length-le steps both.0 ∙ sym (drop_of_length-le steps both.1))
       counts
-
-  pub placed_open : IsAt (journal_of t) (take (1000 * marks) steps) r
-  placed_open = subst (λ (l : List Step). IsAt (journal_of t) l r) (ap (take (1000 * placed.count)) same_steps ∙ same_front) placed.at

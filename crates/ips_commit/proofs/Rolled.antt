@@ -1,151 +1,57 @@
 -- A change that was stopped, brought to its end.
-use Rattle.std.proofs.Common.{◌≡◌, ◌≢◌, ◌⊎◌, inl, inr, ⊎_elim, ℕ, zero, suc, ◌+◌, ◌*◌, ◌<◌, ◌≤◌, Bool, true, false, ◌||◌, List, [], ◌∷◌, ◌++◌, length, take, drop, Option, Some, None, is_some, Result, Ok, Err, OnOk, IfErr, append_assoc, refl, sym, ◌∙◌, ap, subst, arith}
-use Rattle.std.specs.List.{list_any}
-use Rattle.std.proofs.lemmas.Bool.{or_parts, cases_lt}
+use Rattle.std.proofs.Common.{◌≡◌, ◌≢◌, ◌⊎◌, inl, inr, ⊎_elim, ℕ, ◌+◌, ◌*◌, ◌<◌, ◌≤◌, Bool, true, false, List, [], ◌∷◌, ◌++◌, length, take, Option, Some, None, is_some, Result, Ok, Err, refl, sym, ◌∙◌, ap, subst, arith}
+use Rattle.std.specs.List.{list_all}
+use Rattle.std.proofs.lemmas.Bool.{cases_lt, false_from_ne_true}
 use Rattle.std.proofs.Math.ListN.{drop_of_length-le}
-use Rattle.ips_text.specs.Ancestry.{covers}
+use Rattle.std.proofs.lemmas.List.{take-append-drop}
 use Rattle.ips_text.specs.declared.refusal.Or.{Or}
 use Rattle.ips_text.specs.declared.refusal.Or.TheVariants.{Bad, OutOfMemory}
 use Rattle.ips_text.specs.Reading.{IfBad}
-use Rattle.ips_commit.specs.Answers.{IfStarved}
-use Rattle.ips_text.specs.Kept.{Kept}
-use Rattle.ips_outside.specs.Image.{Image, IsImage, Agrees}
-use Rattle.ips_outside.specs.Children.{bytes_of}
-use Rattle.ips_outside.specs.State.{State, IsSettled, nowhere}
+use Rattle.ips_outside.specs.Image.{Image, Agrees}
+use Rattle.ips_outside.specs.State.{State, Within, IsSettled, nowhere}
 use Rattle.ips_outside.specs.Outside.{Outside, IsOutside, HasCause, Reads}
 use Rattle.ips_outside.proofs.Faults.{cause_as, cause_behind}
-use Rattle.ips_folder.specs.Calls.{Syncs, Keeps, Throughout}
-use Rattle.ips_folder.proofs.Runs.{started, goes_on, joins, keeps_then, one_read}
-use Rattle.ips_steps.specs.Steps.{Step, stage_of, after, possible, freed, met}
-use Rattle.ips_steps.specs.Private.{gate_name, mark_front, begins, visible}
-use Rattle.ips_steps.specs.Journal.{IsJournal}
-use Rattle.ips_steps.specs.Owed.{steps_left, IsReady, IsOpen, Owes, Old, Open, New, FolderOwes}
-use Rattle.ips_steps.proofs.Within.{laid_within}
-use Rattle.ips_outside.proofs.Moments.{within_self}
-use Rattle.ips_steps.proofs.Owing.{owed_open, owes_laying}
+use Rattle.ips_outside.proofs.Moments.{agrees_less, agrees_on}
+use Rattle.ips_folder.specs.Calls.{Keeps, Throughout}
+use Rattle.ips_folder.proofs.Runs.{started, goes_on, joins, weaker, keeps_then, one_read}
+use Rattle.ips_steps.specs.Steps.{Step, after}
+use Rattle.ips_steps.specs.Private.{gate_name, mark_front, mark_name, begins, visible}
+use Rattle.ips_steps.specs.Journal.{allowed}
+use Rattle.ips_steps.specs.Owed.{AreMarks, steps_left, IsOpen, Owes, Old, Open, New, FolderOwes}
+use Rattle.ips_steps.proofs.Apart.{marks_alike}
+use Rattle.ips_steps.proofs.Lists.{clash}
+use Rattle.ips_steps.proofs.Owing.{owed_open}
+use Rattle.ips_steps.proofs.Unmarking.{owes_unmarking, open_unmarked}
 use Rattle.ips_kinds.specs.Tallies.{Carrier, all_counted}
 use Rattle.ips_journal.specs.Text.{journal_text}
 use Rattle.ips_journal.specs.Bad.{IsBadLine}
 use Rattle.ips_journal.specs.Reading.{Reading, IsAt, journal_of}
-use Rattle.ips_journal.specs.declared.fault.StepFault.{StepFault}
-use Rattle.ips_journal.specs.declared.fault.StepFault.TheVariants.{BadJournal, FolderFault}
-use Rattle.ips_journal.proofs.JournalLaws.{one_text, none_bad, in_order}
-use Rattle.ips_apply.specs.Applied.{IsImpossible}
+use Rattle.ips_journal.proofs.JournalLaws.{one_text, none_bad}
+use Rattle.ips_apply.proofs.Turns.{allowed_behind}
+use Rattle.ips_commit.specs.Answers.{IfStarved}
 use Rattle.ips_commit.specs.declared.fault.CommitFault.{CommitFault}
 use Rattle.ips_commit.specs.declared.fault.CommitFault.TheVariants as fault
-use Rattle.ips_commit.specs.Pending.{HasNoOtherMark, IsSwept, IsDone, is_swept}
-use Rattle.ips_commit.specs.Phases.{AreSafelyLaid, StopsAt, LaysTo, HasBegun, Lays}
-use Rattle.ips_commit.specs.Recovering.{AreCounted, IsJournalled, IsStuck, IsBadJournal, IsPlaced, CanRollForward, IfBadJournal, SaysOfFinding, SaysOfLaying, SaysOfRecovery}
-use Rattle.ips_commit.proofs.OwnNames.{marks_stay}
-use Rattle.ips_folder.proofs.Crashes.{alike_none}
-use Rattle.ips_commit.proofs.Lays.{next_of, front_less, rest_of}
-use Rattle.ips_commit.proofs.Owing.{nodes_of, ready_text, laying_owed, laid_ready, laid_means, sweeping_owed, cleared_of}
-use Rattle.ips_commit.proofs.Committed.{laid_ok, laid_bad, never_bad}
-use Rattle.ips_commit.proofs.Places.{same_steps, same_left, placed_open}
-
--- ---- the steps laid from a place on
-
-drop_frees : (n : ℕ) (steps : List Step) (q : List ℕ) → freed steps q ≡ false → freed (drop n steps) q ≡ false
-drop_frees zero steps q off = off
-drop_frees (suc n) [] q off = off
-drop_frees (suc n) (s ∷ rest) q off = drop_frees n rest q (or_parts _ (freed rest q) off).1
-
--- the step behind the steps that were laid can't be
-stuck_of : (t : Image) (steps : List Step) (count : ℕ) (laid : List Step) (line : ℕ) {F : Type 0} (o : Outside F) (old : F) → (o.state old).held ≡ t → IsJournalled t steps count
-    → StopsAt o (journal_of t) (take (1000 * count) steps) laid line old → IsStuck t line
-stuck_of t steps count laid line o old at is stops = ⊎_elim
-    (λ bad. absurd (none_bad steps line is.lists (subst (λ (l : List ℕ). IsBadLine l line) is.text_is bad)))
-    (λ stuck.
-    let front = take (1000 * count) steps in
-    let left = steps_left count steps in
-    let s = stuck.step in
-    let begins : front ++ (laid ++ s ∷ []) ≡ take (length (front ++ (laid ++ s ∷ []))) steps =
-    subst (λ (l : List Step). l ≡ take (length l) steps) (append_assoc front laid (s ∷ []))
-    (in_order steps ((front ++ laid) ++ s ∷ []) stuck.stands.0 is.lists (subst (λ (l : List ℕ). IsAt l ((front ++ laid) ++ s ∷ []) stuck.stands.0) is.text_is stuck.stands.1)).1 in
-    let is_front : laid ≡ take (length laid) left = front_less laid left s (next_of steps (laid ++ s ∷ []) (1000 * count) begins) in
-    record {
-      steps = steps;
-      count = count;
-      is = is;
-      laid = length laid;
-      can = subst (λ (l : List Step). possible (stage_of t) l t ≡ true) is_front (subst (λ (u : Image). possible (stage_of u) laid u ≡ true) at stops.can);
-      next = subst (λ (l : List Step). IsImpossible (journal_of t) (front ++ l) (after l t) line) is_front (subst (λ (u : Image). IsImpossible (journal_of t) (front ++ laid) (after laid u) line) at stuck);
-    })
-    stops.why
-
-module _ {F : Type 0} (o : Outside F) (sane : IsOutside o) (old at : F) (told : o.tells old ≡ true) (steps : List Step) (count : ℕ) (r : Reading) (counts now : List Carrier) (result : Result ℕ StepFault)
-    (lays : Lays o old at r counts now result) (begins : IsAt (journal_of (o.state old).held) (take (1000 * count) steps) r) where
-  abbrev t : Image
-  t = (o.state old).held
-
-  abbrev front : List Step
-  front = take (1000 * count) steps
-
-  abbrev left : List Step
-  left = steps_left count steps
-
-  -- with a list that is owed
-  module _ (a : Image) (is_open : IsOpen journal_text steps count a t) where
-    pub roll_owed : IsSettled (o.state old) → (b : Image) (due : Bool) → Throughout o old at (FolderOwes journal_text b (Some a) due)
-    roll_owed clean b due = laying_owed o sane steps count a old at told is_open clean (lays.changes told front begins) b due
-
-    pub roll_line : (line : ℕ) → result ≡ Err (BadJournal line) → ⊥
-    roll_line line is = never_bad o sane steps count a old is_open lays.steps line (laid_bad o sane (journal_of t) front lays.steps old at result line is (lays.ends told front begins))
-
-    module _ (number : ℕ) (is : result ≡ Ok number) where
-      owed_safely : AreSafelyLaid o (journal_of t) front lays.steps old at
-      owed_safely = (laid_ok o sane (journal_of t) front lays.steps old at result number is (lays.ends told front begins)).0
-
-      pub roll_finished : (new : F) → IsSettled (o.state old) → (b : Image) (due : Bool)
-          → (IsSettled (o.state at) → IsReady journal_text steps count a (o.state at).held → visible (o.state at).held ≡ a → Throughout o at new (FolderOwes journal_text b (Some a) due)) → Throughout o old new (FolderOwes journal_text b (Some a) due)
-      roll_finished new clean b due closing = joins o old at new (FolderOwes journal_text b (Some a) due) (roll_owed clean b due)
-          (closing owed_safely.safe (laid_ready o sane steps count a old at told is_open lays.steps owed_safely) (laid_means o sane steps count a old at told is_open lays.steps owed_safely))
-
-  -- with any list of the journal
-  module _ (is : IsJournalled t steps count) where
-    pub roll_front : (laid : ℕ) × (now ≡ all_counted (take laid left) counts)
-    roll_front =
-        let next = next_of steps lays.steps (1000 * count) (lays.next told front begins steps is.lists is.text_is) in
-        (length lays.steps, lays.tallies ∙ ap (λ (l : List Step). all_counted l counts) next)
-
-    pub roll_stuck : (line : ℕ) → result ≡ Err (BadJournal line) → IsStuck t line
-    roll_stuck line was = stuck_of t steps count lays.steps line o old refl is (laid_bad o sane (journal_of t) front lays.steps old at result line was (lays.ends told front begins))
-
-    module _ (number : ℕ) (was : result ≡ Ok number) where
-      safely : AreSafelyLaid o (journal_of t) front lays.steps old at
-      safely = (laid_ok o sane (journal_of t) front lays.steps old at result number was (lays.ends told front begins)).0
-
-      all_left : lays.steps ≡ left
-      all_left = rest_of steps lays.steps (1000 * count) (one_text (front ++ lays.steps) steps safely.lists is.lists (sym safely.text_is ∙ is.text_is))
-
-      held_left : (o.state at).held ≡ after left t
-      held_left = safely.held ∙ ap (λ (l : List Step). after l t) all_left
-
-      pub roll_can : CanRollForward t steps count
-      roll_can = record { is = is; can = subst (λ (l : List Step). possible (stage_of t) l t ≡ true) all_left safely.can }
-
-      pub roll_counted : now ≡ all_counted left counts
-      roll_counted = lays.tallies ∙ ap (λ (l : List Step). all_counted l counts) all_left
-
-      pub roll_marks : (names : List (List ℕ)) → HasNoOtherMark t names → HasNoOtherMark (o.state at).held names
-      roll_marks names others q b off =
-          let within = subst (λ (u : Image). Agrees (freed left) (met (stage_of t) left t) t u) (sym held_left) (laid_within (stage_of t) left t) in
-          alike_none ((o.state at).held.look q) (t.look q) (within.but_mode q (drop_frees (1000 * count) steps q (marks_stay q b steps is.lists.names))) (others q b off)
-
-      pub roll_done : (new : F) → IsDone (visible (o.state at).held) (o.state new) → IsDone (visible (after left t)) (o.state new)
-      roll_done new done = subst (λ (u : Image). IsDone (visible u) (o.state new)) held_left done
+use Rattle.ips_commit.specs.Pending.{HasNoOtherMark, AreMarkNames, IsSwept, IsDone, is_swept, is_other, mark_names}
+use Rattle.ips_commit.specs.Phases.{IsUnderWay}
+use Rattle.ips_commit.specs.Recovering.{AreCounted, IsJournalled, IsStuckAt, IsPlaced, CanRollForward, IfBadJournal, SaysOfFinding, SaysOfSteps, SaysOfLaying, SaysOfRecovery}
+use Rattle.ips_commit.proofs.Going.{cannot_alike}
+use Rattle.ips_commit.proofs.Lays.{allowed_before}
+use Rattle.ips_commit.proofs.Marked.{absent_later, gate_marked, journal_marked}
+use Rattle.ips_commit.proofs.Numbered.{other_own, other_keeps, other_absent}
+use Rattle.ips_commit.proofs.Owing.{ready_text, sweeping_owed, cleared_of}
+use Rattle.ips_commit.proofs.Places.{same_steps, same_left}
 
 -- ---- what a recovery that rolled forward answers
 
-pub says_rolled : (old new : State) (steps : List Step) (count : ℕ) → IsJournalled old.held steps count → (old.held.look gate_name ≡ None → ⊥) → (why : CommitFault) → SaysOfLaying old.held why → SaysOfRecovery old new why
-says_rolled old new steps count is gate fault.Unchanged says = absurd says
-says_rolled old new steps count is gate fault.Unfinished says = gate
-says_rolled old new steps count is gate (fault.BadJournal line) says = (gate, inr says, λ bad. absurd (none_bad steps line is.lists (subst (λ (l : List ℕ). IsBadLine l line) is.text_is bad)))
+pub says_rolled : (old new : State) (before now : List Carrier) (steps : List Step) (count : ℕ) → IsJournalled old.held steps count → (old.held.look gate_name ≡ None → ⊥) → (why : CommitFault) → SaysOfLaying old.held new.held before now why → SaysOfRecovery old new before now why
+says_rolled old new before now steps count is gate fault.Unchanged says = absurd says
+says_rolled old new before now steps count is gate fault.Unfinished says = gate
+says_rolled old new before now steps count is gate (fault.BadJournal line) says = (gate, inr says, λ bad. absurd (none_bad steps line is.lists (subst (λ (l : List ℕ). IsBadLine l line) is.text_is bad)))
 
-pub says_only_read : (old new : State) (why : CommitFault) → new ≡ old → SaysOfFinding old.held why → SaysOfRecovery old new why
-says_only_read old new fault.Unchanged kept says = λ gate. kept
-says_only_read old new fault.Unfinished kept says = absurd says
-says_only_read old new (fault.BadJournal line) kept says = (says.0, inl says.1, λ bad. kept)
+pub says_only_read : (old new : State) (before now : List Carrier) (why : CommitFault) → new ≡ old → SaysOfFinding old.held why → SaysOfRecovery old new before now why
+says_only_read old new before now fault.Unchanged kept says = λ gate. kept
+says_only_read old new before now fault.Unfinished kept says = absurd says
+says_only_read old new before now (fault.BadJournal line) kept says = (says.0, inl says.1, λ bad. kept)
 
 -- a fact where memory ran out
 pub if_starved : (T : Type 0) {E : Type 0} (e : Or E) (P : Type 0) → P → IfStarved {T = T} (Err e) P
@@ -194,19 +100,10 @@ pub no_answer : {T : Type 0} (answer : Result T (Or CommitFault)) (x : T) → an
 no_answer answer x is (inl un) = cc
 no_answer answer x is (inr un) = cc
 
--- the marks, as they were lent
-pub rolled_marks : (t u : Image) (marks lent : List Kept) → t ≡ u → marks ≡ lent → HasNoOtherMark t (bytes_of marks) → HasNoOtherMark u (bytes_of lent)
-rolled_marks t u marks lent same is others = subst (λ (l : List Kept). HasNoOtherMark u (bytes_of l)) is (subst (λ (v : Image). HasNoOtherMark v (bytes_of marks)) same others)
-
 pub never_refused : (why : CommitFault) (P : Type 0) (T : Type 0) → why ≡ fault.Unfinished → IfBadJournal {T = T} (Err (Bad why)) (λ line. P)
 never_refused why P T is = subst (λ (x : CommitFault). IfBadJournal {T = T} (Err (Bad x)) (λ line. P)) (sym is) tt
 
 -- ---- a recovery that has only read
-
-none_owed : (b : Image) (x : Option Image) (due : Bool) (t : Image) → Owes journal_text b x due t → x ≡ None → (t.look gate_name ≡ None → ⊥) → ⊥
-none_owed b x due t (Old gone seen) none gate = gate gone
-none_owed b x due t (Open {a = y} steps marks o) none gate = cc
-none_owed b x due t (New gone seen) none gate = gate gone
 
 module _ {F : Type 0} (o : Outside F) (sane : IsOutside o) (old mid : F) (failure : Type 0) (reads : Reads o old mid failure) where
   pub still_owed : (b : Image) (a : Option Image) (due : Bool) → FolderOwes journal_text b a due (o.state old) → Throughout o old mid (FolderOwes journal_text b a due)
@@ -215,17 +112,6 @@ module _ {F : Type 0} (o : Outside F) (sane : IsOutside o) (old mid : F) (failur
 
   pub still_clean : IsSettled (o.state old) → IsSettled (o.state mid)
   still_clean clean = subst IsSettled (sym reads.kept) clean
-
-  -- and then rolled forward
-  pub rolled_owed : (new : F) (r : Reading) (b : Image) (a : Option Image) (due : Bool) → ((o.state old).held.look gate_name ≡ None → ⊥) → IsPlaced (o.state old).held r → FolderOwes journal_text b a due (o.state old)
-      → ((steps : List Step) (count : ℕ) (x : Image) → IsOpen journal_text steps count x (o.state mid).held → IsAt (journal_of (o.state mid).held) (take (1000 * count) steps) r → Throughout o mid new (FolderOwes journal_text b (Some x) due))
-      → Throughout o old new (FolderOwes journal_text b a due)
-  rolled_owed new r b None due gate placed owes roll = absurd (none_owed b None due (o.state old).held owes.now refl gate)
-  rolled_owed new r b (Some x) due gate placed owes roll =
-      let found = owed_open journal_text b x due (o.state old).held owes.now gate in
-      joins o old mid new (FolderOwes journal_text b (Some x) due) (still_owed b (Some x) due owes)
-      (roll found.0 found.1 x (subst (λ (s : State). IsOpen journal_text found.0 found.1 x s.held) (sym reads.kept) found.2)
-      (subst (λ (s : State). IsAt (journal_of s.held) (take (1000 * found.1) found.0) r) (sym reads.kept) (placed_open (o.state old).held r placed found.0 found.1 x found.2)))
 
   -- or swept
   module _ (new : F) (shut : (o.state old).held.look gate_name ≡ None) (run : Keeps o is_swept nowhere mid new) where
@@ -240,12 +126,6 @@ module _ {F : Type 0} (o : Outside F) (sane : IsOutside o) (old mid : F) (failur
         let both = cleared_of marks (o.state old).held (o.state new).held (sane.formed new told) shut others (subst (λ (s : State). IsSwept marks s.held (o.state new).held) reads.kept swept) swept_keeps.now.agrees in
         record { seen = both.0; bare = both.1; safe = safe }
 
--- what is seen at the end is what was owed
-pub placed_done : (t : Image) (r : Reading) (placed : IsPlaced t r) (steps : List Step) (marks : ℕ) (a : Image) → IsOpen journal_text steps marks a t → (s : State)
-    → IsDone (visible (after (steps_left placed.count placed.steps) t)) s → IsDone a s
-placed_done t r placed steps marks a is_open s done = subst (λ (x : Image). IsDone x s)
-    (ap (λ (l : List Step). visible (after l t)) (ap (steps_left placed.count) (same_steps t r placed steps marks a is_open) ∙ same_left t r placed steps marks a is_open) ∙ is_open.ready.means) done
-
 -- ---- the gate, as it was found
 
 pub found_open : (b : Bool) (t : Image) → b ≡ is_some (t.look gate_name) → b ≡ true → t.look gate_name ≡ None → ⊥
@@ -257,22 +137,6 @@ found_shut b t is shut = go (t.look gate_name) (sym is ∙ shut)
     go : {A : Type 0} (e : Option A) → is_some e ≡ false → e ≡ None
     go None off = refl
     go (Some x) off = cc
-
--- ---- a recovery behind its first sync
-
-module _ {F : Type 0} (o : Outside F) (sane : IsOutside o) (old mid : F) {T E : Type 0} (answer : Result T E) (sync : Syncs o old mid answer) (told : o.tells old ≡ true) where
-  pub settled_owed : IsSettled (o.state old) → (steps : List Step) (count : ℕ) (b a : Image) (due : Bool) → IsOpen journal_text steps count a (o.state old).held → (o.state mid).held ≡ (o.state old).held → IsSettled (o.state mid)
-      → Throughout o old mid (FolderOwes journal_text b (Some a) due)
-  settled_owed clean steps count b a due is_open same safe =
-      let still = subst (λ (t : Image). IsOpen journal_text steps count a t) (sym same) is_open in
-      goes_on o old old mid (FolderOwes journal_text b (Some a) due) (started o old (FolderOwes journal_text b (Some a) due) (sane.only_now old) (owes old told clean is_open)) sync.call.time
-      (owes mid (sync.call.same_kind ∙ told) safe still)
-    where
-      owes : (f : F) → o.tells f ≡ true → IsSettled (o.state f) → IsOpen journal_text steps count a (o.state f).held → FolderOwes journal_text b (Some a) due (o.state f)
-      owes f tells settled open_f = owes_laying journal_text steps count a b due (o.state f) (o.state f) open_f (nodes_of (o.state f).held (sane.formed f tells)) settled (within_self _ _ (o.state f))
-
-pub unsynced_held : {F : Type 0} (o : Outside F) (old mid : F) → o.state mid ≡ o.state old → (o.state mid).held ≡ (o.state old).held
-unsynced_held o old mid same = ap (λ (s : State). s.held) same
 
 -- counts of the same marks leave the same steps
 pub counted_left : (t : Image) (steps : List Step) (m n : ℕ) → AreCounted t (length steps) m → AreCounted t (length steps) n → steps_left m steps ≡ steps_left n steps
@@ -291,10 +155,124 @@ counted_left t steps m n ms ns = elim (cases_lt m n) [
         xs.last
 
 -- what was counted, told by any list and count that the journal and the marks are of
-pub front_as : (t : Image) (r : Reading) (placed : IsPlaced t r) (steps : List Step) (count : ℕ) → IsJournalled t steps count → (counts now : List Carrier)
-    → (laid : ℕ) × (now ≡ all_counted (take laid (steps_left placed.count placed.steps)) counts) → (laid : ℕ) × (now ≡ all_counted (take laid (steps_left count steps)) counts)
-front_as t r placed steps count is counts now front =
+pub front_as : (t : Image) (r : Reading) (n : ℕ) (placed : IsPlaced t r n) (steps : List Step) (count : ℕ) → IsJournalled t steps count → (counts now : List Carrier)
+    → (laid : ℕ) × (now ≡ all_counted (take laid (steps_left n placed.steps)) counts) → (laid : ℕ) × (now ≡ all_counted (take laid (steps_left count steps)) counts)
+front_as t r n placed steps count is counts now front =
     let same : placed.steps ≡ steps = one_text placed.steps steps placed.is.lists is.lists (sym placed.is.text_is ∙ is.text_is) in
-    let marked = subst (λ (l : List Step). AreCounted t (length l) placed.count) same placed.is.marked in
-    let left : steps_left placed.count placed.steps ≡ steps_left count steps = ap (steps_left placed.count) same ∙ counted_left t steps placed.count count marked is.marked in
+    let marked = subst (λ (l : List Step). AreCounted t (length l) n) same placed.is.marked in
+    let left : steps_left n placed.steps ≡ steps_left count steps = ap (steps_left n) same ∙ counted_left t steps n count marked is.marked in
     (front.0, front.1 ∙ ap (λ (l : List Step). all_counted (take front.0 l) counts) left)
+
+-- ---- the marks but the first ones taken away behind an open gate
+
+none_owed : (b : Image) (x : Option Image) (due : Bool) (t : Image) → Owes journal_text b x due t → x ≡ None → (t.look gate_name ≡ None → ⊥) → ⊥
+none_owed b x due t (Old gone seen) none gate = gate gone
+none_owed b x due t (Open {a = y} steps marks o) none gate = cc
+none_owed b x due t (New gone seen) none gate = gate gone
+
+module _ {F : Type 0} (o : Outside F) (sane : IsOutside o) (old mid : F) (marks : List (List ℕ)) (own : list_all (begins mark_front) marks ≡ true) (are : AreMarkNames (o.state old).held marks)
+    (r : Reading) (count : ℕ) (few : count ≤ 18446744073709552) (placed : IsPlaced (o.state old).held r count) (clean : IsSettled (o.state old)) (run : Keeps o (is_other (mark_names count) marks) nowhere old mid) where
+  abbrev t : Image
+  t = (o.state old).held
+
+  abbrev u : Image
+  u = (o.state mid).held
+
+  abbrev left : List Step
+  left = steps_left count placed.steps
+
+  -- with a list that is owed
+  module _ (steps : List Step) (m : ℕ) (a : Image) (is_open : IsOpen journal_text steps m a t) where
+    pub left_same : steps_left count steps ≡ steps_left m steps
+    left_same = same_left t r count placed steps m a is_open
+
+    pub unmarking_owed : (b : Image) (due : Bool) → Throughout o old mid (FolderOwes journal_text b (Some a) due)
+    unmarking_owed b due = weaker o old mid (Within (is_other (mark_names count) marks) nowhere (o.state old)) (FolderOwes journal_text b (Some a) due)
+        (λ s w. owes_unmarking journal_text steps m count b a due (is_other (mark_names count) marks) (o.state old) s is_open clean left_same (other_own (mark_names count) marks own)
+        (λ i lt. other_keeps count i marks own lt) (other_absent t (mark_names count) marks (m + 1) own are is_open.ready.marked.last) w) run.moments
+
+  module _ (others : HasNoOtherMark u (mark_names count)) (safe : IsSettled (o.state mid)) where
+    agree : Agrees (begins mark_front) nowhere t u
+    agree = agrees_less (is_other (mark_names count) marks) nowhere (begins mark_front) nowhere t u
+        (λ q off. false_from_ne_true _ (λ other. clash (begins mark_front q) (other_own (mark_names count) marks own q other) off)) (λ q l. l) run.now.agrees
+
+    are_first : AreMarks u count
+    are_first = record {
+      stand = λ i lt none. placed.is.marked.stand i lt (sym (run.now.agrees.look (mark_name (i + 1)) (other_keeps count i marks own lt) refl) ∙ none);
+      last = absent_later u count (count + 1) others (omega arith) (omega (arith, few));
+    }
+
+    journal_same : journal_of u ≡ journal_of t
+    journal_same = journal_marked t u agree
+
+    pub first_way : t.look gate_name ≢ None → IsUnderWay (o.state mid) count
+    first_way gate = record { safe = safe; gate = gate_marked t u agree gate; marked = are_first; others = others }
+
+    pub first_at : IsAt (journal_of u) (take (1000 * count) placed.steps) r
+    first_at = subst (λ (l : List ℕ). IsAt l (take (1000 * count) placed.steps) r) (sym journal_same) placed.at
+
+    pub first_journalled : IsJournalled u placed.steps count
+    first_journalled = record { lists = placed.is.lists; text_is = journal_same ∙ placed.is.text_is; marked = record { stand = are_first.stand; last = inl are_first.last } }
+
+    pub first_open : (m : ℕ) (a : Image) → IsOpen journal_text placed.steps m a t → IsOpen journal_text placed.steps count a u
+    first_open m a is_open = open_unmarked journal_text placed.steps m count a t u is_open (left_same placed.steps m a is_open) are_first agree
+
+    may : allowed left ≡ true
+    may = allowed_behind (take (1000 * count) placed.steps) left (ap allowed (take-append-drop (1000 * count) placed.steps) ∙ placed.is.lists.names)
+
+    -- what rolling forward says, told of the image before
+    pub first_can : CanRollForward u placed.steps count → CanRollForward t placed.steps count
+    first_can can = record { is = placed.is; can = sym (marks_alike left t u may agree).0 ∙ can.can }
+
+    pub first_done : (s : State) → IsDone (visible (after left u)) s → IsDone (visible (after left t)) s
+    first_done s done = subst (λ (x : Image). IsDone x s) (marks_alike left t u may agree).2 done
+
+    first_stuck : (v : Image) (before now : List Carrier) (line : ℕ) → IsStuckAt u v before now placed.steps count line → IsStuckAt t v before now placed.steps count line
+    first_stuck v before now line stuck =
+        let some = take stuck.laid left in
+        let s = stuck.next.step in
+        let names = stuck.next.stands.1.1.listed.names in
+        let last : allowed (s ∷ []) ≡ true = allowed_behind (take (1000 * count) placed.steps ++ some) (s ∷ []) names in
+        let ok : allowed some ≡ true = allowed_behind (take (1000 * count) placed.steps) some (allowed_before (take (1000 * count) placed.steps ++ some) (s ∷ []) names) in
+        let alike = marks_alike some t u ok agree in
+        record {
+          laid = stuck.laid;
+          can = sym alike.0 ∙ stuck.can;
+          next = record {
+            step = s;
+            stands = (stuck.next.stands.0, subst (λ (l : List ℕ). IsAt l ((take (1000 * count) placed.steps ++ some) ++ s ∷ []) stuck.next.stands.0) journal_same stuck.next.stands.1);
+            cannot = cannot_alike s (after some t) (after some u) last alike.1 stuck.next.cannot;
+            number = stuck.next.number;
+          };
+          held = agrees_on (begins mark_front) nowhere (after some t) (after some u) v alike.1 stuck.held;
+          gate = stuck.gate;
+          tallies = stuck.tallies;
+        }
+
+    pub first_says : (v : Image) (before now : List Carrier) (why : CommitFault) → SaysOfSteps u v before now placed.steps count why → SaysOfLaying t v before now why
+    first_says v before now fault.Unchanged says = says
+    first_says v before now fault.Unfinished says = says
+    first_says v before now (fault.BadJournal line) says = record { steps = placed.steps; count = count; is = placed.is; at = first_stuck v before now line says }
+
+    -- with a list that is owed
+    module _ (steps : List Step) (m : ℕ) (a : Image) (is_open : IsOpen journal_text steps m a t) where
+      here : IsOpen journal_text placed.steps m a t
+      here = subst (λ (l : List Step). IsOpen journal_text l m a t) (sym (same_steps t r count placed steps m a is_open)) is_open
+
+      pub first_still : IsOpen journal_text placed.steps count a u
+      first_still = first_open m a here
+
+      pub first_means : (s : State) → IsDone (visible (after left t)) s → IsDone a s
+      first_means s done = subst (λ (x : Image). IsDone x s) (ap (λ (l : List Step). visible (after l t)) (left_same placed.steps m a here) ∙ here.ready.means) done
+
+    -- what is owed, whatever it is
+    pub first_owed : (new : F) → t.look gate_name ≢ None → (b : Image) (x : Option Image) (due : Bool) → FolderOwes journal_text b x due (o.state old)
+        → ((a : Image) → IsOpen journal_text placed.steps count a u → Throughout o mid new (FolderOwes journal_text b (Some a) due)) → Throughout o old new (FolderOwes journal_text b x due)
+    first_owed new gate b None due owes roll = absurd (none_owed b None due t owes.now refl gate)
+    first_owed new gate b (Some a) due owes roll =
+        let found = owed_open journal_text b a due t owes.now gate in
+        joins o old mid new (FolderOwes journal_text b (Some a) due) (unmarking_owed found.0 found.1 a found.2 b due) (roll a (first_still found.0 found.1 a found.2))
+
+  pub unmarked_owed : t.look gate_name ≢ None → (b : Image) (x : Option Image) (due : Bool) → FolderOwes journal_text b x due (o.state old) → Throughout o old mid (FolderOwes journal_text b x due)
+  unmarked_owed gate b None due owes = absurd (none_owed b None due t owes.now refl gate)
+  unmarked_owed gate b (Some a) due owes = let found = owed_open journal_text b a due t owes.now gate in unmarking_owed found.0 found.1 a found.2 b due

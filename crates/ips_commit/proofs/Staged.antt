@@ -1,11 +1,10 @@
 -- A list of steps staged behind a closed gate.
-use Rattle.std.proofs.Common.{◌≡◌, ◌⊎◌, inl, inr, ⊎_elim, ℕ, ◌<◌, Bool, true, false, ◌||◌, List, [], ◌∷◌, length, slice_get, ◌++◌, Option, Some, None, Result, is_some, refl, sym, ◌∙◌, ap, subst, arith}
+use Rattle.std.proofs.Common.{◌≡◌, inl, inr, ⊎_elim, ℕ, ◌<◌, Bool, true, false, ◌||◌, List, length, ◌++◌, Option, Some, None, Result, is_some, refl, sym, ◌∙◌, ap, subst, arith}
 use Rattle.std.specs.Fmt.{decimal}
-use Rattle.std.specs.List.{list_any}
 use Rattle.std.proofs.lemmas.Bool.{or_parts, or_right}
 use Rattle.std.proofs.lemmas.Option.{slice_get_cases}
 use Rattle.ips_text.specs.Ancestry.{covers, parent}
-use Rattle.ips_outside.specs.Image.{Image, IsImage, Agrees, Dir, File, is_dir, file_bytes, has_parent, dir_or_none}
+use Rattle.ips_outside.specs.Image.{Image, IsImage, Agrees, Dir, is_dir, file_bytes, has_parent, dir_or_none}
 use Rattle.ips_outside.specs.Change.{placed}
 use Rattle.ips_outside.specs.State.{State, Within, IsSettled, nowhere, settled}
 use Rattle.ips_outside.specs.Outside.{Outside, IsOutside, Elapses, Reads}

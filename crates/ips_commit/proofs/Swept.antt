@@ -1,8 +1,8 @@
 -- Taking away what is left behind a closed gate.
-use Rattle.std.proofs.Common.{◌≡◌, ◌⊎◌, inl, inr, ⊎_elim, ℕ, ◌+◌, ◌<◌, Bool, true, false, cond, ◌||◌, ◌&&◌, ◌==◌, List, [], ◌∷◌, ◌++◌, length, map, take, get_or, Option, None, Result, refl, sym, ◌∙◌, ap, subst, arith}
+use Rattle.std.proofs.Common.{◌≡◌, ◌⊎◌, inl, inr, ⊎_elim, ℕ, ◌+◌, ◌<◌, Bool, true, false, cond, ◌||◌, ◌&&◌, ◌==◌, List, [], ◌∷◌, ◌++◌, length, take, get_or, Option, None, Result, refl, sym, ◌∙◌, ap}
 use Rattle.std.specs.List.{filter, list_all, list_any}
 use Rattle.std.specs.Cmp.Lexicographic.{pointwise}
-use Rattle.std.proofs.lemmas.Bool.{and_parts, and_from, or_parts, or_from, or_cases, eqb-true, eq-eqb, false_from_ne_true}
+use Rattle.std.proofs.lemmas.Bool.{or_cases, false_from_ne_true}
 use Rattle.std.proofs.lemmas.List.{take_more}
 use Rattle.std.proofs.lemmas.List.Elements.{filter-append}
 use Rattle.std.proofs.lemmas.List.Folds.{list_all-map, list_any_more}
@@ -19,7 +19,7 @@ use Rattle.ips_folder.proofs.Runs.{keeps_then, keeps_wider, one_write}
 use Rattle.ips_steps.specs.Steps.{stage_name}
 use Rattle.ips_steps.specs.Private.{journal_name, mark_front, begins}
 use Rattle.ips_steps.proofs.Lists.{clash}
-use Rattle.ips_commit.specs.Pending.{IsSwept, is_swept}
+use Rattle.ips_commit.specs.Pending.{IsSwept}
 use Rattle.ips_steps.proofs.PrivateNames.{begins_below}
 
 -- ---- a write at a path, among those at which a run may write

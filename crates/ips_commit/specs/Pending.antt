@@ -1,11 +1,11 @@
 -- What a run that was stopped may have left at the updater's own names.
-use Rattle.std.specs.Prelude.{◌≡◌, ◌≢◌, ◌⊎◌, ℕ, Bool, ◌||◌, IsTrue, IsFalse, List, None, is_some}
+use Rattle.std.specs.Prelude.{◌≡◌, ◌≢◌, ◌⊎◌, ℕ, zero, suc, Bool, not, ◌&&◌, ◌||◌, IsTrue, IsFalse, List, [], ◌∷◌, None, is_some}
 use Rattle.std.specs.List.{list_all, list_any}
-use Rattle.ips_text.specs.Ancestry.{covers}
+use Rattle.ips_text.specs.Ancestry.{same_path, covers}
 use Rattle.ips_outside.specs.Image.{Image}
 use Rattle.ips_outside.specs.State.{State, Within, IsSettled, nowhere, settled}
 use Rattle.ips_steps.specs.Steps.{stage_name}
-use Rattle.ips_steps.specs.Private.{journal_name, gate_name, mark_front, begins, is_private, visible}
+use Rattle.ips_steps.specs.Private.{journal_name, gate_name, mark_front, mark_name, begins, is_private, visible}
 use Rattle.ips_commit.specs.declared.found.Pending.{Pending}
 use Rattle.ips_commit.specs.declared.found.Pending.TheVariants.{Nothing, Leftover, Open}
 
@@ -39,6 +39,15 @@ IsBehindGate old s = (s ≡ old) ⊎ Within is_swept nowhere (settled old) s
 -- no mark stands but these, and nothing below another
 abbrev pub HasNoOtherMark : Image → List (List ℕ) → Type 0
 HasNoOtherMark t marks = (q : List ℕ) → IsTrue (begins mark_front q) → IsFalse (list_any (λ m. covers m q) marks) → t.look q ≡ None
+
+-- the names of so many marks, the last first
+abbrev pub mark_names : ℕ → List (List ℕ)
+mark_names zero = []
+mark_names (suc count) = mark_name (suc count) ∷ mark_names count
+
+-- the path is at or below one of these marks that isn't among the kept ones
+abbrev pub is_other : List (List ℕ) → List (List ℕ) → List ℕ → Bool
+is_other kept marks q = list_any (λ m. not (list_any (λ k. same_path k m) kept) && covers m q) marks
 
 -- These are the marks of an image: each of them stands, and no other.
 pub record AreMarkNames (t : Image) (marks : List (List ℕ)) : Type 0 where

@@ -2,12 +2,13 @@
 use Rattle.std.specs.Prelude.{◌≡◌, ◌≢◌, ◌⊎◌, ℕ, ◌+◌, ◌*◌, ◌<◌, ◌≤◌, IsTrue, List, ◌++◌, length, take, Result, Ok, Err, None}
 use Rattle.ips_text.specs.declared.refusal.Or.{Or}
 use Rattle.ips_text.specs.declared.refusal.Or.TheVariants.{Bad, OutOfMemory}
-use Rattle.ips_outside.specs.Image.{Image}
-use Rattle.ips_outside.specs.State.{State}
+use Rattle.ips_outside.specs.Image.{Image, Agrees}
+use Rattle.ips_outside.specs.State.{State, nowhere}
 use Rattle.ips_steps.specs.Steps.{Step, after, possible, stage_of}
-use Rattle.ips_steps.specs.Private.{gate_name, mark_name}
+use Rattle.ips_steps.specs.Private.{gate_name, mark_front, mark_name, begins}
 use Rattle.ips_steps.specs.Journal.{IsJournal}
 use Rattle.ips_steps.specs.Owed.{steps_left}
+use Rattle.ips_kinds.specs.Tallies.{Carrier, all_counted}
 use Rattle.ips_journal.specs.Text.{journal_text}
 use Rattle.ips_journal.specs.Bad.{IsBadLine}
 use Rattle.ips_journal.specs.Reading.{Reading, IsAt, journal_of}
@@ -33,20 +34,36 @@ pub record CanRollForward (t : Image) (steps : List Step) (count : ℕ) : Type 0
   pub is : IsJournalled t steps count
   pub can : IsTrue (possible (stage_of t) (steps_left count steps) t)
 
+<<<<<<< HEAD
 -- Redo gets stuck: of the steps that the marks leave so many can be laid, and the next can't. Its line in the journal has this
 -- number.
 pub record IsStuck (t : Image) (line : ℕ) : Type 0 where
   pub steps : List Step
   pub count : ℕ
   pub is : IsJournalled t steps count
+=======
+-- Of the steps that so many marks leave so many can be laid, and then the next can't; its line has this number. They are laid,
+-- but for what stands at the names of marks, each counted by the first kind that takes it, and the gate stands open.
+pub record IsStuckAt (t u : Image) (before now : List Carrier) (steps : List Step) (count : ℕ) (line : ℕ) : Type 0 where
+>>>>>>> de8aa94b1f6742c317c311cb3b737a425472fab3
   pub laid : ℕ
   pub can : IsTrue (possible (stage_of t) (take laid (steps_left count steps)) t)
   pub next : IsImpossible (journal_of t) (take (1000 * count) steps ++ take laid (steps_left count steps)) (after (take laid (steps_left count steps)) t) line
+  pub held : Agrees (begins mark_front) nowhere (after (take laid (steps_left count steps)) t) u
+  pub gate : u.look gate_name ≢ None
+  pub tallies : now ≡ all_counted (take laid (steps_left count steps)) before
+
+-- The journal lists steps, and those that the marks leave are stuck.
+pub record IsStuck (t u : Image) (before now : List Carrier) (line : ℕ) : Type 0 where
+  pub steps : List Step
+  pub count : ℕ
+  pub is : IsJournalled t steps count
+  pub at : IsStuckAt t u before now steps count line
 
 -- why the journal behind an open gate can't be laid: that line is the first that isn't of the grammar, or that of the first
 -- step that isn't possible
-abbrev pub IsBadJournal : Image → ℕ → Type 0
-IsBadJournal t line = IsBadLine (journal_of t) line ⊎ IsStuck t line
+abbrev pub IsBadJournal : Image → Image → List Carrier → List Carrier → ℕ → Type 0
+IsBadJournal t u before now line = IsBadLine (journal_of t) line ⊎ IsStuck t u before now line
 
 -- a fact of the line that a fault of a recovery names
 abbrev pub IfBadJournal : {T : Type 0} → Result T (Or CommitFault) → (ℕ → Type 0) → Type 0
@@ -56,12 +73,21 @@ IfBadJournal (Err (Bad Unfinished)) P = Unit {0}
 IfBadJournal (Err (Bad (BadJournal line))) P = P line
 IfBadJournal (Err OutOfMemory) P = Unit {0}
 
+<<<<<<< HEAD
 -- Errors of a recovery. Unchanged: an open gate is as it was. Unfinished: the gate was open. Bad journal: the gate was open,
 -- and that line is bad; where it isn't of the grammar nothing was changed.
 abbrev pub SaysOfRecovery : State → State → CommitFault → Type 0
 SaysOfRecovery old new Unchanged = old.held.look gate_name ≢ None → new ≡ old
 SaysOfRecovery old new Unfinished = old.held.look gate_name ≢ None
 SaysOfRecovery old new (BadJournal line) = (old.held.look gate_name ≢ None) × IsBadJournal old.held line × (IsBadLine (journal_of old.held) line → new ≡ old)
+=======
+-- what a fault of a recovery says: an open gate stands as it stood; or the gate was open; or it was, and the journal is bad at
+-- that line, where nothing is changed if the line isn't of the grammar
+abbrev pub SaysOfRecovery : State → State → List Carrier → List Carrier → CommitFault → Type 0
+SaysOfRecovery old new before now Unchanged = old.held.look gate_name ≢ None → new ≡ old
+SaysOfRecovery old new before now Unfinished = old.held.look gate_name ≢ None
+SaysOfRecovery old new before now (BadJournal line) = (old.held.look gate_name ≢ None) × IsBadJournal old.held new.held before now line × (IsBadLine (journal_of old.held) line → new ≡ old)
+>>>>>>> de8aa94b1f6742c317c311cb3b737a425472fab3
 
 -- how reading a whole journal ends: it lists as many steps; or that line is the first that isn't of the grammar
 abbrev pub ReadsWhole : List ℕ → Result ℕ StepFault → Type 0
@@ -69,10 +95,9 @@ ReadsWhole text (Ok count) = (steps : List Step) × IsJournal steps × (text ≡
 ReadsWhole text (Err (step_fault.BadJournal line)) = IsBadLine text line
 ReadsWhole text (Err step_fault.FolderFault) = Unit {0}
 
--- The journal lists steps, and the reader stands behind those that the marks tell to be laid.
-pub record IsPlaced (t : Image) (r : Reading) : Type 0 where
+-- The journal lists steps, and the reader stands behind those that so many marks tell to be laid.
+pub record IsPlaced (t : Image) (r : Reading) (count : ℕ) : Type 0 where
   pub steps : List Step
-  pub count : ℕ
   pub is : IsJournalled t steps count
   pub at : IsAt (journal_of t) (take (1000 * count) steps) r
 
@@ -93,8 +118,14 @@ abbrev pub unread_as : StepFault → CommitFault
 unread_as (step_fault.BadJournal line) = BadJournal line
 unread_as step_fault.FolderFault = Unchanged
 
--- what a fault from the first change on says: a call failed; or a step isn't possible
-abbrev pub SaysOfLaying : Image → CommitFault → Type 0
-SaysOfLaying t Unchanged = ⊥
-SaysOfLaying t Unfinished = Unit {0}
-SaysOfLaying t (BadJournal line) = IsStuck t line
+-- what a fault from the first change on says of a list and so many marks: a call failed; or the list is stuck
+abbrev pub SaysOfSteps : Image → Image → List Carrier → List Carrier → List Step → ℕ → CommitFault → Type 0
+SaysOfSteps t u before now steps count Unchanged = ⊥
+SaysOfSteps t u before now steps count Unfinished = Unit {0}
+SaysOfSteps t u before now steps count (BadJournal line) = IsStuckAt t u before now steps count line
+
+-- the same of whatever the journal lists and the marks that stand
+abbrev pub SaysOfLaying : Image → Image → List Carrier → List Carrier → CommitFault → Type 0
+SaysOfLaying t u before now Unchanged = ⊥
+SaysOfLaying t u before now Unfinished = Unit {0}
+SaysOfLaying t u before now (BadJournal line) = IsStuck t u before now line

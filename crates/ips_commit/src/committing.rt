@@ -1,6 +1,6 @@
 //! A staged change committed.
 
-ghost use Rattle.std.specs.Prelude.{◌≡◌, ◌<◌, ℕ, List, false, Some, Err, IsTrue, IfOk, IfErr, OnOk, length, take};
+ghost use Rattle.std.specs.Prelude.{◌≡◌, ◌<◌, ◌≤◌, ℕ, List, [], false, Some, Err, IsTrue, IfOk, IfErr, OnOk, length, take};
 ghost use Rattle.ips_outside.specs.Image.{Image};
 ghost use Rattle.ips_outside.specs.Outside.{HasCause, Rose};
 ghost use Rattle.ips_folder.specs.Calls.{CanMake, Throughout};
@@ -10,22 +10,26 @@ ghost use Rattle.ips_steps.specs.Owed.{FolderOwes};
 ghost use Rattle.ips_steps.specs.declared.step.Sort.{Sort};
 ghost use Rattle.ips_kinds.specs.Tallies.{seen_by, taken, all_counted};
 ghost use Rattle.ips_journal.specs.Text.{journal_text};
-ghost use Rattle.ips_commit.specs.Pending.{IsDone};
+ghost use Rattle.ips_commit.specs.Pending.{HasNoOtherMark, IsDone};
 ghost use Rattle.ips_commit.specs.Due.{DueOnceOpen};
 ghost use Rattle.ips_commit.specs.Staging.{IsStaged};
 ghost use Rattle.ips_commit.specs.declared.fault.CommitFault.TheVariants as fault;
 
 use crate::fault::CommitFault;
-use crate::gate::{finish, lay, open};
+use crate::gate::open;
 use crate::names::OwnNames;
 use crate::ready::Ready;
+use crate::rolling::roll;
 use ips_folder::Folder;
-use ips_journal::{StepFault, StepReader};
+use ips_journal::StepReader;
 use ips_kinds::Kind;
 use ips_outside::Source;
+use ips_text::RelPath;
 
-/// Commits what `stage` left: opens the gate, lays the steps, closes the gate and sweeps, each made safe before the next. It
-/// answers how many steps were laid, each by the first kind that takes it. Each sort of step has to have a kind that takes it.
+/// Commits what `stage` left: opens the gate, lays the steps, closes the gate and sweeps, each made safe before the next. After
+/// each thousand steps that aren't the last ones it makes a mark, between two syncs. It answers how many steps were laid, each
+/// by the first kind that takes it. Each sort of step has to have a kind that takes it, nothing may stand at the gate or at the
+/// names of marks, and the gate's parent has to be a directory, as `stage` left it.
 ///
 /// Wherever it is stopped, within any call, the folder owes the image that was seen before or the one that is meant; once the
 /// gate is safely open, the latter. No memory is taken.
@@ -35,6 +39,7 @@ pub fn commit<F: Folder>(
     kinds: &mut Vec<Box<dyn Kind>>,
 ) -> Result<u64, CommitFault>
     requires gate { IsTrue (F.outside.tells folder.old) → CanMake (F.outside.state folder.old).held gate_name }
+    requires unmarked { IsTrue (F.outside.tells folder.old) → HasNoOtherMark (F.outside.state folder.old).held [] }
     requires takers { (s : Sort) → IsTrue (taken (seen_by sorts finished kinds.old.items) s) }
 
     // At every moment the image from before is owed, or the one that is meant; and the latter since the gate is safely open.
@@ -68,6 +73,7 @@ pub fn commit<F: Folder>(
         &mut memory.reader,
         kinds,
         &mut memory.buffer,
+        &mut memory.mark,
     )
 }
 
@@ -78,10 +84,14 @@ fn run<F: Folder>(
     reader: &mut StepReader,
     kinds: &mut Vec<Box<dyn Kind>>,
     buffer: &mut [u8],
+    mark: &mut RelPath,
 ) -> Result<u64, CommitFault>
     requires gate { IsTrue (F.outside.tells folder.old) → CanMake (F.outside.state folder.old).held gate_name }
+    requires unmarked { IsTrue (F.outside.tells folder.old) → HasNoOtherMark (F.outside.state folder.old).held [] }
     requires takers { (s : Sort) → IsTrue (taken (seen_by sorts finished kinds.old.items) s) }
     requires room { 0 < length buffer.old }
+    requires path { 1023 ≤ mark.old.room }
+    ensures path { 1023 ≤ mark.new.room }
     ensures owed { IsTrue (F.outside.tells folder.old) → (steps : List Step) (a : Image) → IsStaged steps a (F.outside.state folder.old)
         → Throughout F.outside folder.old folder.new (FolderOwes journal_text (visible (F.outside.state folder.old).held) (Some a) false) }
     ensures due { IsTrue (F.outside.tells folder.old) → (steps : List Step) (a : Image) → IsStaged steps a (F.outside.state folder.old)
@@ -103,13 +113,8 @@ fn run<F: Folder>(
         return Err(CommitFault::Unfinished);
     };
     reader.rewind();
-    let count = match lay(folder, reader, kinds, buffer) {
-        Ok(count) => count,
-        Err(StepFault::FolderFault) => return Err(CommitFault::Unfinished),
-        Err(StepFault::BadJournal { line }) => return Err(CommitFault::BadJournal { line }),
-    };
-    let Ok(()) = finish(folder, names, &[]) else {
-        return Err(CommitFault::Unfinished);
-    };
-    Ok(count)
+    match roll(folder, names, reader, kinds, buffer, mark, 0) {
+        Ok(count) => Ok(count),
+        Err(fault) => Err(fault),
+    }
 }

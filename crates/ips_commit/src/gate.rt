@@ -1,6 +1,6 @@
-//! The phases of a commit: the gate opens, the steps are laid, the gate closes, and what is left is swept.
+//! The phases of a commit around the laying of the steps: the gate opens, the gate closes, and what is left is swept.
 
-ghost use Rattle.std.specs.Prelude.{◌≡◌, ◌<◌, ◌≤◌, ℕ, List, Bool, Some, None, Err, IsTrue, IsFalse, IsErr, OnOk, OnErr, IfErr, length};
+ghost use Rattle.std.specs.Prelude.{◌≡◌, ◌<◌, ◌≤◌, ℕ, List, Bool, Some, None, IsTrue, IsErr, OnOk, OnErr};
 ghost use Rattle.std.specs.List.{list_all, list_any};
 ghost use Rattle.ips_text.specs.Ancestry.{covers};
 ghost use Rattle.ips_outside.specs.Image.{Image};
@@ -12,20 +12,14 @@ ghost use Rattle.ips_folder.specs.Calls.{CanMake, Keeps, Throughout};
 ghost use Rattle.ips_steps.specs.Steps.{Step};
 ghost use Rattle.ips_steps.specs.Private.{gate_name, mark_front, begins, visible};
 ghost use Rattle.ips_steps.specs.Owed.{IsReady, FolderOwes};
-ghost use Rattle.ips_steps.specs.declared.step.Sort.{Sort};
-ghost use Rattle.ips_kinds.specs.Tallies.{seen_by, taken};
 ghost use Rattle.ips_journal.specs.Text.{journal_text};
-ghost use Rattle.ips_journal.specs.declared.fault.StepFault.TheVariants as step_fault;
-ghost use Rattle.ips_commit.specs.Pending.{is_swept, HasNoOtherMark, IsSwept, IsDone};
+ghost use Rattle.ips_commit.specs.Pending.{is_swept, HasNoOtherMark, IsSwept, IsDone, mark_names};
 ghost use Rattle.ips_commit.specs.Due.{IsSafelyOpen};
-ghost use Rattle.ips_commit.specs.Phases.{Opens, Lays};
+ghost use Rattle.ips_commit.specs.Phases.{Opens};
 
-use crate::names::OwnNames;
+use crate::names::{OwnNames, set_mark};
 use crate::sweeping::sweep;
-use ips_apply::apply;
 use ips_folder::Folder;
-use ips_journal::{StepFault, StepReader};
-use ips_kinds::Kind;
 use ips_outside::{Failed, Source};
 use ips_text::RelPath;
 
@@ -47,50 +41,51 @@ pub(crate) fn open<F: Folder>(folder: &mut F, names: &OwnNames) -> Result<(), Fa
     Ok(())
 }
 
-/// Lays the steps of the journal from the reader's place on, and makes them safe.
-pub(crate) fn lay<F: Folder>(
-    folder: &mut F,
-    reader: &mut StepReader,
-    kinds: &mut Vec<Box<dyn Kind>>,
-    buffer: &mut [u8],
-) -> Result<u64, StepFault>
-    requires open { IsTrue reader.old.is_open }
-    requires takers { (s : Sort) → IsTrue (taken (seen_by sorts finished kinds.old.items) s) }
-    requires room { 0 < length buffer.old }
-    ensures lays { Lays F.outside folder.old folder.new reader.old (seen_by sorts finished kinds.old.items) (seen_by sorts finished kinds.new.items) result }
-    ensures cause { HasCause (F.outside.faults folder.old) (F.outside.faults folder.new) (result ≡ Err step_fault.FolderFault) }
-    ensures same_kind { F.outside.tells folder.new ≡ F.outside.tells folder.old }
-    ensures changes { F.outside.changes folder.old ≤ F.outside.changes folder.new }
-{
-    let count = match apply(folder, reader, kinds, buffer) {
-        Ok(count) => count,
-        Err(fault) => return Err(fault),
-    };
-    let Ok(()) = folder.sync() else {
-        return Err(StepFault::FolderFault);
-    };
-    Ok(count)
-}
-
-/// Closes the gate and makes that safe; then takes away what is left behind it, these marks too, and makes that safe.
+/// Closes the gate and makes that safe; then takes away the first so many marks and makes that safe; then what else is left
+/// behind the gate, and makes that safe.
 pub(crate) fn finish<F: Folder>(
     folder: &mut F,
     names: &OwnNames,
-    marks: &[RelPath],
+    mark: &mut RelPath,
+    marks: u64,
 ) -> Result<(), Failed>
-    requires own { IsTrue (list_all (begins mark_front) (bytes_of marks.now)) }
+    requires path { 1023 ≤ mark.old.room }
+    requires few { marks < 36893488147419105 }
     ensures owed { IsTrue (F.outside.tells folder.old) → IsSettled (F.outside.state folder.old) → (steps : List Step) (count : ℕ) (b a : Image) (due : Bool)
         → IsReady journal_text steps count a (F.outside.state folder.old).held → visible (F.outside.state folder.old).held ≡ a
         → Throughout F.outside folder.old folder.new (FolderOwes journal_text b (Some a) due) }
-    ensures done { IsTrue (F.outside.tells folder.old) → HasNoOtherMark (F.outside.state folder.old).held (bytes_of marks.now)
+    ensures done { IsTrue (F.outside.tells folder.old) → HasNoOtherMark (F.outside.state folder.old).held (mark_names marks)
         → OnOk result (IsDone (visible (F.outside.state folder.old).held) (F.outside.state folder.new)) }
+    ensures path { 1023 ≤ mark.new.room }
     ensures cause { HasCause (F.outside.faults folder.old) (F.outside.faults folder.new) (IsErr result) }
     ensures same_kind { F.outside.tells folder.new ≡ F.outside.tells folder.old }
     ensures changes { F.outside.changes folder.old ≤ F.outside.changes folder.new }
     ensures changed { counted (F.outside.changes folder.old) ≤ F.outside.changes folder.new }
 {
     close(folder, names)?;
-    clear(folder, names, marks)?;
+    unmark(folder, mark, marks)?;
+    clear(folder, names, &[])?;
+    Ok(())
+}
+
+// Takes the first so many marks away, and makes that safe.
+fn unmark<F: Folder>(folder: &mut F, mark: &mut RelPath, marks: u64) -> Result<(), Failed>
+    requires path { 1023 ≤ mark.old.room }
+    requires few { marks < 36893488147419105 }
+    ensures gone { IsTrue (F.outside.tells folder.old) → OnOk result ((q : List ℕ) → IsTrue (list_any (λ m. covers m q) (mark_names marks)) → (F.outside.state folder.new).held.look q ≡ None) }
+    ensures nothing_new { IsTrue (F.outside.tells folder.old) → OnOk result ((q : List ℕ) → (F.outside.state folder.old).held.look q ≡ None → (F.outside.state folder.new).held.look q ≡ None) }
+    ensures safe { IsTrue (F.outside.tells folder.old) → OnOk result (IsSettled (F.outside.state folder.new)) }
+    ensures any_moment { IsTrue (F.outside.tells folder.old) → Keeps F.outside (begins mark_front) nowhere folder.old folder.new }
+    ensures path { 1023 ≤ mark.new.room }
+    ensures cause { HasCause (F.outside.faults folder.old) (F.outside.faults folder.new) (IsErr result) }
+    ensures same_kind { F.outside.tells folder.new ≡ F.outside.tells folder.old }
+    ensures changes { F.outside.changes folder.old ≤ F.outside.changes folder.new }
+{
+    for before in 0..marks {
+        set_mark(mark, before + 1);
+        folder.remove(mark)?;
+    }
+    folder.sync()?;
     Ok(())
 }
 

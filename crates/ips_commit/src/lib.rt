@@ -15,10 +15,12 @@ mod fault;
 mod finding;
 mod found;
 mod gate;
+mod laying;
 mod names;
 mod placing;
 mod ready;
 mod recovering;
+mod rolling;
 mod staging;
 mod sweeping;
 

@@ -27,11 +27,13 @@ use ips_outside::{Failed, Source};
 use ips_text::{Or, RelPath};
 use std::alloc::Global;
 
-/// What a run that was stopped left: whether something stands at the gate, and the marks.
+/// What a run that was stopped left: whether something stands at the gate, the marks, and behind an open gate how many of
+/// them stand without a gap.
 #[derive(Drop)]
 pub(crate) struct Left {
     pub(crate) is_open: bool,
     pub(crate) marks: Vec<RelPath>,
+    pub(crate) count: u64,
 }
 
 /// Finds what was left. Behind an open gate it reads the whole journal, and brings the reader behind the steps that the marks
@@ -45,7 +47,8 @@ pub(crate) fn find_left<F: Folder>(
     ensures gate { IsTrue (F.outside.tells folder.old) → IfOk result (λ left. left.is_open ≡ is_some ((F.outside.state folder.old).held.look gate_name)) }
     ensures marks { IsTrue (F.outside.tells folder.old) → IfOk result (λ left. AreMarkNames (F.outside.state folder.old).held (bytes_of left.marks.items)) }
     ensures own { IfOk result (λ left. IsTrue (list_all (begins mark_front) (bytes_of left.marks.items))) }
-    ensures placed { IsTrue (F.outside.tells folder.old) → IfOk result (λ left. IsTrue left.is_open → IsPlaced (F.outside.state folder.old).held reader.new) }
+    ensures placed { IsTrue (F.outside.tells folder.old) → IfOk result (λ left. IsTrue left.is_open → IsPlaced (F.outside.state folder.old).held reader.new left.count) }
+    ensures few { IfOk result (λ left. left.count ≤ 18446744073709552) }
     ensures open { IfOk result (λ left. IsTrue left.is_open → IsTrue reader.new.is_open) }
     ensures refused { IsTrue (F.outside.tells folder.old) → IfBad result (SaysOfFinding (F.outside.state folder.old).held) }
     ensures unbegun { IfBad result (λ why. why ≡ fault.Unfinished → ⊥) }
@@ -60,21 +63,31 @@ pub(crate) fn find_left<F: Folder>(
         return Err(Or::Bad(CommitFault::Unchanged));
     };
     if !is_open {
-        return Ok(Left { is_open, marks });
+        return Ok(Left {
+            is_open,
+            marks,
+            count: 0,
+        });
     }
     match find_place(alloc, folder, reader) {
-        Ok(()) => Ok(Left { is_open, marks }),
+        Ok(count) => Ok(Left {
+            is_open,
+            marks,
+            count,
+        }),
         Err(fault) => Err(fault),
     }
 }
 
-// Brings the reader behind the steps that marks tell to be laid, once it has read the whole journal.
+// Brings the reader behind the steps that marks tell to be laid, once it has read the whole journal. It answers how many marks
+// stand without a gap.
 fn find_place<F: Folder>(
     alloc: Global,
     folder: &mut F,
     reader: &mut StepReader,
-) -> Result<(), Or<CommitFault>>
-    ensures placed { IsTrue (F.outside.tells folder.old) → OnOk result (IsPlaced (F.outside.state folder.old).held reader.new) }
+) -> Result<u64, Or<CommitFault>>
+    ensures placed { IsTrue (F.outside.tells folder.old) → IfOk result (IsPlaced (F.outside.state folder.old).held reader.new) }
+    ensures few { IfOk result (λ count. count ≤ 18446744073709552) }
     ensures open { OnOk result (IsTrue reader.new.is_open) }
     ensures refused { IsTrue (F.outside.tells folder.old) → IfBad result (SaysOfText (journal_of (F.outside.state folder.old).held)) }
     ensures unbegun { IfBad result (λ why. why ≡ fault.Unfinished → ⊥) }
@@ -92,7 +105,7 @@ fn find_place<F: Folder>(
     };
     reader.rewind();
     match pass(folder, reader, count.saturating_mul(1000).min(total)) {
-        Ok(()) => Ok(()),
+        Ok(()) => Ok(count),
         Err(fault) => Err(Or::Bad(unread(fault))),
     }
 }
@@ -130,6 +143,7 @@ fn read_whole<F: Folder>(folder: &mut F, reader: &mut StepReader) -> Result<u64,
 // How many marks stand without a gap, as far as they tell of so many steps.
 fn count_marks<F: Folder>(alloc: Global, folder: &mut F, total: u64) -> Result<u64, Or<Failed>>
     ensures counted { IsTrue (F.outside.tells folder.old) → IfOk result (AreCounted (F.outside.state folder.old).held total) }
+    ensures few { IfOk result (λ count. count ≤ 18446744073709552) }
     ensures reads { Reads F.outside folder.old folder.new (IsBad result) }
 {
     let enough = total / 1000 + 1;

@@ -1,6 +1,6 @@
 //! What a run that was stopped left, brought to an end.
 
-ghost use Rattle.std.specs.Prelude.{◌≡◌, ◌≢◌, ◌⊎◌, ◌*◌, ◌<◌, ◌≤◌, ℕ, List, Option, Bool, Some, None, Err, IsTrue, IfOk, IfErr, OnOk, length, is_some, take};
+ghost use Rattle.std.specs.Prelude.{◌≡◌, ◌≢◌, ◌⊎◌, ◌<◌, ◌≤◌, ℕ, List, Option, Bool, Some, None, Err, IsTrue, IfOk, IfErr, OnOk, length, is_some, take};
 ghost use Rattle.std.specs.List.{list_all};
 ghost use Rattle.ips_text.specs.Reading.{IfBad};
 ghost use Rattle.ips_text.specs.declared.refusal.Or.TheVariants.{Bad};
@@ -16,27 +16,30 @@ ghost use Rattle.ips_steps.specs.Owed.{steps_left, IsOpen, FolderOwes};
 ghost use Rattle.ips_steps.specs.declared.step.Sort.{Sort};
 ghost use Rattle.ips_kinds.specs.Tallies.{seen_by, taken, all_counted};
 ghost use Rattle.ips_journal.specs.Text.{journal_text};
-ghost use Rattle.ips_journal.specs.Reading.{IsAt, journal_of};
+ghost use Rattle.ips_journal.specs.Reading.{journal_of};
 ghost use Rattle.ips_commit.specs.Answers.{IfStarved};
-ghost use Rattle.ips_commit.specs.Pending.{is_swept, HasNoOtherMark, IsDone};
-ghost use Rattle.ips_commit.specs.Recovering.{CanRollForward, IfBadJournal, IsJournalled, SaysOfLaying, SaysOfRecovery};
+ghost use Rattle.ips_commit.specs.Pending.{is_swept, AreMarkNames, IsDone};
+ghost use Rattle.ips_commit.specs.Recovering.{CanRollForward, IfBadJournal, IsJournalled, IsPlaced, SaysOfLaying, SaysOfRecovery};
 ghost use Rattle.ips_commit.specs.declared.fault.CommitFault.TheVariants as fault;
 
 use crate::fault::CommitFault;
-use crate::gate::{clear, finish, lay};
+use crate::gate::clear;
 use crate::names::OwnNames;
 use crate::placing::{Left, find_left};
 use crate::ready::Ready;
+use crate::rolling::roll;
+use crate::sweeping::keep_first;
 use ips_folder::Folder;
-use ips_journal::{StepFault, StepReader};
+use ips_journal::StepReader;
 use ips_kinds::Kind;
 use ips_outside::Source;
 use ips_text::{Or, RelPath};
 use std::alloc::Global;
 
 /// Brings to an end what a run that was stopped left. Where something stands at the gate it lays the steps that the marks
-/// leave, each by the first kind that takes it, closes the gate and sweeps, and answers true; it reads the whole journal
-/// before its first change. Where the gate is closed it only takes away what is left, and answers false. Each sort of step has
+/// leave, each by the first kind that takes it, with a mark after each thousand that aren't the last ones, closes the gate and
+/// sweeps, and answers true. It reads the whole journal and lists the marks before its first change, and takes away each mark
+/// that isn't one of the first without a gap before it makes one. Where the gate is closed it only takes away what is left, and answers false. Each sort of step has
 /// to have a kind that takes it, and nothing may be touched, as behind a sync.
 pub fn recover<F: Folder>(
     alloc: Global,
@@ -64,22 +67,28 @@ pub fn recover<F: Folder>(
     ensures meant { IsTrue (F.outside.tells folder.old) → (steps : List Step) (count : ℕ) (a : Image) → IsOpen journal_text steps count a (F.outside.state folder.old).held
         → OnOk result (IsDone a (F.outside.state folder.new)) × IfBadJournal result (λ line. ⊥) }
 
-    // Each refusal has its cause, and before the first change none changes anything.
-    ensures refused { IsTrue (F.outside.tells folder.old) → IfBad result (SaysOfRecovery (F.outside.state folder.old) (F.outside.state folder.new)) }
-    ensures starved { IfStarved result (F.outside.state folder.new ≡ F.outside.state folder.old) }
+    // Each refusal has its cause, and before the first change none changes anything. The whole journal is read first: where
+    // it is none, no call is made that may change something.
+    ensures refused { IsTrue (F.outside.tells folder.old) → IfBad result (SaysOfRecovery (F.outside.state folder.old) (F.outside.state folder.new) (seen_by sorts finished kinds.old.items) (seen_by sorts finished kinds.new.items)) }
+    ensures starved { IfStarved result ((F.outside.state folder.new ≡ F.outside.state folder.old) × (F.outside.changes folder.new ≡ F.outside.changes folder.old)
+        × (seen_by sorts finished kinds.new.items ≡ seen_by sorts finished kinds.old.items)) }
     ensures read_first { IsTrue (F.outside.tells folder.old) → ((steps : List Step) → IsJournal steps → journal_of (F.outside.state folder.old).held ≡ journal_text steps → ⊥)
-        → (F.outside.state folder.old).held.look gate_name ≢ None → F.outside.state folder.new ≡ F.outside.state folder.old }
+        → (F.outside.state folder.old).held.look gate_name ≢ None → (F.outside.state folder.new ≡ F.outside.state folder.old)
+        × (F.outside.changes folder.new ≡ F.outside.changes folder.old) × (seen_by sorts finished kinds.new.items ≡ seen_by sorts finished kinds.old.items) }
     ensures cause { HasCause (F.outside.faults folder.old) (F.outside.faults folder.new) ((result ≡ Err (Bad fault.Unchanged)) ⊎ (result ≡ Err (Bad fault.Unfinished))) }
     ensures same_kind { F.outside.tells folder.new ≡ F.outside.tells folder.old }
 
     // `Unfinished` comes only where a call was made that may change something, and at an open gate `Unchanged` only where none was.
+    ensures changes { F.outside.changes folder.old ≤ F.outside.changes folder.new }
     ensures changed { result ≡ Err (Bad fault.Unfinished) → Rose (F.outside.changes folder.old) (F.outside.changes folder.new) }
     ensures untouched { IsTrue (F.outside.tells folder.old) → (F.outside.state folder.old).held.look gate_name ≢ None
         → result ≡ Err (Bad fault.Unchanged) → F.outside.changes folder.new ≡ F.outside.changes folder.old }
 
-    // Wherever it ends, the steps that were counted are a front of those that the marks leave, and none are at a closed gate.
+    // Wherever it ends, the steps that were counted are a front of those that the marks leave, and none are where nothing was
+    // begun or the gate was closed.
     ensures front { IsTrue (F.outside.tells folder.old) → (steps : List Step) (count : ℕ) → IsJournalled (F.outside.state folder.old).held steps count
         → IfErr result (λ why. (laid : ℕ) × (seen_by sorts finished kinds.new.items ≡ all_counted (take laid (steps_left count steps)) (seen_by sorts finished kinds.old.items))) }
+    ensures unlaid { result ≡ Err (Bad fault.Unchanged) → seen_by sorts finished kinds.new.items ≡ seen_by sorts finished kinds.old.items }
     ensures uncounted { IsTrue (F.outside.tells folder.old) → (F.outside.state folder.old).held.look gate_name ≡ None
         → seen_by sorts finished kinds.new.items ≡ seen_by sorts finished kinds.old.items }
 {
@@ -94,6 +103,7 @@ pub fn recover<F: Folder>(
         &memory.names,
         &mut memory.reader,
         &mut memory.buffer,
+        &mut memory.mark,
     )
 }
 
@@ -105,10 +115,13 @@ fn restore<F: Folder>(
     names: &OwnNames,
     reader: &mut StepReader,
     buffer: &mut [u8],
+    mark: &mut RelPath,
 ) -> Result<bool, Or<CommitFault>>
     requires room { 0 < length buffer.old }
+    requires path { 1023 ≤ mark.old.room }
     requires safe { IsTrue (F.outside.tells folder.old) → IsSettled (F.outside.state folder.old) }
     requires takers { (s : Sort) → IsTrue (taken (seen_by sorts finished kinds.old.items) s) }
+    ensures path { 1023 ≤ mark.new.room }
     ensures owed { IsTrue (F.outside.tells folder.old) → (b : Image) (a : Option Image) (due : Bool) → FolderOwes journal_text b a due (F.outside.state folder.old)
         → Throughout F.outside folder.old folder.new (FolderOwes journal_text b a due) }
     ensures closed { IsTrue (F.outside.tells folder.old) → (F.outside.state folder.old).held.look gate_name ≡ None → Keeps F.outside is_swept nowhere folder.old folder.new }
@@ -121,26 +134,34 @@ fn restore<F: Folder>(
         → OnOk result (IsDone (visible (F.outside.state folder.old).held) (F.outside.state folder.new)) }
     ensures meant { IsTrue (F.outside.tells folder.old) → (steps : List Step) (count : ℕ) (a : Image) → IsOpen journal_text steps count a (F.outside.state folder.old).held
         → OnOk result (IsDone a (F.outside.state folder.new)) × IfBadJournal result (λ line. ⊥) }
-    ensures refused { IsTrue (F.outside.tells folder.old) → IfBad result (SaysOfRecovery (F.outside.state folder.old) (F.outside.state folder.new)) }
-    ensures starved { IfStarved result (F.outside.state folder.new ≡ F.outside.state folder.old) }
+    ensures refused { IsTrue (F.outside.tells folder.old) → IfBad result (SaysOfRecovery (F.outside.state folder.old) (F.outside.state folder.new) (seen_by sorts finished kinds.old.items) (seen_by sorts finished kinds.new.items)) }
+    ensures starved { IfStarved result ((F.outside.state folder.new ≡ F.outside.state folder.old) × (F.outside.changes folder.new ≡ F.outside.changes folder.old)
+        × (seen_by sorts finished kinds.new.items ≡ seen_by sorts finished kinds.old.items)) }
     ensures read_first { IsTrue (F.outside.tells folder.old) → ((steps : List Step) → IsJournal steps → journal_of (F.outside.state folder.old).held ≡ journal_text steps → ⊥)
-        → (F.outside.state folder.old).held.look gate_name ≢ None → F.outside.state folder.new ≡ F.outside.state folder.old }
+        → (F.outside.state folder.old).held.look gate_name ≢ None → (F.outside.state folder.new ≡ F.outside.state folder.old)
+        × (F.outside.changes folder.new ≡ F.outside.changes folder.old) × (seen_by sorts finished kinds.new.items ≡ seen_by sorts finished kinds.old.items) }
     ensures cause { HasCause (F.outside.faults folder.old) (F.outside.faults folder.new) ((result ≡ Err (Bad fault.Unchanged)) ⊎ (result ≡ Err (Bad fault.Unfinished))) }
     ensures same_kind { F.outside.tells folder.new ≡ F.outside.tells folder.old }
+    ensures changes { F.outside.changes folder.old ≤ F.outside.changes folder.new }
     ensures changed { result ≡ Err (Bad fault.Unfinished) → Rose (F.outside.changes folder.old) (F.outside.changes folder.new) }
     ensures untouched { IsTrue (F.outside.tells folder.old) → (F.outside.state folder.old).held.look gate_name ≢ None
         → result ≡ Err (Bad fault.Unchanged) → F.outside.changes folder.new ≡ F.outside.changes folder.old }
     ensures front { IsTrue (F.outside.tells folder.old) → (steps : List Step) (count : ℕ) → IsJournalled (F.outside.state folder.old).held steps count
         → IfErr result (λ why. (laid : ℕ) × (seen_by sorts finished kinds.new.items ≡ all_counted (take laid (steps_left count steps)) (seen_by sorts finished kinds.old.items))) }
+    ensures unlaid { result ≡ Err (Bad fault.Unchanged) → seen_by sorts finished kinds.new.items ≡ seen_by sorts finished kinds.old.items }
     ensures uncounted { IsTrue (F.outside.tells folder.old) → (F.outside.state folder.old).held.look gate_name ≡ None
         → seen_by sorts finished kinds.new.items ≡ seen_by sorts finished kinds.old.items }
 {
-    let Left { is_open, marks } = match find_left(alloc, folder, names, reader) {
+    let Left {
+        is_open,
+        marks,
+        count,
+    } = match find_left(alloc, folder, names, reader) {
         Ok(left) => left,
         Err(fault) => return Err(fault),
     };
     if is_open {
-        match roll_forward(folder, names, reader, kinds, &marks, buffer) {
+        match roll_forward(folder, names, reader, kinds, &marks, count, buffer, mark) {
             Ok(()) => return Ok(true),
             Err(fault) => return Err(Or::Bad(fault)),
         }
@@ -151,93 +172,51 @@ fn restore<F: Folder>(
     Ok(false)
 }
 
-// The same behind a sync, the first call that may change something: what fails before it leaves all as it was.
+// The same behind an open gate: takes away the marks that aren't among the first so many, and makes that safe, which is the
+// first call that may change something; then lays the steps that these leave, closes the gate and sweeps.
 fn roll_forward<F: Folder>(
     folder: &mut F,
     names: &OwnNames,
     reader: &mut StepReader,
     kinds: &mut Vec<Box<dyn Kind>>,
     marks: &[RelPath],
+    count: u64,
     buffer: &mut [u8],
+    mark: &mut RelPath,
 ) -> Result<(), CommitFault>
     requires safe { IsTrue (F.outside.tells folder.old) → IsSettled (F.outside.state folder.old) }
     requires open { IsTrue reader.old.is_open }
     requires takers { (s : Sort) → IsTrue (taken (seen_by sorts finished kinds.old.items) s) }
     requires own { IsTrue (list_all (begins mark_front) (bytes_of marks.now)) }
     requires room { 0 < length buffer.old }
-    ensures owed { IsTrue (F.outside.tells folder.old) → (steps : List Step) (count : ℕ) (b a : Image) (due : Bool)
-        → IsOpen journal_text steps count a (F.outside.state folder.old).held → IsAt (journal_of (F.outside.state folder.old).held) (take (1000 * count) steps) reader.old
-        → Throughout F.outside folder.old folder.new (FolderOwes journal_text b (Some a) due) }
-    ensures done { IsTrue (F.outside.tells folder.old) → HasNoOtherMark (F.outside.state folder.old).held (bytes_of marks.now) → (steps : List Step) (count : ℕ)
-        → IsJournalled (F.outside.state folder.old).held steps count → IsAt (journal_of (F.outside.state folder.old).held) (take (1000 * count) steps) reader.old
-        → OnOk result (CanRollForward (F.outside.state folder.old).held steps count
+    requires path { 1023 ≤ mark.old.room }
+    requires few { count ≤ 18446744073709552 }
+    requires gate { IsTrue (F.outside.tells folder.old) → (F.outside.state folder.old).held.look gate_name ≢ None }
+    requires marks { IsTrue (F.outside.tells folder.old) → AreMarkNames (F.outside.state folder.old).held (bytes_of marks.now) }
+    requires placed { IsTrue (F.outside.tells folder.old) → IsPlaced (F.outside.state folder.old).held reader.old count }
+    ensures owed { IsTrue (F.outside.tells folder.old) → (b : Image) (a : Option Image) (due : Bool) → FolderOwes journal_text b a due (F.outside.state folder.old)
+        → Throughout F.outside folder.old folder.new (FolderOwes journal_text b a due) }
+    ensures done { IsTrue (F.outside.tells folder.old)
+        → OnOk result ((steps : List Step) × (count : ℕ) × CanRollForward (F.outside.state folder.old).held steps count
         × IsDone (visible (after (steps_left count steps) (F.outside.state folder.old).held)) (F.outside.state folder.new)
         × (seen_by sorts finished kinds.new.items ≡ all_counted (steps_left count steps) (seen_by sorts finished kinds.old.items))) }
-    ensures meant { IsTrue (F.outside.tells folder.old) → (steps : List Step) (count : ℕ) (a : Image)
-        → IsOpen journal_text steps count a (F.outside.state folder.old).held → IsAt (journal_of (F.outside.state folder.old).held) (take (1000 * count) steps) reader.old
-        → IfErr result (λ why. why ≡ fault.Unfinished) }
-    ensures refused { IsTrue (F.outside.tells folder.old) → (steps : List Step) (count : ℕ)
-        → IsJournalled (F.outside.state folder.old).held steps count → IsAt (journal_of (F.outside.state folder.old).held) (take (1000 * count) steps) reader.old
-        → IfErr result (SaysOfLaying (F.outside.state folder.old).held) }
-    ensures begun { IfErr result (λ why. why ≡ fault.Unchanged → ⊥) }
-    ensures cause { HasCause (F.outside.faults folder.old) (F.outside.faults folder.new) (result ≡ Err fault.Unfinished) }
-    ensures same_kind { F.outside.tells folder.new ≡ F.outside.tells folder.old }
-    ensures changed { Rose (F.outside.changes folder.old) (F.outside.changes folder.new) }
-    ensures front { IsTrue (F.outside.tells folder.old) → (steps : List Step) (count : ℕ)
-        → IsJournalled (F.outside.state folder.old).held steps count → IsAt (journal_of (F.outside.state folder.old).held) (take (1000 * count) steps) reader.old
+    ensures meant { IsTrue (F.outside.tells folder.old) → (steps : List Step) (count : ℕ) (a : Image) → IsOpen journal_text steps count a (F.outside.state folder.old).held
+        → OnOk result (IsDone a (F.outside.state folder.new)) × IfErr result (λ why. why ≡ fault.Unfinished) }
+    ensures refused { IsTrue (F.outside.tells folder.old) → IfErr result (SaysOfLaying (F.outside.state folder.old).held (F.outside.state folder.new).held (seen_by sorts finished kinds.old.items) (seen_by sorts finished kinds.new.items)) }
+    ensures front { IsTrue (F.outside.tells folder.old) → (steps : List Step) (count : ℕ) → IsJournalled (F.outside.state folder.old).held steps count
         → IfErr result (λ why. (laid : ℕ) × (seen_by sorts finished kinds.new.items ≡ all_counted (take laid (steps_left count steps)) (seen_by sorts finished kinds.old.items))) }
-{
-    let Ok(()) = folder.sync() else {
-        return Err(CommitFault::Unfinished);
-    };
-    match lay_rest(folder, names, reader, kinds, marks, buffer) {
-        Ok(()) => Ok(()),
-        Err(fault) => Err(fault),
-    }
-}
-
-// Lays the steps from the reader's place on, closes the gate and sweeps.
-fn lay_rest<F: Folder>(
-    folder: &mut F,
-    names: &OwnNames,
-    reader: &mut StepReader,
-    kinds: &mut Vec<Box<dyn Kind>>,
-    marks: &[RelPath],
-    buffer: &mut [u8],
-) -> Result<(), CommitFault>
-    requires open { IsTrue reader.old.is_open }
-    requires takers { (s : Sort) → IsTrue (taken (seen_by sorts finished kinds.old.items) s) }
-    requires own { IsTrue (list_all (begins mark_front) (bytes_of marks.now)) }
-    requires room { 0 < length buffer.old }
-    ensures owed { IsTrue (F.outside.tells folder.old) → IsSettled (F.outside.state folder.old) → (steps : List Step) (count : ℕ) (b a : Image) (due : Bool)
-        → IsOpen journal_text steps count a (F.outside.state folder.old).held → IsAt (journal_of (F.outside.state folder.old).held) (take (1000 * count) steps) reader.old
-        → Throughout F.outside folder.old folder.new (FolderOwes journal_text b (Some a) due) }
-    ensures done { IsTrue (F.outside.tells folder.old) → HasNoOtherMark (F.outside.state folder.old).held (bytes_of marks.now) → (steps : List Step) (count : ℕ)
-        → IsJournalled (F.outside.state folder.old).held steps count → IsAt (journal_of (F.outside.state folder.old).held) (take (1000 * count) steps) reader.old
-        → OnOk result (CanRollForward (F.outside.state folder.old).held steps count
-        × IsDone (visible (after (steps_left count steps) (F.outside.state folder.old).held)) (F.outside.state folder.new)
-        × (seen_by sorts finished kinds.new.items ≡ all_counted (steps_left count steps) (seen_by sorts finished kinds.old.items))) }
-    ensures meant { IsTrue (F.outside.tells folder.old) → (steps : List Step) (count : ℕ) (a : Image)
-        → IsOpen journal_text steps count a (F.outside.state folder.old).held → IsAt (journal_of (F.outside.state folder.old).held) (take (1000 * count) steps) reader.old
-        → IfErr result (λ why. why ≡ fault.Unfinished) }
-    ensures refused { IsTrue (F.outside.tells folder.old) → (steps : List Step) (count : ℕ)
-        → IsJournalled (F.outside.state folder.old).held steps count → IsAt (journal_of (F.outside.state folder.old).held) (take (1000 * count) steps) reader.old
-        → IfErr result (SaysOfLaying (F.outside.state folder.old).held) }
     ensures begun { IfErr result (λ why. why ≡ fault.Unchanged → ⊥) }
+    ensures path { 1023 ≤ mark.new.room }
     ensures cause { HasCause (F.outside.faults folder.old) (F.outside.faults folder.new) (result ≡ Err fault.Unfinished) }
     ensures same_kind { F.outside.tells folder.new ≡ F.outside.tells folder.old }
     ensures changes { F.outside.changes folder.old ≤ F.outside.changes folder.new }
-    ensures front { IsTrue (F.outside.tells folder.old) → (steps : List Step) (count : ℕ)
-        → IsJournalled (F.outside.state folder.old).held steps count → IsAt (journal_of (F.outside.state folder.old).held) (take (1000 * count) steps) reader.old
-        → IfErr result (λ why. (laid : ℕ) × (seen_by sorts finished kinds.new.items ≡ all_counted (take laid (steps_left count steps)) (seen_by sorts finished kinds.old.items))) }
+    ensures changed { Rose (F.outside.changes folder.old) (F.outside.changes folder.new) }
 {
-    match lay(folder, reader, kinds, buffer) {
-        Ok(_) => {}
-        Err(StepFault::FolderFault) => return Err(CommitFault::Unfinished),
-        Err(StepFault::BadJournal { line }) => return Err(CommitFault::BadJournal { line }),
-    }
-    let Ok(()) = finish(folder, names, marks) else {
+    let Ok(()) = keep_first(folder, marks, count) else {
         return Err(CommitFault::Unfinished);
     };
-    Ok(())
+    match roll(folder, names, reader, kinds, buffer, mark, count) {
+        Ok(_) => Ok(()),
+        Err(fault) => Err(fault),
+    }
 }

@@ -4,15 +4,15 @@ ghost use Rattle.std.specs.Prelude.{◌≡◌, ◌≤◌, ℕ, List, None, IsTru
 ghost use Rattle.std.specs.List.{filter, list_all, list_any};
 ghost use Rattle.ips_text.specs.Ancestry.{covers};
 ghost use Rattle.ips_outside.specs.Image.{is_dir};
-ghost use Rattle.ips_outside.specs.State.{nowhere};
+ghost use Rattle.ips_outside.specs.State.{IsSettled, nowhere};
 ghost use Rattle.ips_outside.specs.Outside.{HasCause, Reads, counted};
 ghost use Rattle.ips_outside.specs.Children.{bytes_of};
 ghost use Rattle.ips_folder.specs.Calls.{Keeps};
 ghost use Rattle.ips_steps.specs.Private.{mark_front, begins};
 ghost use Rattle.ips_commit.specs.Answers.{IsBad};
-ghost use Rattle.ips_commit.specs.Pending.{is_swept, AreMarkNames, IsSwept};
+ghost use Rattle.ips_commit.specs.Pending.{is_swept, is_other, mark_names, AreMarkNames, HasNoOtherMark, IsSwept};
 
-use crate::names::OwnNames;
+use crate::names::{OwnNames, is_among};
 use ips_folder::{Folder, ListFault};
 use ips_outside::{Failed, Look, Source};
 use ips_text::{Or, RelPath};
@@ -105,5 +105,30 @@ fn remove_all<F: Folder>(folder: &mut F, marks: &[RelPath]) -> Result<(), Failed
     for mark in marks {
         folder.remove(mark)?;
     }
+    Ok(())
+}
+
+/// Takes away what stands at and below those of these marks that aren't among the first so many, and makes that safe.
+pub(crate) fn keep_first<F: Folder>(
+    folder: &mut F,
+    marks: &[RelPath],
+    count: u64,
+) -> Result<(), Failed>
+    requires own { IsTrue (list_all (begins mark_front) (bytes_of marks.now)) }
+    ensures others { IsTrue (F.outside.tells folder.old) → HasNoOtherMark (F.outside.state folder.old).held (bytes_of marks.now)
+        → OnOk result (HasNoOtherMark (F.outside.state folder.new).held (mark_names count)) }
+    ensures safe { IsTrue (F.outside.tells folder.old) → OnOk result (IsSettled (F.outside.state folder.new)) }
+    ensures any_moment { IsTrue (F.outside.tells folder.old) → Keeps F.outside (is_other (mark_names count) (bytes_of marks.now)) nowhere folder.old folder.new }
+    ensures cause { HasCause (F.outside.faults folder.old) (F.outside.faults folder.new) (IsErr result) }
+    ensures same_kind { F.outside.tells folder.new ≡ F.outside.tells folder.old }
+    ensures changes { F.outside.changes folder.old ≤ F.outside.changes folder.new }
+    ensures changed { counted (F.outside.changes folder.old) ≤ F.outside.changes folder.new }
+{
+    for mark in marks {
+        if !is_among(mark, count) {
+            folder.remove(mark)?;
+        }
+    }
+    folder.sync()?;
     Ok(())
 }

@@ -1,16 +1,26 @@
-use Rattle.std.proofs.Common.{◌≡◌, Err, ◌∙◌, ap, subst}
+use Rattle.std.proofs.Common.{[], sym, ◌∙◌, subst}
 use Rattle.ips_outside.specs.Image.{Image}
-use Rattle.ips_journal.specs.declared.fault.StepFault.{StepFault}
 use Rattle.ips_commit.specs.Pending.{IsDone}
-use Rattle.ips_commit.proofs.Committed.{opening, owed_since, due_since, after_lay, front, bad_line, counted, tallied, all_seen, unmarked, after_finish}
+use Rattle.ips_commit.proofs.Committed.{opened_way, opening, is_open, owed_since, due_since, is_journalled}
 use Rattle.ips_commit.proofs.committing.run.Goals as goal
 
 pub returns-in_default-clause-owed : goal.returns-in_default-clause-owed
 returns-in_default-clause-owed g c = λ told steps a staged.
     opening g.F.Source.outside g.met.F.Source.sane steps a c.args.folder.now told staged c.open.new.folder (c.open.ensures.any_moment told)
 
-pub returns-in-Err-FolderFault-clause-owed : goal.returns-in-Err-FolderFault-clause-owed
-returns-in-Err-FolderFault-clause-owed g c = λ told steps a staged.
+pub roll-requires-clause-open : goal.roll-requires-clause-open
+roll-requires-clause-open g c = (c.rewind.ensures.start []).0
+
+pub roll-requires-clause-way : goal.roll-requires-clause-way
+roll-requires-clause-way g c = λ told_now.
+    let told = sym c.open.ensures.same_kind ∙ told_now in
+    opened_way g.F.Source.outside c.args.folder.now c.open.new.folder (c.requires.unmarked told) (c.open.ensures.any_moment told) (c.in-Ok.ensures.opened told) (c.in-Ok.ensures.safe told)
+
+pub roll-requires-clause-at : goal.roll-requires-clause-at
+roll-requires-clause-at g c = λ told_now. ([], c.rewind.ensures.start _)
+
+pub returns-in-Ok-roll-clause-owed : goal.returns-in-Ok-roll-clause-owed
+returns-in-Ok-roll-clause-owed g c = λ told steps a staged.
     let o = g.F.Source.outside in
     let sane = g.met.F.Source.sane in
     let old = c.args.folder.now in
@@ -19,11 +29,11 @@ returns-in-Err-FolderFault-clause-owed g c = λ told steps a staged.
     let run = c.open.ensures.any_moment told in
     let opens = c.in-Ok.ensures.opened told in
     let clean = c.in-Ok.ensures.safe told in
-    owed_since o sane steps a old told staged mid kind run opens clean c.lay.new.folder
-    (after_lay o sane steps a old told staged mid kind run opens clean c.lay.new.folder _ _ _ c.lay.result c.lay.ensures.lays (c.rewind.ensures.start _))
+    owed_since o sane steps a old told staged mid kind run opens clean c.roll.new.folder
+    (c.roll.ensures.owed (kind ∙ told) steps _ a _ (is_open o sane steps a old told staged mid kind run opens clean) (c.rewind.ensures.start _))
 
-pub returns-in-Err-FolderFault-clause-due : goal.returns-in-Err-FolderFault-clause-due
-returns-in-Err-FolderFault-clause-due g c = λ told steps a staged.
+pub returns-in-Ok-roll-clause-due : goal.returns-in-Ok-roll-clause-due
+returns-in-Ok-roll-clause-due g c = λ told steps a staged.
     let o = g.F.Source.outside in
     let sane = g.met.F.Source.sane in
     let old = c.args.folder.now in
@@ -32,26 +42,11 @@ returns-in-Err-FolderFault-clause-due g c = λ told steps a staged.
     let run = c.open.ensures.any_moment told in
     let opens = c.in-Ok.ensures.opened told in
     let clean = c.in-Ok.ensures.safe told in
-    due_since o sane steps a old told staged mid kind run opens clean c.lay.new.folder
-    (after_lay o sane steps a old told staged mid kind run opens clean c.lay.new.folder _ _ _ c.lay.result c.lay.ensures.lays (c.rewind.ensures.start _))
+    due_since o sane steps a old told staged mid kind run opens clean c.roll.new.folder
+    (c.roll.ensures.owed (kind ∙ told) steps _ a _ (is_open o sane steps a old told staged mid kind run opens clean) (c.rewind.ensures.start _))
 
-pub returns-in-Err-BadJournal-clause-owed : goal.returns-in-Err-BadJournal-clause-owed
-returns-in-Err-BadJournal-clause-owed g c = λ told steps a staged.
-    absurd (bad_line g.F.Source.outside g.met.F.Source.sane steps a c.args.folder.now told staged c.open.new.folder c.open.ensures.same_kind (c.open.ensures.any_moment told) (c.in-Ok.ensures.opened told) (c.in-Ok.ensures.safe told)
-    c.lay.new.folder _ _ _ c.lay.result c.lay.ensures.lays (c.rewind.ensures.start _) c.in-Err-BadJournal.line (c.in-Err-BadJournal.is ∙ ap (λ (e : StepFault). Err e) c.in-Err-BadJournal.field-0-is))
-
-pub returns-in-Err-BadJournal-clause-due : goal.returns-in-Err-BadJournal-clause-due
-returns-in-Err-BadJournal-clause-due g c = λ told steps a staged.
-    absurd (bad_line g.F.Source.outside g.met.F.Source.sane steps a c.args.folder.now told staged c.open.new.folder c.open.ensures.same_kind (c.open.ensures.any_moment told) (c.in-Ok.ensures.opened told) (c.in-Ok.ensures.safe told)
-    c.lay.new.folder _ _ _ c.lay.result c.lay.ensures.lays (c.rewind.ensures.start _) c.in-Err-BadJournal.line (c.in-Err-BadJournal.is ∙ ap (λ (e : StepFault). Err e) c.in-Err-BadJournal.field-0-is))
-
-pub returns-in-Err-BadJournal-clause-faults : goal.returns-in-Err-BadJournal-clause-faults
-returns-in-Err-BadJournal-clause-faults g c = λ told steps a staged.
-    absurd (bad_line g.F.Source.outside g.met.F.Source.sane steps a c.args.folder.now told staged c.open.new.folder c.open.ensures.same_kind (c.open.ensures.any_moment told) (c.in-Ok.ensures.opened told) (c.in-Ok.ensures.safe told)
-    c.lay.new.folder _ _ _ c.lay.result c.lay.ensures.lays (c.rewind.ensures.start _) c.in-Err-BadJournal.line (c.in-Err-BadJournal.is ∙ ap (λ (e : StepFault). Err e) c.in-Err-BadJournal.field-0-is))
-
-pub returns-in_default-finish-clause-owed : goal.returns-in_default-finish-clause-owed
-returns-in_default-finish-clause-owed g c = λ told steps a staged.
+pub returns-in-Err-clause-owed : goal.returns-in-Err-clause-owed
+returns-in-Err-clause-owed g c = λ told steps a staged.
     let o = g.F.Source.outside in
     let sane = g.met.F.Source.sane in
     let old = c.args.folder.now in
@@ -60,12 +55,11 @@ returns-in_default-finish-clause-owed g c = λ told steps a staged.
     let run = c.open.ensures.any_moment told in
     let opens = c.in-Ok.ensures.opened told in
     let clean = c.in-Ok.ensures.safe told in
-    owed_since o sane steps a old told staged mid kind run opens clean c.finish.new.folder
-    (after_finish o sane steps a old told staged mid kind run opens clean c.lay.new.folder _ _ _ c.lay.result c.lay.ensures.lays (c.rewind.ensures.start _) c.in-Ok-lay.count c.in-Ok-lay.is c.finish.new.folder
-    (c.finish.ensures.owed (c.lay.ensures.same_kind ∙ kind ∙ told)))
+    owed_since o sane steps a old told staged mid kind run opens clean c.roll.new.folder
+    (c.roll.ensures.owed (kind ∙ told) steps _ a _ (is_open o sane steps a old told staged mid kind run opens clean) (c.rewind.ensures.start _))
 
-pub returns-in_default-finish-clause-due : goal.returns-in_default-finish-clause-due
-returns-in_default-finish-clause-due g c = λ told steps a staged.
+pub returns-in-Err-clause-due : goal.returns-in-Err-clause-due
+returns-in-Err-clause-due g c = λ told steps a staged.
     let o = g.F.Source.outside in
     let sane = g.met.F.Source.sane in
     let old = c.args.folder.now in
@@ -74,12 +68,11 @@ returns-in_default-finish-clause-due g c = λ told steps a staged.
     let run = c.open.ensures.any_moment told in
     let opens = c.in-Ok.ensures.opened told in
     let clean = c.in-Ok.ensures.safe told in
-    due_since o sane steps a old told staged mid kind run opens clean c.finish.new.folder
-    (after_finish o sane steps a old told staged mid kind run opens clean c.lay.new.folder _ _ _ c.lay.result c.lay.ensures.lays (c.rewind.ensures.start _) c.in-Ok-lay.count c.in-Ok-lay.is c.finish.new.folder
-    (c.finish.ensures.owed (c.lay.ensures.same_kind ∙ kind ∙ told)))
+    due_since o sane steps a old told staged mid kind run opens clean c.roll.new.folder
+    (c.roll.ensures.owed (kind ∙ told) steps _ a _ (is_open o sane steps a old told staged mid kind run opens clean) (c.rewind.ensures.start _))
 
-pub returns-clause-owed : goal.returns-clause-owed
-returns-clause-owed g c = λ told steps a staged.
+pub returns-in-Ok-roll-clause-done : goal.returns-in-Ok-roll-clause-done
+returns-in-Ok-roll-clause-done g c = λ told steps a staged.
     let o = g.F.Source.outside in
     let sane = g.met.F.Source.sane in
     let old = c.args.folder.now in
@@ -88,55 +81,21 @@ returns-clause-owed g c = λ told steps a staged.
     let run = c.open.ensures.any_moment told in
     let opens = c.in-Ok.ensures.opened told in
     let clean = c.in-Ok.ensures.safe told in
-    owed_since o sane steps a old told staged mid kind run opens clean c.finish.new.folder
-    (after_finish o sane steps a old told staged mid kind run opens clean c.lay.new.folder _ _ _ c.lay.result c.lay.ensures.lays (c.rewind.ensures.start _) c.in-Ok-lay.count c.in-Ok-lay.is c.finish.new.folder
-    (c.finish.ensures.owed (c.lay.ensures.same_kind ∙ kind ∙ told)))
+    let here = is_open o sane steps a old told staged mid kind run opens clean in
+    let done = c.in-Ok-roll.ensures.done (kind ∙ told) steps (is_journalled o sane steps a old told staged mid kind run opens clean) (c.rewind.ensures.start _) in
+    (done.0, subst (λ (x : Image). IsDone x (o.state c.roll.new.folder)) here.ready.means done.2)
 
-pub returns-clause-due : goal.returns-clause-due
-returns-clause-due g c = λ told steps a staged.
-    let o = g.F.Source.outside in
-    let sane = g.met.F.Source.sane in
-    let old = c.args.folder.now in
-    let mid = c.open.new.folder in
+pub returns-in-Ok-roll-clause-counted : goal.returns-in-Ok-roll-clause-counted
+returns-in-Ok-roll-clause-counted g c = λ told steps a staged.
     let kind = c.open.ensures.same_kind in
-    let run = c.open.ensures.any_moment told in
-    let opens = c.in-Ok.ensures.opened told in
-    let clean = c.in-Ok.ensures.safe told in
-    due_since o sane steps a old told staged mid kind run opens clean c.finish.new.folder
-    (after_finish o sane steps a old told staged mid kind run opens clean c.lay.new.folder _ _ _ c.lay.result c.lay.ensures.lays (c.rewind.ensures.start _) c.in-Ok-lay.count c.in-Ok-lay.is c.finish.new.folder
-    (c.finish.ensures.owed (c.lay.ensures.same_kind ∙ kind ∙ told)))
+    (c.in-Ok-roll.ensures.done (kind ∙ told) steps (is_journalled g.F.Source.outside g.met.F.Source.sane steps a c.args.folder.now told staged c.open.new.folder kind (c.open.ensures.any_moment told) (c.in-Ok.ensures.opened told) (c.in-Ok.ensures.safe told)) (c.rewind.ensures.start _)).3
 
-pub returns-clause-done : goal.returns-clause-done
-returns-clause-done g c = λ told steps a staged.
-    let o = g.F.Source.outside in
-    let sane = g.met.F.Source.sane in
-    let old = c.args.folder.now in
-    let mid = c.open.new.folder in
+pub returns-in-Err-clause-front : goal.returns-in-Err-clause-front
+returns-in-Err-clause-front g c = λ told steps a staged.
     let kind = c.open.ensures.same_kind in
-    let run = c.open.ensures.any_moment told in
-    let opens = c.in-Ok.ensures.opened told in
-    let clean = c.in-Ok.ensures.safe told in (
-      counted o sane steps a old told staged mid kind run opens clean c.lay.new.folder _ _ _ c.lay.result c.lay.ensures.lays (c.rewind.ensures.start _) c.in-Ok-lay.count c.in-Ok-lay.is,
-      subst (λ (x : Image). IsDone x (o.state c.finish.new.folder)) (all_seen o sane steps a old told staged mid kind run opens clean c.lay.new.folder _ _ _ c.lay.result c.lay.ensures.lays (c.rewind.ensures.start _) c.in-Ok-lay.count c.in-Ok-lay.is)
-          (c.in-Ok-finish.ensures.done (c.lay.ensures.same_kind ∙ kind ∙ told) (unmarked o sane steps a old told staged mid kind run opens clean c.lay.new.folder _ _ _ c.lay.result c.lay.ensures.lays (c.rewind.ensures.start _) c.in-Ok-lay.count c.in-Ok-lay.is)),
-    )
+    c.in-Err.ensures.front (kind ∙ told) steps (is_journalled g.F.Source.outside g.met.F.Source.sane steps a c.args.folder.now told staged c.open.new.folder kind (c.open.ensures.any_moment told) (c.in-Ok.ensures.opened told) (c.in-Ok.ensures.safe told)) (c.rewind.ensures.start _)
 
-pub returns-clause-counted : goal.returns-clause-counted
-returns-clause-counted g c = λ told steps a staged.
-    tallied g.F.Source.outside g.met.F.Source.sane steps a c.args.folder.now told staged c.open.new.folder c.open.ensures.same_kind (c.open.ensures.any_moment told) (c.in-Ok.ensures.opened told) (c.in-Ok.ensures.safe told)
-    c.lay.new.folder _ _ _ c.lay.result c.lay.ensures.lays (c.rewind.ensures.start _) c.in-Ok-lay.count c.in-Ok-lay.is
-
-pub returns-in-Err-FolderFault-clause-front : goal.returns-in-Err-FolderFault-clause-front
-returns-in-Err-FolderFault-clause-front g c = λ told steps a staged.
-    front g.F.Source.outside g.met.F.Source.sane steps a c.args.folder.now told staged c.open.new.folder c.open.ensures.same_kind (c.open.ensures.any_moment told) (c.in-Ok.ensures.opened told) (c.in-Ok.ensures.safe told)
-    c.lay.new.folder _ _ _ c.lay.result c.lay.ensures.lays (c.rewind.ensures.start _)
-
-pub returns-in-Err-BadJournal-clause-front : goal.returns-in-Err-BadJournal-clause-front
-returns-in-Err-BadJournal-clause-front g c = λ told steps a staged.
-    front g.F.Source.outside g.met.F.Source.sane steps a c.args.folder.now told staged c.open.new.folder c.open.ensures.same_kind (c.open.ensures.any_moment told) (c.in-Ok.ensures.opened told) (c.in-Ok.ensures.safe told)
-    c.lay.new.folder _ _ _ c.lay.result c.lay.ensures.lays (c.rewind.ensures.start _)
-
-pub returns-in_default-finish-clause-front : goal.returns-in_default-finish-clause-front
-returns-in_default-finish-clause-front g c = λ told steps a staged.
-    front g.F.Source.outside g.met.F.Source.sane steps a c.args.folder.now told staged c.open.new.folder c.open.ensures.same_kind (c.open.ensures.any_moment told) (c.in-Ok.ensures.opened told) (c.in-Ok.ensures.safe told)
-    c.lay.new.folder _ _ _ c.lay.result c.lay.ensures.lays (c.rewind.ensures.start _)
+pub returns-in-Err-clause-faults : goal.returns-in-Err-clause-faults
+returns-in-Err-clause-faults g c = λ told steps a staged.
+    let kind = c.open.ensures.same_kind in
+    c.in-Err.ensures.meant (kind ∙ told) steps a (is_open g.F.Source.outside g.met.F.Source.sane steps a c.args.folder.now told staged c.open.new.folder kind (c.open.ensures.any_moment told) (c.in-Ok.ensures.opened told) (c.in-Ok.ensures.safe told)) (c.rewind.ensures.start _)

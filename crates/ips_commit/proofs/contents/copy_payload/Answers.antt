@@ -1,4 +1,4 @@
-use Rattle.std.proofs.Common.{◌≡◌, Bool, List, ℕ, ◌++◌, take, IsErr, sym, ◌∙◌, ap, subst}
+use Rattle.std.proofs.Common.{List, ℕ, take, IsErr, sym, ◌∙◌, ap, subst}
 use Rattle.ips_text.specs.Ancestry.{covers}
 use Rattle.ips_outside.specs.Image.{Image}
 use Rattle.ips_outside.specs.State.{State}

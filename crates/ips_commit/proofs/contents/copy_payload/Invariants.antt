@@ -1,4 +1,4 @@
-use Rattle.std.proofs.Common.{◌≡◌, ◌≤◌, ◌-◌, IsTrue, length}
+use Rattle.std.proofs.Common.{◌≡◌, ◌-◌, IsTrue, length}
 use Rattle.ips_text.specs.Ancestry.{covers}
 use Rattle.ips_outside.specs.State.{nowhere}
 use Rattle.ips_outside.specs.Outside.{Reads}

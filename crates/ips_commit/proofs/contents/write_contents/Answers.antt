@@ -1,14 +1,12 @@
-use Rattle.std.proofs.Common.{◌≡◌, ℕ, ◌<◌, ◌^◌, Bool, Err, List, refl, sym, ◌∙◌, ap, subst, arith}
+use Rattle.std.proofs.Common.{◌≡◌, ℕ, Bool, List, refl, sym, ◌∙◌, ap, subst, arith}
 use Rattle.std.proofs.lemmas.Option.{slice_get_within}
 use Rattle.ips_text.specs.Ancestry.{covers}
 use Rattle.ips_outside.specs.Image.{Image, is_dir}
 use Rattle.ips_outside.specs.State.{State, nowhere}
 use Rattle.ips_folder.proofs.Runs.{begun, keeps_then, keeps_wider}
-use Rattle.ips_steps.specs.Steps.{stage_name, stage_path}
-use Rattle.ips_outside.proofs.Reading.{answered, reads_none, reads_then}
-use Rattle.ips_journal.specs.declared.staged.Staged.{Staged}
-use Rattle.ips_commit.specs.Contents.{IsContent, IsIntactContent, SaysOfContent, SaysOfStage}
-use Rattle.ips_commit.specs.declared.fault.StageFault.{StageFault}
+use Rattle.ips_steps.specs.Steps.{stage_name}
+use Rattle.ips_outside.proofs.Reading.{reads_none, reads_then}
+use Rattle.ips_commit.specs.Contents.{IsIntactContent, SaysOfContent, SaysOfStage}
 use Rattle.ips_commit.proofs.AllWritten.{IsIntactAt, can_put, standing_in_stage, content_then, content_apart, content_in_stage, wrote_at, here, stage_apart, written_more, empty_more, each_more, says_of_stage, as_bad}
 use Rattle.ips_commit.proofs.contents.write_contents.Goals as goal
 

@@ -1,7 +1,6 @@
-use Rattle.std.proofs.Common.{◌≡◌, Bool, true, List, ℕ, Option, Some, [], refl, sym, ◌∙◌, ap, subst}
+use Rattle.std.proofs.Common.{◌≡◌, Option, Some, [], refl, sym, ◌∙◌, ap, subst}
 use Rattle.ips_text.specs.Ancestry.{covers}
-use Rattle.ips_outside.specs.Image.{Image, Entry, File, file_bytes}
-use Rattle.ips_outside.specs.Change.{appended}
+use Rattle.ips_outside.specs.Image.{Entry, file_bytes}
 use Rattle.ips_outside.specs.State.{State, nowhere}
 use Rattle.ips_outside.specs.Outside.{readable}
 use Rattle.ips_folder.specs.Calls.{IsSole}

@@ -1,6 +1,5 @@
-use Rattle.std.proofs.Common.{◌≡◌, List, ℕ, Some, [], sym, ◌∙◌, ap, subst}
+use Rattle.std.proofs.Common.{[], sym, ◌∙◌, ap, subst}
 use Rattle.ips_text.specs.Ancestry.{covers}
-use Rattle.ips_outside.specs.Image.{File}
 use Rattle.ips_outside.specs.State.{State}
 use Rattle.ips_folder.specs.Calls.{IsSole}
 use Rattle.ips_folder.proofs.Filled.{sole_placed}

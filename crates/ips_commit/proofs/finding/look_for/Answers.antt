@@ -1,5 +1,4 @@
-use Rattle.std.proofs.Common.{◌≡◌, Bool, true, false, List, ℕ, [], length, is_some, sym, ◌∙◌, ap, subst, rules, arith}
-use Rattle.ips_text.specs.Kept.{Kept}
+use Rattle.std.proofs.Common.{◌≡◌, true, List, ℕ, [], length, is_some, sym, ◌∙◌, ap, subst, rules}
 use Rattle.ips_outside.specs.Image.{Image}
 use Rattle.ips_outside.specs.Children.{bytes_of}
 use Rattle.ips_outside.specs.State.{State}

@@ -1,9 +1,8 @@
-use Rattle.std.proofs.Common.{◌≡◌, Bool, true, false, List, ℕ, ◌∷◌, [], Some, None, refl, sym, ◌∙◌, ap, subst}
+use Rattle.std.proofs.Common.{◌≡◌, false, List, ℕ, ◌∷◌, [], Some, sym, ◌∙◌, ap, subst}
 use Rattle.ips_text.specs.Ancestry.{covers}
-use Rattle.ips_outside.specs.Image.{Image, File}
-use Rattle.ips_outside.specs.Change.{placed, appended}
+use Rattle.ips_outside.specs.Image.{File}
 use Rattle.ips_outside.specs.State.{State, nowhere}
-use Rattle.ips_folder.specs.Calls.{IsSole, Keeps}
+use Rattle.ips_folder.specs.Calls.{IsSole}
 use Rattle.ips_folder.proofs.Runs.{keeps_then, one_sync}
 use Rattle.ips_steps.specs.Private.{gate_name}
 use Rattle.ips_folder.proofs.Filled.{sole_placed}

@@ -1,4 +1,4 @@
-use Rattle.std.proofs.Common.{◌≡◌, ◌≤◌, ◌+◌, ◌*◌, ◌/◌, Ok, refl, sym, ◌∙◌, ap, arith}
+use Rattle.std.proofs.Common.{◌+◌, ◌/◌, ◌∙◌, ap, arith}
 use Rattle.ips_outside.specs.State.{State}
 use Rattle.ips_outside.proofs.Reading.{answered, reads_none, reads_then}
 use Rattle.ips_commit.proofs.Places.{stand_more, counted_here, counted_all}

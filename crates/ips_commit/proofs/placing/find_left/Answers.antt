@@ -1,7 +1,5 @@
-use Rattle.std.proofs.Common.{◌≡◌, Bool, true, false, List, sym, ◌∙◌, ap, subst}
-use Rattle.ips_outside.specs.Image.{Image}
+use Rattle.std.proofs.Common.{◌≡◌, ◌∙◌, ap, subst}
 use Rattle.ips_outside.specs.State.{State}
-use Rattle.ips_outside.specs.Outside.{Reads}
 use Rattle.ips_journal.specs.Reading.{journal_of}
 use Rattle.ips_commit.specs.Recovering.{IsPlaced, SaysOfText, SaysOfFinding}
 use Rattle.ips_commit.proofs.AllWritten.{as_bad}
@@ -24,7 +22,7 @@ returns-in-Ok-find_place-clause-gate g c = λ told.
 pub returns-in-Ok-find_place-clause-placed : goal.returns-in-Ok-find_place-clause-placed
 returns-in-Ok-find_place-clause-placed g c = λ told is.
     let o = g.F.Source.outside in
-    subst (λ (s : State). IsPlaced s.held c.find_place.new.reader) (c.stands.ensures.reads.kept ∙ c.marks.ensures.reads.kept)
+    subst (λ (s : State). IsPlaced s.held c.find_place.new.reader c.in-Ok-find_place.count) (c.stands.ensures.reads.kept ∙ c.marks.ensures.reads.kept)
     (c.in-Ok-find_place.ensures.placed (c.stands.ensures.reads.call.same_kind ∙ c.marks.ensures.reads.call.same_kind ∙ told))
 
 pub returns-in-Err-clause-refused : goal.returns-in-Err-clause-refused

@@ -1,4 +1,4 @@
-use Rattle.std.proofs.Common.{◌≡◌, ◌-◌, IsTrue, []}
+use Rattle.std.proofs.Common.{◌-◌, IsTrue, []}
 use Rattle.ips_outside.specs.Outside.{Reads}
 use Rattle.ips_journal.specs.Reading.{IsAt, journal_of}
 use Rattle.ips_commit.proofs.Places.{HasRead}

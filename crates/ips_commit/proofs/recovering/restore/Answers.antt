@@ -1,25 +1,20 @@
-use Rattle.std.proofs.Common.{◌≡◌, ◌*◌, Bool, true, false, Ok, Err, List, take, refl, sym, ◌∙◌, ap, subst}
+use Rattle.std.proofs.Common.{◌≢◌, Bool, true, false, Ok, Err, List, None, refl, sym, ◌∙◌, subst}
 use Rattle.ips_text.specs.Kept.{Kept}
 use Rattle.ips_text.specs.declared.refusal.Or.TheVariants.{Bad}
-use Rattle.ips_outside.specs.Image.{Image}
 use Rattle.ips_outside.specs.State.{State, nowhere}
-use Rattle.ips_folder.proofs.Runs.{started, begun, one_read}
+use Rattle.ips_folder.proofs.Runs.{joins, one_read}
 use Rattle.ips_outside.proofs.Reading.{answered}
 use Rattle.ips_outside.specs.Children.{bytes_of}
 use Rattle.ips_steps.specs.Owed.{IsOpen, FolderOwes, steps_left}
 use Rattle.ips_steps.specs.Steps.{after}
-use Rattle.ips_steps.specs.Private.{visible}
+use Rattle.ips_steps.specs.Private.{gate_name, visible}
 use Rattle.ips_journal.specs.Text.{journal_text}
-use Rattle.ips_journal.specs.Reading.{IsAt, journal_of}
-use Rattle.ips_kinds.specs.Tallies.{all_counted}
-use Rattle.ips_commit.specs.Pending.{IsDone, IsSwept, is_swept}
+use Rattle.ips_kinds.specs.Tallies.{seen_by}
+use Rattle.ips_commit.specs.Pending.{AreMarkNames, IsDone, IsSwept, is_swept}
 use Rattle.ips_commit.specs.Recovering.{IsPlaced, IsJournalled, CanRollForward, SaysOfFinding, SaysOfRecovery, SaysOfLaying}
 use Rattle.ips_commit.proofs.AllWritten.{as_bad}
-use Rattle.ips_commit.proofs.Places.{placed_open}
-use Rattle.ips_commit.proofs.Rolled.{still_owed, still_clean, rolled_owed, swept_keeps, swept_owed, swept_done, placed_done, found_open, found_shut, says_rolled, front_as, never_refused, says_only_read, rolled_marks, if_starved, read_cause, roll_cause, never_found, calm_cause, no_answer}
+use Rattle.ips_commit.proofs.Rolled.{still_owed, still_clean, swept_keeps, swept_owed, swept_done, found_open, found_shut, says_rolled, never_refused, says_only_read, if_starved, read_cause, roll_cause, never_found, calm_cause, no_answer}
 use Rattle.ips_commit.proofs.recovering.restore.Goals as goal
-
--- ---- nothing but reading
 
 pub returns-in-Err-clause-owed : goal.returns-in-Err-clause-owed
 returns-in-Err-clause-owed g c = λ told b a due owes.
@@ -28,12 +23,12 @@ returns-in-Err-clause-owed g c = λ told b a due owes.
 pub returns-in-Err-clause-refused : goal.returns-in-Err-clause-refused
 returns-in-Err-clause-refused g c = λ told.
     let o = g.F.Source.outside in
-    as_bad Bool c.in-Err.fault (SaysOfFinding (o.state c.args.folder.now).held) (SaysOfRecovery (o.state c.args.folder.now) (o.state c.find_left.new.folder))
-    (λ why says. says_only_read (o.state c.args.folder.now) (o.state c.find_left.new.folder) why c.find_left.ensures.reads.kept says) (c.in-Err.ensures.refused told)
+    as_bad Bool c.in-Err.fault (SaysOfFinding (o.state c.args.folder.now).held) (SaysOfRecovery (o.state c.args.folder.now) (o.state c.find_left.new.folder) _ _)
+    (λ why says. says_only_read (o.state c.args.folder.now) (o.state c.find_left.new.folder) _ _ why c.find_left.ensures.reads.kept says) (c.in-Err.ensures.refused told)
 
 pub returns-in-Err-clause-starved : goal.returns-in-Err-clause-starved
 returns-in-Err-clause-starved g c =
-    if_starved Bool c.in-Err.fault (g.F.Source.outside.state c.find_left.new.folder ≡ g.F.Source.outside.state c.args.folder.now) c.find_left.ensures.reads.kept
+    if_starved Bool c.in-Err.fault _ (c.find_left.ensures.reads.kept, c.find_left.ensures.reads.none_made, refl)
 
 pub returns-in-Err-clause-cause : goal.returns-in-Err-clause-cause
 returns-in-Err-clause-cause g c =
@@ -55,7 +50,7 @@ returns-in-Err-clause-meant g c = λ told steps count a is_open.
     (tt, never_found Bool (Unit {0}) (g.F.Source.outside.state c.args.folder.now).held c.in-Err.fault steps count a is_open (c.in-Err.ensures.refused told))
 
 pub returns-in-Err-clause-read_first : goal.returns-in-Err-clause-read_first
-returns-in-Err-clause-read_first g c = λ told none gate. c.find_left.ensures.reads.kept
+returns-in-Err-clause-read_first g c = λ told none gate. (c.find_left.ensures.reads.kept, c.find_left.ensures.reads.none_made, refl)
 
 pub returns-in-Ok-roll_forward-clause-cause : goal.returns-in-Ok-roll_forward-clause-cause
 returns-in-Ok-roll_forward-clause-cause g c =
@@ -68,24 +63,6 @@ returns-clause-cause g c =
     calm_cause (g.F.Source.outside.faults c.args.folder.now) (g.F.Source.outside.faults c.find_left.new.folder) (g.F.Source.outside.faults c.clear.new.folder) _ _ _
     c.find_left.ensures.reads.call.cause (λ failed. let bad = sym c.in-Ok.is ∙ failed in cc) c.clear.ensures.cause (answered c.clear.result _ c.in-Ok-clear.is)
     (no_answer (Ok false) false refl)
-
--- ---- rolled forward
-
-pub returns-in-Ok-roll_forward-clause-owed : goal.returns-in-Ok-roll_forward-clause-owed
-returns-in-Ok-roll_forward-clause-owed g c = λ told b a due owes.
-    let o = g.F.Source.outside in
-    let told_1 = c.find_left.ensures.reads.call.same_kind ∙ told in
-    rolled_owed o g.met.F.Source.sane c.args.folder.now c.find_left.new.folder _ c.find_left.ensures.reads c.roll_forward.new.folder c.find_left.new.reader b a due
-    (found_open c.in-Ok.left.is_open (o.state c.args.folder.now).held (c.in-Ok.ensures.gate told) c.if-is_open.true) (c.in-Ok.ensures.placed told c.if-is_open.true) owes
-    (λ steps count x is_open at. c.roll_forward.ensures.owed told_1 steps count b x due is_open at)
-
-pub returns-in-Err-roll_forward-clause-owed : goal.returns-in-Err-roll_forward-clause-owed
-returns-in-Err-roll_forward-clause-owed g c = λ told b a due owes.
-    let o = g.F.Source.outside in
-    let told_1 = c.find_left.ensures.reads.call.same_kind ∙ told in
-    rolled_owed o g.met.F.Source.sane c.args.folder.now c.find_left.new.folder _ c.find_left.ensures.reads c.roll_forward.new.folder c.find_left.new.reader b a due
-    (found_open c.in-Ok.left.is_open (o.state c.args.folder.now).held (c.in-Ok.ensures.gate told) c.if-is_open.true) (c.in-Ok.ensures.placed told c.if-is_open.true) owes
-    (λ steps count x is_open at. c.roll_forward.ensures.owed told_1 steps count b x due is_open at)
 
 pub returns-in-Ok-roll_forward-clause-closed : goal.returns-in-Ok-roll_forward-clause-closed
 returns-in-Ok-roll_forward-clause-closed g c = λ told shut.
@@ -102,38 +79,6 @@ returns-in-Ok-roll_forward-clause-cleared g c = λ told shut.
 pub returns-in-Ok-roll_forward-clause-forward : goal.returns-in-Ok-roll_forward-clause-forward
 returns-in-Ok-roll_forward-clause-forward g c = λ told. sym c.if-is_open.true ∙ c.in-Ok.ensures.gate told
 
-pub returns-in-Ok-roll_forward-clause-done : goal.returns-in-Ok-roll_forward-clause-done
-returns-in-Ok-roll_forward-clause-done g c = λ told gate.
-    let o = g.F.Source.outside in
-    let placed = c.in-Ok.ensures.placed told c.if-is_open.true in
-    let kept = c.find_left.ensures.reads.kept in
-    let told_1 = c.find_left.ensures.reads.call.same_kind ∙ told in
-    let others = rolled_marks (o.state c.args.folder.now).held (o.state c.find_left.new.folder).held c.in-Ok.left.marks.items c.deref.result.now (sym (ap (λ (s : State). s.held) kept)) (sym c.deref.ensures.value) (c.in-Ok.ensures.marks told).others in
-    let is = subst (λ (s : State). IsJournalled s.held placed.steps placed.count) (sym kept) placed.is in
-    let at = subst (λ (s : State). IsAt (journal_of s.held) (take (1000 * placed.count) placed.steps) c.find_left.new.reader) (sym kept) placed.at in
-    let all = c.in-Ok-roll_forward.ensures.done told_1 others placed.steps placed.count is at in (
-      placed.steps,
-      placed.count,
-      subst (λ (s : State). CanRollForward s.held placed.steps placed.count) kept all.0,
-      subst (λ (s : State). IsDone (visible (after (steps_left placed.count placed.steps) s.held)) (o.state c.roll_forward.new.folder)) kept all.1,
-      all.2,
-    )
-
-pub returns-in-Ok-roll_forward-clause-meant : goal.returns-in-Ok-roll_forward-clause-meant
-returns-in-Ok-roll_forward-clause-meant g c = λ told steps count a is_open.
-    let o = g.F.Source.outside in
-    let placed = c.in-Ok.ensures.placed told c.if-is_open.true in
-    let kept = c.find_left.ensures.reads.kept in
-    let told_1 = c.find_left.ensures.reads.call.same_kind ∙ told in
-    let others = rolled_marks (o.state c.args.folder.now).held (o.state c.find_left.new.folder).held c.in-Ok.left.marks.items c.deref.result.now (sym (ap (λ (s : State). s.held) kept)) (sym c.deref.ensures.value) (c.in-Ok.ensures.marks told).others in
-    let is = subst (λ (s : State). IsJournalled s.held placed.steps placed.count) (sym kept) placed.is in
-    let at = subst (λ (s : State). IsAt (journal_of s.held) (take (1000 * placed.count) placed.steps) c.find_left.new.reader) (sym kept) placed.at in
-    let all = c.in-Ok-roll_forward.ensures.done told_1 others placed.steps placed.count is at in (
-      placed_done (o.state c.args.folder.now).held c.find_left.new.reader placed steps count a is_open (o.state c.roll_forward.new.folder)
-          (subst (λ (s : State). IsDone (visible (after (steps_left placed.count placed.steps) s.held)) (o.state c.roll_forward.new.folder)) kept all.1),
-      tt,
-    )
-
 pub returns-in-Ok-roll_forward-clause-read_first : goal.returns-in-Ok-roll_forward-clause-read_first
 returns-in-Ok-roll_forward-clause-read_first g c = λ told none gate.
     let placed = c.in-Ok.ensures.placed told c.if-is_open.true in absurd (none placed.steps placed.is.lists placed.is.text_is)
@@ -141,31 +86,6 @@ returns-in-Ok-roll_forward-clause-read_first g c = λ told none gate.
 pub returns-in-Err-roll_forward-clause-read_first : goal.returns-in-Err-roll_forward-clause-read_first
 returns-in-Err-roll_forward-clause-read_first g c = λ told none gate.
     let placed = c.in-Ok.ensures.placed told c.if-is_open.true in absurd (none placed.steps placed.is.lists placed.is.text_is)
-
-pub returns-in-Err-roll_forward-clause-meant : goal.returns-in-Err-roll_forward-clause-meant
-returns-in-Err-roll_forward-clause-meant g c = λ told steps count a is_open.
-    let o = g.F.Source.outside in
-    let placed = c.in-Ok.ensures.placed told c.if-is_open.true in
-    let kept = c.find_left.ensures.reads.kept in
-    let told_1 = c.find_left.ensures.reads.call.same_kind ∙ told in (
-      tt,
-      never_refused c.in-Err-roll_forward.fault ⊥ Bool (c.in-Err-roll_forward.ensures.meant told_1 steps count a (subst (λ (s : State). IsOpen journal_text steps count a s.held) (sym kept) is_open)
-          (subst (λ (s : State). IsAt (journal_of s.held) (take (1000 * count) steps) c.find_left.new.reader) (sym kept) (placed_open (o.state c.args.folder.now).held c.find_left.new.reader placed steps count a is_open))),
-    )
-
-pub returns-in-Err-roll_forward-clause-refused : goal.returns-in-Err-roll_forward-clause-refused
-returns-in-Err-roll_forward-clause-refused g c = λ told.
-    let o = g.F.Source.outside in
-    let placed = c.in-Ok.ensures.placed told c.if-is_open.true in
-    let kept = c.find_left.ensures.reads.kept in
-    let told_1 = c.find_left.ensures.reads.call.same_kind ∙ told in
-    let is = subst (λ (s : State). IsJournalled s.held placed.steps placed.count) (sym kept) placed.is in
-    let at = subst (λ (s : State). IsAt (journal_of s.held) (take (1000 * placed.count) placed.steps) c.find_left.new.reader) (sym kept) placed.at in
-    says_rolled (o.state c.args.folder.now) (o.state c.roll_forward.new.folder) placed.steps placed.count placed.is
-    (found_open c.in-Ok.left.is_open (o.state c.args.folder.now).held (c.in-Ok.ensures.gate told) c.if-is_open.true) c.in-Err-roll_forward.fault
-    (subst (λ (s : State). SaysOfLaying s.held c.in-Err-roll_forward.fault) kept (c.in-Err-roll_forward.ensures.refused told_1 placed.steps placed.count is at))
-
--- ---- swept behind a closed gate
 
 pub returns-in_default-clause-owed : goal.returns-in_default-clause-owed
 returns-in_default-clause-owed g c = λ told b a due owes.
@@ -225,11 +145,68 @@ roll_forward-requires-clause-safe g c = λ told_now.
 pub returns-in_default-clause-untouched : goal.returns-in_default-clause-untouched
 returns-in_default-clause-untouched g c = λ told gate. absurd (gate (found_shut c.in-Ok.left.is_open (g.F.Source.outside.state c.args.folder.now).held (c.in-Ok.ensures.gate told) c.if-is_open.false))
 
-pub returns-in-Err-roll_forward-clause-front : goal.returns-in-Err-roll_forward-clause-front
-returns-in-Err-roll_forward-clause-front g c = λ told steps count journalled.
-    let placed = c.in-Ok.ensures.placed told c.if-is_open.true in
+-- ---- rolled forward
+
+pub roll_forward-requires-clause-gate : goal.roll_forward-requires-clause-gate
+roll_forward-requires-clause-gate g c = λ told_now.
+    let told = sym c.find_left.ensures.reads.call.same_kind ∙ told_now in
+    subst (λ (s : State). s.held.look gate_name ≢ None) (sym c.find_left.ensures.reads.kept) (found_open c.in-Ok.left.is_open (g.F.Source.outside.state c.args.folder.now).held (c.in-Ok.ensures.gate told) c.if-is_open.true)
+
+pub roll_forward-requires-clause-marks : goal.roll_forward-requires-clause-marks
+roll_forward-requires-clause-marks g c = λ told_now.
+    let told = sym c.find_left.ensures.reads.call.same_kind ∙ told_now in
+    subst (λ (l : List Kept). AreMarkNames (g.F.Source.outside.state c.find_left.new.folder).held (bytes_of l)) (sym c.deref.ensures.value)
+    (subst (λ (s : State). AreMarkNames s.held (bytes_of c.in-Ok.left.marks.items)) (sym c.find_left.ensures.reads.kept) (c.in-Ok.ensures.marks told))
+
+pub roll_forward-requires-clause-placed : goal.roll_forward-requires-clause-placed
+roll_forward-requires-clause-placed g c = λ told_now.
+    let told = sym c.find_left.ensures.reads.call.same_kind ∙ told_now in
+    subst (λ (s : State). IsPlaced s.held c.find_left.new.reader c.in-Ok.left.count) (sym c.find_left.ensures.reads.kept) (c.in-Ok.ensures.placed told c.if-is_open.true)
+
+pub returns-in-Ok-roll_forward-clause-owed : goal.returns-in-Ok-roll_forward-clause-owed
+returns-in-Ok-roll_forward-clause-owed g c = λ told b a due owes.
+    joins g.F.Source.outside c.args.folder.now c.find_left.new.folder c.roll_forward.new.folder (FolderOwes journal_text b a due)
+    (still_owed g.F.Source.outside g.met.F.Source.sane c.args.folder.now c.find_left.new.folder _ c.find_left.ensures.reads b a due owes)
+    (c.roll_forward.ensures.owed (c.find_left.ensures.reads.call.same_kind ∙ told) b a due (subst (FolderOwes journal_text b a due) (sym c.find_left.ensures.reads.kept) owes))
+
+pub returns-in-Err-roll_forward-clause-owed : goal.returns-in-Err-roll_forward-clause-owed
+returns-in-Err-roll_forward-clause-owed g c = λ told b a due owes.
+    joins g.F.Source.outside c.args.folder.now c.find_left.new.folder c.roll_forward.new.folder (FolderOwes journal_text b a due)
+    (still_owed g.F.Source.outside g.met.F.Source.sane c.args.folder.now c.find_left.new.folder _ c.find_left.ensures.reads b a due owes)
+    (c.roll_forward.ensures.owed (c.find_left.ensures.reads.call.same_kind ∙ told) b a due (subst (FolderOwes journal_text b a due) (sym c.find_left.ensures.reads.kept) owes))
+
+pub returns-in-Ok-roll_forward-clause-done : goal.returns-in-Ok-roll_forward-clause-done
+returns-in-Ok-roll_forward-clause-done g c = λ told gate.
     let kept = c.find_left.ensures.reads.kept in
-    let told_1 = c.find_left.ensures.reads.call.same_kind ∙ told in
-    let is = subst (λ (s : State). IsJournalled s.held placed.steps placed.count) (sym kept) placed.is in
-    let at = subst (λ (s : State). IsAt (journal_of s.held) (take (1000 * placed.count) placed.steps) c.find_left.new.reader) (sym kept) placed.at in
-    front_as (g.F.Source.outside.state c.args.folder.now).held c.find_left.new.reader placed steps count journalled _ _ (c.in-Err-roll_forward.ensures.front told_1 placed.steps placed.count is at)
+    let all = c.in-Ok-roll_forward.ensures.done (c.find_left.ensures.reads.call.same_kind ∙ told) in (
+      all.0,
+      all.1,
+      subst (λ (s : State). CanRollForward s.held all.0 all.1) kept all.2,
+      subst (λ (s : State). IsDone (visible (after (steps_left all.1 all.0) s.held)) (g.F.Source.outside.state c.roll_forward.new.folder)) kept all.3,
+      all.4,
+    )
+
+pub returns-in-Ok-roll_forward-clause-meant : goal.returns-in-Ok-roll_forward-clause-meant
+returns-in-Ok-roll_forward-clause-meant g c = λ told steps count a is_open.
+    ((c.in-Ok-roll_forward.ensures.meant (c.find_left.ensures.reads.call.same_kind ∙ told) steps count a (subst (λ (s : State). IsOpen journal_text steps count a s.held) (sym c.find_left.ensures.reads.kept) is_open)).0, tt)
+
+pub returns-in-Err-roll_forward-clause-meant : goal.returns-in-Err-roll_forward-clause-meant
+returns-in-Err-roll_forward-clause-meant g c = λ told steps count a is_open. (
+  tt,
+  never_refused c.in-Err-roll_forward.fault ⊥ Bool
+      (c.in-Err-roll_forward.ensures.meant (c.find_left.ensures.reads.call.same_kind ∙ told) steps count a (subst (λ (s : State). IsOpen journal_text steps count a s.held) (sym c.find_left.ensures.reads.kept) is_open)).1,
+)
+
+pub returns-in-Err-roll_forward-clause-refused : goal.returns-in-Err-roll_forward-clause-refused
+returns-in-Err-roll_forward-clause-refused g c = λ told.
+    let o = g.F.Source.outside in
+    let placed = c.in-Ok.ensures.placed told c.if-is_open.true in
+    let before = seen_by (λ k. (goal.Kind-dyn g (k.vtable, k.value)).sorts k.value) (λ k. (goal.Kind-dyn g (k.vtable, k.value)).finished k.value) c.args.kinds.now.items in
+    let after_it = seen_by (λ k. (goal.Kind-dyn g (k.vtable, k.value)).sorts k.value) (λ k. (goal.Kind-dyn g (k.vtable, k.value)).finished k.value) c.roll_forward.new.kinds.items in
+    says_rolled (o.state c.args.folder.now) (o.state c.roll_forward.new.folder) before after_it placed.steps c.in-Ok.left.count placed.is
+    (found_open c.in-Ok.left.is_open (o.state c.args.folder.now).held (c.in-Ok.ensures.gate told) c.if-is_open.true) c.in-Err-roll_forward.fault
+    (subst (λ (s : State). SaysOfLaying s.held (o.state c.roll_forward.new.folder).held before after_it c.in-Err-roll_forward.fault) c.find_left.ensures.reads.kept (c.in-Err-roll_forward.ensures.refused (c.find_left.ensures.reads.call.same_kind ∙ told)))
+
+pub returns-in-Err-roll_forward-clause-front : goal.returns-in-Err-roll_forward-clause-front
+returns-in-Err-roll_forward-clause-front g c = λ told steps count is.
+    c.in-Err-roll_forward.ensures.front (c.find_left.ensures.reads.call.same_kind ∙ told) steps count (subst (λ (s : State). IsJournalled s.held steps count) (sym c.find_left.ensures.reads.kept) is)

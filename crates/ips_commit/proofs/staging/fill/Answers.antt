@@ -1,4 +1,4 @@
-use Rattle.std.proofs.Common.{◌≡◌, map, refl, ap, ◌∙◌, sym}
+use Rattle.std.proofs.Common.{map, refl, ap, ◌∙◌, sym}
 use Rattle.ips_text.specs.Ancestry.{covers}
 use Rattle.ips_outside.specs.State.{State, nowhere}
 use Rattle.ips_folder.specs.Calls.{Keeps}

@@ -1,4 +1,4 @@
-use Rattle.std.proofs.Common.{◌≡◌, List, ℕ, map, ap, ◌∙◌, sym, subst, refl}
+use Rattle.std.proofs.Common.{map, refl}
 use Rattle.ips_steps.specs.View.{step_of}
 use Rattle.ips_journal.specs.Text.{journal_text}
 use Rattle.ips_commit.proofs.Staged.{unbegun, staging_owed, staging_seen, has_staged}

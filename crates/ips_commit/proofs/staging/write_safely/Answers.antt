@@ -1,13 +1,12 @@
-use Rattle.std.proofs.Common.{◌≡◌, false, List, ℕ, [], Some, refl, sym, ◌∙◌, ap, subst}
+use Rattle.std.proofs.Common.{◌≡◌, false, List, ℕ, [], Some, sym, ◌∙◌, ap, subst}
 use Rattle.ips_text.specs.Ancestry.{covers}
 use Rattle.ips_outside.specs.Image.{Image, File, file_bytes}
 use Rattle.ips_outside.specs.Change.{placed}
 use Rattle.ips_outside.specs.State.{State, nowhere}
 use Rattle.ips_outside.proofs.Placed.{look_placed}
-use Rattle.ips_folder.specs.Calls.{CanMake, IsSole, Keeps}
+use Rattle.ips_folder.specs.Calls.{CanMake, IsSole}
 use Rattle.ips_folder.proofs.Runs.{keeps_then, one_sync}
 use Rattle.ips_steps.specs.Private.{journal_name}
-use Rattle.ips_steps.specs.View.{step_of}
 use Rattle.ips_folder.proofs.Filled.{sole_placed}
 use Rattle.ips_commit.proofs.Swept.{wrote}
 use Rattle.ips_commit.proofs.staging.write_safely.Goals as goal

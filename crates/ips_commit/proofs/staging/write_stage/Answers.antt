@@ -1,5 +1,4 @@
-use Rattle.std.proofs.Common.{◌≡◌, map, ap, ◌∙◌, sym}
-use Rattle.ips_outside.specs.State.{State}
+use Rattle.std.proofs.Common.{map, ◌∙◌, sym}
 use Rattle.ips_outside.proofs.Moments.{within_then}
 use Rattle.ips_outside.specs.State.{nowhere, settled}
 use Rattle.ips_steps.specs.View.{step_of}

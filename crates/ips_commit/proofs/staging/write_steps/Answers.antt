@@ -1,9 +1,8 @@
-use Rattle.std.proofs.Common.{◌≡◌, ◌+◌, List, length, map, take, take_all, sym, ◌∙◌, ap, subst, refl, arith}
+use Rattle.std.proofs.Common.{map, take, take_all, sym, ◌∙◌, ap, subst, refl, arith}
 use Rattle.ips_text.specs.Ancestry.{covers}
 use Rattle.ips_outside.specs.State.{nowhere}
 use Rattle.ips_outside.proofs.Reading.{answered}
 use Rattle.ips_folder.proofs.Runs.{begun, keeps_then}
-use Rattle.ips_steps.specs.Steps.{Step}
 use Rattle.ips_steps.specs.Private.{journal_name}
 use Rattle.ips_steps.specs.View.{step_of}
 use Rattle.ips_journal.specs.Writing.{IsWritten}

@@ -1,4 +1,4 @@
-use Rattle.std.proofs.Common.{◌≡◌, List, ℕ, sym, ◌∙◌, ap}
+use Rattle.std.proofs.Common.{◌∙◌, ap}
 use Rattle.ips_steps.specs.Private.{mark_front, begins}
 use Rattle.ips_commit.proofs.Swept.{begins_is}
 use Rattle.ips_commit.proofs.sweeping.is_mark.Goals as goal

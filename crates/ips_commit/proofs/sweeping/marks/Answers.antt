@@ -1,4 +1,4 @@
-use Rattle.std.proofs.Common.{◌≡◌, Bool, true, false, List, ℕ, [], sym, ◌∙◌, ap, subst}
+use Rattle.std.proofs.Common.{◌≡◌, false, List, ℕ, sym, ◌∙◌, ap, subst}
 use Rattle.ips_text.specs.Kept.{Kept}
 use Rattle.ips_outside.specs.Image.{Image, is_dir}
 use Rattle.ips_outside.specs.Children.{bytes_of, AreChildren}
@@ -6,7 +6,7 @@ use Rattle.ips_outside.specs.State.{State}
 use Rattle.std.specs.List.{filter}
 use Rattle.ips_steps.specs.Private.{records_name, mark_front, begins}
 use Rattle.ips_commit.specs.Pending.{AreMarkNames}
-use Rattle.ips_commit.proofs.Leftovers.{marks_listed, marks_own, no_marks, none_listed}
+use Rattle.ips_commit.proofs.Leftovers.{marks_listed, marks_own, no_marks}
 use Rattle.ips_commit.proofs.sweeping.marks.Goals as goal
 
 pub returns-then-not-is_there-clause-found : goal.returns-then-not-is_there-clause-found

@@ -1,6 +1,5 @@
-use Rattle.std.proofs.Common.{◌≡◌, false, Bool, List, ℕ, None, sym, ◌∙◌, ap, subst}
+use Rattle.std.proofs.Common.{◌≡◌, false, List, ℕ, None, ◌∙◌, ap}
 use Rattle.ips_text.specs.Ancestry.{covers}
-use Rattle.ips_outside.specs.Image.{Image}
 use Rattle.ips_outside.specs.Change.{placed}
 use Rattle.ips_outside.specs.State.{State, nowhere}
 use Rattle.ips_steps.specs.Steps.{stage_name}

@@ -1,0 +1,151 @@
+-- Steps laid to the end behind an open gate.
+use Rattle.std.proofs.Common.{◌≡◌, ⊎_elim, ℕ, ◌*◌, min, Bool, true, List, [], ◌∷◌, ◌++◌, length, length-append, take, Some, Result, Ok, Err, OnOk, IfOk, append_assoc, sym, ◌∙◌, ap, subst, arith}
+use Rattle.ips_outside.specs.Image.{Image, Agrees}
+use Rattle.ips_outside.specs.State.{IsSettled, nowhere}
+use Rattle.ips_outside.specs.Outside.{Outside}
+use Rattle.ips_outside.proofs.Moments.{agrees_less}
+use Rattle.ips_folder.specs.Calls.{Throughout}
+use Rattle.ips_folder.proofs.Runs.{joins}
+use Rattle.ips_steps.specs.Steps.{Step, stage_of, after, possible, met}
+use Rattle.ips_steps.specs.Private.{mark_front, begins, is_private, visible}
+use Rattle.ips_steps.specs.Journal.{IsJournal, allowed}
+use Rattle.ips_steps.specs.Owed.{steps_left, IsReady, IsOpen, FolderOwes}
+use Rattle.ips_steps.proofs.PrivateNames.{mark_private, visible_agrees}
+use Rattle.std.proofs.lemmas.Bool.{false_from_ne_true}
+use Rattle.ips_steps.proofs.Lists.{clash}
+use Rattle.ips_steps.proofs.Within.{laid_within}
+use Rattle.ips_apply.proofs.Turns.{allowed_behind}
+use Rattle.ips_kinds.specs.Tallies.{Carrier, all_counted}
+use Rattle.ips_journal.specs.Text.{journal_text}
+use Rattle.ips_journal.specs.Bad.{IsBadLine}
+use Rattle.ips_journal.specs.Reading.{Reading, IsAt, journal_of}
+use Rattle.ips_journal.specs.declared.fault.StepFault.{StepFault}
+use Rattle.ips_journal.specs.declared.fault.StepFault.TheVariants.{BadJournal}
+use Rattle.ips_journal.proofs.JournalLaws.{one_text, none_bad, in_order}
+use Rattle.ips_apply.specs.Applied.{IsImpossible}
+use Rattle.ips_commit.specs.Pending.{HasNoOtherMark, mark_names, IsDone}
+use Rattle.ips_commit.specs.Phases.{IsUnderWay, AreMarkedOff, IsHeldUp, LaysTo, LaysAll, whole_of}
+use Rattle.ips_commit.specs.Recovering.{IsJournalled, IsStuckAt, CanRollForward}
+use Rattle.ips_commit.proofs.Lays.{next_of, front_less, rest_of, allowed_before}
+use Rattle.ips_commit.proofs.Marked.{gate_laid, gate_marked}
+use Rattle.ips_commit.proofs.Owing.{ready_text}
+use Rattle.ips_commit.proofs.Stuck.{never_stuck}
+
+-- images that agree but at the names of marks look alike
+seen_alike : (t u : Image) → Agrees (begins mark_front) nowhere t u → visible u ≡ visible t
+seen_alike t u h = visible_agrees t u (agrees_less (begins mark_front) nowhere is_private nowhere t u (λ q seen. false_from_ne_true _ (λ b. clash (is_private q) (mark_private q b) seen)) (λ q l. l) h)
+
+module _ {F : Type 0} (o : Outside F) (first : ℕ) (old at : F) (told : o.tells old ≡ true) (way : IsUnderWay (o.state old) first) (start r : Reading) (counts now : List Carrier)
+    (result : Result (ℕ × ℕ) StepFault) (all : LaysAll o first old at start r counts now result) (steps : List Step) (from : IsAt (journal_of (o.state old).held) (take (1000 * first) steps) start) where
+  abbrev t : Image
+  t = (o.state old).held
+
+  abbrev text : List ℕ
+  text = journal_of t
+
+  abbrev front : List Step
+  front = take (1000 * first) steps
+
+  abbrev left : List Step
+  left = steps_left first steps
+
+  abbrev laid : List Step
+  laid = all.lays.steps
+
+  ends_as : (x : Result (ℕ × ℕ) StepFault) → result ≡ x → LaysTo o text front laid all.lays.marks old at r (whole_of x)
+  ends_as x is = subst (λ (y : Result (ℕ × ℕ) StepFault). LaysTo o text front laid all.lays.marks old at r (whole_of y)) is (all.lays.ends told way front from)
+
+  -- with a list that is owed
+  module _ (a : Image) (is_open : IsOpen journal_text steps first a t) where
+    pub roll_owed : (b : Image) (due : Bool) → Throughout o old at (FolderOwes journal_text b (Some a) due)
+    roll_owed b due = all.lays.owed told way steps b a due is_open from
+
+    pub roll_line : (line : ℕ) → result ≡ Err (BadJournal line) → ⊥
+    roll_line line is = ⊎_elim
+        (λ bad. none_bad steps line is_open.ready.lists (subst (λ (l : List ℕ). IsBadLine l line) (ready_text steps first a t is_open.ready) bad))
+        (λ up. never_stuck steps first a t is_open laid line up.next)
+        (ends_as (Err (BadJournal line)) is)
+
+    module _ (x : ℕ × ℕ) (is : result ≡ Ok x) where
+      owed_off : IsJournal (front ++ laid) × (text ≡ journal_text (front ++ laid)) × AreMarkedOff o laid all.lays.marks old at
+      owed_off = ends_as (Ok x) is
+
+      still_open : IsOpen journal_text steps all.lays.marks a (o.state at).held
+      still_open = subst (λ (y : Result (ℕ × ℕ) StepFault). OnOk (whole_of y) (IsOpen journal_text steps all.lays.marks a (o.state at).held)) is (all.lays.stays_open told way steps a is_open from)
+
+      owed_left : laid ≡ left
+      owed_left = rest_of steps laid (1000 * first) (one_text (front ++ laid) steps owed_off.0 is_open.ready.lists (sym owed_off.1 ∙ ready_text steps first a t is_open.ready))
+
+      -- the gate closes behind them
+      pub roll_finished : (new : F) (b : Image) (due : Bool)
+          → (IsSettled (o.state at) → (l : List Step) (n : ℕ) (before y : Image) (d : Bool) → IsReady journal_text l n y (o.state at).held → visible (o.state at).held ≡ y → Throughout o at new (FolderOwes journal_text before (Some y) d))
+          → Throughout o old new (FolderOwes journal_text b (Some a) due)
+      roll_finished new b due closing = joins o old at new (FolderOwes journal_text b (Some a) due) (roll_owed b due)
+          (closing owed_off.2.way.safe steps all.lays.marks b a due still_open.ready
+          (seen_alike (after laid t) (o.state at).held owed_off.2.held ∙ ap (λ (l : List Step). visible (after l t)) owed_left ∙ is_open.ready.means))
+
+  -- with any list of the journal
+  module _ (is : IsJournalled t steps first) where
+    pub roll_front : (n : ℕ) × (now ≡ all_counted (take n left) counts)
+    roll_front =
+        let next = next_of steps laid (1000 * first) (all.lays.next told way front from steps is.lists is.text_is) in
+        (length laid, all.lays.tallies ∙ ap (λ (l : List Step). all_counted l counts) next)
+
+    -- the step behind the steps that were laid can't be
+    held_up : (line : ℕ) → IsHeldUp o text front laid line old at → IsStuckAt t (o.state at).held counts now steps first line
+    held_up line up =
+        let s = up.next.step in
+        let begins_on : front ++ (laid ++ s ∷ []) ≡ take (length (front ++ (laid ++ s ∷ []))) steps =
+        subst (λ (l : List Step). l ≡ take (length l) steps) (append_assoc front laid (s ∷ []))
+        (in_order steps ((front ++ laid) ++ s ∷ []) up.next.stands.0 is.lists (subst (λ (l : List ℕ). IsAt l ((front ++ laid) ++ s ∷ []) up.next.stands.0) is.text_is up.next.stands.1)).1 in
+        let is_front : laid ≡ take (length laid) left = front_less laid left s (next_of steps (laid ++ s ∷ []) (1000 * first) begins_on) in
+        let may : allowed laid ≡ true = allowed_behind front laid (allowed_before (front ++ laid) (s ∷ []) up.next.stands.1.1.listed.names) in
+        record {
+          laid = length laid;
+          can = subst (λ (l : List Step). possible (stage_of t) l t ≡ true) is_front up.can;
+          next = subst (λ (l : List Step). IsImpossible text (front ++ l) (after l t) line) is_front up.next;
+          held = subst (λ (l : List Step). Agrees (begins mark_front) nowhere (after l t) (o.state at).held) is_front up.held;
+          gate = gate_marked (after laid t) (o.state at).held up.held (gate_laid laid may (met (stage_of t) laid t) t (after laid t) (laid_within (stage_of t) laid t) way.gate);
+          tallies = all.lays.tallies ∙ ap (λ (l : List Step). all_counted l counts) is_front;
+        }
+
+    pub roll_stuck : (line : ℕ) → result ≡ Err (BadJournal line) → IsStuckAt t (o.state at).held counts now steps first line
+    roll_stuck line was = ⊎_elim
+        (λ bad. absurd (none_bad steps line is.lists (subst (λ (l : List ℕ). IsBadLine l line) is.text_is bad)))
+        (λ up. held_up line up)
+        (ends_as (Err (BadJournal line)) was)
+
+    module _ (x : ℕ × ℕ) (was : result ≡ Ok x) where
+      off : IsJournal (front ++ laid) × (text ≡ journal_text (front ++ laid)) × AreMarkedOff o laid all.lays.marks old at
+      off = ends_as (Ok x) was
+
+      all_left : laid ≡ left
+      all_left = rest_of steps laid (1000 * first) (one_text (front ++ laid) steps off.0 is.lists (sym off.1 ∙ is.text_is))
+
+      as_ok : LaysAll o first old at start r counts now (Ok x)
+      as_ok = subst (λ (y : Result (ℕ × ℕ) StepFault). LaysAll o first old at start r counts now y) was all
+
+      pub roll_can : CanRollForward t steps first
+      roll_can = record { is = is; can = subst (λ (l : List Step). possible (stage_of t) l t ≡ true) all_left off.2.can }
+
+      pub roll_counted : now ≡ all_counted left counts
+      roll_counted = all.lays.tallies ∙ ap (λ (l : List Step). all_counted l counts) all_left
+
+      pub roll_done : (new : F) → IsDone (visible (o.state at).held) (o.state new) → IsDone (visible (after left t)) (o.state new)
+      roll_done new done = subst (λ (u : Image). IsDone u (o.state new)) (seen_alike (after laid t) (o.state at).held off.2.held ∙ ap (λ (l : List Step). visible (after l t)) all_left) done
+
+      -- the marks and steps that are told
+      pub roll_marks : HasNoOtherMark (o.state at).held (mark_names x.0)
+      roll_marks = subst (λ (k : ℕ). HasNoOtherMark (o.state at).held (mark_names k)) (sym marks_told) off.2.way.others
+        where
+          marks_told : x.0 ≡ all.lays.marks
+          marks_told = subst (λ (y : Result (ℕ × ℕ) StepFault). IfOk y (λ z. z.0 ≡ all.lays.marks)) was all.marks
+
+      pub roll_number : x.1 ≡ length left
+      roll_number = least ∙ ap length all_left
+        where
+          told_number : x.1 ≡ min (length laid) 18446744073709551615
+          told_number = subst (λ (y : Result (ℕ × ℕ) StepFault). IfOk y (λ z. z.1 ≡ min (length laid) 18446744073709551615)) was all.count
+
+          least : x.1 ≡ length laid
+          least = let few = off.0.count in let sum = length-append front laid in omega (arith, told_number, few, sum)
