@@ -57,23 +57,10 @@ LaysTo o text front steps marks old new r (Ok false) = IsAt text (front ++ steps
 LaysTo o text front steps marks old new r (Err (BadJournal line)) = IsBadLine text line ⊎ IsHeldUp o text front steps line old new
 LaysTo o text front steps marks old new r (Err FolderFault) = Unit {0}
 
-<<<<<<< HEAD
--- The steps behind the front that were finished or begun: they are the next ones of whatever list the text is the journal
--- of, and all that changed anything.
-pub record HasBegun {F : Type 0} (o : Outside F) (text : List ℕ) (front : List Step) (old new : F) : Type 0 where
-  pub begun : List Step
-  pub next : (all : List Step) → IsJournal all → text ≡ journal_text all → front ++ begun ≡ take (length (front ++ begun)) all
-  pub moments : ChangedByAll o begun old new
-
--- What laying does from a reader's place on: some steps are finished, and each is counted by the first kind that takes it.
--- Where the folder tells its image, they are the next steps of its journal.
-pub record Lays {F : Type 0} (o : Outside F) (old new : F) (r : Reading) (before now : List Carrier) (result : Result ℕ StepFault) : Type 0 where
-=======
 -- What laying does from a reader's place and so many marks on: some steps are finished, each counted by the first kind that
 -- takes it, and a mark is made behind each thousand of them that isn't the last of the list. Where the folder tells its image
 -- they are those of its journal behind the front that the reader has read, and it owes at every moment what it owed.
 pub record Lays {F : Type 0} (o : Outside F) (first : ℕ) (old new : F) (start r : Reading) (before now : List Carrier) (how : Result Bool StepFault) : Type 0 where
->>>>>>> de8aa94b1f6742c317c311cb3b737a425472fab3
   pub steps : List Step
   pub marks : ℕ
   pub tallies : now ≡ all_counted steps before

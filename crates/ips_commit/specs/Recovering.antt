@@ -34,18 +34,9 @@ pub record CanRollForward (t : Image) (steps : List Step) (count : ℕ) : Type 0
   pub is : IsJournalled t steps count
   pub can : IsTrue (possible (stage_of t) (steps_left count steps) t)
 
-<<<<<<< HEAD
--- Redo gets stuck: of the steps that the marks leave so many can be laid, and the next can't. Its line in the journal has this
--- number.
-pub record IsStuck (t : Image) (line : ℕ) : Type 0 where
-  pub steps : List Step
-  pub count : ℕ
-  pub is : IsJournalled t steps count
-=======
 -- Of the steps that so many marks leave so many can be laid, and then the next can't; its line has this number. They are laid,
 -- but for what stands at the names of marks, each counted by the first kind that takes it, and the gate stands open.
 pub record IsStuckAt (t u : Image) (before now : List Carrier) (steps : List Step) (count : ℕ) (line : ℕ) : Type 0 where
->>>>>>> de8aa94b1f6742c317c311cb3b737a425472fab3
   pub laid : ℕ
   pub can : IsTrue (possible (stage_of t) (take laid (steps_left count steps)) t)
   pub next : IsImpossible (journal_of t) (take (1000 * count) steps ++ take laid (steps_left count steps)) (after (take laid (steps_left count steps)) t) line
@@ -73,21 +64,12 @@ IfBadJournal (Err (Bad Unfinished)) P = Unit {0}
 IfBadJournal (Err (Bad (BadJournal line))) P = P line
 IfBadJournal (Err OutOfMemory) P = Unit {0}
 
-<<<<<<< HEAD
 -- Errors of a recovery. Unchanged: an open gate is as it was. Unfinished: the gate was open. Bad journal: the gate was open,
 -- and that line is bad; where it isn't of the grammar nothing was changed.
-abbrev pub SaysOfRecovery : State → State → CommitFault → Type 0
-SaysOfRecovery old new Unchanged = old.held.look gate_name ≢ None → new ≡ old
-SaysOfRecovery old new Unfinished = old.held.look gate_name ≢ None
-SaysOfRecovery old new (BadJournal line) = (old.held.look gate_name ≢ None) × IsBadJournal old.held line × (IsBadLine (journal_of old.held) line → new ≡ old)
-=======
--- what a fault of a recovery says: an open gate stands as it stood; or the gate was open; or it was, and the journal is bad at
--- that line, where nothing is changed if the line isn't of the grammar
 abbrev pub SaysOfRecovery : State → State → List Carrier → List Carrier → CommitFault → Type 0
 SaysOfRecovery old new before now Unchanged = old.held.look gate_name ≢ None → new ≡ old
 SaysOfRecovery old new before now Unfinished = old.held.look gate_name ≢ None
 SaysOfRecovery old new before now (BadJournal line) = (old.held.look gate_name ≢ None) × IsBadJournal old.held new.held before now line × (IsBadLine (journal_of old.held) line → new ≡ old)
->>>>>>> de8aa94b1f6742c317c311cb3b737a425472fab3
 
 -- how reading a whole journal ends: it lists as many steps; or that line is the first that isn't of the grammar
 abbrev pub ReadsWhole : List ℕ → Result ℕ StepFault → Type 0
