@@ -1,10 +1,10 @@
 //! What a catalog needs of its JSON text, read in one pass.
 
-ghost use Rattle.std.specs.Prelude.{◌≡◌, Err, Some, None, IfOk, option_map};
-ghost use Rattle.serde_json.specs.Data.{Data};
-ghost use Rattle.serde_json.specs.Find.{as_str};
+ghost use Rattle.std.specs.Prelude.{◌≡◌, [], Err, Some, None, IfOk, OnOk, codes, option_map, option_and_then};
+ghost use Rattle.serde_json.specs.Data.{Data, Members};
+ghost use Rattle.serde_json.specs.Find.{get_member, as_str};
 ghost use Rattle.serde_json.specs.Read.{read as json_of};
-ghost use Rattle.ips_catalog.specs.Outline.{value_at, entry_of, package_of, published_of, outline_of, package_kept, published_kept, outline_kept};
+ghost use Rattle.ips_catalog.specs.Outline.{value_at, members_at, entry_of, package_of, packages_of, published_of, outline_of, package_kept, packages_kept, published_kept, outline_kept};
 
 use crate::skip::{open_object, skip, skip_rest};
 use crate::unread::Unread;
@@ -58,6 +58,18 @@ fn read_top(alloc: Global, reader: &mut Reader<'_>, publisher: &str) -> Result<O
     if !open_object(alloc, reader, 127)? {
         return Ok(None);
     }
+    Ok(Some(find_published(alloc, reader, publisher)?))
+}
+
+// What stands at the publisher's key of an object that was opened, where something does.
+fn find_published(
+    alloc: Global,
+    reader: &mut Reader<'_>,
+    publisher: &str,
+) -> Result<Option<Published>, Unread>
+    ensures read { IfOk result (λ found. (ms : Members) × (members_at 126 reader.old ≡ Some (ms, reader.new)) × (option_map published_of (get_member publisher.now ms) ≡ option_map published_kept found)) }
+    ensures refused { result ≡ Err Unread.NotJson → members_at 126 reader.old ≡ None }
+{
     let mut found = None;
     'members: while let Some(key) = reader.next_key()? {
         if key == publisher {
@@ -66,7 +78,7 @@ fn read_top(alloc: Global, reader: &mut Reader<'_>, publisher: &str) -> Result<O
             skip(alloc, reader, 126)?;
         }
     }
-    Ok(Some(found))
+    Ok(found)
 }
 
 // What stands at the publisher's key.
@@ -78,12 +90,26 @@ fn read_published(alloc: Global, reader: &mut Reader<'_>) -> Result<Published, U
         return Ok(None);
     }
     let mut packages = BTreeMap::new(alloc);
+    keep_packages(alloc, reader, &mut packages)?;
+    Ok(Some(packages))
+}
+
+// Keeps the packages of an object that was opened.
+fn keep_packages(
+    alloc: Global,
+    reader: &mut Reader<'_>,
+    packages: &mut BTreeMap<Text, Package>,
+) -> Result<(), Unread>
+    requires { packages.old.entries ≡ [] }
+    ensures read { OnOk result ((ms : Members) × (members_at 125 reader.old ≡ Some (ms, reader.new)) × (packages_of ms ≡ packages_kept packages.new.entries)) }
+    ensures refused { result ≡ Err Unread.NotJson → members_at 125 reader.old ≡ None }
+{
     'members: while let Some(key) = reader.next_key()? {
         let stem = Text::new(alloc, key)?;
         let package = read_package(alloc, reader)?;
         drop(packages.insert(stem, package)?);
     }
-    Ok(Some(packages))
+    Ok(())
 }
 
 // What stands at a stem.
@@ -111,6 +137,14 @@ fn read_entry(alloc: Global, reader: &mut Reader<'_>) -> Result<Entry, Unread>
     if !open_object(alloc, reader, 124)? {
         return Ok(None);
     }
+    Ok(Some(read_version(alloc, reader)?))
+}
+
+// The version of an entry that was opened, where it is a text.
+fn read_version(alloc: Global, reader: &mut Reader<'_>) -> Result<Option<Text>, Unread>
+    ensures read { IfOk result (λ version. (ms : Members) × (members_at 123 reader.old ≡ Some (ms, reader.new)) × (option_and_then as_str (get_member (codes "version") ms) ≡ version)) }
+    ensures refused { result ≡ Err Unread.NotJson → members_at 123 reader.old ≡ None }
+{
     let mut version = None;
     'members: while let Some(key) = reader.next_key()? {
         if key == "version" {
@@ -119,7 +153,7 @@ fn read_entry(alloc: Global, reader: &mut Reader<'_>) -> Result<Entry, Unread>
             skip(alloc, reader, 123)?;
         }
     }
-    Ok(Some(version))
+    Ok(version)
 }
 
 // The next value, where it is a text.
