@@ -30,6 +30,7 @@ pub fn read_outline(alloc: Global, text: &str, publisher: &str) -> Result<Outlin
     ensures read { IfOk result (λ outline. (d : Data) × (json_of text.now ≡ Some d) × (outline_of publisher.now d ≡ outline_kept outline)) }
     ensures refused { result ≡ Err Unread.NotJson → json_of text.now ≡ None }
 {
+    // As long as the text, for strings with escapes; it goes before versions are made of what is kept.
     let mut scratch = Scratch::new(alloc);
     read_whole(alloc, text, publisher, &mut scratch)
 }
