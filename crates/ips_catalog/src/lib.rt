@@ -11,6 +11,7 @@
 mod catalog;
 mod entries;
 mod fault;
+mod numbers;
 mod outline;
 mod packages;
 mod pointers;

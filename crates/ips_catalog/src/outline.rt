@@ -56,7 +56,7 @@ fn read_top(alloc: Global, reader: &mut Reader<'_>, publisher: &str) -> Result<O
     ensures read { IfOk result (λ outline. (d : Data) × (value_at 127 reader.old ≡ Some (d, reader.new)) × (outline_of publisher.now d ≡ outline_kept outline)) }
     ensures refused { result ≡ Err Unread.NotJson → value_at 127 reader.old ≡ None }
 {
-    if !open_object(alloc, reader, 127)? {
+    if !open_object(reader, 127)? {
         return Ok(None);
     }
     Ok(Some(find_published(alloc, reader, publisher)?))
@@ -76,7 +76,7 @@ fn find_published(
         if key == publisher {
             found = Some(read_published(alloc, reader)?);
         } else {
-            skip(alloc, reader, 126)?;
+            skip(reader, 126)?;
         }
     }
     Ok(found)
@@ -87,7 +87,7 @@ fn read_published(alloc: Global, reader: &mut Reader<'_>) -> Result<Published, U
     ensures read { IfOk result (λ published. (d : Data) × (value_at 126 reader.old ≡ Some (d, reader.new)) × (published_of d ≡ published_kept published)) }
     ensures refused { result ≡ Err Unread.NotJson → value_at 126 reader.old ≡ None }
 {
-    if !open_object(alloc, reader, 126)? {
+    if !open_object(reader, 126)? {
         return Ok(None);
     }
     let mut packages = BTreeMap::new(alloc);
@@ -120,7 +120,7 @@ fn read_package(alloc: Global, reader: &mut Reader<'_>) -> Result<Package, Unrea
 {
     let token = reader.next().ok_or(Unread::NotJson)?;
     let Token::BeginArray = token else {
-        skip_rest(alloc, reader, token, 125)?;
+        skip_rest(reader, token, 125)?;
         return Ok(None);
     };
     let mut entries = Vec::new(alloc);
@@ -135,7 +135,7 @@ fn read_entry(alloc: Global, reader: &mut Reader<'_>) -> Result<Entry, Unread>
     ensures read { IfOk result (λ entry. (d : Data) × (value_at 124 reader.old ≡ Some (d, reader.new)) × (entry_of d ≡ entry)) }
     ensures refused { result ≡ Err Unread.NotJson → value_at 124 reader.old ≡ None }
 {
-    if !open_object(alloc, reader, 124)? {
+    if !open_object(reader, 124)? {
         return Ok(None);
     }
     Ok(Some(read_version(alloc, reader)?))
@@ -151,7 +151,7 @@ fn read_version(alloc: Global, reader: &mut Reader<'_>) -> Result<Option<Text>, 
         if key == "version" {
             version = read_string(alloc, reader)?;
         } else {
-            skip(alloc, reader, 123)?;
+            skip(reader, 123)?;
         }
     }
     Ok(version)
@@ -166,6 +166,6 @@ fn read_string(alloc: Global, reader: &mut Reader<'_>) -> Result<Option<Text>, U
     if let Token::String(text) = token {
         return Ok(Some(Text::new(alloc, text)?));
     }
-    skip_rest(alloc, reader, token, 123)?;
+    skip_rest(reader, token, 123)?;
     Ok(None)
 }
