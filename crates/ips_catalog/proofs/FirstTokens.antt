@@ -1,5 +1,5 @@
 -- A value by its first token.
-use Rattle.std.proofs.Common.{◌≡◌, ℕ, zero, ◌-◌, ◌<◌, List, [], ◌∷◌, Option, Some, None, option_map, Result, Ok, Err, Bor, refl, ap, ◌∙◌}
+use Rattle.std.proofs.Common.{◌≡◌, ℕ, zero, ◌-◌, ◌<◌, List, [], ◌∷◌, Option, Some, None, option_map, is_some, true, false, Result, Ok, Err, Bor, refl, ap, ◌∙◌}
 use Rattle.std.specs.Prelude.{OnOk}
 use Rattle.json.specs.Token as tokens
 use Rattle.json.specs.Reads.{token_of}
@@ -54,6 +54,14 @@ number_passed depth ts t s n is e = (
 
 pub number_fails : (depth : ℕ) (ts : List tokens.Token) (t : Token) (s : Bor (List ℕ)) → t ≡ Number s → number_of s.now ≡ None → value_at depth (token_of t ∷ ts) ≡ None
 number_fails depth ts t s is e = number_is depth ts t s is ∙ ap (λ (o : Option Num). option_map (λ (d : Data). (d, ts)) (option_map number o)) e
+
+pub some_number : (o : Option Num) → is_some o ≡ true → (n : Num) × (o ≡ Some n)
+some_number None e = absurd cc
+some_number (Some n) e = (n, refl)
+
+pub no_number : (o : Option Num) → is_some o ≡ false → o ≡ None
+no_number None e = refl
+no_number (Some n) e = absurd cc
 
 pub array_passed : (depth : ℕ) (ts r : List tokens.Token) (t : Token) (is : Items) → t ≡ BeginArray → 0 < depth → items_at (depth - 1) ts ≡ Some (is, r) → Passed depth t ts r
 array_passed depth ts r t is begins some e = (

@@ -9,5 +9,4 @@ pub mod Escapes
 pub mod Conversions
 pub mod Turns
 pub mod FirstTokens
-pub mod Numbers
 pub mod Outlines

@@ -3,11 +3,15 @@
 //! A catalog is read exactly where the JSON value of its text holds one, and else its first fault is told: packages are read by
 //! the bytes of their stems, and the entries of each in their order. A catalog lists its packages by stem, each with its
 //! versions ascending.
+//!
+//! The text is read in one pass (`outline`) that passes over what isn't needed (`skip`), so that no JSON value of it is made; what is
+//! kept is then judged (`packages`, `entries`) and dropped, a package at a time.
 #![tactic(auto)]
 
 mod catalog;
 mod entries;
 mod fault;
+mod numbers;
 mod outline;
 mod packages;
 mod pointers;

@@ -1,10 +1,10 @@
 //! What a catalog needs of its JSON text, read in one pass.
 
-ghost use Rattle.std.specs.Prelude.{◌≡◌, Err, Some, None, IfOk, option_map};
-ghost use Rattle.serde_json.specs.Data.{Data};
-ghost use Rattle.serde_json.specs.Find.{as_str};
+ghost use Rattle.std.specs.Prelude.{◌≡◌, [], Err, Some, None, IfOk, OnOk, codes, option_map, option_and_then};
+ghost use Rattle.serde_json.specs.Data.{Data, Members};
+ghost use Rattle.serde_json.specs.Find.{get_member, as_str};
 ghost use Rattle.serde_json.specs.Read.{read as json_of};
-ghost use Rattle.ips_catalog.specs.Outline.{value_at, entry_of, package_of, published_of, outline_of, package_kept, published_kept, outline_kept};
+ghost use Rattle.ips_catalog.specs.Outline.{value_at, members_at, entry_of, package_of, packages_of, published_of, outline_of, package_kept, packages_kept, published_kept, outline_kept};
 
 use crate::skip::{open_object, skip, skip_rest};
 use crate::unread::Unread;
@@ -30,6 +30,7 @@ pub fn read_outline(alloc: Global, text: &str, publisher: &str) -> Result<Outlin
     ensures read { IfOk result (λ outline. (d : Data) × (json_of text.now ≡ Some d) × (outline_of publisher.now d ≡ outline_kept outline)) }
     ensures refused { result ≡ Err Unread.NotJson → json_of text.now ≡ None }
 {
+    // As long as the text, for strings with escapes; it goes before versions are made of what is kept.
     let mut scratch = Scratch::new(alloc);
     read_whole(alloc, text, publisher, &mut scratch)
 }
@@ -55,18 +56,30 @@ fn read_top(alloc: Global, reader: &mut Reader<'_>, publisher: &str) -> Result<O
     ensures read { IfOk result (λ outline. (d : Data) × (value_at 127 reader.old ≡ Some (d, reader.new)) × (outline_of publisher.now d ≡ outline_kept outline)) }
     ensures refused { result ≡ Err Unread.NotJson → value_at 127 reader.old ≡ None }
 {
-    if !open_object(alloc, reader, 127)? {
+    if !open_object(reader, 127)? {
         return Ok(None);
     }
+    Ok(Some(find_published(alloc, reader, publisher)?))
+}
+
+// What stands at the publisher's key of an object that was opened, where something does.
+fn find_published(
+    alloc: Global,
+    reader: &mut Reader<'_>,
+    publisher: &str,
+) -> Result<Option<Published>, Unread>
+    ensures read { IfOk result (λ found. (ms : Members) × (members_at 126 reader.old ≡ Some (ms, reader.new)) × (option_map published_of (get_member publisher.now ms) ≡ option_map published_kept found)) }
+    ensures refused { result ≡ Err Unread.NotJson → members_at 126 reader.old ≡ None }
+{
     let mut found = None;
     'members: while let Some(key) = reader.next_key()? {
         if key == publisher {
             found = Some(read_published(alloc, reader)?);
         } else {
-            skip(alloc, reader, 126)?;
+            skip(reader, 126)?;
         }
     }
-    Ok(Some(found))
+    Ok(found)
 }
 
 // What stands at the publisher's key.
@@ -74,16 +87,30 @@ fn read_published(alloc: Global, reader: &mut Reader<'_>) -> Result<Published, U
     ensures read { IfOk result (λ published. (d : Data) × (value_at 126 reader.old ≡ Some (d, reader.new)) × (published_of d ≡ published_kept published)) }
     ensures refused { result ≡ Err Unread.NotJson → value_at 126 reader.old ≡ None }
 {
-    if !open_object(alloc, reader, 126)? {
+    if !open_object(reader, 126)? {
         return Ok(None);
     }
     let mut packages = BTreeMap::new(alloc);
+    keep_packages(alloc, reader, &mut packages)?;
+    Ok(Some(packages))
+}
+
+// Keeps the packages of an object that was opened.
+fn keep_packages(
+    alloc: Global,
+    reader: &mut Reader<'_>,
+    packages: &mut BTreeMap<Text, Package>,
+) -> Result<(), Unread>
+    requires { packages.old.entries ≡ [] }
+    ensures read { OnOk result ((ms : Members) × (members_at 125 reader.old ≡ Some (ms, reader.new)) × (packages_of ms ≡ packages_kept packages.new.entries)) }
+    ensures refused { result ≡ Err Unread.NotJson → members_at 125 reader.old ≡ None }
+{
     'members: while let Some(key) = reader.next_key()? {
         let stem = Text::new(alloc, key)?;
         let package = read_package(alloc, reader)?;
         drop(packages.insert(stem, package)?);
     }
-    Ok(Some(packages))
+    Ok(())
 }
 
 // What stands at a stem.
@@ -93,7 +120,7 @@ fn read_package(alloc: Global, reader: &mut Reader<'_>) -> Result<Package, Unrea
 {
     let token = reader.next().ok_or(Unread::NotJson)?;
     let Token::BeginArray = token else {
-        skip_rest(alloc, reader, token, 125)?;
+        skip_rest(reader, token, 125)?;
         return Ok(None);
     };
     let mut entries = Vec::new(alloc);
@@ -108,18 +135,26 @@ fn read_entry(alloc: Global, reader: &mut Reader<'_>) -> Result<Entry, Unread>
     ensures read { IfOk result (λ entry. (d : Data) × (value_at 124 reader.old ≡ Some (d, reader.new)) × (entry_of d ≡ entry)) }
     ensures refused { result ≡ Err Unread.NotJson → value_at 124 reader.old ≡ None }
 {
-    if !open_object(alloc, reader, 124)? {
+    if !open_object(reader, 124)? {
         return Ok(None);
     }
+    Ok(Some(read_version(alloc, reader)?))
+}
+
+// The version of an entry that was opened, where it is a text.
+fn read_version(alloc: Global, reader: &mut Reader<'_>) -> Result<Option<Text>, Unread>
+    ensures read { IfOk result (λ version. (ms : Members) × (members_at 123 reader.old ≡ Some (ms, reader.new)) × (option_and_then as_str (get_member (codes "version") ms) ≡ version)) }
+    ensures refused { result ≡ Err Unread.NotJson → members_at 123 reader.old ≡ None }
+{
     let mut version = None;
     'members: while let Some(key) = reader.next_key()? {
         if key == "version" {
             version = read_string(alloc, reader)?;
         } else {
-            skip(alloc, reader, 123)?;
+            skip(reader, 123)?;
         }
     }
-    Ok(Some(version))
+    Ok(version)
 }
 
 // The next value, where it is a text.
@@ -131,6 +166,6 @@ fn read_string(alloc: Global, reader: &mut Reader<'_>) -> Result<Option<Text>, U
     if let Token::String(text) = token {
         return Ok(Some(Text::new(alloc, text)?));
     }
-    skip_rest(alloc, reader, token, 123)?;
+    skip_rest(reader, token, 123)?;
     Ok(None)
 }

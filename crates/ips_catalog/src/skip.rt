@@ -1,22 +1,19 @@
 //! Passing over the values that a catalog doesn't need, which have to be JSON too.
 
-ghost use Rattle.std.specs.Prelude.{◌≡◌, ◌≢◌, ◌∷◌, Err, Some, None, IfOk, OnOk};
+ghost use Rattle.std.specs.Prelude.{◌≡◌, ◌∷◌, Err, Some, None, IfOk, OnOk};
 ghost use Rattle.std.specs.Bool.{MatchBool};
 ghost use Rattle.json.specs.Token.{begin_object};
-ghost use Rattle.json.specs.Print.{IsPrintable, IsNumber};
 ghost use Rattle.json.specs.Reads.{token_of};
-ghost use Rattle.serde_json.specs.Data.{Num, Data, Items, Members};
+ghost use Rattle.serde_json.specs.Data.{Data, Items, Members};
 ghost use Rattle.serde_json.specs.Find.{as_object};
-ghost use Rattle.serde_json.specs.Read.{number_of};
 ghost use Rattle.ips_catalog.specs.Outline.{value_at, items_at, members_at, HasKind};
 
+use crate::numbers::fits;
 use crate::unread::Unread;
 use json::{Reader, Token};
-use serde_json::Value;
-use std::alloc::Global;
 
 /// Opens the next value, where it is an object, and else passes over it.
-pub fn open_object(alloc: Global, reader: &mut Reader<'_>, depth: usize) -> Result<bool, Unread>
+pub fn open_object(reader: &mut Reader<'_>, depth: usize) -> Result<bool, Unread>
     ensures read { IfOk result (λ opened. MatchBool opened (reader.old ≡ begin_object ∷ reader.new) ((d : Data) × (value_at depth reader.old ≡ Some (d, reader.new)) × (as_object d ≡ None))) }
     ensures refused { result ≡ Err Unread.NotJson → value_at depth reader.old ≡ None }
 {
@@ -24,29 +21,23 @@ pub fn open_object(alloc: Global, reader: &mut Reader<'_>, depth: usize) -> Resu
     if let Token::BeginObject = token {
         return Ok(true);
     }
-    skip_rest(alloc, reader, token, depth)?;
+    skip_rest(reader, token, depth)?;
     Ok(false)
 }
 
 /// Passes over the next value.
 #[cycle(skip)]
-pub fn skip(alloc: Global, reader: &mut Reader<'_>, depth: usize) -> Result<(), Unread>
+pub fn skip(reader: &mut Reader<'_>, depth: usize) -> Result<(), Unread>
     ensures passed { OnOk result ((d : Data) × (value_at depth reader.old ≡ Some (d, reader.new))) }
     ensures refused { result ≡ Err Unread.NotJson → value_at depth reader.old ≡ None }
 {
     let token = reader.next().ok_or(Unread::NotJson)?;
-    skip_rest(alloc, reader, token, depth)
+    skip_rest(reader, token, depth)
 }
 
 /// Passes over the rest of the value that begins with the token.
 #[cycle(skip)]
-pub fn skip_rest(
-    alloc: Global,
-    reader: &mut Reader<'_>,
-    token: Token<'_>,
-    depth: usize,
-) -> Result<(), Unread>
-    requires { token ≢ Token.Bad → IsPrintable (token_of token) }
+pub fn skip_rest(reader: &mut Reader<'_>, token: Token<'_>, depth: usize) -> Result<(), Unread>
     ensures passed { OnOk result ((d : Data) × (value_at depth (token_of token.entry ∷ reader.old) ≡ Some (d, reader.new)) × HasKind token.entry d) }
     ensures refused { result ≡ Err Unread.NotJson → value_at depth (token_of token.entry ∷ reader.old) ≡ None }
 {
@@ -54,56 +45,47 @@ pub fn skip_rest(
         Token::String(_) => Ok(()),
         Token::Bool(_) => Ok(()),
         Token::Null => Ok(()),
-        Token::Number(text) => skip_number(alloc, text),
+        Token::Number(text) => {
+            if fits(text) {
+                Ok(())
+            } else {
+                Err(Unread::NotJson)
+            }
+        }
         Token::EndObject | Token::EndArray | Token::Key(_) | Token::Bad => Err(Unread::NotJson),
         Token::BeginArray => {
             if depth == 0 {
                 return Err(Unread::NotJson);
             }
-            skip_items(alloc, reader, depth - 1)
+            skip_items(reader, depth - 1)
         }
         Token::BeginObject => {
             if depth == 0 {
                 return Err(Unread::NotJson);
             }
-            skip_members(alloc, reader, depth - 1)
+            skip_members(reader, depth - 1)
         }
     }
 }
 
 #[cycle(skip)]
-fn skip_items(alloc: Global, reader: &mut Reader<'_>, depth: usize) -> Result<(), Unread>
+fn skip_items(reader: &mut Reader<'_>, depth: usize) -> Result<(), Unread>
     ensures passed { OnOk result ((ds : Items) × (items_at depth reader.old ≡ Some (ds, reader.new))) }
     ensures refused { result ≡ Err Unread.NotJson → items_at depth reader.old ≡ None }
 {
     'items: while !reader.take_end_array() {
-        skip(alloc, reader, depth)?;
+        skip(reader, depth)?;
     }
     Ok(())
 }
 
 #[cycle(skip)]
-fn skip_members(alloc: Global, reader: &mut Reader<'_>, depth: usize) -> Result<(), Unread>
+fn skip_members(reader: &mut Reader<'_>, depth: usize) -> Result<(), Unread>
     ensures passed { OnOk result ((ms : Members) × (members_at depth reader.old ≡ Some (ms, reader.new))) }
     ensures refused { result ≡ Err Unread.NotJson → members_at depth reader.old ≡ None }
 {
     'members: while let Some(_) = reader.next_key()? {
-        skip(alloc, reader, depth)?;
+        skip(reader, depth)?;
     }
     Ok(())
-}
-
-// A number has to be small enough for a float, or an integer of 64 bits.
-fn skip_number(alloc: Global, text: &str) -> Result<(), Unread>
-    requires { IsNumber text.now }
-    ensures passed { OnOk result ((n : Num) × (number_of text.now ≡ Some n)) }
-    ensures refused { result ≡ Err Unread.NotJson → number_of text.now ≡ None }
-{
-    let Err(error) = Value::from_str(alloc, text) else {
-        return Ok(());
-    };
-    if error.is_memory() {
-        return Err(Unread::OutOfMemory);
-    }
-    Err(Unread::NotJson)
 }

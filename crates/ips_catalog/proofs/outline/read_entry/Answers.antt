@@ -1,84 +1,17 @@
-use Rattle.std.proofs.Common.{◌≡◌, ◌∷◌, Some, None, option_and_then, refl, sym, ap, ◌∙◌, arith}
-use Rattle.std.specs.Prelude.{codes}
+use Rattle.std.proofs.Common.{◌≡◌, ◌∷◌, Some, ap, ◌∙◌, arith}
 use Rattle.json.specs.Token.{begin_object}
-use Rattle.json.specs.Json.{read_key}
-use Rattle.serde_json.specs.Data.{object, no_members, put}
-use Rattle.serde_json.specs.Find.{as_str}
+use Rattle.serde_json.specs.Data.{object}
 use Rattle.ips_catalog.specs.Outline.{value_at}
-use Rattle.ips_catalog.proofs.Turns.{members_first, members_next, members_smaller, key_fails, member_fails, members_end, object_read, object_refused}
-use Rattle.ips_catalog.proofs.Outlines.{member_here, member_elsewhere}
+use Rattle.ips_catalog.proofs.Turns.{object_read, object_refused}
 use Rattle.ips_catalog.proofs.outline.read_entry.Goals as goal
 
-pub members-init : goal.members-init
-members-init c = (no_members, members_first 123 c.open_object.new.reader, refl)
-
-pub returns-in_err-key-clause-refused : goal.returns-in_err-key-clause-refused
-returns-in_err-key-clause-refused c never =
+pub returns-in_err-read_version-clause-refused : goal.returns-in_err-read_version-clause-refused
+returns-in_err-read_version-clause-refused c refused =
     let opened : c.args.reader.now ≡ begin_object ∷ c.open_object.new.reader = grind arith in
-    let l = c.members in
-    ap (value_at 124) opened ∙ object_refused 124 c.open_object.new.reader (omega arith) (key_fails 123 c.open_object.new.reader l.reader l.invariant.0 l.invariant.1 c.in_err-key.ensures.value)
-
-pub returns-in_err-version-clause-refused : goal.returns-in_err-version-clause-refused
-returns-in_err-version-clause-refused c refused =
-    let opened : c.args.reader.now ≡ begin_object ∷ c.open_object.new.reader = grind arith in
-    let l = c.members in
-    let k = c.in-Some.key.now in
-    let s = c.next_key.new.self in
-    let named : read_key l.reader ≡ Some (Some k, s) = grind arith in
-    ap (value_at 124) opened ∙ object_refused 124 c.open_object.new.reader (omega arith) (member_fails 123 c.open_object.new.reader l.reader s l.invariant.0 k l.invariant.1 named (c.read_string.ensures.refused (grind arith)))
-
-pub returns-in_err-skip-clause-refused : goal.returns-in_err-skip-clause-refused
-returns-in_err-skip-clause-refused c refused =
-    let opened : c.args.reader.now ≡ begin_object ∷ c.open_object.new.reader = grind arith in
-    let l = c.members in
-    let k = c.in-Some.key.now in
-    let s = c.next_key.new.self in
-    let named : read_key l.reader ≡ Some (Some k, s) = grind arith in
-    ap (value_at 124) opened ∙ object_refused 124 c.open_object.new.reader (omega arith) (member_fails 123 c.open_object.new.reader l.reader s l.invariant.0 k l.invariant.1 named (c.skip.ensures.refused (grind arith)))
-
-pub members-smaller-then-eq : goal.members-smaller-then-eq
-members-smaller-then-eq c =
-    let named : read_key c.members.reader ≡ Some (Some c.in-Some.key.now, c.next_key.new.self) = grind arith in
-    let done = c.in_ok-version.ensures.read in
-    members_smaller 123 c.members.reader c.next_key.new.self c.read_string.new.reader c.in-Some.key.now done.0 named done.1
-
-pub members-preserved-then-eq : goal.members-preserved-then-eq
-members-preserved-then-eq c =
-    let l = c.members in
-    let k = c.in-Some.key.now in
-    let named : read_key l.reader ≡ Some (Some k, c.next_key.new.self) = grind arith in
-    let done = c.in_ok-version.ensures.read in
-    let ms = l.invariant.0 in (
-      put k done.0 ms,
-      members_next 123 c.open_object.new.reader l.reader c.next_key.new.self c.read_string.new.reader ms k done.0 l.invariant.1 named done.1,
-      ap (option_and_then as_str) (member_here (codes "version") k done.0 ms (sym c.eq.ensures ∙ c.if-eq.true)) ∙ done.2,
-    )
-
-pub members-smaller : goal.members-smaller
-members-smaller c =
-    let named : read_key c.members.reader ≡ Some (Some c.in-Some.key.now, c.next_key.new.self) = grind arith in
-    let done = c.in_ok-skip.ensures.passed in
-    members_smaller 123 c.members.reader c.next_key.new.self c.skip.new.reader c.in-Some.key.now done.0 named done.1
-
-pub members-preserved : goal.members-preserved
-members-preserved c =
-    let l = c.members in
-    let k = c.in-Some.key.now in
-    let named : read_key l.reader ≡ Some (Some k, c.next_key.new.self) = grind arith in
-    let done = c.in_ok-skip.ensures.passed in
-    let ms = l.invariant.0 in (
-      put k done.0 ms,
-      members_next 123 c.open_object.new.reader l.reader c.next_key.new.self c.skip.new.reader ms k done.0 l.invariant.1 named done.1,
-      ap (option_and_then as_str) (member_elsewhere (codes "version") k done.0 ms (sym c.eq.ensures ∙ c.if-eq.false)) ∙ l.invariant.2,
-    )
+    ap (value_at 124) opened ∙ object_refused 124 c.open_object.new.reader (omega arith) (c.read_version.ensures.refused (grind arith))
 
 pub returns-clause-read : goal.returns-clause-read
 returns-clause-read c =
     let opened : c.args.reader.now ≡ begin_object ∷ c.open_object.new.reader = grind arith in
-    let l = c.members in
-    let ms = l.invariant.0 in
-    let end : read_key l.reader ≡ Some (None, c.next_key.new.self) = grind arith in (
-      object ms,
-      ap (value_at 124) opened ∙ object_read 124 c.open_object.new.reader c.next_key.new.self ms (omega arith) (members_end 123 c.open_object.new.reader l.reader c.next_key.new.self ms l.invariant.1 end),
-      ap (λ v. Some v) l.invariant.2,
-    )
+    let done = c.in_ok-read_version.ensures.read in
+    (object done.0, ap (value_at 124) opened ∙ object_read 124 c.open_object.new.reader c.read_version.new.reader done.0 (omega arith) done.1, ap (λ v. Some v) done.2)

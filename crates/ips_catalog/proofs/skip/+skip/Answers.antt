@@ -1,13 +1,13 @@
-use Rattle.std.proofs.Common.{◌≡◌, [], ◌∷◌, Some, None, ap, arith}
+use Rattle.std.proofs.Common.{◌≡◌, [], ◌∷◌, Some, None, sym, ap, ◌∙◌, arith}
 use Rattle.json.specs.Json.{value}
 use Rattle.json.proofs.Grammar.{value_is}
-use Rattle.serde_json.specs.Read.{of_json, converted}
+use Rattle.serde_json.specs.Read.{number_of, of_json, converted}
 use Rattle.json.specs.Json.{after_end_array, read_key}
 use Rattle.json.specs.Reads.{token_of}
 use Rattle.serde_json.specs.Data.{no_members}
 use Rattle.serde_json.specs.View.{items_of}
 use Rattle.ips_catalog.proofs.Turns.{items_first, items_next, items_refused, items_end, members_first, members_next, members_smaller, key_fails, member_fails, members_end, value_shorter}
-use Rattle.ips_catalog.proofs.FirstTokens.{nothing_refused, string_passed, boolean_passed, null_passed, number_passed, number_fails, array_passed, array_fails, array_too_deep, object_passed, object_fails, object_too_deep, on_ok}
+use Rattle.ips_catalog.proofs.FirstTokens.{nothing_refused, string_passed, boolean_passed, null_passed, some_number, no_number, number_passed, number_fails, array_passed, array_fails, array_too_deep, object_passed, object_fails, object_too_deep, on_ok}
 use Rattle.ips_catalog.proofs.skip.+skip.Goals as goal
 
 pub skip-returns-in_err-token-clause-refused : goal.skip-returns-in_err-token-clause-refused
@@ -22,11 +22,14 @@ skip_rest-returns-in-Bool-clause-passed t c = boolean_passed _ _ _ _ c.in-Bool.i
 pub skip_rest-returns-in-Null-clause-passed : goal.skip_rest-returns-in-Null-clause-passed
 skip_rest-returns-in-Null-clause-passed t c = null_passed _ _ _ c.in-Null.is
 
-pub skip_rest-returns-in-Number-clause-passed : goal.skip_rest-returns-in-Number-clause-passed
-skip_rest-returns-in-Number-clause-passed t c = on_ok c.skip_number.result (λ h. number_passed _ _ _ _ h.0 c.in-Number.is h.1) c.skip_number.ensures.passed
+pub skip_rest-returns-then-fits-clause-passed : goal.skip_rest-returns-then-fits-clause-passed
+skip_rest-returns-then-fits-clause-passed t c =
+    let n = some_number (number_of c.in-Number.text.now) (sym c.fits.ensures ∙ c.if-fits.true) in
+    number_passed _ _ _ _ n.0 c.in-Number.is n.1
 
-pub skip_rest-returns-in-Number-clause-refused : goal.skip_rest-returns-in-Number-clause-refused
-skip_rest-returns-in-Number-clause-refused t c refused = number_fails _ _ _ _ c.in-Number.is (c.skip_number.ensures.refused refused)
+pub skip_rest-returns-else-fits-clause-refused : goal.skip_rest-returns-else-fits-clause-refused
+skip_rest-returns-else-fits-clause-refused t c never =
+    number_fails _ _ _ _ c.in-Number.is (no_number (number_of c.in-Number.text.now) (sym c.fits.ensures ∙ c.if-fits.false))
 
 pub skip_rest-returns-in-EndObject-clause-refused : goal.skip_rest-returns-in-EndObject-clause-refused
 skip_rest-returns-in-EndObject-clause-refused t c refused =

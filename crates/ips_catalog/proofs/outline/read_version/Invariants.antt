@@ -3,7 +3,7 @@ use Rattle.std.specs.Prelude.{codes}
 use Rattle.serde_json.specs.Data.{Members}
 use Rattle.serde_json.specs.Find.{get_member, as_str}
 use Rattle.ips_catalog.proofs.Turns.{MembersRead}
-use Rattle.ips_catalog.proofs.outline.read_entry.Given as goal
+use Rattle.ips_catalog.proofs.outline.read_version.Given as goal
 
 abbrev pub invariant-members : goal.invariant-members
 invariant-members l =

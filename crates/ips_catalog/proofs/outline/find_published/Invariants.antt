@@ -3,7 +3,7 @@ use Rattle.serde_json.specs.Data.{Members}
 use Rattle.serde_json.specs.Find.{get_member}
 use Rattle.ips_catalog.specs.Outline.{published_of, published_kept}
 use Rattle.ips_catalog.proofs.Turns.{MembersRead}
-use Rattle.ips_catalog.proofs.outline.read_top.Given as goal
+use Rattle.ips_catalog.proofs.outline.find_published.Given as goal
 
 abbrev pub invariant-members : goal.invariant-members
 invariant-members l =
