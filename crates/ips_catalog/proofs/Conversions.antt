@@ -1,5 +1,5 @@
 -- A turn of the grammar, under the conversion to data.
-use Rattle.std.proofs.Common.{◌≡◌, ℕ, zero, suc, ◌-◌, ◌<◌, ◌≤◌, List, [], ◌∷◌, length, Option, Some, None, option_map, option_and_then, refl, ap, ◌∙◌}
+use Rattle.std.proofs.Common.{◌≡◌, ℕ, zero, suc, ◌-◌, ◌<◌, ◌≤◌, List, length, Option, Some, None, option_map, option_and_then, refl, ap, ◌∙◌}
 use Rattle.json.specs.Token.{Token}
 use Rattle.json.specs.Json as json
 use Rattle.json.specs.Json.{Parse, parse_map, after_end_array, read_key, items_step, items, members}
@@ -92,19 +92,3 @@ module _ (p : Parse json.Json) where
 
     pub members_over : (n : ℕ) (ts r : List Token) → length ts ≤ n → read_key ts ≡ Some (None, r) → converted (λ js. of_members js ms) (members p n ts) ≡ Some (ms, r)
     members_over n ts r enough e = ap (converted (λ js. of_members js ms)) (members_end p n ts r enough e)
-
--- ---- the whole text
-
-abbrev pub whole : Option (json.Json × List Token) → Option Data
-whole o = option_and_then of_json (option_and_then (λ p. json.if_last p.0 p.1) o)
-
-pub whole_read : (o : Option (json.Json × List Token)) (d : Data) → converted of_json o ≡ Some (d, []) → whole o ≡ Some d
-whole_read o d e = let j = was_read of_json o d [] e in ap whole j.1 ∙ j.2
-
-pub more_behind : (o : Option (json.Json × List Token)) (d : Data) (t : Token) (r : List Token) → converted of_json o ≡ Some (d, t ∷ r) → whole o ≡ None
-more_behind o d t r e = ap whole (was_read of_json o d (t ∷ r) e).1
-
-pub whole_bad : (o : Option (json.Json × List Token)) → converted of_json o ≡ None → whole o ≡ None
-whole_bad None e = refl
-whole_bad (Some (j, [])) e = no_value [] (of_json j) e
-whole_bad (Some (j, t ∷ r)) e = refl

@@ -7,7 +7,7 @@ use Rattle.std.specs.BTreeMap.{insert_entry}
 use Rattle.std.specs.Fmt.{decimal}
 use Rattle.std.proofs.lemmas.Slice.Eq.{bytes_eq-Decides}
 use Rattle.serde_json.specs.Data.{Data, null, boolean, number, string, array, object, Items, no_items, item, Members, no_members, member, put}
-use Rattle.serde_json.specs.Find.{get_member, as_object, as_array, as_str}
+use Rattle.serde_json.specs.Find.{get_member, as_str}
 use Rattle.serde_json.specs.View.{items_of}
 use Rattle.serde_json.proofs.Views.{get_member-put, get_member-put_other}
 use Rattle.ips_text.specs.Reading.{◌>>=◌}
@@ -91,19 +91,6 @@ outline_same publisher (array ds) = refl
 outline_same publisher (object ms) = found_same publisher (get_member publisher ms)
 
 -- ---- what is kept while the text is read
-
--- a value that is no object, or no array, leaves nothing
-pub no_entry : (value : Data) → as_object value ≡ None → entry_of value ≡ None
-no_entry value none = ap (option_map (λ members. option_and_then as_str (get_member (codes "version") members))) none
-
-pub no_package : (value : Data) → as_array value ≡ None → package_of value ≡ None
-no_package value none = ap (option_map entries_of) none
-
-pub not_published : (value : Data) → as_object value ≡ None → published_of value ≡ None
-not_published value none = ap (option_map packages_of) none
-
-pub no_outline : (publisher : List ℕ) (value : Data) → as_object value ≡ None → outline_of publisher value ≡ None
-no_outline publisher value none = ap (option_map (λ members. option_map published_of (get_member publisher members))) none
 
 -- the later of two equal keys counts
 pub member_here : (name key : List ℕ) (value : Data) (ms : Members) → bytes_eq key name ≡ true → get_member name (put key value ms) ≡ Some value
