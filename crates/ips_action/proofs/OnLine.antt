@@ -20,7 +20,7 @@ use Rattle.ips_action.specs.Action.{Fields, IfName, payload_word, pairs_of, pair
 use Rattle.ips_action.specs.Meaning.{is_path_key, without_slashes, held, Means}
 use Rattle.ips_action.proofs.KeyOrder.{same_true, self_equal}
 use Rattle.ips_action.proofs.Found.{found_at}
-use Rattle.ips_action.proofs.Spelled.{spelled_so}
+use Rattle.ips_action.proofs.Spelled.{low_digit, spelled_so}
 
 -- ---- names of kinds and of payloads
 
@@ -53,9 +53,6 @@ name_can Driver = letters_can (kind_name Driver) refl
 name_can License = letters_can (kind_name License) refl
 name_can Legacy = letters_can (kind_name Legacy) refl
 name_can Signature = letters_can (kind_name Signature) refl
-
-low_digit : (b : ℕ) → is_lower_digit b ≡ true → b < 128
-low_digit b e = grind arith
 
 high_digit : (b : ℕ) → is_lower_digit b ≡ true → 10 < b
 high_digit b e = grind arith

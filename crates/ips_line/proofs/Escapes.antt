@@ -43,7 +43,7 @@ escape_step text i e =
 pub escape_none : (text : List ℕ) → position is_escaped text ≡ None → flat_map escaped_byte text ≡ text
 escape_none text e = ap (flat_map escaped_byte) (sym (append-nil text)) ∙ escape_front text [] (none_passes is_escaped text e) ∙ append-nil text
 
-low_escaped : (b : ℕ) → is_escaped b ≡ true → b < 128
+pub low_escaped : (b : ℕ) → is_escaped b ≡ true → b < 128
 low_escaped b e = grind arith
 
 pub escaped_cut : (bytes : List ℕ) (i : ℕ) → position is_escaped bytes ≡ Some i → IsCharBoundary bytes i

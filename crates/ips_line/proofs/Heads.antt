@@ -110,7 +110,7 @@ blank_none : (gap : List ℕ) → list_all is_blank gap ≡ true → payload_at 
 blank_none [] h = payload_unspaced [] tt
 blank_none (b ∷ gap) h = ap payload_at (sym (append-nil (b ∷ gap))) ∙ payload_with (b ∷ gap) [] [] h refl tt tt ∙ ap (λ (l : List ℕ). Ok (None, l)) (append-nil (b ∷ gap))
 
-attribute_text : (a : Attribute) (rest : List ℕ) → attribute_written a ++ rest ≡ a.gap ++ (a.key ++ (61 ∷ (written_text a.value ++ rest)))
+pub attribute_text : (a : Attribute) (rest : List ℕ) → attribute_written a ++ rest ≡ a.gap ++ (a.key ++ (61 ∷ (written_text a.value ++ rest)))
 attribute_text a rest = append_assoc (a.gap ++ a.key) (61 ∷ written_text a.value) rest ∙ append_assoc a.gap a.key ((61 ∷ written_text a.value) ++ rest)
 
 -- before attributes and what stands behind them there is no payload word

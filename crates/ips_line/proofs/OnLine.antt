@@ -7,8 +7,12 @@ use Rattle.std.proofs.lemmas.List.{append-nil}
 use Rattle.std.proofs.lemmas.Str.{IsUtf8-append, IsUtf8-take, IsUtf8-drop, IsUtf8-from_ascii, IsUtf8-past_char, IsCharBoundary-before_ascii, encode_ascii}
 use Rattle.ips_text.proofs.Truths.{both_true}
 use Rattle.ips_line.specs.declared.words.Pair.{Pair}
-use Rattle.ips_line.specs.Line.{is_blank, is_quote, is_escape, IsRun, meant, Written, Plain, Quoted, written_text, value_of, IsWritten, Attribute, IsAttribute, attribute_written, Line, payload_written, pair_of, Said, Says}
+use Rattle.ips_line.specs.Line.{is_blank, is_escape, IsRun, meant, Written, Plain, Quoted, written_text, value_of, IsWritten, Attribute, IsAttribute, attribute_written, Line, payload_written, pair_of, Said, Says}
 use Rattle.ips_line.specs.Canonical.{is_escaped, escaped_byte, needs_quotes, value_text, pair_text}
+use Rattle.ips_line.proofs.Runs.{low_blank}
+use Rattle.ips_line.proofs.Quotes.{low_quote}
+use Rattle.ips_line.proofs.Escapes.{low_escaped}
+use Rattle.ips_line.proofs.Heads.{run_all, attribute_text}
 
 -- the byte is no newline
 abbrev pub other : ℕ → Bool
@@ -127,9 +131,6 @@ can_meant q inside h = record { text = meant_text q inside [] h.text; single = m
 abbrev EscapedText : List ℕ → Type 0
 EscapedText value = (front : List ℕ) → IsUtf8 (front ++ value) → IsUtf8 (front ++ flat_map escaped_byte value)
 
-low_escaped : (b : ℕ) → is_escaped b ≡ true → b < 128
-low_escaped b e = grind arith
-
 escaped_text : (value : List ℕ) → EscapedText value
 escaped_text [] = λ front u. u
 escaped_text (b ∷ bytes) = λ front u. go (is_escaped b) refl front u (escaped_text bytes)
@@ -193,21 +194,11 @@ can_words name payload pairs h g all = can_join (name ++ payload) (flat_map pair
 
 -- ---- what a line says
 
-low_blank : (b : ℕ) → is_blank b ≡ true → b < 128
-low_blank b e = grind arith
-
-low_quote : (b : ℕ) → is_quote b ≡ true → b < 128
-low_quote b e = grind arith
-
 past_blanks : (gap rest : List ℕ) → list_all is_blank gap ≡ true → CanStand (gap ++ rest) → CanStand rest
 past_blanks [] rest h c = c
 past_blanks (b ∷ gap) rest h c =
     let p = and_parts (is_blank b) (list_all is_blank gap) h in
     past_blanks gap rest p.1 (can_past b (gap ++ rest) (low_blank b p.0) c)
-
-run_all : (p : ℕ → Bool) (bytes : List ℕ) → IsRun p bytes → list_all p bytes ≡ true
-run_all p [] h = absurd h
-run_all p (b ∷ bytes) h = h
 
 -- there are no bytes, or a blank stands first
 abbrev Starts : List ℕ → Type 0
@@ -222,16 +213,11 @@ starts_run : (gap rest : List ℕ) → IsRun is_blank gap → Starts (gap ++ res
 starts_run [] rest h = absurd h
 starts_run (b ∷ gap) rest h = (and_parts (is_blank b) (list_all is_blank gap) h).0
 
-attribute_split : (a : Attribute) (rest : List ℕ) → attribute_written a ++ rest ≡ a.gap ++ (a.key ++ (61 ∷ (written_text a.value ++ rest)))
-attribute_split a rest =
-    append_assoc (a.gap ++ a.key) (61 ∷ written_text a.value) rest
-    ∙ append_assoc a.gap a.key (61 ∷ (written_text a.value ++ rest))
-
 attributes_split : (a : Attribute) (attributes : List Attribute) (behind : List ℕ)
     → flat_map attribute_written (a ∷ attributes) ++ behind ≡ a.gap ++ (a.key ++ (61 ∷ (written_text a.value ++ (flat_map attribute_written attributes ++ behind))))
 attributes_split a attributes behind =
     append_assoc (attribute_written a) (flat_map attribute_written attributes) behind
-    ∙ attribute_split a (flat_map attribute_written attributes ++ behind)
+    ∙ attribute_text a (flat_map attribute_written attributes ++ behind)
 
 starts_blanks : (behind : List ℕ) → list_all is_blank behind ≡ true → Starts behind
 starts_blanks [] g = tt

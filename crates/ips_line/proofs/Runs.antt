@@ -27,7 +27,7 @@ low_payload b e = grind arith
 low_key : (b : ℕ) → in_key b ≡ false → b < 128
 low_key b e = grind arith
 
-low_blank : (b : ℕ) → is_blank b ≡ true → b < 128
+pub low_blank : (b : ℕ) → is_blank b ≡ true → b < 128
 low_blank b e = grind arith
 
 last_of : (test : ℕ → Bool) (bytes : List ℕ) (i : ℕ) → i < length bytes → list_all test (take (suc i) bytes) ≡ true → test (get_or bytes i 0) ≡ true
