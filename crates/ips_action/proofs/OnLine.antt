@@ -20,7 +20,11 @@ use Rattle.ips_action.specs.Action.{Fields, IfName, payload_word, pairs_of, pair
 use Rattle.ips_action.specs.Meaning.{is_path_key, without_slashes, held, Means}
 use Rattle.ips_action.proofs.KeyOrder.{same_true, self_equal}
 use Rattle.ips_action.proofs.Found.{found_at}
+<<<<<<< HEAD
 use Rattle.ips_action.proofs.Spelled.{low, spelled_so}
+=======
+use Rattle.ips_action.proofs.Spelled.{low_digit, spelled_so}
+>>>>>>> 4c6678dcf40e7319bd74de619975b926ef5bb889
 
 -- ---- names of kinds and of payloads
 

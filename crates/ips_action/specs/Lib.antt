@@ -3,6 +3,7 @@ pub mod Target
 pub mod Check
 pub mod Table
 pub mod Held
+pub mod Key
 pub mod Attrs
 pub mod Gathering
 pub mod Judging

@@ -4,6 +4,7 @@ ghost use Rattle.std.specs.Prelude.{◌≡◌, ◌≤◌, ◌++◌, ◌∷◌, [
 ghost use Rattle.ips_action.specs.Attrs.{AreAttrs, Gathers, values_of};
 ghost use Rattle.ips_action.specs.Gathering as gathering;
 
+use crate::key::Key;
 use ips_line::Pair;
 use ips_text::Text;
 use std::alloc::{AllocError, Global};
@@ -113,7 +114,7 @@ fn copy_texts(alloc: Global, texts: &[Text]) -> Result<Vec<Text>, AllocError>
 #[derive(Drop)]
 pub struct Attr {
     /// The key.
-    pub key: Text,
+    pub key: Key,
     /// Its values, in the order in which they were given.
     pub values: Values,
 }
@@ -267,7 +268,9 @@ fn add(alloc: Global, attrs: &mut Vec<Attr>, pair: Pair) -> Result<(), AllocErro
     let Pair { key, value } = pair;
     match attrs.pop() {
         None => attrs.push(single(key, value))?,
-        Some(last) if last.key == key => attrs.push(with_value(alloc, last, value)?)?,
+        Some(last) if last.key.as_str() == key.as_str() => attrs.push(with_value(
+            alloc, last, value,
+        )?)?,
         Some(last) => {
             attrs.push(last)?;
             attrs.push(single(key, value))?;
@@ -281,7 +284,7 @@ fn single(key: Text, value: Text) -> Attr
     ensures { result ≡ gathering.single (record { key = key; value = value }) }
 {
     Attr {
-        key,
+        key: Key::new(key),
         values: Values::one(value),
     }
 }
