@@ -20,11 +20,7 @@ use Rattle.ips_action.specs.Action.{Fields, IfName, payload_word, pairs_of, pair
 use Rattle.ips_action.specs.Meaning.{is_path_key, without_slashes, held, Means}
 use Rattle.ips_action.proofs.KeyOrder.{same_true, self_equal}
 use Rattle.ips_action.proofs.Found.{found_at}
-<<<<<<< HEAD
-use Rattle.ips_action.proofs.Spelled.{low, spelled_so}
-=======
 use Rattle.ips_action.proofs.Spelled.{low_digit, spelled_so}
->>>>>>> 4c6678dcf40e7319bd74de619975b926ef5bb889
 
 -- ---- names of kinds and of payloads
 
@@ -64,7 +60,7 @@ high_digit b e = grind arith
 digit_plain : (b : ℕ) → is_lower_digit b ≡ true → Plain_byte b
 digit_plain b e =
     let above = high_digit b e in
-    record { ascii = low b e; other = ap not (ne_eqb b 10 (λ same. absurd (omega arith))) }
+    record { ascii = low_digit b e; other = ap not (ne_eqb b 10 (λ same. absurd (omega arith))) }
 
 digits_can : (bytes : List ℕ) → list_all is_lower_digit bytes ≡ true → CanStand bytes
 digits_can [] h = can_nil

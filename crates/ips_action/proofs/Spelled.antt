@@ -14,13 +14,8 @@ use Rattle.ips_line.specs.Canonical.{pair_text}
 use Rattle.ips_action.specs.declared.attrs.Attr.{Attr}
 use Rattle.ips_action.specs.Action.{pairs_of, pairs_of_one, attr_text}
 
-<<<<<<< HEAD
-pub low : (b : ℕ) → is_lower_digit b ≡ true → b < 128
-low b e = grind arith
-=======
 pub low_digit : (b : ℕ) → is_lower_digit b ≡ true → b < 128
 low_digit b e = grind arith
->>>>>>> 4c6678dcf40e7319bd74de619975b926ef5bb889
 
 digits_ascii : (text : List ℕ) → AllPass is_lower_digit text → IsAscii text
 digits_ascii text h i = go (cases_lt i (length text))
