@@ -5,7 +5,7 @@ ghost use Rattle.ips_kinds.specs.Acts.{same_sort};
 
 use crate::script::{call_of, path, push_shown, read_step, words};
 use crate::takers::takes_all;
-use ips_apply::apply;
+use ips_apply::{apply, apply_block};
 use ips_folder::MemFolder;
 use ips_journal::{StepFault, StepReader, write_steps};
 use ips_kinds::{Act, FreshKind, GoneKind, HardKind, Kind, LinkKind, ModeKind, PutKind, Step};
@@ -116,6 +116,21 @@ fn run(
     Ok(apply(folder, &mut reader, kinds, &mut buffer))
 }
 
+// Lays at most so many steps of the folder's journal: how many were laid, and whether the end line was read.
+fn run_block(
+    alloc: Global,
+    folder: &mut MemFolder,
+    kinds: &mut Vec<Box<dyn Kind>>,
+    most: u64,
+) -> Result<Result<(u64, bool), StepFault>, AllocError> {
+    if !takes_all(alloc, kinds)? {
+        return Ok(Err(StepFault::BadJournal { line: 0 }));
+    }
+    let mut reader = StepReader::new(alloc)?;
+    let mut buffer = [0u8; 2];
+    Ok(apply_block(folder, &mut reader, kinds, &mut buffer, most))
+}
+
 // How many steps each kind has finished, one after another.
 fn tallies(rt: &impl Abort, alloc: Global, kinds: &Vec<Box<dyn Kind>>) -> Vec<u64> {
     let mut all = Vec::new(alloc);
@@ -218,6 +233,30 @@ fn laid(rt: &impl Abort, alloc: Global, kinds: &mut Vec<Box<dyn Kind>>, case: &s
     shown(rt, alloc, ended, folder.tree(), paths)
 }
 
+// Lays at most so many of the steps of a case, as `MOST of STEPS | PATHS`: how many were laid, whether the end was read, and
+// what then stands.
+fn laid_block(
+    rt: &impl Abort,
+    alloc: Global,
+    kinds: &mut Vec<Box<dyn Kind>>,
+    case: &str,
+) -> Vec<u8> {
+    let (most, case) = case.split_once(" of ").expect(rt, "a number");
+    let (steps, paths) = case.split_once(" | ").expect(rt, "paths");
+    let most = most.parse().ok().expect(rt, "a number");
+    let mut folder = pending(rt, alloc, &steps_of(rt, alloc, steps), 0);
+    let ended = run_block(alloc, &mut folder, kinds, most)
+        .ok()
+        .expect(rt, "no fault");
+    let Ok((count, is_end)) = ended else {
+        return Vec::new(alloc);
+    };
+    let mut text = shown(rt, alloc, Ok(count), folder.tree(), paths);
+    let end: &[u8] = if is_end { b" end" } else { b" more" };
+    text.extend_from_slice(end).expect(rt, "memory");
+    text
+}
+
 // Lists of kinds, one behind another, and the steps of each case: how many were laid, and what stands at some paths.
 const LAID: &str = "
 # each sort of step takes the place of each entry: what stands afterwards, whatever stood there, and the file `y`
@@ -295,6 +334,20 @@ mode 0711 n | n y d/f -> 1: absent 600=old 644=f
 # a hard link whose target is laid before it; the first kind that takes the put counts it
 put 0 0640 y, hard x y | x -> 2: 640=hello
 tallies -> [1, 0, 0, 5, 0, 0, 1]
+
+# at most so many steps are laid, and the end is read only where fewer are
+no kinds -> yet
+kind of gone -> added
+kind of fresh -> added
+kind of mode -> added
+kind of put -> added
+kind of link -> added
+kind of hard -> added
+at most 0 of gone o, fresh 0750 n, gone l | o n l -> 0: other absent >t more
+at most 2 of gone o, fresh 0750 n, gone l | o n l -> 2: absent 750/ >t more
+at most 3 of gone o, fresh 0750 n, gone l | o n l -> 3: absent 750/ absent more
+at most 4 of gone o, fresh 0750 n, gone l | o n l -> 3: absent 750/ absent end
+tallies -> [5, 3, 0, 0, 0, 0]
 ";
 
 #[test]
@@ -332,6 +385,9 @@ fn journals_are_laid(rt: HostRuntime) {
             _ => {
                 if let Some(failing) = case.strip_prefix("failing: ") {
                     failing_in_turn(&rt, alloc, &mut kinds, failing, wanted);
+                } else if let Some(block) = case.strip_prefix("at most ") {
+                    let laid = laid_block(&rt, alloc, &mut kinds, block);
+                    assert!(rt; laid.as_slice() == wanted.as_bytes(), "{line} {laid:?}");
                 } else {
                     let laid = laid(&rt, alloc, &mut kinds, case);
                     assert!(rt; laid.as_slice() == wanted.as_bytes(), "{line} {laid:?}");
@@ -340,5 +396,5 @@ fn journals_are_laid(rt: HostRuntime) {
         }
         played = played.saturating_add(1);
     }
-    assert_eq!(rt; played, 63);
+    assert_eq!(rt; played, 75);
 }

@@ -1,5 +1,5 @@
 -- What reading and writing a line do to where a reader or a text stands.
-use Rattle.std.proofs.Common.{◌≡◌, ℕ, suc, ◌+◌, ◌-◌, ◌^◌, ◌<◌, ◌≤◌, false, List, [], ◌∷◌, ◌++◌, length, take, drop, Option, Some, None, IsTrue, Result, Ok, Err, inl, inr, refl, sym, ap, ◌∙◌, subst, arith, append_assoc, length-append, length-drop, length-take-le}
+use Rattle.std.proofs.Common.{◌≡◌, ℕ, suc, ◌+◌, ◌-◌, ◌^◌, ◌<◌, ◌≤◌, false, List, [], ◌∷◌, ◌++◌, length, take, drop, Option, Some, None, IfOk, Result, Ok, Err, inl, inr, refl, sym, ap, ◌∙◌, subst, arith, append_assoc, length-append, length-drop, length-take-le}
 use Rattle.std.proofs.Math.Seq.{take-append-add, take-append_seam}
 use Rattle.std.proofs.lemmas.List.{drop-drop, drop_all}
 use Rattle.ips_steps.specs.Steps.{Step}
@@ -7,8 +7,8 @@ use Rattle.ips_steps.specs.Journal.{IsJournal, numbered}
 use Rattle.ips_journal.specs.Text.{head_line, line, step_line, step_lines, end_line, headed, journal_text}
 use Rattle.ips_journal.specs.Bad.{GoesOn, IsBadLine}
 use Rattle.ips_journal.specs.Line.{has, BeginsLine}
-use Rattle.ips_journal.specs.Reading.{Reading, Stands, IsFaultOf, IsNextLine, TellsLine, puts_in, text_from}
-use Rattle.ips_journal.specs.Holding.{IsHeaded, IsNextFault, IsStepLine, ReadMeans, TellsMore, clipped, seen, step_by}
+use Rattle.ips_journal.specs.Reading.{Reading, Stands, Means, IsFaultOf, IsNextLine, TellsLine, puts_in, text_from}
+use Rattle.ips_journal.specs.Holding.{IsHeaded, IsNextFault, IsStepLine, ReadMeans, TellsMore, clipped, found_step, seen, step_by}
 use Rattle.ips_journal.specs.declared.cursor.Cursor.{Cursor}
 use Rattle.ips_journal.specs.declared.parts.Parts.{Parts}
 use Rattle.ips_steps.specs.declared.step.Sort.{Sort}
@@ -193,10 +193,20 @@ fault_handed text front new parts (Err e) f h is = subst (IsNextFault text front
 pub lending : (before : List ℕ → List ℕ) (text : List ℕ) (front : List Step) (c : Cursor) (a b : Option Step) → Stands before text front (seen c a) → Stands before text front (seen c b)
 lending before text front c a b h = record { listed = h.listed; steps = h.steps; puts = h.puts; line = h.line; place = h.place; begins = h.begins; small = h.small }
 
--- a step was read, and is lent
-pub step_read : (text : List ℕ) (front : List Step) (old new : Cursor) (held lent : Option Step) (parts : Parts) (sort : Sort) (found : Option Sort) (s : Step) → found ≡ Some sort
-    → (Stands (text_from front) text front (seen old None) → ReadMeans text front new parts (Ok found)) → new.is_open ≡ is_some found → Stands (text_from front) text front (seen old held) → s ≡ step_by sort parts
-    → (x : Step) × (IsTrue new.is_open × Stands (text_from (front ++ x ∷ [])) text (front ++ x ∷ []) (seen new lent)) × (Some s ≡ Some x)
-step_read text front old new held lent parts sort found s is means opened h made =
-    let now : ReadMeans text front new parts (Ok (Some sort)) = subst (λ (f : Option Sort). ReadMeans text front new parts (Ok f)) is (means (lending (text_from front) text front old held None h)) in
-    (step_by sort parts, (opened ∙ ap is_some is, lending (text_from (front ++ step_by sort parts ∷ [])) text (front ++ step_by sort parts ∷ []) new None lent now), ap (λ (x : Step). Some x) made)
+-- what an answer means, where the step that was found is lent
+pub read_means : (text : List ℕ) (front : List Step) (old new : Cursor) (held lent : Option Step) (parts : Parts) (found : Result (Option Sort) StepFault) (x : Option Sort) → found ≡ Ok x
+    → (Stands (text_from front) text front (seen old None) → ReadMeans text front new parts found) → IfOk found (λ y. new.is_open ≡ is_some y) → Stands (text_from front) text front (seen old held) → lent ≡ found_step found parts
+    → Means text front (seen new lent) (Ok (is_some x))
+read_means text front old new held lent parts found x is means opened h made =
+    go x (subst (ReadMeans text front new parts) is (means (lending (text_from front) text front old held None h))) (subst (λ (f : Result (Option Sort) StepFault). IfOk f (λ y. new.is_open ≡ is_some y)) is opened)
+    (made ∙ ap (λ (f : Result (Option Sort) StepFault). found_step f parts) is)
+  where
+    go : (y : Option Sort) → ReadMeans text front new parts (Ok y) → new.is_open ≡ is_some y → lent ≡ found_step (Ok y) parts → Means text front (seen new lent) (Ok (is_some y))
+    go (Some sort) stands opens lend =
+        (step_by sort parts, (opens, lending (text_from (front ++ step_by sort parts ∷ [])) text (front ++ step_by sort parts ∷ []) new None lent stands), lend)
+    go None listed opens lend = listed
+
+-- a fault that was met
+pub read_fault : (text : List ℕ) (front : List Step) (old new : Cursor) (held : Option Step) (parts : Parts) (found : Result (Option Sort) StepFault) (f : StepFault) → found ≡ Err f
+    → (Stands (text_from front) text front (seen old None) → ReadMeans text front new parts found) → Stands (text_from front) text front (seen old held) → IsNextFault text front f
+read_fault text front old new held parts found f is means h = subst (ReadMeans text front new parts) is (means (lending (text_from front) text front old held None h))

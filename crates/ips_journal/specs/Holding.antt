@@ -83,6 +83,12 @@ pub record IsReader (held : Held) (beside : Beside) : Type 0 where
   pub above : IsNamed (parent_in (step_in held)) beside.above.bytes
   pub file : IsNamed (stage_in (step_in held)) beside.file.bytes
 
+-- the step that was found, made of the parts
+abbrev pub found_step : Result (Option Sort) StepFault → Parts → Option Step
+found_step (Ok (Some sort)) parts = Some (step_by sort parts)
+found_step (Ok None) parts = None
+found_step (Err fault) parts = None
+
 -- where a cursor stands, with the step that is lent
 abbrev pub seen : Cursor → Option Step → Reading
 seen c s = record { place = c.place; steps = c.steps; puts = c.puts; line = c.line; is_open = c.is_open; step = s }

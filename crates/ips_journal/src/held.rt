@@ -1,9 +1,11 @@
 //! The step that a reader lends, made of parts that keep their room.
 
-ghost use Rattle.std.specs.Prelude.{◌≡◌, None, IfOk};
+ghost use Rattle.std.specs.Prelude.{◌≡◌, None, IfOk, IfSome};
 ghost use Rattle.ips_steps.specs.View.{step_of};
-ghost use Rattle.ips_journal.specs.Holding.{HaveRoom, Fits, IsReady, step_by, step_in};
+ghost use Rattle.ips_journal.specs.Holding.{HaveRoom, HasPlace, Fits, IsReader, IsReady, IsSafe, found_step, step_by, step_in};
 
+use crate::beside::Beside;
+use crate::fault::StepFault;
 use crate::parts::Parts;
 use ips_steps::{Sort, Step, Target};
 use ips_text::RelPath;
@@ -49,6 +51,22 @@ impl Held {
             Held::Moving => unreachable!(),
         }
     }
+}
+
+/// What is held behind a reading into the parts: the step that was found, with the paths that go with it, or the parts.
+pub fn hold(found: &Result<Option<Sort>, StepFault>, parts: Parts, beside: &mut Beside) -> Held
+    requires room { HaveRoom parts }
+    requires place { HasPlace beside.old }
+    requires safe { IfOk found.now (λ x. IfSome x (λ sort. IsSafe (step_by sort parts))) }
+    ensures reader { IsReader result beside.new }
+    ensures lent { step_in result ≡ found_step found.now parts }
+{
+    let Ok(Some(sort)) = found else {
+        return Held::Spare(parts);
+    };
+    let (step, left) = step_from(*sort, parts);
+    beside.go_to(&step);
+    Held::Lent(step, left)
 }
 
 // The parts that a step and what it left were made of.

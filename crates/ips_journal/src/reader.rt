@@ -11,7 +11,7 @@ ghost use Rattle.ips_journal.specs.declared.fault.StepFault.TheVariants as fault
 use crate::beside::Beside;
 use crate::cursor::Cursor;
 use crate::fault::StepFault;
-use crate::held::{Held, step_from};
+use crate::held::{Held, hold};
 use ips_folder::Folder;
 use ips_steps::Step;
 use ips_text::RelPath;
@@ -82,21 +82,11 @@ impl StepReader {
         ensures reads { Reads F.outside folder.old folder.new (result ≡ Err fault.FolderFault) }
     {
         let mut parts = self.held.release();
-        match self.cursor.read(&mut parts, folder) {
-            Ok(Some(sort)) => {
-                let (step, left) = step_from(sort, parts);
-                self.beside.go_to(&step);
-                self.held = Held::Lent(step, left);
-                Ok(true)
-            }
-            Ok(None) => {
-                self.held = Held::Spare(parts);
-                Ok(false)
-            }
-            Err(fault) => {
-                self.held = Held::Spare(parts);
-                Err(fault)
-            }
+        let found = self.cursor.read(&mut parts, folder);
+        self.held = hold(&found, parts, &mut self.beside);
+        match found {
+            Ok(sort) => Ok(sort.is_some()),
+            Err(fault) => Err(fault),
         }
     }
 
