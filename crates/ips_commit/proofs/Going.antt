@@ -26,8 +26,8 @@ use Rattle.ips_journal.specs.declared.fault.StepFault.TheVariants.{BadJournal, F
 use Rattle.ips_apply.proofs.Turns.{allowed_behind}
 use Rattle.ips_commit.specs.Phases.{IsUnderWay, AreMarkedOff, IsHeldUp, LaysTo, Lays, LaysThousand, LaysAll, ended_of}
 use Rattle.ips_commit.proofs.Lays.{begins_next, front_grown, allowed_before}
-use Rattle.ips_commit.proofs.Marked.{journal_laid, journal_marked}
-use Rattle.ips_commit.proofs.Owing.{nodes, ready_text}
+use Rattle.ips_commit.proofs.Marked.{journal_laid, journal_marked, same_marks}
+use Rattle.ips_commit.proofs.Owing.{nodes, ready_text, safe_left}
 
 -- ---- steps in two parts
 
@@ -88,6 +88,7 @@ module _ {F : Type 0} (o : Outside F) (sane : IsOutside o) (first : ℕ) where
     owed = λ told way all b a due is_open at. started o old (FolderOwes journal_text b (Some a) due) (sane.only_now old)
         (owes_laying journal_text all first a b due (o.state old) (o.state old) is_open (nodes o sane old told) way.safe (within_self _ _ (o.state old)));
     stays_open = λ told way all a is_open at. is_open;
+    left = λ told way all a is_open at c may. (first, same_marks nowhere (o.state old).held c first (safe_left (o.state old) c way.safe may) (λ i. refl) way.marked, omega arith);
   }
     where
       here : o.tells old ≡ true → (front : List Step) → IsAt (journal_of (o.state old).held) front start → IsAt (journal_of (o.state old).held) (front ++ []) start
@@ -213,6 +214,9 @@ module _ {F : Type 0} (o : Outside F) (sane : IsOutside o) (first : ℕ) where
         owed = λ told way all b a due is_open at. joins o old mid new (FolderOwes journal_text b (Some a) due) (one.owed told way all b a due is_open at)
             (two.owed (kind ∙ told) (way_on told way (take (1000 * first) all) at) all b a due (still_open told way all a is_open at) (at_next told way all a is_open at));
         stays_open = λ told way all a is_open at. two.stays_open (kind ∙ told) (way_on told way (take (1000 * first) all) at) all a (still_open told way all a is_open at) (at_next told way all a is_open at);
+        left = λ told way all a is_open at c may.
+            let some = two.left (kind ∙ told) (way_on told way (take (1000 * first) all) at) all a (still_open told way all a is_open at) (at_next told way all a is_open at) c may in
+            (some.0, some.1, (let so_many = some.2 in omega (arith, sum, grown, so_many)));
       }
 
 -- ---- turn by turn
@@ -294,6 +298,7 @@ module _ {F : Type 0} (o : Outside F) (sane : IsOutside o) (first turn : ℕ) (o
           absurd (let many = so_many in omega (arith, listed, sum, many, past));
       owed = g.lays.owed;
       stays_open = λ told way all a is_open at. tt;
+      left = g.lays.left;
     };
     marks = tt;
     count = tt;

@@ -1,5 +1,5 @@
 -- Marks, and what else stands at the updater's own names, while steps are laid and marks are made.
-use Rattle.std.proofs.Common.{◌≡◌, ◌≢◌, ℕ, zero, suc, ◌+◌, ◌^◌, ◌<◌, Bool, true, false, List, [], Option, None, unwrap_or, refl, sym, ◌∙◌, ap, subst, arith, inl, inr}
+use Rattle.std.proofs.Common.{◌≡◌, ◌≢◌, ◌⊎◌, ℕ, zero, suc, ◌+◌, ◌^◌, ◌<◌, Bool, true, false, List, [], Option, None, unwrap_or, refl, sym, ◌∙◌, ap, subst, arith, inl, inr, Some}
 use Rattle.std.specs.List.{list_any}
 use Rattle.std.specs.Fmt.{decimal}
 use Rattle.std.proofs.lemmas.Bool.{or_parts, or_from, cases_lt}
@@ -98,3 +98,18 @@ module _ (count : ℕ) (few : count + 2 < 2 ^ 64) (t u : Image) (h : Agrees (cov
     where
       next : suc count ≡ count + 1
       next = omega arith
+
+  -- with the next mark or without it
+  pub one_more_or_not : AreMarks t count → HasNoOtherMark t (mark_names count) → AreMarks u count ⊎ AreMarks u (count + 1)
+  one_more_or_not are others = go (u.look (mark_name (count + 1))) refl
+    where
+      go : (e : Option Entry) → u.look (mark_name (count + 1)) ≡ e → AreMarks u count ⊎ AreMarks u (count + 1)
+      go None none = inl (record { stand = λ i lt gone. are.stand i lt (sym (elsewhere (i + 1) (omega (arith, few, lt)) (λ e. omega (arith, e, lt))) ∙ gone); last = none })
+      go (Some e) is = inr (one_more_stands are others (λ gone. let bad = sym is ∙ gone in cc))
+
+-- the same marks stand where none of their names is another
+pub same_marks : (free : List ℕ → Bool) (t u : Image) (count : ℕ) → Agrees free nowhere t u → ((i : ℕ) → free (mark_name i) ≡ false) → AreMarks t count → AreMarks u count
+same_marks free t u count h off are = record {
+  stand = λ i lt gone. are.stand i lt (sym (h.look (mark_name (i + 1)) (off (i + 1)) refl) ∙ gone);
+  last = h.look (mark_name (count + 1)) (off (count + 1)) refl ∙ are.last;
+}

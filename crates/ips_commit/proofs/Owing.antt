@@ -1,20 +1,20 @@
 -- What the folder owes in each phase of a commit.
-use Rattle.std.proofs.Common.{◌≡◌, ℕ, ◌*◌, Bool, true, false, ◌||◌, List, [], length, take, Option, Some, None, unwrap_or, refl, ◌∙◌, ap, subst}
+use Rattle.std.proofs.Common.{◌≡◌, ℕ, ◌*◌, Bool, true, false, ◌||◌, List, [], length, take, Option, Some, None, unwrap_or, refl, ◌∙◌, ap, subst, ◌⊎◌, inl, inr}
 use Rattle.std.specs.List.{list_any}
 use Rattle.std.proofs.lemmas.Bool.{or_parts, or_from}
 use Rattle.ips_text.specs.Ancestry.{covers}
 use Rattle.ips_text.proofs.Ancestry.{covers-self}
 use Rattle.ips_outside.specs.Image.{Image, IsImage, Agrees}
 use Rattle.ips_outside.specs.Change.{placed}
-use Rattle.ips_outside.specs.State.{Within, IsSettled, nowhere}
+use Rattle.ips_outside.specs.State.{Within, IsSettled, nowhere, State, MayLeave}
 use Rattle.ips_outside.specs.Outside.{Outside, IsOutside}
 use Rattle.ips_outside.proofs.Images.{HasNodes}
-use Rattle.ips_outside.proofs.Moments.{agrees_less}
+use Rattle.ips_outside.proofs.Moments.{agrees_less, within_crash}
 use Rattle.ips_folder.specs.Calls.{Keeps, Throughout}
 use Rattle.ips_folder.proofs.Runs.{joins, weaker, keeps_wider}
 use Rattle.ips_steps.specs.Steps.{Step, stage_name, stage_of, freed, met}
-use Rattle.ips_steps.specs.Private.{gate_name, journal_name, mark_front, begins, is_private, visible}
-use Rattle.ips_steps.specs.Owed.{steps_left, IsReady, IsOpen, Owes, Old, Open, New, FolderOwes}
+use Rattle.ips_steps.specs.Private.{gate_name, journal_name, mark_front, mark_name, begins, is_private, visible}
+use Rattle.ips_steps.specs.Owed.{AreMarks, steps_left, IsReady, IsOpen, Owes, Old, Open, New, FolderOwes}
 use Rattle.ips_steps.proofs.AtTurn.{front_frees, front_meets}
 use Rattle.ips_steps.proofs.Lists.{clash}
 use Rattle.ips_steps.proofs.PrivateNames.{visible_agrees}
@@ -23,7 +23,8 @@ use Rattle.ips_journal.specs.Text.{journal_text}
 use Rattle.ips_journal.specs.Reading.{journal_of}
 use Rattle.ips_commit.specs.Pending.{IsBare, IsSwept, HasNoOtherMark, is_swept}
 use Rattle.ips_commit.specs.Phases.{Opens}
-use Rattle.ips_commit.proofs.OwnNames.{swept_private, gate_unswept}
+use Rattle.ips_commit.proofs.OwnNames.{swept_private, gate_unswept, unmarked_gate}
+use Rattle.ips_commit.proofs.Marked.{mark_own, same_marks}
 use Rattle.ips_commit.proofs.Leftovers.{bare_of}
 use Rattle.ips_commit.proofs.Swept.{removed_gone, removed_none}
 use Rattle.ips_commit.proofs.Lays.{HasBegun, next_of}
@@ -118,6 +119,13 @@ module _ {F : Type 0} (o : Outside F) (sane : IsOutside o) where
         let h = (laying_wide begun).now.agrees in
         open_laying journal_text steps marks a t (o.state new).held is_open (nodes old told) (record { look = λ q f l. h.look q f (or_from _ _ f l); but_mode = h.but_mode; same = h.same })
 
+    -- a crash leaves the marks
+    pub laying_left : HasBegun o (journal_of t) (take (1000 * marks) steps) old new → IsSettled (o.state old) → (c : Image) → MayLeave (o.state new) c → AreMarks c marks
+    laying_left begun clean c may =
+        let loose = λ (q : List ℕ). freed left q || met (stage_of t) left t q in
+        let h = agrees_less _ _ (freed left) loose t c (λ q f. or_from _ _ f (clean.whole q)) (λ q l. or_from _ _ l (clean.modes q)) (within_crash (freed left) loose (o.state old) (o.state new) c (laying_wide begun).now may) in
+        (open_laying journal_text steps marks a t c is_open (nodes old told) (record { look = λ q f l. h.look q f (or_from _ _ f l); but_mode = h.but_mode; same = h.same })).ready.marked
+
   -- ---- while the gate opens and closes
 
   module _ (steps : List Step) (marks : ℕ) (a : Image) (old new : F) (told : o.tells old ≡ true) (ready : IsReady journal_text steps marks a (o.state old).held) (clean : IsSettled (o.state old)) (run : Keeps o (covers gate_name) nowhere old new) where
@@ -141,6 +149,18 @@ module _ {F : Type 0} (o : Outside F) (sane : IsOutside o) where
 
   -- ---- the gate closed, and what is left swept
 
+  -- a crash as the gate opens or closes leaves the marks
+  pub gate_left : (old new : F) (count : ℕ) → Keeps o (covers gate_name) nowhere old new → IsSettled (o.state old) → AreMarks (o.state old).held count → (c : Image) → MayLeave (o.state new) c → AreMarks c count
+  gate_left old new count run clean are c may = same_marks (covers gate_name) (o.state old).held c count
+      (agrees_less _ _ (covers gate_name) nowhere (o.state old).held c (λ q f. or_from _ _ f (clean.whole q)) (λ q l. or_from false _ refl (clean.modes q)) (within_crash (covers gate_name) nowhere (o.state old) (o.state new) c run.now may))
+      (λ i. unmarked_gate (mark_name i) (mark_own i)) are
+
+  -- and behind it, that it is closed
+  pub shut_left : (old new : F) → Keeps o is_swept nowhere old new → IsSettled (o.state old) → (o.state old).held.look gate_name ≡ None → (c : Image) → MayLeave (o.state new) c → c.look gate_name ≡ None
+  shut_left old new run clean shut c may =
+      let h = agrees_less _ _ is_swept nowhere (o.state old).held c (λ q f. or_from _ _ f (clean.whole q)) (λ q l. or_from false _ refl (clean.modes q)) (within_crash is_swept nowhere (o.state old) (o.state new) c run.now may) in
+      h.look gate_name gate_unswept refl ∙ shut
+
   pub closed_owed : (steps : List Step) (marks : ℕ) (a : Image) (old mid new : F) → o.tells old ≡ true → IsReady journal_text steps marks a (o.state old).held → IsSettled (o.state old)
       → Keeps o (covers gate_name) nowhere old mid → visible (o.state old).held ≡ a → (o.state mid).held ≡ placed gate_name None (o.state old).held → IsSettled (o.state mid) → Keeps o is_swept nowhere mid new
       → (b : Image) (due : Bool) → Throughout o old new (FolderOwes journal_text b (Some a) due)
@@ -152,6 +172,16 @@ module _ {F : Type 0} (o : Outside F) (sane : IsOutside o) where
       joins o old mid new (FolderOwes journal_text b (Some a) due)
       (closing_owed steps marks a old mid told ready clean run seen b due)
       (sweeping_owed b (Some a) due mid new (New shut shown) shut safe sweep)
+
+-- where something is owed, nothing stands at the gate, or some marks stand
+pub owes_marks : (b : Image) (x : Option Image) (due : Bool) (c : Image) → Owes journal_text b x due c → (c.look gate_name ≡ None) ⊎ ((count : ℕ) × AreMarks c count)
+owes_marks b x due c (Old gone seen) = inl gone
+owes_marks b x due c (Open steps marks o) = inr (marks, o.ready.marked)
+owes_marks b x due c (New gone seen) = inl gone
+
+-- what a crash leaves where nothing is touched
+pub safe_left : (s : State) (c : Image) → IsSettled s → MayLeave s c → Agrees nowhere nowhere s.held c
+safe_left s c clean may = agrees_less s.whole s.modes nowhere nowhere s.held c (λ q f. clean.whole q) (λ q l. clean.modes q) may.agrees
 
 -- the marks are gone, and then what else is swept
 pub swept_twice : (names more : List (List ℕ)) (t u v : Image) → ((q : List ℕ) → list_any (λ m. covers m q) names ≡ true → u.look q ≡ None) → ((q : List ℕ) → t.look q ≡ None → u.look q ≡ None) → IsSwept more u v → IsSwept names t v

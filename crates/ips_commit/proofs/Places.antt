@@ -179,7 +179,7 @@ module _ (t : Image) (r : Reading) (count : ℕ) (placed : IsPlaced t r count) (
   same_steps = one_text placed.steps steps placed.is.lists is_open.ready.lists (sym placed.is.text_is ∙ ready_text steps marks a t is_open.ready)
 
   -- the marks that stand: as many, or enough for all steps on both sides
-  counts : (count ≡ marks) ⊎ ((length steps ≤ 1000 * count) × (length steps ≤ 1000 * marks))
+  pub counts : (count ≡ marks) ⊎ ((length steps ≤ 1000 * count) × (length steps ≤ 1000 * marks))
   counts = ⊎_elim
       (λ none. inl (as_many none))
       (λ whole.

@@ -3,7 +3,7 @@ use Rattle.std.proofs.Common.{◌≡◌, ◌≢◌, ◌⊎◌, inl, inr, ⊎_eli
 use Rattle.std.specs.List.{list_all}
 use Rattle.std.proofs.lemmas.Bool.{cases_lt, false_from_ne_true}
 use Rattle.std.proofs.Math.ListN.{drop_of_length-le}
-use Rattle.std.proofs.lemmas.List.{take-append-drop}
+use Rattle.std.proofs.lemmas.List.{take-append-drop, take_all}
 use Rattle.ips_text.specs.declared.refusal.Or.{Or}
 use Rattle.ips_text.specs.declared.refusal.Or.TheVariants.{Bad, OutOfMemory}
 use Rattle.ips_text.specs.Reading.{IfBad}
@@ -33,13 +33,13 @@ use Rattle.ips_commit.specs.declared.fault.CommitFault.{CommitFault}
 use Rattle.ips_commit.specs.declared.fault.CommitFault.TheVariants as fault
 use Rattle.ips_commit.specs.Pending.{HasNoOtherMark, AreMarkNames, IsSwept, IsDone, is_swept, is_other, mark_names}
 use Rattle.ips_commit.specs.Phases.{IsUnderWay}
-use Rattle.ips_commit.specs.Recovering.{AreCounted, IsJournalled, IsStuckAt, IsPlaced, CanRollForward, IfBadJournal, SaysOfFinding, SaysOfSteps, SaysOfLaying, SaysOfRecovery}
+use Rattle.ips_commit.specs.Recovering.{AreCounted, CanResume, IsJournalled, IsStuckAt, IsPlaced, CanRollForward, IfBadJournal, SaysOfFinding, SaysOfSteps, SaysOfLaying, SaysOfRecovery}
 use Rattle.ips_commit.proofs.Going.{cannot_alike}
 use Rattle.ips_commit.proofs.Lays.{allowed_before}
 use Rattle.ips_commit.proofs.Marked.{absent_later, gate_marked, journal_marked}
 use Rattle.ips_commit.proofs.Numbered.{other_own, other_keeps, other_absent}
-use Rattle.ips_commit.proofs.Owing.{ready_text, sweeping_owed, cleared_of}
-use Rattle.ips_commit.proofs.Places.{same_steps, same_left}
+use Rattle.ips_commit.proofs.Owing.{ready_text, sweeping_owed, cleared_of, owes_marks}
+use Rattle.ips_commit.proofs.Places.{same_steps, same_left, counts}
 
 -- ---- what a recovery that rolled forward answers
 
@@ -190,6 +190,28 @@ module _ {F : Type 0} (o : Outside F) (sane : IsOutside o) (old mid : F) (marks 
     unmarking_owed b due = weaker o old mid (Within (is_other (mark_names count) marks) nowhere (o.state old)) (FolderOwes journal_text b (Some a) due)
         (λ s w. owes_unmarking journal_text steps m count b a due (is_other (mark_names count) marks) (o.state old) s is_open clean left_same (other_own (mark_names count) marks own)
         (λ i lt. other_keeps count i marks own lt) (other_absent t (mark_names count) marks (m + 1) own are is_open.ready.marked.last) w) run.moments
+
+    -- what a crash leaves
+    pub unmarking_resumes : CanResume (o.state mid) m 0
+    unmarking_resumes c may = ⊎_elim (λ shut. inl shut) (λ some. inr (some.0, some.1, omega arith)) (owes_marks t (Some a) false c
+        ((owes_unmarking journal_text steps m count t a false (is_other (mark_names count) marks) (o.state old) (o.state mid) is_open clean left_same (other_own (mark_names count) marks own)
+        (λ i lt. other_keeps count i marks own lt) (other_absent t (mark_names count) marks (m + 1) own are is_open.ready.marked.last) run.now).left c may))
+
+    -- and what it leaves behind that, told of the marks before
+    pub first_resumes : (s : State) (before now : List Carrier) → (n : ℕ) × (now ≡ all_counted (take n (steps_left count placed.steps)) before) × CanResume s count n
+        → (n : ℕ) × (now ≡ all_counted (take n (steps_left m steps)) before) × CanResume s m n
+    first_resumes s before now found =
+        let listed = same_steps t r count placed steps m a is_open in
+        let same : steps_left count placed.steps ≡ steps_left m steps = ap (steps_left count) listed ∙ left_same in
+        ⊎_elim
+        (λ one. (found.0, found.1 ∙ ap (λ (l : List Step). all_counted (take found.0 l) before) same, subst (λ (k : ℕ). CanResume s k found.0) one found.2))
+        (λ both.
+        let none : steps_left count placed.steps ≡ [] = ap (steps_left count) listed ∙ drop_of_length-le steps both.0 in (
+          0,
+          found.1 ∙ ap (λ (l : List Step). all_counted (take found.0 l) before) none ∙ ap (λ (l : List Step). all_counted l before) (take_all found.0 [] (omega arith)),
+          λ c may. ⊎_elim (λ shut. inl shut) (λ some. inr (some.0, some.1, omega arith)) (found.2 c may),
+        ))
+        (counts t r count placed steps m a is_open)
 
   module _ (others : HasNoOtherMark u (mark_names count)) (safe : IsSettled (o.state mid)) where
     agree : Agrees (begins mark_front) nowhere t u

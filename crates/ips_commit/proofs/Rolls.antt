@@ -1,15 +1,15 @@
 -- Steps laid to the end behind an open gate.
-use Rattle.std.proofs.Common.{◌≡◌, ⊎_elim, ℕ, ◌*◌, min, Bool, true, List, [], ◌∷◌, ◌++◌, length, length-append, take, Some, Result, Ok, Err, OnOk, IfOk, append_assoc, sym, ◌∙◌, ap, subst, arith}
+use Rattle.std.proofs.Common.{◌≡◌, ⊎_elim, ℕ, ◌*◌, min, Bool, true, List, [], ◌∷◌, ◌++◌, length, length-append, take, Some, Result, Ok, Err, OnOk, IfOk, append_assoc, sym, ◌∙◌, ap, subst, arith, inl, inr, ◌⊎◌, None}
 use Rattle.ips_outside.specs.Image.{Image, Agrees}
-use Rattle.ips_outside.specs.State.{IsSettled, nowhere}
+use Rattle.ips_outside.specs.State.{IsSettled, nowhere, MayLeave}
 use Rattle.ips_outside.specs.Outside.{Outside}
 use Rattle.ips_outside.proofs.Moments.{agrees_less}
 use Rattle.ips_folder.specs.Calls.{Throughout}
 use Rattle.ips_folder.proofs.Runs.{joins}
 use Rattle.ips_steps.specs.Steps.{Step, stage_of, after, possible, met}
-use Rattle.ips_steps.specs.Private.{mark_front, begins, is_private, visible}
+use Rattle.ips_steps.specs.Private.{gate_name, mark_front, begins, is_private, visible}
 use Rattle.ips_steps.specs.Journal.{IsJournal, allowed}
-use Rattle.ips_steps.specs.Owed.{steps_left, IsReady, IsOpen, FolderOwes}
+use Rattle.ips_steps.specs.Owed.{AreMarks, steps_left, IsReady, IsOpen, FolderOwes}
 use Rattle.ips_steps.proofs.PrivateNames.{mark_private, visible_agrees}
 use Rattle.std.proofs.lemmas.Bool.{false_from_ne_true}
 use Rattle.ips_steps.proofs.Lists.{clash}
@@ -25,7 +25,7 @@ use Rattle.ips_journal.proofs.JournalLaws.{one_text, none_bad, in_order}
 use Rattle.ips_apply.specs.Applied.{IsImpossible}
 use Rattle.ips_commit.specs.Pending.{HasNoOtherMark, mark_names, IsDone}
 use Rattle.ips_commit.specs.Phases.{IsUnderWay, AreMarkedOff, IsHeldUp, LaysTo, LaysAll, whole_of}
-use Rattle.ips_commit.specs.Recovering.{IsJournalled, IsStuckAt, CanRollForward}
+use Rattle.ips_commit.specs.Recovering.{CanResume, IsJournalled, IsStuckAt, CanRollForward}
 use Rattle.ips_commit.proofs.Lays.{next_of, front_less, rest_of, allowed_before}
 use Rattle.ips_commit.proofs.Marked.{gate_laid, gate_marked}
 use Rattle.ips_commit.proofs.Owing.{ready_text}
@@ -66,6 +66,13 @@ module _ {F : Type 0} (o : Outside F) (first : ℕ) (old at : F) (told : o.tells
         (λ up. never_stuck steps first a t is_open laid line up.next)
         (ends_as (Err (BadJournal line)) is)
 
+    told_front : now ≡ all_counted (take (length laid) left) counts
+    told_front = all.lays.tallies ∙ ap (λ (l : List Step). all_counted l counts) (next_of steps laid (1000 * first) (all.lays.next told way front from steps is_open.ready.lists (ready_text steps first a t is_open.ready)))
+
+    -- what a crash leaves while they are laid
+    pub roll_resumes : (n : ℕ) × (now ≡ all_counted (take n left) counts) × CanResume (o.state at) first n
+    roll_resumes = (length laid, told_front, λ c may. let some = all.lays.left told way steps a is_open from c may in inr (some.0, some.1, (let so_many = some.2 in omega (arith, so_many))))
+
     module _ (x : ℕ × ℕ) (is : result ≡ Ok x) where
       owed_off : IsJournal (front ++ laid) × (text ≡ journal_text (front ++ laid)) × AreMarkedOff o laid all.lays.marks old at
       owed_off = ends_as (Ok x) is
@@ -83,6 +90,15 @@ module _ {F : Type 0} (o : Outside F) (first : ℕ) (old at : F) (told : o.tells
       roll_finished new b due closing = joins o old at new (FolderOwes journal_text b (Some a) due) (roll_owed b due)
           (closing owed_off.2.way.safe steps all.lays.marks b a due still_open.ready
           (seen_alike (after laid t) (o.state at).held owed_off.2.held ∙ ap (λ (l : List Step). visible (after l t)) owed_left ∙ is_open.ready.means))
+
+      -- and while the gate closes behind them
+      pub roll_closes : (new : F) → (IsSettled (o.state at) → (count : ℕ) → AreMarks (o.state at).held count → (c : Image) → MayLeave (o.state new) c → (c.look gate_name ≡ None) ⊎ AreMarks c count)
+          → (n : ℕ) × (now ≡ all_counted (take n left) counts) × CanResume (o.state new) first n
+      roll_closes new closing = (
+        length laid,
+        told_front,
+        λ c may. ⊎_elim (λ shut. inl shut) (λ are. inr (all.lays.marks, are, (let so_many = all.lays.few in omega (arith, so_many)))) (closing owed_off.2.way.safe all.lays.marks owed_off.2.way.marked c may),
+      )
 
   -- with any list of the journal
   module _ (is : IsJournalled t steps first) where

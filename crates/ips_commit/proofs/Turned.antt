@@ -1,16 +1,17 @@
 -- One turn of laying: at most a thousand steps laid and made safe, and a mark made behind them.
-use Rattle.std.proofs.Common.{◌≡◌, ◌≢◌, inl, inr, ⊎_elim, ℕ, ◌+◌, ◌*◌, ◌^◌, ◌<◌, Bool, true, false, cond, ◌||◌, List, [], ◌++◌, length, take, Some, None, Result, Ok, Err, refl, sym, ◌∙◌, ap, subst, arith}
+use Rattle.std.proofs.Common.{◌≡◌, ◌≢◌, inl, inr, ⊎_elim, ℕ, ◌+◌, ◌*◌, ◌^◌, ◌<◌, Bool, true, false, cond, ◌||◌, List, [], ◌++◌, length, take, Some, None, Result, Ok, Err, refl, sym, ◌∙◌, ap, subst, arith, ◌≤◌}
+use Rattle.std.proofs.lemmas.Bool.{or_from}
 use Rattle.ips_text.specs.Ancestry.{covers}
 use Rattle.ips_outside.specs.Image.{File, Image, Agrees}
-use Rattle.ips_outside.specs.State.{State, Within, IsSettled, nowhere, settled}
+use Rattle.ips_outside.specs.State.{State, MayLeave, Within, IsSettled, nowhere, settled}
 use Rattle.ips_outside.specs.Outside.{Outside, IsOutside}
-use Rattle.ips_outside.proofs.Moments.{agrees_self, agrees_on}
+use Rattle.ips_outside.proofs.Moments.{agrees_self, agrees_on, agrees_less, within_crash}
 use Rattle.ips_folder.specs.Calls.{Keeps, Syncs, Throughout}
 use Rattle.ips_folder.proofs.Runs.{joins, weaker, keeps_then, one_sync}
 use Rattle.ips_steps.specs.Steps.{Step, after, possible, stage_of, freed, met}
 use Rattle.ips_steps.specs.Private.{mark_front, mark_name, begins, visible}
 use Rattle.ips_steps.specs.Journal.{IsJournal, allowed}
-use Rattle.ips_steps.specs.Owed.{steps_left, IsOpen, FolderOwes}
+use Rattle.ips_steps.specs.Owed.{AreMarks, steps_left, IsOpen, FolderOwes}
 use Rattle.ips_steps.proofs.Lists.{clash}
 use Rattle.ips_steps.proofs.Owing.{owes_marking, open_marked, thousand_laid}
 use Rattle.ips_kinds.specs.Tallies.{Carrier}
@@ -23,8 +24,8 @@ use Rattle.ips_apply.proofs.Turns.{allowed_behind}
 use Rattle.ips_commit.specs.Pending.{mark_names}
 use Rattle.ips_commit.specs.Phases.{IsUnderWay, LaysTo, LaysThousand}
 use Rattle.ips_commit.proofs.Lays.{HasBegun, next_of, part_next, part_lists, stopped_begun, stopped_next}
-use Rattle.ips_commit.proofs.Marked.{gate_laid, marks_laid, others_laid, gate_marked, at_marks, absent_later, one_more_stands, others_more}
-use Rattle.ips_commit.proofs.Owing.{ready_text, laying_owed, laying_open, nodes}
+use Rattle.ips_commit.proofs.Marked.{gate_laid, marks_laid, others_laid, gate_marked, at_marks, absent_later, one_more_stands, one_more_or_not, others_more, same_marks}
+use Rattle.ips_commit.proofs.Owing.{ready_text, laying_owed, laying_open, laying_left, nodes, safe_left}
 
 module _ {F : Type 0} (o : Outside F) (sane : IsOutside o) (first : ℕ) (old at : F) (start r : Reading) (before now : List Carrier) where
   abbrev t : Image
@@ -60,6 +61,7 @@ module _ {F : Type 0} (o : Outside F) (sane : IsOutside o) (first : ℕ) (old at
           ends = λ told way front from. stopped front a.steps first e (a.ends told front from);
           owed = λ told way all b x due is_open from. laying_owed o sane all first x old at told is_open way.safe (stopped_begun o old at text (take (1000 * first) all) a.steps e (a.ends told (take (1000 * first) all) from)) b due;
           stays_open = λ told way all x is_open from. tt;
+          left = λ told way all x is_open from c may. (first, laying_left o sane all first x old at told is_open (stopped_begun o old at text (take (1000 * first) all) a.steps e (a.ends told (take (1000 * first) all) from)) way.safe c may, (let few = a.few in omega arith));
         };
         count = tt;
         marks = tt;
@@ -98,6 +100,9 @@ module _ {F : Type 0} (o : Outside F) (sane : IsOutside o) (first : ℕ) (old at
       owed : o.tells old ≡ true → IsUnderWay (o.state old) first → (all : List Step) (b x : Image) (due : Bool) → IsOpen journal_text all first x t → From (take (1000 * first) all) → Throughout o old mid (FolderOwes journal_text b (Some x) due)
       owed told way all b x due is_open from = laying_owed o sane all first x old mid told is_open way.safe (begun told (take (1000 * first) all) from) b due
 
+      left_here : o.tells old ≡ true → IsUnderWay (o.state old) first → (all : List Step) (x : Image) → IsOpen journal_text all first x t → From (take (1000 * first) all) → (c : Image) → MayLeave (o.state mid) c → (count : ℕ) × AreMarks c count × (length steps + 1000 * first ≤ 1000 * count + 1000)
+      left_here told way all x is_open from c may = (first, laying_left o sane all first x old mid told is_open (begun told (take (1000 * first) all) from) way.safe c may, (let few = done.few in omega arith))
+
       -- the sync failed
       pub turn_unsynced : LaysThousand o first old mid start r before now (Err FolderFault)
       turn_unsynced = record {
@@ -112,6 +117,7 @@ module _ {F : Type 0} (o : Outside F) (sane : IsOutside o) (first : ℕ) (old at
           ends = λ told way front from. tt;
           owed = owed;
           stays_open = λ told way all x is_open from. tt;
+          left = left_here;
         };
         count = tt;
         marks = tt;
@@ -152,6 +158,7 @@ module _ {F : Type 0} (o : Outside F) (sane : IsOutside o) (first : ℕ) (old at
                 );
             owed = owed;
             stays_open = λ told way all x is_open from. laying_open o sane all first x old mid told is_open (begun told (take (1000 * first) all) from);
+            left = left_here;
           };
           count = done.count;
           marks = ap (λ (b : Bool). cond b first (first + 1)) (sym at_end);
@@ -204,6 +211,12 @@ module _ {F : Type 0} (o : Outside F) (sane : IsOutside o) (first : ℕ) (old at
                 ends = λ told way front from. tt;
                 owed = marking;
                 stays_open = λ told way all x is_open from. tt;
+                left = λ told way all x is_open from c may.
+                    let here = turn_way told way (take (1000 * first) all) from in
+                    let h = agrees_less _ _ (covers (mark_name (first + 1))) nowhere (o.state mid).held c (λ q f. or_from _ _ f (here.safe.whole q)) (λ q l. or_from false _ refl (here.safe.modes q))
+                    (within_crash (covers (mark_name (first + 1))) nowhere (o.state mid) (o.state new) c (run (kind_1 ∙ told)).now may) in
+                    let few_more = done.few in
+                    ⊎_elim (λ are. (first, are, omega (arith, few_more))) (λ are. (first + 1, are, omega (arith, few_more))) (one_more_or_not first few (o.state mid).held c h here.marked here.others);
               };
               count = tt;
               marks = tt;
@@ -251,6 +264,9 @@ module _ {F : Type 0} (o : Outside F) (sane : IsOutside o) (first : ℕ) (old at
                   stays_open = λ told way all x is_open from.
                       open_marked journal_text all first x (o.state mid).held (still_open told way all x is_open from) (nodes o sane mid (kind_1 ∙ told)) few
                       (rest told way all x is_open from).0 (rest told way all x is_open from).1 (bare told way all x is_open from) (o.state new).held (run (kind_1 ∙ told)).now.agrees (there (kind_1 ∙ told));
+                  left = λ told way all x is_open from c may.
+                      let here = way_on told way (take (1000 * first) all) from in
+                      (first + 1, same_marks nowhere (o.state new).held c (first + 1) (safe_left (o.state new) c here.safe may) (λ i. refl) here.marked, (let few_more = done.few in omega (arith, few_more)));
                 };
                 count = done.count;
                 marks = ap (λ (b : Bool). cond b first (first + 1)) (sym goes_on);

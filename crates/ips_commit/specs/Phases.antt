@@ -1,7 +1,7 @@
 -- What the phases of a commit do to a folder.
 use Rattle.std.specs.Prelude.{◌≡◌, ◌≢◌, ◌⊎◌, ℕ, ◌+◌, ◌-◌, ◌*◌, ◌^◌, ◌≤◌, min, Bool, true, false, cond, IsTrue, IfOk, OnOk, List, ◌++◌, length, take, Some, None, Result, Ok, Err}
 use Rattle.ips_outside.specs.Image.{Image, Agrees}
-use Rattle.ips_outside.specs.State.{State, IsSettled, nowhere, settled}
+use Rattle.ips_outside.specs.State.{State, MayLeave, IsSettled, nowhere, settled}
 use Rattle.ips_outside.specs.Outside.{Outside, Elapses}
 use Rattle.ips_folder.specs.Calls.{Throughout}
 use Rattle.ips_steps.specs.Steps.{Step, after, possible, stage_of}
@@ -75,6 +75,10 @@ pub record Lays {F : Type 0} (o : Outside F) (first : ℕ) (old new : F) (start 
       → IsAt (journal_of (o.state old).held) (take (1000 * first) all) start → Throughout o old new (FolderOwes journal_text b (Some a) due)
   pub stays_open : IsTrue (o.tells old) → IsUnderWay (o.state old) first → (all : List Step) (a : Image) → IsOpen journal_text all first a (o.state old).held
       → IsAt (journal_of (o.state old).held) (take (1000 * first) all) start → OnOk how (IsOpen journal_text all marks a (o.state new).held)
+  -- however a crash cuts it off, the marks that it leaves tell of all these steps but a thousand
+  pub left : IsTrue (o.tells old) → IsUnderWay (o.state old) first → (all : List Step) (a : Image) → IsOpen journal_text all first a (o.state old).held
+      → IsAt (journal_of (o.state old).held) (take (1000 * first) all) start → (c : Image) → MayLeave (o.state new) c
+      → (count : ℕ) × AreMarks c count × (length steps + 1000 * first ≤ 1000 * count + 1000)
 
 -- what laying a part answers, without the count: whether the end of the text was read
 abbrev pub ended_of : Result (ℕ × Bool) StepFault → Result Bool StepFault

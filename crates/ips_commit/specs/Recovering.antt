@@ -1,13 +1,13 @@
 -- What can be recovered, and how a recovery ends.
-use Rattle.std.specs.Prelude.{◌≡◌, ◌≢◌, ◌⊎◌, ℕ, ◌+◌, ◌*◌, ◌<◌, ◌≤◌, IsTrue, List, ◌++◌, length, take, Result, Ok, Err, None}
+use Rattle.std.specs.Prelude.{◌≡◌, ◌≢◌, ◌⊎◌, ℕ, ◌+◌, ◌-◌, ◌*◌, ◌<◌, ◌≤◌, IsTrue, List, ◌++◌, length, take, Result, Ok, Err, None}
 use Rattle.ips_text.specs.declared.refusal.Or.{Or}
 use Rattle.ips_text.specs.declared.refusal.Or.TheVariants.{Bad, OutOfMemory}
 use Rattle.ips_outside.specs.Image.{Image, Agrees}
-use Rattle.ips_outside.specs.State.{State, nowhere}
+use Rattle.ips_outside.specs.State.{State, MayLeave, nowhere}
 use Rattle.ips_steps.specs.Steps.{Step, after, possible, stage_of}
 use Rattle.ips_steps.specs.Private.{gate_name, mark_front, mark_name, begins}
 use Rattle.ips_steps.specs.Journal.{IsJournal}
-use Rattle.ips_steps.specs.Owed.{steps_left}
+use Rattle.ips_steps.specs.Owed.{AreMarks, steps_left}
 use Rattle.ips_kinds.specs.Tallies.{Carrier, all_counted}
 use Rattle.ips_journal.specs.Text.{journal_text}
 use Rattle.ips_journal.specs.Bad.{IsBadLine}
@@ -111,3 +111,8 @@ abbrev pub SaysOfLaying : Image → Image → List Carrier → List Carrier → 
 SaysOfLaying t u before now Unchanged = ⊥
 SaysOfLaying t u before now Unfinished = Unit {0}
 SaysOfLaying t u before now (BadJournal line) = IsStuck t u before now line
+
+-- So many steps were laid from so many marks on. Each image that a crash now may leave has nothing at the gate, or so many marks
+-- that no more than a thousand of those steps are to be laid again.
+abbrev pub CanResume : State → ℕ → ℕ → Type 0
+CanResume s first laid = (c : Image) → MayLeave s c → (c.look gate_name ≡ None) ⊎ ((count : ℕ) × AreMarks c count × (laid ≤ 1000 * (count - first + 1)))

@@ -12,6 +12,7 @@ ghost use Rattle.ips_kinds.specs.Tallies.{seen_by, taken, all_counted};
 ghost use Rattle.ips_journal.specs.Text.{journal_text};
 ghost use Rattle.ips_commit.specs.Pending.{HasNoOtherMark, IsDone};
 ghost use Rattle.ips_commit.specs.Due.{DueOnceOpen};
+ghost use Rattle.ips_commit.specs.Recovering.{CanResume};
 ghost use Rattle.ips_commit.specs.Staging.{IsStaged};
 ghost use Rattle.ips_commit.specs.declared.fault.CommitFault.TheVariants as fault;
 
@@ -58,6 +59,12 @@ pub fn commit<F: Folder>(
     ensures front { IsTrue (F.outside.tells folder.old) → (steps : List Step) (a : Image) → IsStaged steps a (F.outside.state folder.old)
         → IfErr result (λ why. (laid : ℕ) × (seen_by sorts finished kinds.new.items ≡ all_counted (take laid steps) (seen_by sorts finished kinds.old.items))) }
 
+    // Unfinished: whatever a crash leaves now, the gate is closed, or the marks leave at most a thousand of those steps to be
+    // laid again.
+    ensures resumes { IsTrue (F.outside.tells folder.old) → (steps : List Step) (a : Image) → IsStaged steps a (F.outside.state folder.old)
+        → IfErr result (λ why. why ≡ fault.Unfinished → (laid : ℕ) × (seen_by sorts finished kinds.new.items ≡ all_counted (take laid steps) (seen_by sorts finished kinds.old.items))
+        × CanResume (F.outside.state folder.new) 0 laid) }
+
     // Behind `stage` a failed call is the only cause of a fault; the first call is the gate's, so nothing fails before it.
     ensures faults { IsTrue (F.outside.tells folder.old) → (steps : List Step) (a : Image) → IsStaged steps a (F.outside.state folder.old)
         → IfErr result (λ why. why ≡ fault.Unfinished) }
@@ -102,6 +109,9 @@ fn run<F: Folder>(
         → OnOk result (seen_by sorts finished kinds.new.items ≡ all_counted steps (seen_by sorts finished kinds.old.items)) }
     ensures front { IsTrue (F.outside.tells folder.old) → (steps : List Step) (a : Image) → IsStaged steps a (F.outside.state folder.old)
         → IfErr result (λ why. (laid : ℕ) × (seen_by sorts finished kinds.new.items ≡ all_counted (take laid steps) (seen_by sorts finished kinds.old.items))) }
+    ensures resumes { IsTrue (F.outside.tells folder.old) → (steps : List Step) (a : Image) → IsStaged steps a (F.outside.state folder.old)
+        → IfErr result (λ why. why ≡ fault.Unfinished → (laid : ℕ) × (seen_by sorts finished kinds.new.items ≡ all_counted (take laid steps) (seen_by sorts finished kinds.old.items))
+        × CanResume (F.outside.state folder.new) 0 laid) }
     ensures faults { IsTrue (F.outside.tells folder.old) → (steps : List Step) (a : Image) → IsStaged steps a (F.outside.state folder.old)
         → IfErr result (λ why. why ≡ fault.Unfinished) }
     ensures begun { IfErr result (λ why. why ≡ fault.Unchanged → ⊥) }

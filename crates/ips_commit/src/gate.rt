@@ -1,17 +1,17 @@
 //! The phases of a commit around the laying of the steps: the gate opens, the gate closes, and what is left is swept.
 
-ghost use Rattle.std.specs.Prelude.{◌≡◌, ◌<◌, ◌≤◌, ℕ, List, Bool, Some, None, IsTrue, IsErr, OnOk, OnErr};
+ghost use Rattle.std.specs.Prelude.{◌≡◌, ◌⊎◌, ◌<◌, ◌≤◌, ℕ, List, Bool, Some, None, IsTrue, IsErr, OnOk, OnErr};
 ghost use Rattle.std.specs.List.{list_all, list_any};
 ghost use Rattle.ips_text.specs.Ancestry.{covers};
 ghost use Rattle.ips_outside.specs.Image.{Image};
 ghost use Rattle.ips_outside.specs.Change.{placed};
-ghost use Rattle.ips_outside.specs.State.{IsSettled, nowhere};
+ghost use Rattle.ips_outside.specs.State.{MayLeave, IsSettled, nowhere};
 ghost use Rattle.ips_outside.specs.Outside.{HasCause, counted};
 ghost use Rattle.ips_outside.specs.Children.{bytes_of};
 ghost use Rattle.ips_folder.specs.Calls.{CanMake, Keeps, Throughout};
 ghost use Rattle.ips_steps.specs.Steps.{Step};
 ghost use Rattle.ips_steps.specs.Private.{gate_name, mark_front, begins, visible};
-ghost use Rattle.ips_steps.specs.Owed.{IsReady, FolderOwes};
+ghost use Rattle.ips_steps.specs.Owed.{AreMarks, IsReady, FolderOwes};
 ghost use Rattle.ips_journal.specs.Text.{journal_text};
 ghost use Rattle.ips_commit.specs.Pending.{is_swept, HasNoOtherMark, IsSwept, IsDone, mark_names};
 ghost use Rattle.ips_commit.specs.Due.{IsSafelyOpen};
@@ -56,6 +56,8 @@ pub(crate) fn finish<F: Folder>(
         → Throughout F.outside folder.old folder.new (FolderOwes journal_text b (Some a) due) }
     ensures done { IsTrue (F.outside.tells folder.old) → HasNoOtherMark (F.outside.state folder.old).held (mark_names marks)
         → OnOk result (IsDone (visible (F.outside.state folder.old).held) (F.outside.state folder.new)) }
+    ensures left { IsTrue (F.outside.tells folder.old) → IsSettled (F.outside.state folder.old) → (count : ℕ) → AreMarks (F.outside.state folder.old).held count
+        → OnErr result ((c : Image) → MayLeave (F.outside.state folder.new) c → (c.look gate_name ≡ None) ⊎ AreMarks c count) }
     ensures path { 1023 ≤ mark.new.room }
     ensures cause { HasCause (F.outside.faults folder.old) (F.outside.faults folder.new) (IsErr result) }
     ensures same_kind { F.outside.tells folder.new ≡ F.outside.tells folder.old }

@@ -19,7 +19,7 @@ ghost use Rattle.ips_journal.specs.Text.{journal_text};
 ghost use Rattle.ips_journal.specs.Reading.{journal_of};
 ghost use Rattle.ips_commit.specs.Answers.{IfStarved};
 ghost use Rattle.ips_commit.specs.Pending.{is_swept, AreMarkNames, IsDone};
-ghost use Rattle.ips_commit.specs.Recovering.{CanRollForward, IfBadJournal, IsJournalled, IsPlaced, SaysOfLaying, SaysOfRecovery};
+ghost use Rattle.ips_commit.specs.Recovering.{CanResume, CanRollForward, IfBadJournal, IsJournalled, IsPlaced, SaysOfLaying, SaysOfRecovery};
 ghost use Rattle.ips_commit.specs.declared.fault.CommitFault.TheVariants as fault;
 
 use crate::fault::CommitFault;
@@ -91,6 +91,12 @@ pub fn recover<F: Folder>(
     ensures unlaid { result ≡ Err (Bad fault.Unchanged) → seen_by sorts finished kinds.new.items ≡ seen_by sorts finished kinds.old.items }
     ensures uncounted { IsTrue (F.outside.tells folder.old) → (F.outside.state folder.old).held.look gate_name ≡ None
         → seen_by sorts finished kinds.new.items ≡ seen_by sorts finished kinds.old.items }
+
+    // Unfinished: whatever a crash leaves now, the gate is closed, or the marks leave at most a thousand of those steps to be
+    // laid again.
+    ensures resumes { IsTrue (F.outside.tells folder.old) → (steps : List Step) (count : ℕ) (a : Image) → IsOpen journal_text steps count a (F.outside.state folder.old).held
+        → IfBad result (λ why. why ≡ fault.Unfinished → (laid : ℕ) × (seen_by sorts finished kinds.new.items ≡ all_counted (take laid (steps_left count steps)) (seen_by sorts finished kinds.old.items))
+        × CanResume (F.outside.state folder.new) count laid) }
 {
     let Ok(mut ready) = Ready::new(alloc) else {
         return Err(Or::OutOfMemory);
@@ -148,6 +154,9 @@ fn restore<F: Folder>(
         → result ≡ Err (Bad fault.Unchanged) → F.outside.changes folder.new ≡ F.outside.changes folder.old }
     ensures front { IsTrue (F.outside.tells folder.old) → (steps : List Step) (count : ℕ) → IsJournalled (F.outside.state folder.old).held steps count
         → IfErr result (λ why. (laid : ℕ) × (seen_by sorts finished kinds.new.items ≡ all_counted (take laid (steps_left count steps)) (seen_by sorts finished kinds.old.items))) }
+    ensures resumes { IsTrue (F.outside.tells folder.old) → (steps : List Step) (count : ℕ) (a : Image) → IsOpen journal_text steps count a (F.outside.state folder.old).held
+        → IfBad result (λ why. why ≡ fault.Unfinished → (laid : ℕ) × (seen_by sorts finished kinds.new.items ≡ all_counted (take laid (steps_left count steps)) (seen_by sorts finished kinds.old.items))
+        × CanResume (F.outside.state folder.new) count laid) }
     ensures unlaid { result ≡ Err (Bad fault.Unchanged) → seen_by sorts finished kinds.new.items ≡ seen_by sorts finished kinds.old.items }
     ensures uncounted { IsTrue (F.outside.tells folder.old) → (F.outside.state folder.old).held.look gate_name ≡ None
         → seen_by sorts finished kinds.new.items ≡ seen_by sorts finished kinds.old.items }
@@ -205,6 +214,9 @@ fn roll_forward<F: Folder>(
     ensures refused { IsTrue (F.outside.tells folder.old) → IfErr result (SaysOfLaying (F.outside.state folder.old).held (F.outside.state folder.new).held (seen_by sorts finished kinds.old.items) (seen_by sorts finished kinds.new.items)) }
     ensures front { IsTrue (F.outside.tells folder.old) → (steps : List Step) (count : ℕ) → IsJournalled (F.outside.state folder.old).held steps count
         → IfErr result (λ why. (laid : ℕ) × (seen_by sorts finished kinds.new.items ≡ all_counted (take laid (steps_left count steps)) (seen_by sorts finished kinds.old.items))) }
+    ensures resumes { IsTrue (F.outside.tells folder.old) → (steps : List Step) (count : ℕ) (a : Image) → IsOpen journal_text steps count a (F.outside.state folder.old).held
+        → IfErr result (λ why. why ≡ fault.Unfinished → (laid : ℕ) × (seen_by sorts finished kinds.new.items ≡ all_counted (take laid (steps_left count steps)) (seen_by sorts finished kinds.old.items))
+        × CanResume (F.outside.state folder.new) count laid) }
     ensures begun { IfErr result (λ why. why ≡ fault.Unchanged → ⊥) }
     ensures path { 1023 ≤ mark.new.room }
     ensures cause { HasCause (F.outside.faults folder.old) (F.outside.faults folder.new) (result ≡ Err fault.Unfinished) }

@@ -1,7 +1,8 @@
-use Rattle.std.proofs.Common.{[], sym, ◌∙◌, subst}
+use Rattle.std.proofs.Common.{inr, [], refl, sym, ◌∙◌, subst, arith}
 use Rattle.ips_outside.specs.Image.{Image}
 use Rattle.ips_commit.specs.Pending.{IsDone}
 use Rattle.ips_commit.proofs.Committed.{opened_way, opening, is_open, owed_since, due_since, is_journalled}
+use Rattle.ips_commit.proofs.Owing.{gate_left}
 use Rattle.ips_commit.proofs.committing.run.Goals as goal
 
 pub returns-in_default-clause-owed : goal.returns-in_default-clause-owed
@@ -99,3 +100,12 @@ pub returns-in-Err-clause-faults : goal.returns-in-Err-clause-faults
 returns-in-Err-clause-faults g c = λ told steps a staged.
     let kind = c.open.ensures.same_kind in
     c.in-Err.ensures.meant (kind ∙ told) steps a (is_open g.F.Source.outside g.met.F.Source.sane steps a c.args.folder.now told staged c.open.new.folder kind (c.open.ensures.any_moment told) (c.in-Ok.ensures.opened told) (c.in-Ok.ensures.safe told)) (c.rewind.ensures.start _)
+
+pub returns-in_default-clause-resumes : goal.returns-in_default-clause-resumes
+returns-in_default-clause-resumes g c = λ told steps a staged is.
+    (0, refl, λ x may. inr (0, gate_left g.F.Source.outside g.met.F.Source.sane c.args.folder.now c.open.new.folder 0 (c.open.ensures.any_moment told) staged.safe staged.ready.marked x may, omega arith))
+
+pub returns-in-Err-clause-resumes : goal.returns-in-Err-clause-resumes
+returns-in-Err-clause-resumes g c = λ told steps a staged.
+    let kind = c.open.ensures.same_kind in
+    c.in-Err.ensures.resumes (kind ∙ told) steps a (is_open g.F.Source.outside g.met.F.Source.sane steps a c.args.folder.now told staged c.open.new.folder kind (c.open.ensures.any_moment told) (c.in-Ok.ensures.opened told) (c.in-Ok.ensures.safe told)) (c.rewind.ensures.start _)

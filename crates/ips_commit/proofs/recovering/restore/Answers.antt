@@ -1,4 +1,4 @@
-use Rattle.std.proofs.Common.{◌≢◌, Bool, true, false, Ok, Err, List, None, refl, sym, ◌∙◌, subst}
+use Rattle.std.proofs.Common.{◌≡◌, ◌≢◌, Bool, true, false, Ok, Err, List, None, refl, sym, ◌∙◌, subst}
 use Rattle.ips_text.specs.Kept.{Kept}
 use Rattle.ips_text.specs.declared.refusal.Or.TheVariants.{Bad}
 use Rattle.ips_outside.specs.State.{State, nowhere}
@@ -10,6 +10,7 @@ use Rattle.ips_steps.specs.Steps.{after}
 use Rattle.ips_steps.specs.Private.{gate_name, visible}
 use Rattle.ips_journal.specs.Text.{journal_text}
 use Rattle.ips_kinds.specs.Tallies.{seen_by}
+use Rattle.ips_commit.specs.declared.fault.CommitFault.TheVariants as fault
 use Rattle.ips_commit.specs.Pending.{AreMarkNames, IsDone, IsSwept, is_swept}
 use Rattle.ips_commit.specs.Recovering.{IsPlaced, IsJournalled, CanRollForward, SaysOfFinding, SaysOfRecovery, SaysOfLaying}
 use Rattle.ips_commit.proofs.AllWritten.{as_bad}
@@ -210,3 +211,14 @@ returns-in-Err-roll_forward-clause-refused g c = λ told.
 pub returns-in-Err-roll_forward-clause-front : goal.returns-in-Err-roll_forward-clause-front
 returns-in-Err-roll_forward-clause-front g c = λ told steps count is.
     c.in-Err-roll_forward.ensures.front (c.find_left.ensures.reads.call.same_kind ∙ told) steps count (subst (λ (s : State). IsJournalled s.held steps count) (sym c.find_left.ensures.reads.kept) is)
+
+pub returns-in-Err-clause-resumes : goal.returns-in-Err-clause-resumes
+returns-in-Err-clause-resumes g c = λ told steps count a is_open.
+    as_bad Bool c.in-Err.fault (λ why. why ≡ fault.Unfinished → ⊥) _ (λ why never is. absurd (never is)) c.in-Err.ensures.unbegun
+
+pub returns-in-Err-roll_forward-clause-resumes : goal.returns-in-Err-roll_forward-clause-resumes
+returns-in-Err-roll_forward-clause-resumes g c = λ told steps count a is_open.
+    c.in-Err-roll_forward.ensures.resumes (c.find_left.ensures.reads.call.same_kind ∙ told) steps count a (subst (λ (s : State). IsOpen journal_text steps count a s.held) (sym c.find_left.ensures.reads.kept) is_open)
+
+pub returns-in_default-clause-resumes : goal.returns-in_default-clause-resumes
+returns-in_default-clause-resumes g c = λ told steps count a is_open is. cc

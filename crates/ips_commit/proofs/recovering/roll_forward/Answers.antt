@@ -1,6 +1,6 @@
-use Rattle.std.proofs.Common.{sym, ◌∙◌}
+use Rattle.std.proofs.Common.{refl, sym, ◌∙◌}
 use Rattle.ips_outside.specs.Children.{bytes_of}
-use Rattle.ips_commit.proofs.Rolled.{unmarked_owed, first_way, first_at, first_journalled, first_can, first_done, first_says, first_still, first_means, first_owed, front_as}
+use Rattle.ips_commit.proofs.Rolled.{unmarked_owed, first_way, first_at, first_journalled, first_can, first_done, first_says, first_still, first_means, first_owed, front_as, unmarking_resumes, first_resumes}
 use Rattle.ips_commit.proofs.recovering.roll_forward.Goals as goal
 
 pub returns-in_default-clause-owed : goal.returns-in_default-clause-owed
@@ -95,3 +95,16 @@ returns-in-Err-clause-front g c = λ told steps n is.
     (c.in-Ok.ensures.others told (c.requires.marks told).others) (c.in-Ok.ensures.safe told))
     (first_at g.F.Source.outside g.met.F.Source.sane c.args.folder.now c.keep_first.new.folder (bytes_of c.args.marks.now) c.requires.own (c.requires.marks told) c.args.reader.now c.args.count c.requires.few (c.requires.placed told) (c.requires.safe told) (c.keep_first.ensures.any_moment told)
     (c.in-Ok.ensures.others told (c.requires.marks told).others) (c.in-Ok.ensures.safe told)))
+
+pub returns-in_default-clause-resumes : goal.returns-in_default-clause-resumes
+returns-in_default-clause-resumes g c = λ told steps m a is_open is.
+    (0, refl, unmarking_resumes g.F.Source.outside g.met.F.Source.sane c.args.folder.now c.keep_first.new.folder (bytes_of c.args.marks.now) c.requires.own (c.requires.marks told) c.args.reader.now c.args.count c.requires.few (c.requires.placed told) (c.requires.safe told) (c.keep_first.ensures.any_moment told) steps m a is_open)
+
+pub returns-in-Err-clause-resumes : goal.returns-in-Err-clause-resumes
+returns-in-Err-clause-resumes g c = λ told steps m a is_open is.
+    first_resumes g.F.Source.outside g.met.F.Source.sane c.args.folder.now c.keep_first.new.folder (bytes_of c.args.marks.now) c.requires.own (c.requires.marks told) c.args.reader.now c.args.count c.requires.few (c.requires.placed told) (c.requires.safe told) (c.keep_first.ensures.any_moment told) steps m a is_open (g.F.Source.outside.state c.roll.new.folder) _ _
+    (c.in-Err.ensures.resumes (c.keep_first.ensures.same_kind ∙ told) (c.requires.placed told).steps a
+    (first_still g.F.Source.outside g.met.F.Source.sane c.args.folder.now c.keep_first.new.folder (bytes_of c.args.marks.now) c.requires.own (c.requires.marks told) c.args.reader.now c.args.count c.requires.few (c.requires.placed told) (c.requires.safe told) (c.keep_first.ensures.any_moment told)
+    (c.in-Ok.ensures.others told (c.requires.marks told).others) (c.in-Ok.ensures.safe told) steps m a is_open)
+    (first_at g.F.Source.outside g.met.F.Source.sane c.args.folder.now c.keep_first.new.folder (bytes_of c.args.marks.now) c.requires.own (c.requires.marks told) c.args.reader.now c.args.count c.requires.few (c.requires.placed told) (c.requires.safe told) (c.keep_first.ensures.any_moment told)
+    (c.in-Ok.ensures.others told (c.requires.marks told).others) (c.in-Ok.ensures.safe told)) is)

@@ -1,6 +1,6 @@
 use Rattle.std.proofs.Common.{Err, ◌∙◌, ap}
 use Rattle.ips_journal.specs.declared.fault.StepFault.{StepFault}
-use Rattle.ips_commit.proofs.Rolls.{roll_owed, roll_line, roll_finished, roll_front, roll_stuck, roll_can, roll_counted, roll_done, roll_marks, roll_number}
+use Rattle.ips_commit.proofs.Rolls.{roll_owed, roll_line, roll_finished, roll_front, roll_stuck, roll_can, roll_counted, roll_done, roll_marks, roll_resumes, roll_closes, roll_number}
 use Rattle.ips_commit.proofs.rolling.roll.Goals as goal
 
 pub returns-in-Err-FolderFault-clause-owed : goal.returns-in-Err-FolderFault-clause-owed
@@ -54,3 +54,15 @@ returns-clause-done g c = λ told steps is begins.
           (roll_marks o c.args.first c.args.folder.now c.lay_marked.new.folder told way c.args.reader.now c.lay_marked.new.reader _ _ c.lay_marked.result c.lay_marked.ensures.lays steps begins is c.in-Ok.laid c.in-Ok.is)),
       roll_counted o c.args.first c.args.folder.now c.lay_marked.new.folder told way c.args.reader.now c.lay_marked.new.reader _ _ c.lay_marked.result c.lay_marked.ensures.lays steps begins is c.in-Ok.laid c.in-Ok.is,
     )
+
+pub returns-in-Err-FolderFault-clause-resumes : goal.returns-in-Err-FolderFault-clause-resumes
+returns-in-Err-FolderFault-clause-resumes g c = λ told steps a is_open begins is.
+    roll_resumes g.F.Source.outside c.args.first c.args.folder.now c.lay_marked.new.folder told (c.requires.way told) c.args.reader.now c.lay_marked.new.reader _ _ c.lay_marked.result c.lay_marked.ensures.lays steps begins a is_open
+
+pub returns-in-Err-BadJournal-clause-resumes : goal.returns-in-Err-BadJournal-clause-resumes
+returns-in-Err-BadJournal-clause-resumes g c = λ told steps a is_open begins is. cc
+
+pub returns-in_default-clause-resumes : goal.returns-in_default-clause-resumes
+returns-in_default-clause-resumes g c = λ told steps a is_open begins is.
+    roll_closes g.F.Source.outside c.args.first c.args.folder.now c.lay_marked.new.folder told (c.requires.way told) c.args.reader.now c.lay_marked.new.reader _ _ c.lay_marked.result c.lay_marked.ensures.lays steps begins a is_open c.in-Ok.laid c.in-Ok.is
+    c.finish.new.folder (c.in_default.ensures.left (c.lay_marked.ensures.same_kind ∙ told))
