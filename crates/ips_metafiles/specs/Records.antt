@@ -1,6 +1,6 @@
 -- The records that tell of owners, drivers, legacy packages and licenses.
 use Rattle.std.specs.Prelude.{◌≡◌, ℕ, ◌<◌, Bool, true, false, List, [], ◌∷◌, ◌++◌, length, map, slice_get, Option, Some, None, codes}
-use Rattle.std.specs.List.{flat_map}
+use Rattle.std.specs.List.{flat_map, join_with_byte}
 use Rattle.std.specs.List.Sorted.{IsStrictlySortedBy}
 use Rattle.std.specs.Ordering.{nat_cmp}
 use Rattle.std.specs.Cmp.Lexicographic.{slice_cmp}
@@ -10,7 +10,7 @@ use Rattle.ips_text.specs.Path.{is_dots}
 use Rattle.ips_action.specs.declared.kind.ActionKind.TheVariants.{Driver}
 use Rattle.ips_action.specs.Attrs.{values_of}
 use Rattle.ips_action.specs.Action.{Fields, line_text}
-use Rattle.ips_metafiles.specs.declared.owners.OwnerRow.{OwnerRow}
+use Rattle.ips_metafiles.specs.declared.owner.OwnerRow.{OwnerRow}
 use Rattle.ips_metafiles.specs.declared.legacy.InfoKey.{InfoKey}
 
 -- a text of lines: each ends with a newline
@@ -19,9 +19,9 @@ lines_text lines = flat_map (λ line. line ++ 10 ∷ []) lines
 
 -- ---- owners
 
--- the owner of a path: both numbers, both names, and the path as it is shown
+-- the owner of a path: both numbers, both names, and the path as it is shown, divided by blanks
 abbrev pub owner_line : OwnerRow → List ℕ
-owner_line r = decimal r.uid ++ 32 ∷ decimal r.gid ++ 32 ∷ r.owner ++ 32 ∷ r.group ++ 32 ∷ shown r.path.bytes
+owner_line r = join_with_byte 32 (decimal r.uid ∷ decimal r.gid ∷ r.owner ∷ r.group ∷ shown r.path.bytes ∷ [])
 
 -- the record of owners: a line for each row, in order
 abbrev pub owners_text : List OwnerRow → List ℕ

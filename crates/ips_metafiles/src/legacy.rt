@@ -1,8 +1,8 @@
 //! Legacy packages.
 
-ghost use Rattle.std.specs.Prelude.{◌≡◌, ◌++◌, IfOk, OnOk, map, slice_get, string_bytes};
-ghost use Rattle.ips_action.specs.Attrs.{values_of};
-ghost use Rattle.ips_metafiles.specs.Records.{info_keys, info_lines, info_line, info_text, key_seen};
+ghost use Rattle.std.specs.Prelude.{◌≡◌, ◌++◌, IfOk, OnOk, map, option_map, string_bytes};
+ghost use Rattle.ips_metafiles.specs.Records as spec;
+ghost use Rattle.ips_metafiles.specs.Records.{info_lines, info_line, info_text, key_seen};
 
 use ips_action::Action;
 use std::alloc::{AllocError, Global};
@@ -47,13 +47,13 @@ fn push_lines(out: &mut String, keys: &[InfoKey<'_>], action: &Action) -> Result
     ensures { OnOk result (string_bytes out.new ≡ string_bytes out.old ++ info_lines action.now (map key_seen keys.now)) }
 {
     for key in keys {
-        push_line(out, key.front, action.get(key.key))?;
+        push_value(out, key.front, action.get(key.key))?;
     }
     Ok(())
 }
 
 // Writes the line of a value, where there is one.
-fn push_line(out: &mut String, front: &str, value: Option<&str>) -> Result<(), AllocError>
+fn push_value(out: &mut String, front: &str, value: Option<&str>) -> Result<(), AllocError>
     ensures { OnOk result (string_bytes out.new ≡ string_bytes out.old ++ info_line front.now (option_map (λ v. v.now) value.entry)) }
 {
     let Some(value) = value else {

@@ -1,12 +1,10 @@
 //! The texts of the records that tell of owners, drivers, legacy packages and licenses, exactly.
 #![tactic(auto)]
 
-mod drivers;
 mod legacy;
-mod licenses;
-mod owners;
+mod license;
+mod owner;
 
-pub use drivers::drivers;
 pub use legacy::pkginfo;
-pub use licenses::license_path;
-pub use owners::{OwnerRow, owners};
+pub use license::license_path;
+pub use owner::{OwnerRow, owners};

@@ -1,7 +1,6 @@
 //! Who owns what.
 
-ghost use Rattle.std.specs.Prelude.{◌≡◌, ◌++◌, IfOk, OnOk, string_bytes};
-ghost use Rattle.std.specs.List.{flat_map};
+ghost use Rattle.std.specs.Prelude.{◌≡◌, ◌++◌, ◌∷◌, [], IfOk, OnOk, string_bytes};
 ghost use Rattle.ips_metafiles.specs.Records.{owner_line, owners_text};
 
 use ips_text::{RelPath, Text, show_path};
@@ -35,7 +34,7 @@ pub fn owners(alloc: Global, rows: &[OwnerRow]) -> Result<Vec<u8>, AllocError>
 
 // Writes the line of a row.
 fn push_owner(alloc: Global, out: &mut String, row: &OwnerRow) -> Result<(), AllocError>
-    ensures { OnOk result (string_bytes out.new ≡ string_bytes out.old ++ owner_line row.now) }
+    ensures { OnOk result (string_bytes out.new ≡ string_bytes out.old ++ owner_line row.now ++ 10 ∷ []) }
 {
     let path = show_path(alloc, &row.path)?;
     write!(out, "{} {} ", row.uid, row.gid)?;
