@@ -2,8 +2,12 @@
 //! another.
 #![tactic(auto)]
 
+mod lists;
+mod run;
 mod running;
-mod words;
+mod services;
+mod sets;
 
+pub use lists::words;
+pub use run::Words;
 pub use running::{ActFault, run_all};
-pub use words::Words;

@@ -5,7 +5,7 @@ ghost use Rattle.ips_outside.specs.Outside.{HasCause};
 ghost use Rattle.ips_outside.specs.Running.{Run};
 ghost use Rattle.ips_actuate.specs.Running.{Ends, IsSpawn, IsFaultOf};
 
-use crate::words::Words;
+use crate::run::Words;
 use ips_outside::{Failed, Spawner};
 
 /// Why a list of actuators wasn't run to its end.
