@@ -94,9 +94,10 @@ grown_by_none P set none text = (λ h. inl h, λ w. elim w [ inl h ↦ h | inr p
 pub empty_lacks : (set : TextSet) (text : List ℕ) → set.keys ≡ [] → Lacks set text
 empty_lacks set text e has = let w = subst (λ (keys : List (List ℕ)). Contains keys text) e has in absurd (omega (arith, w.1))
 
-pub on_more : {T E : Type 0} (P Q : Type 0) (r : Result T E) → (P → Q) → OnOk r P → OnOk r Q
-on_more P Q (Ok x) f p = f p
-on_more P Q (Err e) f p = tt
+-- the same where a call is done
+pub if_grown : {E : Type 0} (P Q : List ℕ → Type 0) (old new : TextSet) (r : Result (Unit {0}) E) → (IsGrown P old new → IsGrown Q old new) → OnOk r (IsGrown P old new) → OnOk r (IsGrown Q old new)
+if_grown P Q old new (Ok x) f p = f p
+if_grown P Q old new (Err e) f p = tt
 
 -- those that an action disables
 pub disables_are : (lines keys none old new : TextSet) (a : Fields) (texts : List (List ℕ)) → texts ≡ values_of (codes "disable_fmri") a.attrs → none.keys ≡ [] → Lacks lines (line_text a) → Lacks keys (key_text a)

@@ -1,1 +1,2 @@
+pub mod DriverLines
 pub mod Licenses

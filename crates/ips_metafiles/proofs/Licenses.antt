@@ -1,9 +1,9 @@
 -- Where licenses are recorded is a path.
-use Rattle.std.proofs.Common.{◌≡◌, ℕ, ◌<◌, ◌≤◌, true, List, [], ◌∷◌, ◌++◌, length, refl, ◌∙◌, ap, subst, arith, append_assoc, length-append, Fits, w8, codes}
-use Rattle.std.specs.Prelude.{nat_le, slice_index_or}
+use Rattle.std.proofs.Common.{◌≡◌, ℕ, ◌<◌, true, List, [], ◌∷◌, length, refl, ◌∙◌, ap, subst, arith, append_assoc, length-append, Fits, w8, codes}
+use Rattle.std.specs.Prelude.{slice_index_or}
 use Rattle.std.specs.List.{list_all, join_with_byte}
 use Rattle.std.proofs.lemmas.Bool.{agree_below_at}
-use Rattle.std.proofs.lemmas.Bool.Decides.{nat_tests}
+use borrow.Author.Tests.{leb-true}
 use Rattle.std.proofs.lemmas.List.Concat.{flat_map-cons}
 use Rattle.std.proofs.lemmas.List.Elements.{recursion_from_All, All-from_get_or}
 use Rattle.std.proofs.lemmas.List.Folds.{list_all-append}
@@ -28,22 +28,17 @@ all_quoted [] are = refl
 all_quoted (b ∷ bytes) are =
     ap (list_all is_name_byte) (flat_map-cons quoted_byte b bytes) ∙ list_all-append is_name_byte (quoted_byte b) (quoted bytes) ∙ rw (byte_quoted b are.0, all_quoted bytes are.1) refl
 
-within : (n : ℕ) → nat_le n 255 ≡ true → n ≤ 255
-within n e = grind (arith, nat_tests)
-
 file_name : (bytes : List ℕ) → AreBytes bytes → IsQuotedName bytes → IsFileName (quoted bytes)
-file_name bytes are name = record { bytes = all_quoted bytes are; some = name.some; few = within (length (quoted bytes)) name.short; no_dots = name.no_dots }
-
-word_var : IsFileName (codes "var")
-word_var = record { bytes = refl; some = omega arith; few = omega arith; no_dots = refl }
+file_name bytes are name = record { bytes = all_quoted bytes are; some = name.some; few = leb-true (length (quoted bytes)) 255 name.short; no_dots = name.no_dots }
 
 word_license : IsFileName (codes "license")
 word_license = record { bytes = refl; some = omega arith; few = omega arith; no_dots = refl }
 
 pub license_is_path : (stem name : List ℕ) → AreBytes stem → AreBytes name → IsQuotedName stem → IsQuotedName name → IsPath (license_path stem name)
 license_is_path stem name are_stem are_name of_stem of_name =
+    let var : IsFileName (codes "var") = record { bytes = refl; some = omega arith; few = omega arith; no_dots = refl } in
     let first = file_name stem are_stem of_stem in
     let second = file_name name are_name of_name in
     let names : List (List ℕ) = codes "var" ∷ codes "pkg" ∷ codes "license" ∷ quoted stem ∷ quoted name ∷ [] in
     let is : join_with_byte 47 names ≡ license_path stem name = simp append_assoc in
-    subst IsPath is (joined_path names (word_var, (pkg_name, (word_license, (first, second)))) (simp length-append (omega (arith, first.few, second.few))))
+    subst IsPath is (joined_path names (var, (pkg_name, (word_license, (first, second)))) (simp length-append (omega (arith, first.few, second.few))))

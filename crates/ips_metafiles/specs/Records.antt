@@ -1,5 +1,5 @@
 -- The records that tell of owners, drivers, legacy packages and licenses.
-use Rattle.std.specs.Prelude.{◌≡◌, ℕ, ◌<◌, Bool, true, false, List, [], ◌∷◌, ◌++◌, length, map, slice_get, Option, Some, None, codes}
+use Rattle.std.specs.Prelude.{◌≡◌, ◌↔◌, Contains, ℕ, ◌<◌, true, false, List, [], ◌∷◌, ◌++◌, length, map, slice_get, Option, Some, None, codes}
 use Rattle.std.specs.List.{flat_map, join_with_byte}
 use Rattle.std.specs.List.Sorted.{IsStrictlySortedBy}
 use Rattle.std.specs.Ordering.{nat_cmp}
@@ -31,9 +31,8 @@ owners_text rows = lines_text (map owner_line rows)
 
 -- The line is the canonical line of one of the actions that is a driver.
 pub record IsDriverLine (actions : List Fields) (line : List ℕ) : Type 0 where
-  pub place : ℕ
   pub action : Fields
-  pub stands : slice_get actions place ≡ Some action
+  pub stands : Contains actions action
   pub driver : action.kind ≡ Driver
   pub line_is : line ≡ line_text action
 
@@ -41,8 +40,7 @@ pub record IsDriverLine (actions : List Fields) (line : List ℕ) : Type 0 where
 pub record IsDrivers (actions : List Fields) (bytes : List ℕ) : Type 0 where
   pub lines : List (List ℕ)
   pub ascend : IsStrictlySortedBy (slice_cmp nat_cmp) lines
-  pub of_drivers : (place : ℕ) (line : List ℕ) → slice_get lines place ≡ Some line → IsDriverLine actions line
-  pub all : (line : List ℕ) → IsDriverLine actions line → (place : ℕ) × (slice_get lines place ≡ Some line)
+  pub each : (line : List ℕ) → Contains lines line ↔ IsDriverLine actions line
   pub written : bytes ≡ lines_text lines
 
 -- ---- legacy packages

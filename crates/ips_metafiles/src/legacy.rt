@@ -15,14 +15,38 @@ pub struct InfoKey<'a> {
 }
 
 static INFO_KEYS: [InfoKey<'static>; 8] = [
-    InfoKey { front: "PKG=", key: "pkg" },
-    InfoKey { front: "NAME=", key: "name" },
-    InfoKey { front: "VERSION=", key: "version" },
-    InfoKey { front: "ARCH=", key: "arch" },
-    InfoKey { front: "CATEGORY=", key: "category" },
-    InfoKey { front: "DESC=", key: "desc" },
-    InfoKey { front: "HOTLINE=", key: "hotline" },
-    InfoKey { front: "VENDOR=", key: "vendor" },
+    InfoKey {
+        front: "PKG=",
+        key: "pkg",
+    },
+    InfoKey {
+        front: "NAME=",
+        key: "name",
+    },
+    InfoKey {
+        front: "VERSION=",
+        key: "version",
+    },
+    InfoKey {
+        front: "ARCH=",
+        key: "arch",
+    },
+    InfoKey {
+        front: "CATEGORY=",
+        key: "category",
+    },
+    InfoKey {
+        front: "DESC=",
+        key: "desc",
+    },
+    InfoKey {
+        front: "HOTLINE=",
+        key: "hotline",
+    },
+    InfoKey {
+        front: "VENDOR=",
+        key: "vendor",
+    },
 ];
 
 /// The record of a legacy package, `pkginfo` (pkginfo(4)): a line for each of eight attributes that the action has, with its
