@@ -1,6 +1,7 @@
 //! Licenses.
 
-ghost use Rattle.std.specs.Prelude.{◌≡◌, IfOk};
+ghost use Rattle.std.specs.Prelude.{◌≡◌, ◌++◌, IfOk, OnOk, string_bytes};
+ghost use Rattle.ips_text.specs.Quote.{quoted};
 ghost use Rattle.ips_metafiles.specs.Records as spec;
 ghost use Rattle.ips_metafiles.specs.Records.{IsQuotedName};
 
@@ -13,16 +14,29 @@ pub fn license_path(alloc: Global, stem: &str, name: &str) -> Result<RelPath, Al
     requires name { IsQuotedName name.now }
     ensures { IfOk result (λ path. path.bytes ≡ spec.license_path stem.now name.now) }
 {
-    let stem = quote(alloc, stem.as_bytes())?;
-    let name = quote(alloc, name.as_bytes())?;
-    let mut path = String::new(alloc);
-    path.push_str("var/pkg/license/")?;
-    path.push_str(stem.as_str())?;
-    path.push_str("/")?;
-    path.push_str(name.as_str())?;
+    let path = place(alloc, stem, name)?;
     match RelPath::parse(alloc, path.as_bytes()) {
         Ok(path) => Ok(path),
         Err(Or::OutOfMemory) => Err(AllocError),
         Err(Or::Bad(_)) => unreachable!(),
     }
+}
+
+fn place(alloc: Global, stem: &str, name: &str) -> Result<String, AllocError>
+    ensures { IfOk result (λ place. string_bytes place ≡ spec.license_path stem.now name.now) }
+{
+    let mut place = String::new(alloc);
+    place.push_str("var/pkg/license/")?;
+    push_quoted(alloc, &mut place, stem)?;
+    place.push_str("/")?;
+    push_quoted(alloc, &mut place, name)?;
+    Ok(place)
+}
+
+// Writes the quoted form.
+fn push_quoted(alloc: Global, out: &mut String, name: &str) -> Result<(), AllocError>
+    ensures { OnOk result (string_bytes out.new ≡ string_bytes out.old ++ quoted name.now) }
+{
+    let form = quote(alloc, name.as_bytes())?;
+    out.push_str(form.as_str())
 }

@@ -36,13 +36,19 @@ pub fn owners(alloc: Global, rows: &[OwnerRow]) -> Result<Vec<u8>, AllocError>
 fn push_owner(alloc: Global, out: &mut String, row: &OwnerRow) -> Result<(), AllocError>
     ensures { OnOk result (string_bytes out.new ≡ string_bytes out.old ++ owner_line row.now ++ 10 ∷ []) }
 {
+    write!(out, "{} {}", row.uid, row.gid)?;
+    push_word(out, &row.owner)?;
+    push_word(out, &row.group)?;
     let path = show_path(alloc, &row.path)?;
-    write!(out, "{} {} ", row.uid, row.gid)?;
-    out.push_str(row.owner.as_str())?;
-    out.push_str(" ")?;
-    out.push_str(row.group.as_str())?;
-    out.push_str(" ")?;
-    out.push_str(path.as_str())?;
+    push_word(out, &path)?;
     out.push_str("\n")?;
     Ok(())
+}
+
+// Writes a blank and the word.
+fn push_word(out: &mut String, word: &Text) -> Result<(), AllocError>
+    ensures { OnOk result (string_bytes out.new ≡ string_bytes out.old ++ 32 ∷ word.now) }
+{
+    out.push_str(" ")?;
+    out.push_str(word.as_str())
 }

@@ -1,4 +1,4 @@
-use Rattle.std.proofs.Common.{◌≡◌, Err, sym, subst, append_assoc}
+use Rattle.std.proofs.Common.{◌≡◌, ◌∙◌, Err, sym, subst}
 use Rattle.ips_text.specs.Reading.{IfBad}
 use Rattle.ips_text.specs.Path.{IsPath}
 use Rattle.ips_text.specs.Kept.{Kept}
@@ -10,20 +10,6 @@ pub unreachable-requires : goal.unreachable-requires
 unreachable-requires c =
     let stem = c.args.stem.now in
     let name = c.args.name.now in
-    let is : c.as_bytes-3.result.now ≡ spec.license_path stem name =
-    rw (
-      c.as_bytes-3.ensures.value,
-      c.in_ok-push_str-4.ensures.bytes,
-      c.as_str-2.ensures,
-      c.in_ok-name.ensures,
-      c.as_bytes-2.ensures.value,
-      c.in_ok-push_str-3.ensures.bytes,
-      c.in_ok-push_str-2.ensures.bytes,
-      c.as_str.ensures,
-      c.in_ok-stem.ensures,
-      c.as_bytes.ensures.value,
-      c.in_ok-push_str.ensures.bytes,
-      c.new-path.ensures.bytes,
-    ) (simp append_assoc) in
+    let is : c.as_bytes.result.now ≡ spec.license_path stem name = c.as_bytes.ensures.value ∙ c.in_ok-path.ensures in
     subst (λ fault. IfBad {X = Kept} (Err fault) (λ _. ⊥)) c.in-Err-Bad.field-0-is
     (c.in-Err-Bad.ensures.only (subst IsPath (sym is) (license_is_path stem name (bytes_are stem c.type_inv.stem) (bytes_are name c.type_inv.name) c.requires.stem c.requires.name)))

@@ -11,18 +11,6 @@ pub returns : goal.returns
 returns c =
     let r = c.args.row.now in
     let old = string_bytes c.args.out.now in
-    let written : string_bytes c.push_str-6.new.self ≡ old ++ (decimal r.uid ++ 32 ∷ (decimal r.gid ++ 32 ∷ (r.owner ++ 32 ∷ (r.group ++ 32 ∷ (shown r.path.bytes ++ 10 ∷ []))))) =
-    rw (
-      c.in_ok-push_str-6.ensures.bytes,
-      c.in_ok-push_str-5.ensures.bytes,
-      c.as_str-3.ensures,
-      c.in_ok-path.ensures,
-      c.in_ok-push_str-4.ensures.bytes,
-      c.in_ok-push_str-3.ensures.bytes,
-      c.as_str-2.ensures,
-      c.in_ok-push_str-2.ensures.bytes,
-      c.in_ok-push_str.ensures.bytes,
-      c.as_str.ensures,
-      c.in_ok-write.ensures.bytes,
-    ) (simp append_assoc) in
+    let written : string_bytes c.push_str.new.self ≡ old ++ (decimal r.uid ++ 32 ∷ (decimal r.gid ++ 32 ∷ (r.owner ++ 32 ∷ (r.group ++ 32 ∷ (shown r.path.bytes ++ 10 ∷ []))))) =
+    rw (c.in_ok-push_str.ensures.bytes, c.in_ok-push_word-3.ensures, c.in_ok-path.ensures, c.in_ok-push_word-2.ensures, c.in_ok-push_word.ensures, c.in_ok-write.ensures.bytes) (simp append_assoc) in
     written ∙ ended old (decimal r.uid) (decimal r.gid) r.owner r.group (shown r.path.bytes)
