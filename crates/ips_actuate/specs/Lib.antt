@@ -1,0 +1,3 @@
+pub mod Actuators
+pub mod Gathering
+pub mod Running

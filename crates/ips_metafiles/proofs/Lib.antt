@@ -1,0 +1,2 @@
+pub mod DriverLines
+pub mod Licenses
