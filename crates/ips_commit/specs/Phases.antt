@@ -58,7 +58,7 @@ LaysTo o text front steps marks old new r (Err (BadJournal line)) = IsBadLine te
 LaysTo o text front steps marks old new r (Err FolderFault) = Unit {0}
 
 -- What laying does from a reader's place and so many marks on: some steps are finished, each counted by the first kind that
--- takes it, and a mark is made behind each thousand of them that isn't the last of the list. Where the folder tells its image
+-- takes it, and a mark is made behind each thousand of them. Where the folder tells its image
 -- they are those of its journal behind the front that the reader has read, and it owes at every moment what it owed.
 pub record Lays {F : Type 0} (o : Outside F) (first : ℕ) (old new : F) (start r : Reading) (before now : List Carrier) (how : Result Bool StepFault) : Type 0 where
   pub steps : List Step

@@ -28,7 +28,7 @@ use ips_outside::Source;
 use ips_text::RelPath;
 
 /// Commits what `stage` left: opens the gate, lays the steps, closes the gate and sweeps, each made safe before the next. After
-/// each thousand steps that aren't the last ones it makes a mark, between two syncs. It answers how many steps were laid, each
+/// each thousand steps it makes a mark, between two syncs. It answers how many steps were laid, each
 /// by the first kind that takes it. Each sort of step has to have a kind that takes it, nothing may stand at the gate or at the
 /// names of marks, and the gate's parent has to be a directory, as `stage` left it.
 ///

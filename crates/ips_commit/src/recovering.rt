@@ -37,7 +37,7 @@ use ips_text::{Or, RelPath};
 use std::alloc::Global;
 
 /// Brings to an end what a run that was stopped left. Where something stands at the gate it lays the steps that the marks
-/// leave, each by the first kind that takes it, with a mark after each thousand that aren't the last ones, closes the gate and
+/// leave, each by the first kind that takes it, with a mark after each thousand, closes the gate and
 /// sweeps, and answers true. It reads the whole journal and lists the marks before its first change, and takes away each mark
 /// that isn't one of the first without a gap before it makes one. Where the gate is closed it only takes away what is left, and answers false. Each sort of step has
 /// to have a kind that takes it, and nothing may be touched, as behind a sync.

@@ -99,5 +99,5 @@ keep_back answer.SalvageDrop = refl
 pub found_is : (t : Table) (case : Case) (found : ℕ) → IsKeepTable t → found ≡ value_at t.rows (key_of case) → keep_of found ≡ keep case
 found_is t case found is e =
     let same : at_event (event_at (event_place case.event)) (bool_byte case.changed == 1) (preserve_at (preserve_place case.preserve)) (standing_at (standing_place case.standing)) ≡ keep case
-          = λ i. at_event (event_back case.event i) (byte_back case.changed i) (preserve_back case.preserve i) (standing_back case.standing i) in
+    = λ i. at_event (event_back case.event i) (byte_back case.changed i) (preserve_back case.preserve i) (standing_back case.standing i) in
     ap keep_of (e ∙ is.decides (key_of case) (is_key case)) ∙ keep_back _ ∙ same
