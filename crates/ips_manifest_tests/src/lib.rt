@@ -1,5 +1,5 @@
 //! Tests of what is said of packages: actions and manifests, catalogs, variants and facets, dependencies, mediators, the state of
-//! an image, and which line can't be installed yet or is at or below a path. `table` reads the cases.
+//! an image, which line can't be installed yet or is at or below a path, the keep table, actuators, and the texts of records. `table` reads the cases.
 #![tactic(auto)]
 
 #[cfg(test)]
@@ -14,6 +14,8 @@ mod filter;
 mod manifest;
 #[cfg(test)]
 mod mediate;
+#[cfg(test)]
+mod records;
 #[cfg(test)]
 mod resolve;
 #[cfg(test)]
