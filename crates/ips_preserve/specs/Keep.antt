@@ -1,4 +1,4 @@
--- The keep table (IPS Developer Guide, "File Actions", `preserve`): what becomes of a file that may have been edited.
+-- The keep table, this project's own reading of `preserve` (pkg(7), "File Actions"): what becomes of a file that may have been edited.
 use Rattle.std.specs.Prelude.{Bool, true, false}
 use Rattle.ips_action.specs.declared.action.Preserve.{Preserve}
 use Rattle.ips_action.specs.declared.action.Preserve.TheVariants.{None, True, RenameOld, RenameNew, Legacy, Abandon, InstallOnly}
@@ -17,7 +17,7 @@ row absent same different not_file Same = same
 row absent same different not_file Different = different
 row absent same different not_file NotFile = not_file
 
--- a file that is wanted and wasn't before
+-- a file is wanted at the path, and none was before
 abbrev pub at_first : Preserve → Standing → Keep
 at_first None = row Lay Lay SalvageLay SalvageLay
 at_first True = row Lay Lay Stay SalvageLay
@@ -27,7 +27,7 @@ at_first Legacy = row Stay Stay Stay Stay
 at_first Abandon = row Stay Stay Stay Stay
 at_first InstallOnly = row Lay Stay Stay Stay
 
--- a file that is wanted with another payload than before
+-- a file is wanted at the path with another payload than before
 abbrev pub at_change : Preserve → Standing → Keep
 at_change None = row Lay Lay Lay SalvageLay
 at_change True = row Lay Lay Stay SalvageLay
@@ -37,7 +37,7 @@ at_change Legacy = row Lay SaveLegacy SaveLegacy SalvageLay
 at_change Abandon = row Stay Stay Stay Stay
 at_change InstallOnly = row Stay Stay Stay Stay
 
--- a file that isn't wanted any more
+-- a file was wanted at the path, and nothing is any more
 abbrev pub at_removal : Preserve → Standing → Keep
 at_removal None = row Stay Drop Drop Stay
 at_removal True = row Stay Drop SalvageDrop Stay

@@ -5,11 +5,11 @@ use ips_action::Preserve;
 /// What happens to a file.
 #[derive(Clone, Copy, Drop)]
 pub enum Event {
-    /// It is wanted, and wasn't before.
+    /// A file is wanted at the path, and none was before.
     First,
-    /// It is wanted as it was before, or with another payload or mode.
+    /// A file is wanted at the path, and one was before.
     Update,
-    /// It isn't wanted any more.
+    /// A file was wanted at the path, and nothing is any more.
     Removal,
 }
 

@@ -1,5 +1,6 @@
 //! What becomes of a packaged file that may have been edited: the keep table over `preserve`, what happens to the file,
-//! what stands at its path, and whether the payload changed (IPS Developer Guide, "File Actions", `preserve`).
+//! what stands at its path, and whether the payload changed. It is this project's own reading of `preserve` (pkg(7), "File
+//! Actions").
 #![tactic(auto)]
 
 mod case;
