@@ -33,7 +33,7 @@ judged_alike : (s t old : Selection) (sp : Spared) (d : Dependency) → ((y : Li
 judged_alike s t old sp d w = holds_alike d s t old old sp sp (record {
   selected = λ y c. w y (has_contained (stems (mentions d)) y c);
   sparing = λ y c. refl;
-  earlier = λ y. refl;
+  earlier = λ y c. refl;
 })
 
 -- ---- numbers
