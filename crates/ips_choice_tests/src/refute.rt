@@ -147,6 +147,26 @@ refutation 1¶0.0 | 1 | x0¶ -> bad line 2
 refutation 1¶ | 1 | t0¶ -> bad line 2
 refutation 1¶0.0 | - | t0¶ -> bad line 2
 refutation 1¶0.0 | 1 |¶ -> bad line 2
+# Version 1 is read as it was written, and the same lines are bad in version 2.
+refutation 1¶0.0 | 1 | t0¶- | 0 | n0¶ -> a refutation
+refutation 2¶0.0 | 1 | t0¶- | 0 | n0¶ -> a refutation
+refutation 2¶- | 0 | - -> bad line 2
+refutation 2¶- | 0 | -¶¶ -> bad line 3
+refutation 2¶00.1 | 2 | -¶ -> bad line 2
+refutation 2¶0.+1 | 2 | -¶ -> bad line 2
+refutation 2¶- | 4294967295 | -¶0.4294967296 | 2 | -¶ -> bad line 3
+refutation 2¶- | 4294967296 | -¶ -> bad line 2
+refutation 2¶- | 0 | t18446744073709551616¶ -> bad line 2
+refutation 2¶- | 0 | -¶- | 0 | -¶1.0,0.0 | 2 | -¶ -> bad line 4
+refutation 2¶0.0,0.1 | 2 | -¶ -> bad line 2
+refutation 2¶0.0|1|t0¶ -> bad line 2
+refutation 2¶0.0 | 1 | t0  t1¶ -> bad line 2
+refutation 2¶0.0 | 1 | t0 ¶ -> bad line 2
+refutation 2¶0.0, | 1 | t0¶ -> bad line 2
+refutation 2¶0.0 | 1 | x0¶ -> bad line 2
+refutation 2¶ | 1 | t0¶ -> bad line 2
+refutation 2¶0.0 | - | t0¶ -> bad line 2
+refutation 2¶0.0 | 1 |¶ -> bad line 2
 # Counts: none in version 1, from 2 to 200,002, of runs of any length.
 refutation 1¶0.0 | 1 | t0*3¶ -> bad line 2
 refutation 2¶0.0 | 1 | t0*3¶ -> a refutation
@@ -223,7 +243,7 @@ fn checks_and_reads_refutations(rt: HostRuntime) {
         &rt,
         alloc,
         &mut Asked::Reading,
-        30,
+        49,
         READING_TELLS_THE_FIRST_BAD_LINE,
     );
 }

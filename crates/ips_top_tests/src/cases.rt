@@ -138,7 +138,11 @@ look | var -> absent"#;
 const RULES: &str = r#"
 rule | -R i -s r install mail post -> Deliverers
 rule | -R i -s r install under -> Below
-rule | -R i -s r install alone -> Target"#;
+rule | -R i -s r install alone -> Target
+look | usr -> absent
+look | bin -> absent
+look | opt -> absent
+look | var -> absent"#;
 
 // Links, names of one file, and the directories that no line gives.
 const LAID: &str = r#"
@@ -203,7 +207,7 @@ fn links_and_what_is_refused(rt: HostRuntime) {
     let mut world = World::linked(&rt, alloc);
     for (asked, count, table) in [
         (Asked::Script, 8u32, REFUSALS),
-        (Asked::Script, 3u32, RULES),
+        (Asked::Script, 7u32, RULES),
         (Asked::Script, 14u32, LAID),
         (Asked::Standing, 7u32, STANDING),
     ] {
