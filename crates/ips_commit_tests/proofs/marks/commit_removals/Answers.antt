@@ -1,0 +1,17 @@
+use Rattle.std.proofs.Common.{subst, refl, IsTrue}
+use Rattle.ips_kinds.specs.Tallies.{seen_by, taken}
+use Rattle.ips_commit_tests.proofs.Removals.{removals_listed, removals_can, none_seen}
+use Rattle.ips_commit_tests.proofs.marks.commit_removals.Goals as goal
+
+pub done-requires-clause-lists : goal.done-requires-clause-lists
+done-requires-clause-lists g c = removals_listed _ c.removals.ensures.few c.removals.ensures.are
+
+pub done-requires-clause-seen : goal.done-requires-clause-seen
+done-requires-clause-seen g c = none_seen _ refl
+
+pub done-requires-clause-can : goal.done-requires-clause-can
+done-requires-clause-can g c = λ t dir shut. removals_can _ _ t c.removals.ensures.are refl dir shut
+
+pub done-requires-clause-takers : goal.done-requires-clause-takers
+done-requires-clause-takers g c = λ s.
+    subst (λ l. IsTrue (taken (seen_by (λ k. (goal.Kind-dyn g (k.vtable, k.value)).sorts k.value) (λ k. (goal.Kind-dyn g (k.vtable, k.value)).finished k.value) l) s)) c.deref.ensures.value (c.in-Ok-true.ensures c.in-Ok-true.field-0-test s)
