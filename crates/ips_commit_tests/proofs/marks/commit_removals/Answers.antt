@@ -4,13 +4,13 @@ use Rattle.ips_commit_tests.proofs.Removals.{removals_listed, removals_can, none
 use Rattle.ips_commit_tests.proofs.marks.commit_removals.Goals as goal
 
 pub done-requires-clause-lists : goal.done-requires-clause-lists
-done-requires-clause-lists g c = removals_listed _ c.removals.ensures.few c.removals.ensures.are
+done-requires-clause-lists g c = removals_listed _ c.removals-steps.ensures.few c.removals-steps.ensures.are
 
 pub done-requires-clause-seen : goal.done-requires-clause-seen
 done-requires-clause-seen g c = none_seen _ refl
 
 pub done-requires-clause-can : goal.done-requires-clause-can
-done-requires-clause-can g c = λ t dir shut. removals_can _ _ t c.removals.ensures.are refl dir shut
+done-requires-clause-can g c = λ t dir shut. removals_can _ _ t c.removals-steps.ensures.are refl dir shut
 
 pub done-requires-clause-takers : goal.done-requires-clause-takers
 done-requires-clause-takers g c = λ s.

@@ -4,4 +4,4 @@ use Rattle.ips_commit_tests.specs.Removals.{AreRemovals}
 use Rattle.ips_commit_tests.proofs.marks.removals.Given as goal
 
 abbrev pub invariant-loop-number : goal.invariant-loop-number
-invariant-loop-number g l = AreRemovals (map step_of l.steps.items) × (length l.steps.items ≡ l.number-index)
+invariant-loop-number g l = AreRemovals (map step_of l.steps.items) × (length l.steps.items ≡ l.number)
