@@ -29,6 +29,10 @@ snoc (first ∷ rest) s are is = (are.0, snoc rest s are.1 is)
 pub one_more : (steps : List program.Step) (s : program.Step) → AreRemovals (map step_of steps) → IsRemoval (step_of s) → AreRemovals (map step_of (steps ++ s ∷ []))
 one_more steps s are is = subst AreRemovals (sym (map-append step_of steps (s ∷ []))) (snoc (map step_of steps) (step_of s) are is)
 
+pub length_more : (steps : List program.Step) (s : program.Step) → length (steps ++ s ∷ []) ≡ length steps + 1
+length_more [] s = refl
+length_more (first ∷ rest) s = let same = length_more rest s in omega (arith, same)
+
 all_proper : (steps : List Step) → AreRemovals steps → AllProper steps
 all_proper [] are = tt
 all_proper (Gone p ∷ rest) are = (are.0.0, all_proper rest are.1)
