@@ -1,2 +1,3 @@
 pub mod TwoSteps
 pub mod Examples
+pub mod Removals

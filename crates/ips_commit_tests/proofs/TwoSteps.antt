@@ -2,7 +2,6 @@
 use Rattle.std.proofs.Common.{◌≡◌, ℕ, zero, suc, ◌<◌, Bool, true, List, [], ◌∷◌, length, slice_get, Some, None, codes, is_some, refl, sym, ◌∙◌, ap, subst, arith}
 use Rattle.ips_text.specs.Path.{IsPath}
 use Rattle.ips_text.specs.Ancestry.{parent}
-use Rattle.ips_outside.specs.State.{State}
 use Rattle.ips_outside.specs.Image.{Image, is_dir, dir_or_none}
 use Rattle.ips_folder.specs.Calls.{CanMake}
 use Rattle.ips_steps.specs.Steps.{Step, Put, Hard, Stage, possible, stage_name}
@@ -62,11 +61,6 @@ two_can steps staged t is one stands dir shut = subst (λ (l : List Step). CanSt
   records = dir;
   shut = shut;
 })
-
--- the same behind calls that change nothing
-pub two_can_kept : (steps : List Step) (staged : List Staged) (old new : State) → new ≡ old → steps ≡ two → length staged ≡ 1 → ((t : Image) → AreStanding t staged) → is_dir (old.held.look records_name) ≡ true → old.held.look gate_name ≡ None
-    → CanStage steps staged new.held
-two_can_kept steps staged old new kept is one stands dir shut = subst (λ (s : State). CanStage steps staged s.held) (sym kept) (two_can steps staged old.held is one (stands old.held) dir shut)
 
 -- nothing stands at the gate, and the folder of the records does
 pub can_open : (t : Image) → is_dir (t.look records_name) ≡ true → t.look gate_name ≡ None → CanMake t gate_name

@@ -141,7 +141,7 @@ fn tallies(rt: &impl Abort, alloc: Global, kinds: &Vec<Box<dyn Kind>>) -> Vec<u6
 }
 
 // How many steps the kinds have finished together.
-fn finished(kinds: &Vec<Box<dyn Kind>>) -> u64 {
+pub fn finished(kinds: &Vec<Box<dyn Kind>>) -> u64 {
     let mut sum = 0u64;
     for kind in kinds {
         sum = sum.saturating_add(kind.tally());

@@ -7,10 +7,12 @@ ghost use Rattle.ips_outside.specs.Outside.{Reads};
 ghost use Rattle.ips_folder.specs.Memory.{mem_folder};
 ghost use Rattle.ips_steps.specs.Steps.{Put, Hard};
 ghost use Rattle.ips_steps.specs.Private.{records_name, gate_name};
+ghost use Rattle.ips_steps.specs.Journal.{IsJournal};
 ghost use Rattle.ips_steps.specs.View.{step_of};
 ghost use Rattle.ips_steps.specs.declared.step.Sort.{Sort as SortMeant};
 ghost use Rattle.ips_kinds.specs.Tallies.{seen_by, taken};
 ghost use Rattle.ips_commit.specs.Contents.{AreSeen, AreStanding};
+ghost use Rattle.ips_commit.specs.Staging.{CanStage};
 
 use crate::script::{named, path};
 use crate::takers::takes_all;
@@ -24,7 +26,7 @@ use std::alloc::Global;
 use std::process::Abort;
 
 // The image before: the folder of the records, and a file `a`.
-fn before(rt: &impl Abort, alloc: Global) -> Tree {
+pub fn before(rt: &impl Abort, alloc: Global) -> Tree {
     let mut tree = Tree::new(alloc);
     for dir in ["var", "var/pkg"] {
         tree.dir(alloc, &path(rt, alloc, dir), 0o755)
@@ -70,14 +72,14 @@ fn content(rt: &impl Abort, alloc: Global) -> Vec<Staged>
 }
 
 // The folder of the records.
-fn records(rt: &impl Abort, alloc: Global) -> RelPath
+pub fn records(rt: &impl Abort, alloc: Global) -> RelPath
     ensures { result.bytes ≡ records_name }
 {
     named(rt, alloc, b"var/pkg")
 }
 
 // The gate.
-fn gate(rt: &impl Abort, alloc: Global) -> RelPath
+pub fn gate(rt: &impl Abort, alloc: Global) -> RelPath
     ensures { result.bytes ≡ gate_name }
 {
     named(rt, alloc, b"var/pkg/gate")
@@ -119,8 +121,8 @@ fn is_shut(folder: &mut MemFolder, records: &RelPath, gate: &RelPath) -> Result<
     Ok(is_free)
 }
 
-// Stages and commits the steps, where nothing stands at the gate, and answers whether both are laid.
-fn done(
+// Stages and commits the steps, where nothing stands at the gate, and answers whether all are laid.
+pub fn done(
     alloc: Global,
     folder: &mut MemFolder,
     kinds: &mut Vec<Box<dyn Kind>>,
@@ -129,10 +131,9 @@ fn done(
     records: &RelPath,
     gate: &RelPath,
 ) -> bool
-    requires steps { map step_of steps.now ≡ Put 0 420 (codes "a") ∷ Hard (codes "b") (codes "a") ∷ [] }
-    requires one { length content.now ≡ 1 }
+    requires lists { IsJournal (map step_of steps.now) }
     requires seen { AreSeen content.now }
-    requires given { (t : Image) → AreStanding t content.now }
+    requires can { (t : Image) → IsTrue (is_dir (t.look records_name)) → t.look gate_name ≡ None → CanStage (map step_of steps.now) content.now t }
     requires records { records.now.bytes ≡ records_name }
     requires gate { gate.now.bytes ≡ gate_name }
     requires takers { (s : SortMeant) → IsTrue (taken (seen_by sorts finished kinds.old.items) s) }
@@ -147,7 +148,7 @@ fn done(
     let Ok(true) = is_shut(folder, records, gate) else {
         return false;
     };
-    matches!(commit(ready, folder, kinds), Ok(2))
+    matches!(commit(ready, folder, kinds), Ok(count) if count == steps.len() as u64)
 }
 
 // Stages and commits the two steps, and answers whether both are laid.
@@ -182,7 +183,7 @@ fn left_by(
 }
 
 // What a crash leaves.
-fn crashed(rt: &impl Abort, alloc: Global, folder: &MemFolder) -> Tree {
+pub fn crashed(rt: &impl Abort, alloc: Global, folder: &MemFolder) -> Tree {
     folder.crashed(alloc).ok().expect(rt, "memory")
 }
 
@@ -200,7 +201,7 @@ fn recovered(alloc: Global, folder: &mut MemFolder, kinds: &mut Vec<Box<dyn Kind
 }
 
 // The folder in which what was left is brought to an end, or stopped again, and whether something was left and that was done.
-fn mend(
+pub fn mend(
     rt: &impl Abort,
     alloc: Global,
     tree: Tree,
@@ -227,7 +228,7 @@ fn is_new(rt: &impl Abort, alloc: Global, tree: &Tree) -> bool {
 }
 
 // Whether nothing is left at the updater's own names.
-fn is_bare(alloc: Global, folder: &mut MemFolder) -> bool {
+pub fn is_bare(alloc: Global, folder: &mut MemFolder) -> bool {
     matches!(pending(alloc, folder), Ok(Pending::Nothing))
 }
 

@@ -8,6 +8,8 @@ mod commit;
 #[cfg(test)]
 mod install;
 #[cfg(test)]
+mod marks;
+#[cfg(test)]
 mod script;
 #[cfg(test)]
 mod takers;
