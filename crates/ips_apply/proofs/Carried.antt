@@ -12,6 +12,7 @@ use Rattle.ips_kinds.specs.declared.kind.Act.{Act}
 use Rattle.ips_kinds.specs.declared.kind.Act.TheVariants as act
 use Rattle.ips_apply.specs.Acting.{acted, CanAct}
 use Rattle.ips_apply.specs.Applied.{ChangedBy}
+use Rattle.ips_apply.specs.Judging.{content_size}
 use Rattle.ips_apply.proofs.Changes.{idle, act_more, contents_stay}
 use Rattle.ips_apply.proofs.Walks.{until, act_next, act_can, act_meets, act_last}
 
@@ -52,6 +53,10 @@ module _ {F : Type 0} (o : Outside F) (sane : IsOutside o) (s : Step) (may : ste
           ∙ sym (act_next (stage_of (o.state start).held) s (o.state start).held turn a is);
       moments = changed_so_far new step;
     }
+
+  -- the content keeps its size
+  pub size_stays : (size : ℕ) → (o.tells start ≡ true → size ≡ content_size (stage_of (o.state start).held) s) → o.tells now ≡ true → size ≡ content_size (stage_of (o.state now).held) s
+  size_stays size is told = is (back told) ∙ ap (λ (stage : Stage). content_size stage s) (sym (contents_stay o sane s start now may (c.moments (back told))))
 
   -- where the acts are finished the step is laid
   pub last_turn : slice_get (acts (sort_of s)) turn ≡ Some act.Finished → o.tells start ≡ true → (o.state now).held ≡ laid (stage_of (o.state start).held) s (o.state start).held

@@ -1,13 +1,13 @@
 -- Runs of calls that change what one step changes.
-use Rattle.std.proofs.Common.{◌≡◌, ℕ, Bool, true, false, ◌||◌, List, [], ◌∷◌, Option, Some, None, MatchOption, Result, refl, sym, ◌∙◌, ap, subst}
+use Rattle.std.proofs.Common.{◌≡◌, ℕ, Bool, true, false, ◌||◌, List, [], ◌∷◌, length, Option, Some, None, unwrap_or, MatchOption, Result, refl, sym, ◌∙◌, ap, subst}
 use Rattle.std.proofs.lemmas.Bool.{and_from, or_parts, or_from, false_from_ne_true}
 use Rattle.ips_text.specs.Ancestry.{same_path, covers}
 use Rattle.ips_outside.specs.Image.{Image}
 use Rattle.ips_outside.specs.Change.{placed, names}
 use Rattle.ips_outside.specs.State.{State, nowhere}
-use Rattle.ips_outside.specs.Outside.{Outside, IsOutside, Reads}
+use Rattle.ips_outside.specs.Outside.{Outside, IsOutside, Reads, readable}
 use Rattle.ips_folder.specs.Calls.{Writes, Keeps, IsSole}
-use Rattle.ips_steps.specs.Steps.{Step, Gone, Fresh, Mode, Put, Symlink, Hard, path_of, frees, freed, meets, stage_of, stage_path}
+use Rattle.ips_steps.specs.Steps.{Step, Gone, Fresh, Mode, Put, Symlink, Hard, path_of, frees, freed, meets, stage_of, stage_path, bytes_of}
 use Rattle.ips_steps.specs.Journal.{step_allowed}
 use Rattle.ips_steps.specs.View.{sort_of}
 use Rattle.ips_steps.specs.declared.step.Sort.TheVariants as sort
@@ -86,6 +86,16 @@ pub content_apart : (n m : ℕ) (p f : List ℕ) → step_allowed (Put n m p) �
 content_apart n m p f may is =
     let one : stage_path n ≡ f = cc in
     subst (λ (q : List ℕ). covers p q ≡ false) one (or_parts (covers p (stage_path n)) false (content_kept (Put n m p ∷ []) n (and_from (step_allowed (Put n m p)) true may refl))).0
+
+-- the bytes of a content are those that can be read of its file
+pub content_read : (t : Image) (n : ℕ) (f : List ℕ) → Some (stage_path n) ≡ Some f → length (bytes_of (stage_of t n)) ≡ length (readable (t.look f))
+content_read t n f is =
+    let one : stage_path n ≡ f = cc in
+    ap length (same (stage_of t n)) ∙ ap (λ (q : List ℕ). length (readable (t.look q))) one
+  where
+    same : (bytes : Option (List ℕ)) → bytes_of bytes ≡ unwrap_or bytes []
+    same (Some bytes) = refl
+    same None = refl
 
 -- what is known of an option that is there
 pub known : {A : Type 0} (o : Option A) (x : A) (P : Type 0) (Q : A → Type 0) → o ≡ Some x → MatchOption o P Q → Q x

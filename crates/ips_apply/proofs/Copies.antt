@@ -8,7 +8,7 @@ use Rattle.ips_outside.specs.State.{State, nowhere, written}
 use Rattle.ips_outside.specs.Outside.{Outside, IsOutside, Reads, readable, IsRead}
 use Rattle.ips_folder.specs.Calls.{Writes, Keeps, IsSole}
 use Rattle.ips_outside.proofs.Reading.{answered}
-use Rattle.ips_folder.proofs.Runs.{keeps_then, one_read, one_write}
+use Rattle.ips_folder.proofs.Runs.{begun, keeps_then, one_read, one_write}
 use Rattle.ips_journal.proofs.Writers.{sole_appended}
 use Rattle.ips_folder.proofs.Filled.{appended_none, appended_twice}
 
@@ -32,14 +32,18 @@ module _ {F : Type 0} (o : Outside F) (sane : IsOutside o) (p from : List ℕ) w
   abbrev CopiedTo : F → F → ℕ → Type 0
   CopiedTo start now count = Copied o p from start now count
 
-  pub copied_none : (start mid : F) (failure : Type 0) → Reads o start mid failure → (failure → ⊥) → CopiedTo start mid 0
-  copied_none start mid failure read fine = record {
-    same_kind = read.call.same_kind;
-    faults = read.call.cause.steady fine;
-    changes = omega (arith, read.none_made);
-    held = λ told. ap (λ s. s.held) read.kept ∙ sym (appended_none p (o.state start).held);
-    moments = λ told. one_read o sane (covers p) nowhere start mid failure read;
+  pub copied_none : (start : F) → CopiedTo start start 0
+  copied_none start = record {
+    same_kind = refl;
+    faults = refl;
+    changes = omega arith;
+    held = λ told. sym (appended_none p (o.state start).held);
+    moments = λ told. begun o (covers p) nowhere start (sane.only_now start);
   }
+
+  -- a run behind a call that only reads
+  pub kept_behind : (start mid new : F) (failure : Type 0) → Reads o start mid failure → Keeps o (covers p) nowhere mid new → Keeps o (covers p) nowhere start new
+  kept_behind start mid new failure read run = keeps_then o (covers p) nowhere start mid new (one_read o sane (covers p) nowhere start mid failure read) run
 
   module _ (apart : covers p from ≡ false) (start now : F) (count : ℕ) (c : CopiedTo start now count) where
     -- the file that is copied stays

@@ -5,3 +5,4 @@ pub mod Turns
 pub mod Carried
 pub mod Takers
 pub mod Going
+pub mod Seen

@@ -12,25 +12,28 @@ ghost use Rattle.ips_kinds.specs.declared.kind.Act.TheVariants as act;
 ghost use Rattle.ips_journal.specs.Reading.{stage_for};
 ghost use Rattle.ips_apply.specs.Acting.{acted, cleared, with_dir, with_file, with_content, with_link, with_name, with_step_mode, CanAct};
 ghost use Rattle.ips_apply.specs.Applied.{ChangedBy};
+ghost use Rattle.ips_apply.specs.Judging.{content_size};
 
-use crate::copying::copy;
+use crate::copying::copy_sized;
 use ips_folder::Folder;
 use ips_kinds::{Act, Sort, Step};
 use ips_outside::{Failed, Look, Source};
 use ips_text::RelPath;
 
-/// Does one act of the step, where it can be done.
+/// Does one act of the step, where it can be done; the content that the step puts has so many bytes.
 pub(crate) fn perform<F: Folder>(
     folder: &mut F,
     step: &Step,
     act: Act,
     content: Option<&RelPath>,
+    size: u64,
     buffer: &mut [u8],
 ) -> Result<(), Failed>
     requires can { IsTrue (F.outside.tells folder.old) → CanAct (step_of step.now) act (F.outside.state folder.old).held }
     requires proper { IsProper (step_of step.now) }
     requires allowed { IsTrue (step_allowed (step_of step.now)) }
     requires content { MatchOption content (stage_for (step_of step.now) ≡ None) (λ p. stage_for (step_of step.now) ≡ Some p.now.bytes) }
+    requires size { IsTrue (F.outside.tells folder.old) → size ≡ content_size (stage_of (F.outside.state folder.old).held) (step_of step.now) }
     requires room { 0 < length buffer.old }
     ensures done { IsTrue (F.outside.tells folder.old) → OnOk result ((F.outside.state folder.new).held ≡ acted (stage_of (F.outside.state folder.old).held) (step_of step.now) act (F.outside.state folder.old).held) }
     ensures any_moment { IsTrue (F.outside.tells folder.old) → ChangedBy F.outside (step_of step.now) folder.old folder.new }
@@ -42,7 +45,7 @@ pub(crate) fn perform<F: Folder>(
         Act::Clear => clear(folder, step),
         Act::MakeDir => make_dir(folder, step),
         Act::MakeFile => make_file(folder, step),
-        Act::Copy => copy_content(folder, step, content, buffer),
+        Act::Copy => copy_content(folder, step, content, size, buffer),
         Act::MakeLink => make_link(folder, step),
         Act::MakeHard => make_hard(folder, step),
         Act::SetMode => set_mode(folder, step),
@@ -101,11 +104,13 @@ fn copy_content<F: Folder>(
     folder: &mut F,
     step: &Step,
     content: Option<&RelPath>,
+    size: u64,
     buffer: &mut [u8],
 ) -> Result<(), Failed>
     requires can { IsTrue (F.outside.tells folder.old) → CanAct (step_of step.now) act.Copy (F.outside.state folder.old).held }
     requires allowed { IsTrue (step_allowed (step_of step.now)) }
     requires content { MatchOption content (stage_for (step_of step.now) ≡ None) (λ p. stage_for (step_of step.now) ≡ Some p.now.bytes) }
+    requires size { IsTrue (F.outside.tells folder.old) → size ≡ content_size (stage_of (F.outside.state folder.old).held) (step_of step.now) }
     requires room { 0 < length buffer.old }
     ensures done { IsTrue (F.outside.tells folder.old) → OnOk result ((F.outside.state folder.new).held ≡ with_content (stage_of (F.outside.state folder.old).held) (step_of step.now) (F.outside.state folder.old).held) }
     ensures any_moment { IsTrue (F.outside.tells folder.old) → ChangedBy F.outside (step_of step.now) folder.old folder.new }
@@ -114,7 +119,7 @@ fn copy_content<F: Folder>(
     ensures cause { HasCause (F.outside.faults folder.old) (F.outside.faults folder.new) (IsErr result) }
 {
     match (step, content) {
-        (Step::Put { path, .. }, Some(from)) => copy(folder, from, path, buffer),
+        (Step::Put { path, .. }, Some(from)) => copy_sized(folder, from, size, path, buffer),
         _ => Ok(()),
     }
 }

@@ -9,9 +9,11 @@ ghost use Rattle.ips_kinds.specs.Tallies.{seen_by, taken, counted};
 ghost use Rattle.ips_journal.specs.Reading.{TellsLine};
 ghost use Rattle.ips_journal.specs.declared.fault.StepFault.TheVariants as fault;
 ghost use Rattle.ips_apply.specs.Applied.{ChangedBy, OnBadJournal, Applied, AppliedPart};
+ghost use Rattle.ips_apply.specs.Judging.{IsKnown};
 
 use crate::carrying::lay;
-use crate::judging::is_possible;
+use crate::judging::judge;
+use crate::known::Known;
 use ips_folder::Folder;
 use ips_journal::{StepFault, StepReader};
 use ips_kinds::Kind;
@@ -68,25 +70,28 @@ pub fn apply_block<F: Folder>(
     ensures changes { F.outside.changes folder.old ≤ F.outside.changes folder.new }
     ensures cause { HasCause (F.outside.faults folder.old) (F.outside.faults folder.new) (result ≡ Err fault.FolderFault) }
 {
+    let mut known = Known::none();
     let mut count = 0u64;
     while count < most {
         if !reader.next(folder)? {
             return Ok((count, true));
         }
-        lay_next(folder, reader, kinds, buffer)?;
+        lay_next(folder, reader, kinds, buffer, &mut known)?;
         count += 1;
     }
     Ok((count, false))
 }
 
-/// Lays the step that the reader lends, where it can be laid.
+/// Lays the step that the reader lends, where it can be laid. The directory that is known is told for the step behind it.
 fn lay_next<F: Folder>(
     folder: &mut F,
     reader: &StepReader,
     kinds: &mut Vec<Box<dyn Kind>>,
     buffer: &mut [u8],
+    known: &mut Known,
 ) -> Result<(), StepFault>
     requires step { IsSome reader.now.step }
+    requires known { IsTrue (F.outside.tells folder.old) → IsKnown (F.outside.state folder.old).held known.old }
     requires takers { (s : Sort) → IsTrue (taken (seen_by sorts finished kinds.old.items) s) }
     requires room { 0 < length buffer.old }
     ensures done { IsTrue (F.outside.tells folder.old) → (s : StepMeant) → reader.now.step ≡ Some s → OnOk result
@@ -95,6 +100,7 @@ fn lay_next<F: Folder>(
     ensures bad { IsTrue (F.outside.tells folder.old) → (s : StepMeant) → reader.now.step ≡ Some s → OnBadJournal result
         (λ line. IsFalse (can_lay (stage_of (F.outside.state folder.old).held) s (F.outside.state folder.old).held) × Reads F.outside folder.old folder.new ⊥) }
     ensures any_moment { IsTrue (F.outside.tells folder.old) → (s : StepMeant) → reader.now.step ≡ Some s → ChangedBy F.outside s folder.old folder.new }
+    ensures known { IsTrue (F.outside.tells folder.old) → OnOk result (IsKnown (F.outside.state folder.new).held known.new) }
     ensures counted { (s : StepMeant) → reader.now.step ≡ Some s → OnOk result (seen_by sorts finished kinds.new.items ≡ counted (sort_of s) (seen_by sorts finished kinds.old.items)) }
     ensures uncounted { OnErr result (seen_by sorts finished kinds.new.items ≡ seen_by sorts finished kinds.old.items) }
     ensures line { IfErr result (TellsLine reader.now.line) }
@@ -104,10 +110,12 @@ fn lay_next<F: Folder>(
 {
     let step = reader.step();
     let content = reader.staged();
-    if !is_possible(folder, step, reader.parent(), content)? {
+    let above = reader.parent();
+    let Some(size) = judge(folder, step, above, content, known)? else {
         let line = reader.line();
         return Err(StepFault::BadJournal { line });
-    }
-    lay(folder, kinds, step, content, buffer)?;
+    };
+    lay(folder, kinds, step, content, size, buffer)?;
+    known.go_behind(step, above);
     Ok(())
 }

@@ -11,6 +11,7 @@ ghost use Rattle.ips_kinds.specs.Tallies.{seen_by, taken, counted, IsFirstTaker}
 ghost use Rattle.ips_kinds.specs.declared.kind.Act.TheVariants as act;
 ghost use Rattle.ips_journal.specs.Reading.{stage_for};
 ghost use Rattle.ips_apply.specs.Applied.{ChangedBy};
+ghost use Rattle.ips_apply.specs.Judging.{content_size};
 
 use crate::acting::perform;
 use ips_folder::Folder;
@@ -18,12 +19,13 @@ use ips_kinds::{Act, Kind, Step};
 use ips_outside::{Failed, Source};
 use ips_text::RelPath;
 
-/// Carries out a step that can be laid, by the first kind that takes it.
+/// Carries out a step that can be laid, by the first kind that takes it; the content that it puts has so many bytes.
 pub(crate) fn lay<F: Folder>(
     folder: &mut F,
     kinds: &mut Vec<Box<dyn Kind>>,
     step: &Step,
     content: Option<&RelPath>,
+    size: u64,
     buffer: &mut [u8],
 ) -> Result<(), Failed>
     requires takers { (s : Sort) → IsTrue (taken (seen_by sorts finished kinds.old.items) s) }
@@ -31,6 +33,7 @@ pub(crate) fn lay<F: Folder>(
     requires proper { IsProper (step_of step.now) }
     requires allowed { IsTrue (step_allowed (step_of step.now)) }
     requires content { MatchOption content (stage_for (step_of step.now) ≡ None) (λ p. stage_for (step_of step.now) ≡ Some p.now.bytes) }
+    requires size { IsTrue (F.outside.tells folder.old) → size ≡ content_size (stage_of (F.outside.state folder.old).held) (step_of step.now) }
     requires room { 0 < length buffer.old }
     ensures done { IsTrue (F.outside.tells folder.old) → OnOk result
         ((F.outside.state folder.new).held ≡ laid (stage_of (F.outside.state folder.old).held) (step_of step.now) (F.outside.state folder.old).held) }
@@ -44,7 +47,7 @@ pub(crate) fn lay<F: Folder>(
     let Some(place) = first_taker(kinds, step) else {
         unreachable!()
     };
-    carry_out(folder, &mut kinds[place], step, content, buffer)?;
+    carry_out(folder, &mut kinds[place], step, content, size, buffer)?;
     Ok(())
 }
 
@@ -54,6 +57,7 @@ fn carry_out<F: Folder>(
     kind: &mut Box<dyn Kind>,
     step: &Step,
     content: Option<&RelPath>,
+    size: u64,
     buffer: &mut [u8],
 ) -> Result<(), Failed>
     requires takes { IsTrue (sorts kind.old (sort_of (step_of step.now))) }
@@ -61,6 +65,7 @@ fn carry_out<F: Folder>(
     requires proper { IsProper (step_of step.now) }
     requires allowed { IsTrue (step_allowed (step_of step.now)) }
     requires content { MatchOption content (stage_for (step_of step.now) ≡ None) (λ p. stage_for (step_of step.now) ≡ Some p.now.bytes) }
+    requires size { IsTrue (F.outside.tells folder.old) → size ≡ content_size (stage_of (F.outside.state folder.old).held) (step_of step.now) }
     requires room { 0 < length buffer.old }
     ensures done { IsTrue (F.outside.tells folder.old) → OnOk result
         ((F.outside.state folder.new).held ≡ laid (stage_of (F.outside.state folder.old).held) (step_of step.now) (F.outside.state folder.old).held) }
@@ -78,7 +83,7 @@ fn carry_out<F: Folder>(
         if let Act::Finished = act {
             return Ok(());
         }
-        perform(folder, step, act, content, buffer)?;
+        perform(folder, step, act, content, size, buffer)?;
         turn += 1;
     }
 }

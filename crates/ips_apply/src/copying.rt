@@ -29,6 +29,28 @@ pub fn copy<F: Folder>(
     ensures cause { HasCause (F.outside.faults folder.old) (F.outside.faults folder.new) (IsErr result) }
 {
     let size = size_of(folder, from)?;
+    copy_sized(folder, from, size, path, buffer)
+}
+
+/// The same where the file `from` has so many bytes.
+pub(crate) fn copy_sized<F: Folder>(
+    folder: &mut F,
+    from: &RelPath,
+    size: u64,
+    path: &RelPath,
+    buffer: &mut [u8],
+) -> Result<(), Failed>
+    requires can { IsTrue (F.outside.tells folder.old) → IsSole (F.outside.state folder.old).held path.now.bytes }
+    requires size { IsTrue (F.outside.tells folder.old) → size ≡ length (readable ((F.outside.state folder.old).held.look from.now.bytes)) }
+    requires apart { IsFalse (covers path.now.bytes from.now.bytes) }
+    requires room { 0 < length buffer.old }
+    ensures copied { IsTrue (F.outside.tells folder.old) → OnOk result
+        ((F.outside.state folder.new).held ≡ appended path.now.bytes (readable ((F.outside.state folder.old).held.look from.now.bytes)) (F.outside.state folder.old).held) }
+    ensures any_moment { IsTrue (F.outside.tells folder.old) → Keeps F.outside (covers path.now.bytes) nowhere folder.old folder.new }
+    ensures same_kind { F.outside.tells folder.new ≡ F.outside.tells folder.old }
+    ensures changes { F.outside.changes folder.old ≤ F.outside.changes folder.new }
+    ensures cause { HasCause (F.outside.faults folder.old) (F.outside.faults folder.new) (IsErr result) }
+{
     let mut at = 0u64;
     while at < size {
         let count = read_part(folder, from, at, size, buffer)?;

@@ -12,6 +12,7 @@ mod applying;
 mod carrying;
 mod copying;
 mod judging;
+mod known;
 
 pub use applying::{apply, apply_block};
 pub use copying::copy;

@@ -8,6 +8,10 @@ use std::collections::BTreeSet;
 use std::fs::{Files, Metadata};
 use std::{io, mem, str};
 
+/// As many directories are known at once. When one more comes the others are forgotten, and asked for again where they are
+/// needed, so that the memory of a long run doesn't grow with the directories that it makes.
+const MOST_KNOWN: usize = 4_096;
+
 /// A root, which may be a link, and the way to what is below it, where no link is followed. An empty root has none: an
 /// empty path of the host names nothing (POSIX, Pathname Resolution). That directories stay known serves while nobody
 /// else writes below the root.
@@ -21,7 +25,8 @@ pub struct Root<F: Drop, A: Allocator + Clone> {
 #[derive(Drop)]
 struct Ways<A: Allocator + Clone> {
     root: Text,
-    // Paths below the root at which a directory, and no link, was seen or made. Nothing but `remove` ends one.
+    // Paths below the root at which a directory, and no link, was seen or made: at most `MOST_KNOWN`. Nothing but `remove` ends
+    // one.
     known: BTreeSet<Vec<u8, A>, A>,
     // The one that was asked for last.
     known_last: Vec<u8, A>,
@@ -204,6 +209,9 @@ fn add<A: Allocator + Clone>(
     known: &mut BTreeSet<Vec<u8, A>, A>,
     dir: &[u8],
 ) -> Result<(), AllocError> {
+    if known.len() >= MOST_KNOWN {
+        known.clear();
+    }
     match known.insert(Vec::from_slice(alloc, dir)?) {
         Ok(_) => Ok(()),
         Err(_) => Err(AllocError),

@@ -1,16 +1,22 @@
-use Rattle.std.proofs.Common.{◌≡◌, Bool, Ok, Err, ◌∙◌, ap, arith}
+use Rattle.std.proofs.Common.{◌≡◌, inl, Bool, Ok, Err, sym, ◌∙◌, ap, subst, arith}
 use Rattle.std.proofs.lemmas.Result.{err_from_is_err_and}
 use Rattle.ips_journal.specs.declared.fault.StepFault.{StepFault}
 use Rattle.ips_journal.specs.declared.fault.StepFault.TheVariants.{FolderFault}
 use Rattle.ips_outside.proofs.Reading.{no_fault}
+use Rattle.ips_outside.specs.State.{State}
+use Rattle.ips_apply.specs.Judging.{IsKnown}
 use Rattle.ips_apply.proofs.Going.{going_start, ends_there, ends_reading_as, ends_at_step, ends_full, going_on, takers_stay, lends_one}
 use Rattle.ips_apply.proofs.applying.apply_block.Goals as goal
 
 pub loop-count-init : goal.loop-count-init
-loop-count-init g c = record { going = going_start g.F.Source.outside g.met.F.Source.sane c.args.folder.now c.args.reader.now _ c.requires.open; few = omega arith }
+loop-count-init g c = record { going = going_start g.F.Source.outside g.met.F.Source.sane c.args.folder.now c.args.reader.now _ c.requires.open; few = omega arith; known = λ told. inl c.none-known.ensures }
 
 pub lay_next-requires-clause-takers : goal.lay_next-requires-clause-takers
 lay_next-requires-clause-takers g c = takers_stay g.F.Source.outside c.args.folder.now c.loop-count.folder c.args.reader.now c.loop-count.reader _ _ c.loop-count.count c.loop-count.invariant.going c.requires.takers
+
+pub lay_next-requires-clause-known : goal.lay_next-requires-clause-known
+lay_next-requires-clause-known g c = λ told.
+    subst (λ (s : State). IsKnown s.held c.loop-count.known) (sym c.next.ensures.reads.kept) (c.loop-count.invariant.known (sym c.next.ensures.reads.call.same_kind ∙ told))
 
 pub returns-in_err-next-clause-applied : goal.returns-in_err-next-clause-applied
 returns-in_err-next-clause-applied g c =
@@ -39,7 +45,7 @@ loop-count-preserved g c =
     (c.lay_next.ensures.same_kind ∙ kept) (c.lay_next.ensures.cause.steady (no_fault c.lay_next.result _ FolderFault c.in_ok-lay_next.was) ∙ calm) c.lay_next.ensures.changes
     (λ told. let laid = c.in_ok-lay_next.ensures.done (kept ∙ told) one.0 one.1 in (laid.0, laid.1, c.lay_next.ensures.any_moment (kept ∙ told) one.0 one.1))
     in
-    record { going = more; few = omega (arith, c.loop-count-test.true) }
+    record { going = more; few = omega (arith, c.loop-count-test.true); known = λ told. c.in_ok-lay_next.ensures.known (sym c.lay_next.ensures.same_kind ∙ told) }
 
 pub returns-clause-applied : goal.returns-clause-applied
 returns-clause-applied g c =

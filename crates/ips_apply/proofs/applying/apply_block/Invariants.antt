@@ -1,5 +1,6 @@
-use Rattle.std.proofs.Common.{◌-◌, ◌≤◌}
+use Rattle.std.proofs.Common.{◌-◌, ◌≤◌, IsTrue}
 use Rattle.ips_kinds.specs.Tallies.{seen_by}
+use Rattle.ips_apply.specs.Judging.{IsKnown}
 use Rattle.ips_apply.proofs.Going.{Going}
 use Rattle.ips_apply.proofs.applying.apply_block.Given as goal
 
@@ -10,6 +11,7 @@ invariant-loop-count g l = record {
       (seen_by (λ k. (goal.Kind-dyn g (k.vtable, k.value)).sorts k.value) (λ k. (goal.Kind-dyn g (k.vtable, k.value)).finished k.value) l.kinds.items)
       l.count;
   few : l.count ≤ l.most;
+  known : IsTrue (g.F.Source.outside.tells l.folder) → IsKnown (g.F.Source.outside.state l.folder).held l.known;
 }
 
 abbrev pub decreases-loop-count : goal.decreases-loop-count

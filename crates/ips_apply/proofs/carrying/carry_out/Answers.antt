@@ -3,7 +3,7 @@ use Rattle.ips_steps.specs.View.{step_of, sort_of}
 use Rattle.ips_kinds.specs.declared.kind.Act.{Act}
 use Rattle.ips_kinds.proofs.Turns.{goes_on}
 use Rattle.ips_outside.proofs.Reading.{answered}
-use Rattle.ips_apply.proofs.Carried.{has_acts, tally_stays, first_turn, can_act, changed_so_far, next_turn, last_turn}
+use Rattle.ips_apply.proofs.Carried.{has_acts, tally_stays, first_turn, can_act, size_stays, changed_so_far, next_turn, last_turn}
 use Rattle.ips_apply.proofs.carrying.carry_out.Goals as goal
 
 pub loop-folder-init : goal.loop-folder-init
@@ -12,6 +12,10 @@ loop-folder-init g c = record { sorts = refl; finished = refl; turn = has_acts (
 pub perform-requires-clause-can : goal.perform-requires-clause-can
 perform-requires-clause-can g c =
     can_act g.F.Source.outside g.met.F.Source.sane (step_of c.args.step.now) c.requires.allowed c.args.folder.now c.loop-folder.folder c.loop-folder.turn c.loop-folder.invariant.acts c.requires.can c.next_act-act.result c.next_act-act.ensures.act
+
+pub perform-requires-clause-size : goal.perform-requires-clause-size
+perform-requires-clause-size g c =
+    size_stays g.F.Source.outside g.met.F.Source.sane (step_of c.args.step.now) c.requires.allowed c.args.folder.now c.loop-folder.folder c.loop-folder.turn c.loop-folder.invariant.acts c.requires.can c.args.size c.requires.size
 
 pub returns-in-Finished-clause-done : goal.returns-in-Finished-clause-done
 returns-in-Finished-clause-done g c =

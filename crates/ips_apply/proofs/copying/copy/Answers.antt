@@ -1,17 +1,8 @@
-use Rattle.std.proofs.Common.{IsErr}
-use Rattle.ips_outside.proofs.Reading.{answered}
-use Rattle.ips_apply.proofs.Copies.{kept_writing, copied_more}
+use Rattle.std.proofs.Common.{IsErr, ◌∙◌}
+use Rattle.ips_apply.proofs.Copies.{kept_behind}
 use Rattle.ips_apply.proofs.copying.copy.Goals as goal
 
-pub returns-in_err-append-clause-any_moment : goal.returns-in_err-append-clause-any_moment
-returns-in_err-append-clause-any_moment g c =
-    kept_writing g.F.Source.outside g.met.F.Source.sane c.args.path.now.bytes c.args.from.now.bytes c.requires.apart c.args.folder.now c.loop-at.folder c.loop-at.at c.loop-at.invariant.1
-    c.read_part.new.folder (IsErr c.read_part.result) c.read_part.ensures.reads c.append.new.self _ c.append.result c.append.ensures
-
-pub loop-at-preserved : goal.loop-at-preserved
-loop-at-preserved g c = (
-  c.in_ok-count.ensures.within,
-  copied_more g.F.Source.outside g.met.F.Source.sane c.args.path.now.bytes c.args.from.now.bytes c.requires.apart c.args.folder.now c.loop-at.folder c.loop-at.at c.loop-at.invariant.1
-      c.read_part.new.folder (IsErr c.read_part.result) c.read_part.ensures.reads (answered c.read_part.result _ c.in_ok-count.was) c.read_part.new.buffer c.in_ok-count.count c.in_ok-count.ensures.found
-      c.append.new.self c.append.result _ c.in_ok-append.was c.append.ensures c.in_ok-append.ensures.done,
-)
+pub returns-clause-any_moment : goal.returns-clause-any_moment
+returns-clause-any_moment g c = λ told.
+    kept_behind g.F.Source.outside g.met.F.Source.sane c.args.path.now.bytes c.args.from.now.bytes c.args.folder.now c.size_of.new.folder c.copy_sized.new.folder (IsErr c.size_of.result) c.size_of.ensures.reads
+    (c.copy_sized.ensures.any_moment (c.size_of.ensures.reads.call.same_kind ∙ told))
