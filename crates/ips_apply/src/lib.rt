@@ -3,8 +3,9 @@
 //! A step is judged before it is laid: one that isn't possible then ends the run, and so does a line that isn't of the
 //! journal's grammar. At every moment only what the steps say is changed. No memory is taken.
 //!
-//! In reading order: `applying` goes through the journal, `judging` says whether a step is possible, `carrying` finds its
-//! kind and follows that kind's acts, `acting` does one act, and `copying` fills a file.
+//! In reading order: `applying` goes through the journal, `judging` says whether a step is possible, `known` has the directory
+//! that wasn't to be looked at again, `carrying` finds the step's kind and follows that kind's acts, `acting` does one act, and
+//! `copying` fills a file.
 #![tactic(auto)]
 
 mod acting;

@@ -246,7 +246,7 @@ fn reads_before_it_changes(
             return false;
         }
     }
-    earlier > 3004 && failing_at(rt, alloc, left, earlier.saturating_add(1), kinds) == "unfinished"
+    earlier > 8 && failing_at(rt, alloc, left, earlier.saturating_add(1), kinds) == "unfinished"
 }
 
 // Which of the first three marks stand.
