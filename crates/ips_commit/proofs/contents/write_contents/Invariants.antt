@@ -7,6 +7,7 @@ use Rattle.ips_folder.specs.Calls.{Keeps}
 use Rattle.ips_steps.specs.Steps.{stage_name, stage_path}
 use Rattle.ips_journal.specs.declared.staged.Staged.{Staged}
 use Rattle.ips_commit.specs.Contents.{IsIntactContent}
+use Rattle.ips_commit.specs.Staging.{HoldsOnly}
 use Rattle.ips_commit.proofs.AllWritten.{IsWritten}
 use Rattle.ips_commit.proofs.contents.write_contents.Given as goal
 
@@ -18,6 +19,7 @@ invariant-loop-number g l = record {
   stage : IsTrue (g.F.Source.outside.tells l.fn.folder) → IsTrue (is_dir ((g.F.Source.outside.state l.folder).held.look stage_name));
   stands : IsTrue (g.F.Source.outside.tells l.fn.folder) → (g.F.Source.outside.state l.folder).held.look stage_name ≡ (g.F.Source.outside.state l.fn.folder).held.look stage_name;
   empty : IsTrue (g.F.Source.outside.tells l.fn.folder) → (n : ℕ) → l.number ≤ n → n < 2 ^ 64 → (g.F.Source.outside.state l.folder).held.look (stage_path n) ≡ None;
+  only : IsTrue (g.F.Source.outside.tells l.fn.folder) → HoldsOnly l.number (g.F.Source.outside.state l.folder).held;
   written : IsTrue (g.F.Source.outside.tells l.fn.folder) → (n : ℕ) (s : Staged) → n < l.number → slice_get l.staged n ≡ Some s
       → IsWritten (g.S.Source.outside.tells l.fn.source) (g.S.Source.outside.state l.fn.source).held l.publisher (g.F.Source.outside.state l.fn.folder).held (g.F.Source.outside.state l.folder).held n s;
   intact : IsTrue (g.S.Source.outside.tells l.fn.source) → (n : ℕ) (s : Staged) → n < l.number → slice_get l.staged n ≡ Some s → IsIntactContent (g.S.Source.outside.state l.fn.source).held l.publisher s;
