@@ -127,4 +127,3 @@ module _ (apart : List ℕ → Bool) (own : (q : List ℕ) → apart q ≡ true 
 pub allowed_both : (front steps : List Step) → allowed front ≡ true → allowed steps ≡ true → allowed (front ++ steps) ≡ true
 allowed_both [] steps first second = second
 allowed_both (s ∷ front) steps first second = let parts = and_parts (step_allowed s) (allowed front) first in and_from _ _ parts.0 (allowed_both front steps parts.1 second)
-

@@ -140,19 +140,19 @@ stage_unlisted : covers journal_name stage_name ≡ false
 unfolding stage_name journal_name
 stage_unlisted = refl
 
+stage_itself : begins stage_name stage_name ≡ true
+unfolding stage_name
+stage_itself = refl
+
+front_unlisted : (d : List ℕ) → covers journal_name (stage_name ++ d) ≡ false
+unfolding stage_name journal_name
+front_unlisted d = refl
+
 -- nothing in the stage is the journal
 below_unlisted : (q : List ℕ) → is_below stage_name q ≡ true → covers journal_name q ≡ false
 below_unlisted q below =
-    let cut = behind_front stage_name q (begins_below stage_name stage_name q begins_itself (and_parts (covers stage_name q) _ below).0) in
-    ap (covers journal_name) cut.1 ∙ unlisted cut.0
-  where
-    begins_itself : begins stage_name stage_name ≡ true
-    unfolding stage_name
-    begins_itself = refl
-
-    unlisted : (d : List ℕ) → covers journal_name (stage_name ++ d) ≡ false
-    unfolding stage_name journal_name
-    unlisted d = refl
+    let cut = behind_front stage_name q (begins_below stage_name stage_name q stage_itself (and_parts (covers stage_name q) _ below).0) in
+    ap (covers journal_name) cut.1 ∙ front_unlisted cut.0
 
 journal_is_swept : is_swept journal_name ≡ true
 unfolding stage_name journal_name

@@ -215,7 +215,9 @@ returns-in-Err-clause-stopped g c = λ told steps count is.
 pub returns-in-Err-roll_forward-clause-stopped : goal.returns-in-Err-roll_forward-clause-stopped
 returns-in-Err-roll_forward-clause-stopped g c = λ told steps count is unfinished.
     let kept = c.find_left.ensures.reads.kept in
-    subst (λ (s : State). IsUnfinished s.held (g.F.Source.outside.state c.roll_forward.new.folder) steps count _ _) kept
+    let before = seen_by (λ k. (goal.Kind-dyn g (k.vtable, k.value)).sorts k.value) (λ k. (goal.Kind-dyn g (k.vtable, k.value)).finished k.value) c.args.kinds.now.items in
+    let after_it = seen_by (λ k. (goal.Kind-dyn g (k.vtable, k.value)).sorts k.value) (λ k. (goal.Kind-dyn g (k.vtable, k.value)).finished k.value) c.roll_forward.new.kinds.items in
+    subst (λ (s : State). IsUnfinished s.held (g.F.Source.outside.state c.roll_forward.new.folder) steps count before after_it) kept
     (c.in-Err-roll_forward.ensures.stopped (c.find_left.ensures.reads.call.same_kind ∙ told) steps count (subst (λ (s : State). IsJournalled s.held steps count) (sym kept) is) unfinished)
 
 pub returns-in_default-clause-stopped : goal.returns-in_default-clause-stopped
