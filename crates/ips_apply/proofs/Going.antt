@@ -14,7 +14,7 @@ use Rattle.ips_journal.specs.Reading.{Reading, IsAt, Means, TellsLine, TellsNext
 use Rattle.ips_journal.specs.declared.fault.StepFault.{StepFault}
 use Rattle.ips_journal.specs.declared.fault.StepFault.TheVariants.{BadJournal, FolderFault}
 use Rattle.ips_apply.specs.Applied.{ChangedBy, OnBadJournal, AreLaid, IsReadTo, StopsBy, Ends, Applied, AppliedPart}
-use Rattle.ips_apply.proofs.Turns.{allowed_behind, laid_then_read, journal_stays, changed_more, laid_one_more}
+use Rattle.ips_apply.proofs.Turns.{allowed_behind, laid_then_read, journal_stays, changed_more, held_none, held_one, laid_one_more}
 
 -- So many steps are finished, and the reader stands behind them.
 pub record Going {F : Type 0} (o : Outside F) (old now : F) (start r : Reading) (before kinds : List Carrier) (count : ℕ) : Type 0 where
@@ -100,7 +100,7 @@ module _ {F : Type 0} (o : Outside F) (sane : IsOutside o) (old now mid : F) (st
         (λ told front at.
         let both = g.told told front at in
         let laid = laid_then_read o sane g.done old now mid failure both.1 reads in
-        record { begun = g.done; one_more = inl refl; stands = (r, both.0); can = laid.can; moments = laid.moments })
+        record { begun = g.done; one_more = inl refl; stands = (r, both.0); can = laid.can; held = held_none o sane g.done old mid laid; moments = laid.moments })
 
     pub ends_reading_as : (result : Result (ℕ × Bool) StepFault) (e : StepFault) → result ≡ Err e → answer ≡ Err e → AppliedPart o most old mid start s before kinds result
     ends_reading_as result e same is = subst (AppliedPart o most old mid start s before kinds) (sym same) (ends_reading e is)
@@ -126,6 +126,7 @@ module _ {F : Type 0} (o : Outside F) (sane : IsOutside o) (old now mid : F) (st
           one_more = inr (x, refl);
           stands = (s, subst (λ (l : List Step). IsAt (journal_of (o.state old).held) l s) (append_assoc front g.done (x ∷ [])) (next_at told front at));
           can = laid.can;
+          held = held_one o sane g.done x old mid new laid (changed told);
           moments = changed_more o sane g.done x old mid new laid (changed told);
         })
 
@@ -267,7 +268,7 @@ module _ {F : Type 0} (o : Outside F) (sane : IsOutside o) (old mid : F) (start 
     )
     last_stops FolderFault failed told front at =
         let laid = laid_last told front at in
-        record { begun = p.steps; one_more = inl refl; stands = (r, (here told front at).0); can = laid.can; moments = laid.moments }
+        record { begun = p.steps; one_more = inl refl; stands = (r, (here told front at).0); can = laid.can; held = held_none o sane p.steps old new laid; moments = laid.moments }
 
     pub all_unread : (result : Result ℕ StepFault) (e : StepFault) → result ≡ Err e → answer ≡ Err e → Applied o old new start before kinds result
     all_unread result e same failed = subst (Applied o old new start before kinds) (sym same) (record { steps = p.steps; tallies = p.tallies; count = tt; ends = last_stops e failed })

@@ -1,14 +1,16 @@
 -- One more step behind a list of them.
-use Rattle.std.proofs.Common.{◌≡◌, ℕ, Bool, true, false, ◌||◌, List, [], ◌∷◌, ◌++◌, unwrap_or, refl, sym, ◌∙◌, ap, ap₂}
+use Rattle.std.proofs.Common.{◌≡◌, ℕ, Bool, true, false, ◌||◌, List, [], ◌∷◌, ◌++◌, length, drop, unwrap_or, refl, sym, ◌∙◌, ap, ap₂, subst}
+use Rattle.std.proofs.Math.Seq.{drop-append_seam, drop-length}
 use Rattle.std.proofs.lemmas.Bool.{and_parts, and_from, or_parts, or_from}
 use Rattle.ips_outside.specs.Image.{Image}
 use Rattle.ips_outside.specs.Outside.{Outside, IsOutside, Reads}
-use Rattle.ips_steps.specs.Steps.{Step, Stage, laid, all_laid, can_lay, possible, frees, freed, meets, met, stage_of}
+use Rattle.ips_steps.specs.Steps.{Step, Stage, laid, all_laid, can_lay, possible, frees, freed, meets, met, after, stage_of}
 use Rattle.ips_steps.specs.Journal.{step_allowed, allowed}
 use Rattle.ips_steps.proofs.PrivateNames.{journal_kept, same_bytes, same_stage}
 use Rattle.ips_folder.proofs.Runs.{keeps_then, keeps_wider, one_read}
 use Rattle.ips_journal.specs.Reading.{journal_of}
-use Rattle.ips_apply.specs.Applied.{ChangedBy, ChangedByAll, AreLaid}
+use Rattle.ips_outside.proofs.Moments.{agrees_self}
+use Rattle.ips_apply.specs.Applied.{ChangedBy, ChangedByAll, AgreesBut, AreLaid}
 
 freed_more : (steps : List Step) (s : Step) (q : List ℕ) → freed (steps ++ s ∷ []) q ≡ false → (freed steps q ≡ false) × (frees s q ≡ false)
 freed_more [] s q off = (refl, (or_parts (frees s q) false off).0)
@@ -67,6 +69,25 @@ module _ {F : Type 0} (o : Outside F) (sane : IsOutside o) where
       (λ q off. let parts = or_parts (freed all q) _ off in or_from (freed steps q) _ (freed_more steps s q parts.0).0 (met_more stage steps s t q parts.1).0) done.moments)
       (keeps_wider o (frees s) (λ q. frees s q || meets s (o.state mid).held q) (freed all) loose mid new (λ q off. (freed_more steps s q off).1)
       (λ q off. let parts = or_parts (freed all q) _ off in or_from (frees s q) _ (freed_more steps s q parts.0).1 (ap (λ (u : Image). meets s u q) done.held ∙ (met_more stage steps s t q parts.1).1)) step)
+
+  -- what is held, where no step was begun behind those that are laid
+  pub held_none : (steps : List Step) (old new : F) → AreLaid o steps old new → AgreesBut (drop (length steps) steps) (after steps (o.state old).held) (o.state new).held
+  held_none steps old new done =
+      let t = after steps (o.state old).held in
+      subst (λ (more : List Step). AgreesBut more t (o.state new).held) (sym (drop-length steps)) (subst (AgreesBut [] t) (sym done.held) (agrees_self _ _ t))
+
+  -- and where one was
+  pub held_one : (steps : List Step) (s : Step) (old mid new : F) → AreLaid o steps old mid → ChangedBy o s mid new → AgreesBut (drop (length steps) (steps ++ s ∷ [])) (after steps (o.state old).held) (o.state new).held
+  held_one steps s old mid new done step =
+      let t = after steps (o.state old).held in
+      let apart : (q : List ℕ) → freed (s ∷ []) q ≡ false → frees s q ≡ false = λ q off. (or_parts (frees s q) false off).0 in
+      let agrees = step.now.agrees in
+      let here : AgreesBut (s ∷ []) (o.state mid).held (o.state new).held = record {
+        look = λ q off set. agrees.look q (apart q off) (or_from (frees s q) (meets s (o.state mid).held q) (apart q off) (or_parts (meets s (o.state mid).held q) false set).0);
+        but_mode = λ q off. agrees.but_mode q (apart q off);
+        same = λ a b f g. agrees.same a b (apart a f) (apart b g);
+      } in
+      subst (λ (more : List Step). AgreesBut more t (o.state new).held) (sym (drop-append_seam steps (s ∷ []))) (subst (λ (u : Image). AgreesBut (s ∷ []) u (o.state new).held) done.held here)
 
   pub laid_one_more : (steps : List Step) (s : Step) (old mid new : F) → allowed steps ≡ true → AreLaid o steps old mid → can_lay (stage_of (o.state mid).held) s (o.state mid).held ≡ true
       → (o.state new).held ≡ laid (stage_of (o.state mid).held) s (o.state mid).held → ChangedBy o s mid new → AreLaid o (steps ++ s ∷ []) old new

@@ -1,6 +1,6 @@
 -- What is done to a folder while steps are carried out on it.
-use Rattle.std.specs.Prelude.{◌≡◌, ◌⊎◌, ℕ, ◌+◌, ◌-◌, ◌^◌, ◌<◌, ◌≤◌, ◌||◌, min, Bool, true, false, not, IfOk, IsTrue, IsFalse, List, [], ◌∷◌, ◌++◌, length, Result, Ok, Err}
-use Rattle.ips_outside.specs.Image.{Image}
+use Rattle.std.specs.Prelude.{◌≡◌, ◌⊎◌, ℕ, ◌+◌, ◌-◌, ◌^◌, ◌<◌, ◌≤◌, ◌||◌, min, Bool, true, false, not, IfOk, IsTrue, IsFalse, List, [], ◌∷◌, ◌++◌, length, drop, Result, Ok, Err}
+use Rattle.ips_outside.specs.Image.{Image, Agrees}
 use Rattle.ips_outside.specs.Outside.{Outside}
 use Rattle.ips_folder.specs.Calls.{Keeps}
 use Rattle.ips_steps.specs.Steps.{Step, can_lay, possible, after, frees, freed, meets, met, stage_of}
@@ -19,6 +19,10 @@ ChangedBy o s old new = Keeps o (frees s) (λ q. frees s q || meets s (o.state o
 -- The same for steps that are laid one after another.
 abbrev pub ChangedByAll : {F : Type 0} → Outside F → List Step → F → F → Type 0
 ChangedByAll o steps old new = Keeps o (freed steps) (λ q. freed steps q || met (stage_of (o.state old).held) steps (o.state old).held q) old new
+
+-- The second image is the first, but at what these steps free, and but for the modes that they meet.
+abbrev pub AgreesBut : List Step → Image → Image → Type 0
+AgreesBut steps t u = Agrees (freed steps) (met (stage_of t) steps t) t u
 
 -- a fact of the line that a fault of the journal names
 abbrev pub OnBadJournal : {T : Type 0} → Result T StepFault → (ℕ → Type 0) → Type 0
@@ -43,12 +47,14 @@ pub record IsImpossible (text : List ℕ) (front : List Step) (t : Image) (line 
   pub cannot : IsFalse (can_lay (stage_of t) step t)
   pub number : line ≡ length front + 2
 
--- Behind the front these steps were laid, and one more may have been begun. Nothing else was changed or touched.
+-- Behind the front these steps were laid, and one more may have been begun: what is held is what the steps make of the old image,
+-- but at what that one frees, and but for the modes that it meets. Nothing else was changed or touched.
 pub record AreBegun {F : Type 0} (o : Outside F) (text : List ℕ) (front steps : List Step) (old new : F) : Type 0 where
   pub begun : List Step
   pub one_more : (begun ≡ steps) ⊎ ((s : Step) × (begun ≡ steps ++ s ∷ []))
   pub stands : BeginsWith text (front ++ begun)
   pub can : IsTrue (possible (stage_of (o.state old).held) steps (o.state old).held)
+  pub held : AgreesBut (drop (length steps) begun) (after steps (o.state old).held) (o.state new).held
   pub moments : ChangedByAll o begun old new
 
 -- The text begins with these steps, and the line comes next behind them.

@@ -1,10 +1,11 @@
 -- A line that is read piece by piece.
-use Rattle.std.proofs.Common.{◌≡◌, ℕ, ◌+◌, ◌^◌, ◌<◌, ◌≤◌, false, List, ◌∷◌, ◌++◌, length, Option, take, drop, take-add, take_all, inl, inr, refl, sym, ap, ◌∙◌, subst, arith, append_assoc, length-drop, length-take, length-take-le}
-use Rattle.std.proofs.Math.Seq.{drop-append-add}
+use Rattle.std.proofs.Common.{◌≡◌, ℕ, ◌+◌, ◌-◌, ◌^◌, ◌<◌, ◌≤◌, false, List, ◌∷◌, ◌++◌, length, Option, take, drop, take-add, take_all, inl, inr, refl, sym, ap, ◌∙◌, subst, arith, append_assoc, length-drop, length-take, length-take-le}
+use Rattle.std.proofs.Math.Seq.{drop-append-add, take-append_seam}
 use Rattle.std.proofs.lemmas.Bool.{cases_lt}
-use Rattle.std.proofs.lemmas.List.{take-take, take-append-drop, drop-drop}
+use Rattle.std.proofs.lemmas.List.{take-take, take-append-drop, drop-drop, drop-take}
 use Rattle.ips_outside.specs.Outside.{IsRead}
-use Rattle.ips_journal.specs.Line.{has, IsCut, BeginsLine, IsLineFound}
+use Rattle.ips_journal.specs.Text.{line}
+use Rattle.ips_journal.specs.Line.{has, IsCut, ComeFirst, BeginsLine, IsLineFound}
 use Rattle.ips_journal.proofs.Cuts.{lacks_append}
 
 -- The buffer has so many bytes of what lies ahead, none of them a newline.
@@ -25,7 +26,7 @@ tail_is : (x y ahead : List ℕ) → ahead ≡ x ++ 10 ∷ y → drop (length x 
 tail_is x y ahead e = ap (drop (length x + 1)) e ∙ drop-append-add x (10 ∷ y) 1
 
 module _ (ahead old new : List ℕ) (filled : ℕ) (is : IsFilled ahead old filled) (kept : take filled new ≡ take filled old) where
-  piece_more : (count : ℕ) → IsRead ahead filled (drop filled new) count → take (filled + count) new ≡ take (filled + count) ahead
+  pub piece_more : (count : ℕ) → IsRead ahead filled (drop filled new) count → take (filled + count) new ≡ take (filled + count) ahead
   piece_more count read =
       take-add filled count new
       ∙ ap (λ (l : List ℕ). l ++ take count (drop filled new)) (kept ∙ is.same)
@@ -81,7 +82,52 @@ filled_within file buffer place filled is le within = omega (arith, length-take-
 pub piece_read : (file now buffer : List ℕ) (place filled count : ℕ) → now ≡ file → IsRead now (place + filled) buffer count → IsRead (drop place file) filled buffer count
 piece_read file now buffer place filled count same read = read_ahead file buffer place filled count (subst (λ (f : List ℕ). IsRead f (place + filled) buffer count) same read)
 
+-- ---- bytes that were read before they are used
+
+-- the bytes that were read come first
+pub filled_first : (ahead buffer : List ℕ) (filled : ℕ) → filled ≤ length buffer → take filled buffer ≡ take filled ahead → ComeFirst (take filled buffer) ahead
+filled_first ahead buffer filled le same = ap (λ (n : ℕ). take n ahead) (length-take-le filled buffer le) ∙ sym same
+
+-- behind some of them the others do
+pub first_behind : (ahead held : List ℕ) (count : ℕ) → count ≤ length held → ComeFirst held ahead → ComeFirst (drop count held) (drop count ahead)
+first_behind ahead held count le first =
+    let sum : length held ≡ count + length (drop count held) = omega (arith, length-drop count held) in
+    sym (drop-take count (length (drop count held)) ahead) ∙ ap (λ (n : ℕ). drop count (take n ahead)) (sym sum) ∙ ap (drop count) first
+
+-- a line of the buffer is one of the bytes that were read
+pub line_among : (ahead buffer : List ℕ) (count filled : ℕ) → count ≤ filled → BeginsLine ahead buffer count → BeginsLine ahead (take filled buffer) count
+line_among ahead buffer count filled le h =
+    let same : take count (take filled buffer) ≡ take count buffer = take-take count filled buffer le in
+    record { parts = h.parts ∙ ap (λ (l : List ℕ). line l (drop (count + 1) ahead)) (sym same); one_line = ap (has 10) same ∙ h.one_line }
+
+-- a line that is held whole
+pub line_held : (ahead held : List ℕ) (count : ℕ) → ComeFirst held ahead → (count < length held) × IsCut 10 held (take count held) (drop (count + 1) held) → BeginsLine ahead held count
+line_held ahead held count first cut =
+    let behind : List ℕ = drop (count + 1) held ++ drop (length held) ahead in
+    let whole : ahead ≡ take count held ++ 10 ∷ behind =
+    sym (take-append-drop (length held) ahead) ∙ ap (λ (l : List ℕ). l ++ drop (length held) ahead) (first ∙ cut.1.parts) ∙ append_assoc (take count held) (10 ∷ drop (count + 1) held) (drop (length held) ahead) in
+    record {
+      parts = whole ∙ ap (λ (l : List ℕ). take count held ++ 10 ∷ l) (sym (tail_is (take count held) behind ahead whole) ∙ ap (λ (n : ℕ). drop (n + 1) ahead) (length-take-le count held (omega (arith, cut.0))));
+      one_line = cut.1.first_lacks;
+    }
+
+-- the bytes of a buffer between two places, behind some of them
+pub skipped : (items : List ℕ) (start end count : ℕ) → count ≤ length (take (end - start) (drop start items)) → take (end - (start + count)) (drop (start + count) items) ≡ drop count (take (end - start) (drop start items))
+skipped items start end count le =
+    let sum : end - start ≡ count + (end - (start + count)) = omega (arith, le, length-take (end - start) (drop start items)) in
+    sym (ap (λ (n : ℕ). drop count (take n (drop start items))) sum ∙ drop-take count (end - (start + count)) (drop start items) ∙ ap (take (end - (start + count))) (drop-drop count start items))
+
+-- the bytes up to a place of a buffer that was read into as a slice
+pub front_read : (new old : List ℕ) (len end : ℕ) → length new ≡ len → take (end - 0) (drop 0 (take len (new ++ drop (length new) old))) ≡ take end new
+front_read new old len end is =
+    let whole : take len (new ++ drop (length new) old) ≡ new = ap (λ (n : ℕ). take n (new ++ drop (length new) old)) (sym is) ∙ take-append_seam new (drop (length new) old) in
+    let count : end - 0 ≡ end = omega arith in
+    ap (λ (n : ℕ). take n (take len (new ++ drop (length new) old))) count ∙ ap (take end) whole
+
 -- what was found in a file is found in the text that it is
-pub line_found : (text now buffer : List ℕ) (place : ℕ) (found seen : Option ℕ) → now ≡ text → found ≡ seen → (place ≤ length now → length now < 2 ^ 64 → IsLineFound (drop place now) buffer found) → place ≤ length text → length text < 2 ^ 64 → IsLineFound (drop place text) buffer seen
-line_found text now buffer place found seen e is h within small =
-    subst (IsLineFound (drop place text) buffer) is (subst (λ (t : List ℕ). place ≤ length t → length t < 2 ^ 64 → IsLineFound (drop place t) buffer found) e h within small)
+pub line_found : (text now old held : List ℕ) (place : ℕ) (found seen : Option ℕ) → now ≡ text → found ≡ seen
+    → (place ≤ length now → length now < 2 ^ 64 → ComeFirst old (drop place now) → ComeFirst held (drop place now) × IsLineFound 16384 (drop place now) held found)
+    → place ≤ length text → length text < 2 ^ 64 → ComeFirst old (drop place text) → ComeFirst held (drop place text) × IsLineFound 16384 (drop place text) held seen
+line_found text now old held place found seen e is h within small first =
+    subst (λ (f : Option ℕ). ComeFirst held (drop place text) × IsLineFound 16384 (drop place text) held f) is
+    (subst (λ (t : List ℕ). place ≤ length t → length t < 2 ^ 64 → ComeFirst old (drop place t) → ComeFirst held (drop place t) × IsLineFound 16384 (drop place t) held found) e h within small first)

@@ -1,12 +1,12 @@
 -- What reading and writing a line do to where a reader or a text stands.
 use Rattle.std.proofs.Common.{◌≡◌, ℕ, suc, ◌+◌, ◌-◌, ◌^◌, ◌<◌, ◌≤◌, false, List, [], ◌∷◌, ◌++◌, length, take, drop, Option, Some, None, IfOk, Result, Ok, Err, inl, inr, refl, sym, ap, ◌∙◌, subst, arith, append_assoc, length-append, length-drop, length-take-le}
-use Rattle.std.proofs.Math.Seq.{take-append-add, take-append_seam}
+use Rattle.std.proofs.Math.Seq.{take-append-add}
 use Rattle.std.proofs.lemmas.List.{drop-drop, drop_all}
 use Rattle.ips_steps.specs.Steps.{Step}
 use Rattle.ips_steps.specs.Journal.{IsJournal, numbered}
 use Rattle.ips_journal.specs.Text.{head_line, line, step_line, step_lines, end_line, headed, journal_text}
 use Rattle.ips_journal.specs.Bad.{GoesOn, IsBadLine}
-use Rattle.ips_journal.specs.Line.{has, BeginsLine}
+use Rattle.ips_journal.specs.Line.{has, ComeFirst, BeginsLine}
 use Rattle.ips_journal.specs.Reading.{Reading, Stands, Means, IsFaultOf, IsNextLine, TellsLine, puts_in, text_from}
 use Rattle.ips_journal.specs.Holding.{IsHeaded, IsNextFault, IsStepLine, ReadMeans, TellsMore, clipped, found_step, seen, step_by}
 use Rattle.ips_journal.specs.declared.cursor.Cursor.{Cursor}
@@ -17,6 +17,7 @@ use Rattle.std.specs.Prelude.{is_some}
 use Rattle.ips_journal.specs.declared.fault.StepFault.{StepFault}
 use Rattle.ips_journal.specs.declared.fault.StepFault.TheVariants.{BadJournal, FolderFault}
 use Rattle.ips_journal.proofs.Cuts.{cut_once, not_cut}
+use Rattle.ips_journal.proofs.LinePieces.{first_behind}
 use Rattle.ips_journal.proofs.StepLines.{step_one_line, end_one_line, step_short, end_short}
 use Rattle.ips_journal.proofs.Journals.{journal_more, journal_last, last_told, puts_few, puts_more, lines_more, headed_long}
 
@@ -47,21 +48,21 @@ head_once bytes a b off e = (cut_once 10 bytes a head_line b off refl e).0
 
 -- ---- the first line
 
-pub head_read : (text buffer : List ℕ) (count : ℕ) → BeginsLine text buffer count → count < length buffer → take count buffer ≡ head_line → length text < 2 ^ 64 → IsHeaded text 10
-head_read text buffer count begins within is small =
-    let nine : count ≡ 9 = omega (arith, length-take-le count buffer (omega arith), ap length is) in
+pub head_read : (text held : List ℕ) (count : ℕ) → ComeFirst held text → BeginsLine text held count → count < length held → take count held ≡ head_line → length text < 2 ^ 64 → IsHeaded text 10 (drop (count + 1) held)
+head_read text held count first begins within is small =
+    let nine : count ≡ 9 = omega (arith, length-take-le count held (omega arith), ap length is) in
     let parts : text ≡ line head_line (drop 10 text) = begins.parts ∙ ap (λ (l : List ℕ). line l (drop (count + 1) text)) is ∙ ap (λ (n : ℕ). line head_line (drop (n + 1) text)) nine in
-    record { parts = parts; within = omega (arith, ap length parts); small = small }
+    record { parts = parts; within = omega (arith, ap length parts); small = small; ahead = subst (λ (n : ℕ). ComeFirst (drop (count + 1) held) (drop (n + 1) text)) nine (first_behind text held (count + 1) (omega arith) first) }
 
 pub no_head : (text buffer : List ℕ) (count : ℕ) → BeginsLine text buffer count → (take count buffer ≡ head_line → ⊥) → IsBadLine text 1
 no_head text buffer count begins off = λ rest e. off (head_once (take count buffer) (drop (count + 1) text) rest begins.one_line (sym begins.parts ∙ e))
 
-pub no_first : (text : List ℕ) (room : ℕ) → room ≡ 16384 → has 10 (take room text) ≡ false → IsBadLine text 1
-no_first text room size off = λ rest e. no_line head_line rest text room (omega arith) off e
+pub no_first : (text : List ℕ) → has 10 (take 16384 text) ≡ false → IsBadLine text 1
+no_first text off = λ rest e. no_line head_line rest text 16384 (omega arith) off e
 
 module _ (text : List ℕ) (front : List Step) where
   -- behind the first line, where nothing was read before
-  pub behind_first : (old new : Reading) → Stands (text_from front) text front old → old.steps ≡ 0 → IsHeaded text new.place → new.steps ≡ old.steps → new.puts ≡ old.puts → Stands (headed front) text front new
+  pub behind_first : (old new : Reading) → Stands (text_from front) text front old → old.steps ≡ 0 → IsHeaded text new.place new.ahead → new.steps ≡ old.steps → new.puts ≡ old.puts → Stands (headed front) text front new
   behind_first old new h zero first steps puts = go front h.listed h.steps h.puts
     where
       go : (f : List Step) → IsJournal f → old.steps ≡ length f → old.puts ≡ puts_in f → Stands (headed f) text f new
@@ -72,6 +73,7 @@ module _ (text : List ℕ) (front : List Step) where
         line = λ some. absurd (omega (arith, steps, zero, some));
         place = first.within;
         begins = first.parts;
+        ahead = first.ahead;
         small = λ some. first.small;
       }
       go (s ∷ f) listed count put = absurd (omega (arith, zero, count))
@@ -91,7 +93,7 @@ module _ (text : List ℕ) (front : List Step) where
     where
       go : (f : List Step) → IsJournal f → r.steps ≡ length f → r.puts ≡ puts_in f → text ≡ text_from f (drop r.place text) → Stands (headed f) text f r
       go [] listed count put begins = absurd (omega (arith, some, count))
-      go (s ∷ f) listed count put begins = record { listed = listed; steps = count; puts = put; line = h.line; place = h.place; begins = begins; small = h.small }
+      go (s ∷ f) listed count put begins = record { listed = listed; steps = count; puts = put; line = h.line; place = h.place; begins = begins; ahead = h.ahead; small = h.small }
 
 -- ---- a further line
 
@@ -112,10 +114,10 @@ module _ (text : List ℕ) (front : List Step) (r : Reading) (h : Stands (headed
       )
 
   -- no line ends within the room
-  pub none_ends : (number room : ℕ) → number ≡ clipped r.steps 2 → room ≡ 16384 → has 10 (take room (drop r.place text)) ≡ false → IsBadLine text number × IsNextLine text front number
-  none_ends number room is size off = bad_line number is
-      (λ s more j e. let told = last_told front s j in no_line (step_line s) more (drop r.place text) room (omega (arith, step_short s told.0 told.1)) off e)
-      (λ more e. no_line (end_line (length front)) more (drop r.place text) room (omega (arith, end_short (length front) h.listed.count)) off e)
+  pub none_ends : (number : ℕ) → number ≡ clipped r.steps 2 → has 10 (take 16384 (drop r.place text)) ≡ false → IsBadLine text number × IsNextLine text front number
+  none_ends number is off = bad_line number is
+      (λ s more j e. let told = last_told front s j in no_line (step_line s) more (drop r.place text) 16384 (omega (arith, step_short s told.0 told.1)) off e)
+      (λ more e. no_line (end_line (length front)) more (drop r.place text) 16384 (omega (arith, end_short (length front) h.listed.count)) off e)
 
   module _ (bytes : List ℕ) (count : ℕ) (parts : drop r.place text ≡ line bytes (drop (count + 1) (drop r.place text))) (one_line : has 10 bytes ≡ false) (sized : length bytes ≡ count) where
     behind : drop (count + 1) (drop r.place text) ≡ drop (r.place + (count + 1)) text
@@ -138,9 +140,9 @@ module _ (text : List ℕ) (front : List Step) (r : Reading) (h : Stands (headed
         (λ more e. no_end ((cut_once 10 bytes (drop (count + 1) (drop r.place text)) (end_line (length front)) more one_line (end_one_line (length front) h.listed.count) (sym parts ∙ e)).0 ∙ ap end_line (sym h.steps)))
 
     -- the line tells a step
-    pub step_taken : (s : Step) (new : Reading) → IsStepLine bytes r.puts s → new.place ≡ clipped r.place (count + 1) → new.steps ≡ clipped r.steps 1 → new.puts ≡ clipped r.puts (puts_in (s ∷ [])) → new.line ≡ clipped r.steps 2
+    pub step_taken : (s : Step) (new : Reading) (held : List ℕ) → ComeFirst held (drop r.place text) → count < length held → new.ahead ≡ drop (count + 1) held → IsStepLine bytes r.puts s → new.place ≡ clipped r.place (count + 1) → new.steps ≡ clipped r.steps 1 → new.puts ≡ clipped r.puts (puts_in (s ∷ [])) → new.line ≡ clipped r.steps 2
         → Stands (text_from (front ++ s ∷ [])) text (front ++ s ∷ []) new
-    step_taken s new is place steps puts number =
+    step_taken s new held first fits ahead is place steps puts number =
         let here : new.place ≡ r.place + (count + 1) = omega (arith, place, line_within, small) in
         record {
           listed = journal_more front s h.listed is.safe (ap (λ (n : ℕ). numbered n (s ∷ [])) (sym h.puts) ∙ is.number) (omega (arith, long, small));
@@ -152,6 +154,8 @@ module _ (text : List ℕ) (front : List Step) (r : Reading) (h : Stands (headed
               h.begins
               ∙ ap (headed front) (parts ∙ ap (λ (l : List ℕ). line l (drop (count + 1) (drop r.place text))) is.spelled ∙ ap (line (step_line s)) (behind ∙ ap (λ (n : ℕ). drop n text) (sym here)))
               ∙ from_more front s (drop new.place text);
+          ahead = subst (λ (l : List ℕ). ComeFirst l (drop new.place text)) (sym ahead)
+              (subst (ComeFirst (drop (count + 1) held)) (behind ∙ ap (λ (n : ℕ). drop n text) (sym here)) (first_behind (drop r.place text) held (count + 1) (omega arith) first));
           small = λ some. small;
         }
 
@@ -180,10 +184,6 @@ module _ (text : List ℕ) (front : List Step) (r : Reading) (h : Stands (headed
     pub end_behind : (now : List ℕ) (place : ℕ) → bytes ≡ end_line r.steps → now ≡ text → place ≡ r.place + (count + 1) → length now ≤ place → IsJournal front × (text ≡ journal_text front)
     end_behind now place is same at h = all_read is (omega (arith, h, at, ap length same))
 
--- a buffer that was read into as a slice
-pub kept_buffer : (new old : List ℕ) (len : ℕ) → length new ≡ len → take len (new ++ drop (length new) old) ≡ new
-kept_buffer new old len e = ap (λ (n : ℕ). take n (new ++ drop (length new) old)) (sym e) ∙ take-append_seam new (drop (length new) old)
-
 -- a fault that is handed on
 pub fault_handed : (text : List ℕ) (front : List Step) (new : Cursor) (parts : Parts) (r : Result (Option Sort) StepFault) (f : StepFault) → IsErrAnd r (λ e. e ≡ f) → IsNextFault text front f → ReadMeans text front new parts r
 fault_handed text front new parts (Ok x) f h is = absurd h
@@ -191,7 +191,7 @@ fault_handed text front new parts (Err e) f h is = subst (IsNextFault text front
 
 -- the step that is lent is no part of where a reader stands
 pub lending : (before : List ℕ → List ℕ) (text : List ℕ) (front : List Step) (c : Cursor) (a b : Option Step) → Stands before text front (seen c a) → Stands before text front (seen c b)
-lending before text front c a b h = record { listed = h.listed; steps = h.steps; puts = h.puts; line = h.line; place = h.place; begins = h.begins; small = h.small }
+lending before text front c a b h = record { listed = h.listed; steps = h.steps; puts = h.puts; line = h.line; place = h.place; begins = h.begins; ahead = h.ahead; small = h.small }
 
 -- what an answer means, where the step that was found is lent
 pub read_means : (text : List ℕ) (front : List Step) (old new : Cursor) (held lent : Option Step) (parts : Parts) (found : Result (Option Sort) StepFault) (x : Option Sort) → found ≡ Ok x

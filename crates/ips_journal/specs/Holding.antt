@@ -8,6 +8,7 @@ use Rattle.ips_steps.specs.declared.step.Step.TheVariants as step
 use Rattle.ips_steps.specs.declared.step.Sort.{Sort}
 use Rattle.ips_steps.specs.declared.step.Sort.TheVariants as sort
 use Rattle.ips_journal.specs.Text.{head_line, line, headed, journal_text, step_line}
+use Rattle.ips_journal.specs.Line.{ComeFirst}
 use Rattle.ips_journal.specs.Reading.{Reading, Stands, IsFaultOf, TellsNext, puts_in, text_from, parent_in, stage_in}
 use Rattle.ips_journal.specs.declared.parts.Parts.{Parts}
 use Rattle.ips_journal.specs.declared.held.Left.{Left}
@@ -91,21 +92,23 @@ found_step (Err fault) parts = None
 
 -- where a cursor stands, with the step that is lent
 abbrev pub seen : Cursor → Option Step → Reading
-seen c s = record { place = c.place; steps = c.steps; puts = c.puts; line = c.line; is_open = c.is_open; step = s }
+seen c s = record { place = c.place; steps = c.steps; puts = c.puts; ahead = c.ahead; line = c.line; is_open = c.is_open; step = s }
 
 -- the cursor stands at the front
 pub record IsFresh (c : Cursor) : Type 0 where
   pub place : c.place ≡ 0
   pub steps : c.steps ≡ 0
   pub puts : c.puts ≡ 0
+  pub ahead : c.ahead ≡ []
   pub line : c.line ≡ 0
   pub is_open : c.is_open ≡ true
 
--- The first line lies behind this place of the text, whose length is the size of a file.
-pub record IsHeaded (text : List ℕ) (place : ℕ) : Type 0 where
+-- The first line lies behind this place of the text, whose length is the size of a file, and these bytes come first there.
+pub record IsHeaded (text : List ℕ) (place : ℕ) (bytes : List ℕ) : Type 0 where
   pub parts : text ≡ line head_line (drop place text)
   pub within : place ≤ length text
   pub small : length text < 2 ^ 64
+  pub ahead : ComeFirst bytes (drop place text)
 
 -- The first line and those of the steps of the front lie behind the cursor, in a text whose length is the size of a file.
 abbrev pub IsBehindHead : List ℕ → List Step → Cursor → Type 0
@@ -126,17 +129,18 @@ pub record IsMoved (s : Step) (count : ℕ) (old new : Cursor) : Type 0 where
   pub place : new.place ≡ clipped old.place (count + 1)
   pub steps : new.steps ≡ clipped old.steps 1
   pub puts : new.puts ≡ clipped old.puts (puts_in (s ∷ []))
+  pub ahead : new.ahead ≡ drop (count + 1) old.ahead
   pub line : new.line ≡ old.line
   pub is_open : new.is_open ≡ true
 
--- The cursor stands where it stood, over the same bytes.
+-- The cursor stands where it stood, before the same bytes.
 pub record IsStill (old new : Cursor) : Type 0 where
   pub place : new.place ≡ old.place
   pub steps : new.steps ≡ old.steps
   pub puts : new.puts ≡ old.puts
   pub line : new.line ≡ old.line
   pub is_open : new.is_open ≡ old.is_open
-  pub buffer : new.buffer.items ≡ old.buffer.items
+  pub ahead : new.ahead ≡ old.ahead
 
 -- a fault of the text tells this line, and the text goes on at the place
 abbrev pub TellsMore : ℕ → ℕ → List ℕ → StepFault → Type 0

@@ -12,12 +12,16 @@ pub record IsCut (b : ℕ) (bytes first second : List ℕ) : Type 0 where
   pub parts : bytes ≡ first ++ b ∷ second
   pub first_lacks : IsFalse (has b first)
 
--- What lies ahead begins with a line of so many bytes, which stands at the buffer's front.
-pub record BeginsLine (ahead buffer : List ℕ) (count : ℕ) : Type 0 where
-  pub parts : ahead ≡ line (take count buffer) (drop (count + 1) ahead)
-  pub one_line : IsFalse (has 10 (take count buffer))
+-- These bytes come first in what lies ahead.
+abbrev pub ComeFirst : List ℕ → List ℕ → Type 0
+ComeFirst bytes ahead = take (length bytes) ahead ≡ bytes
 
--- The line that was looked for in what lies ahead, as far as the buffer reaches, is this, or none ends there.
-abbrev pub IsLineFound : List ℕ → List ℕ → Option ℕ → Type 0
-IsLineFound ahead buffer (Some count) = BeginsLine ahead buffer count
-IsLineFound ahead buffer None = IsFalse (has 10 (take (length buffer) ahead))
+-- What lies ahead begins with a line of so many bytes, which stands at the front of these.
+pub record BeginsLine (ahead bytes : List ℕ) (count : ℕ) : Type 0 where
+  pub parts : ahead ≡ line (take count bytes) (drop (count + 1) ahead)
+  pub one_line : IsFalse (has 10 (take count bytes))
+
+-- The line that was looked for in so many bytes of what lies ahead is the first of these bytes, or none ends there.
+abbrev pub IsLineFound : ℕ → List ℕ → List ℕ → Option ℕ → Type 0
+IsLineFound room ahead bytes (Some count) = BeginsLine ahead bytes count
+IsLineFound room ahead bytes None = IsFalse (has 10 (take room ahead))

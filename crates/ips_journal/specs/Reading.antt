@@ -7,16 +7,18 @@ use Rattle.ips_steps.specs.Steps.{Step, Gone, Fresh, Mode, Put, Symlink, Hard, p
 use Rattle.ips_steps.specs.Private.{journal_name}
 use Rattle.ips_steps.specs.Journal.{IsJournal}
 use Rattle.ips_journal.specs.Text.{headed, journal_text}
+use Rattle.ips_journal.specs.Line.{ComeFirst}
 use Rattle.ips_journal.specs.Bad.{GoesOn, IsBadLine}
 use Rattle.ips_journal.specs.declared.fault.StepFault.{StepFault}
 use Rattle.ips_journal.specs.declared.fault.StepFault.TheVariants.{BadJournal, FolderFault}
 
--- The state of a reader: bytes, steps and contents behind it; the number and the step of the line that it read last, or the
--- faulty one's number. It is open until it meets the end or a fault.
+-- The state of a reader: bytes, steps and contents behind it; the bytes before it that it holds already; the number and the
+-- step of the line that it read last, or the faulty one's number. It is open until it meets the end or a fault.
 pub record Reading : Type 0 where
   pub place : ℕ
   pub steps : ℕ
   pub puts : ℕ
+  pub ahead : List ℕ
   pub line : ℕ
   pub is_open : Bool
   pub step : Option Step
@@ -44,6 +46,7 @@ pub record Stands (before : List ℕ → List ℕ) (text : List ℕ) (front : Li
   pub line : 0 < r.steps → r.line ≡ r.steps + 1
   pub place : r.place ≤ length text
   pub begins : text ≡ before (drop r.place text)
+  pub ahead : ComeFirst r.ahead (drop r.place text)
   -- the sizes of files are below 2^64
   pub small : 0 < r.steps → length text < 2 ^ 64
 

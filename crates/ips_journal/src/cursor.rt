@@ -3,13 +3,14 @@
 ghost use Rattle.std.specs.Prelude.{◌≡◌, vec_len};
 ghost use Rattle.ips_steps.specs.Private.{journal_name};
 
+use crate::ahead::Ahead;
 use ips_text::RelPath;
 
-/// A place in the journal, and the buffers that reading needs.
+/// A place in the journal, what was read behind it, and the buffer that reading needs.
 #[derive(Drop)]
 pub struct Cursor {
     pub journal: RelPath,
-    pub buffer: Vec<u8>,
+    pub ahead: Ahead,
     pub decoded: Vec<u8>,
     /// How many bytes lie behind.
     pub place: u64,
@@ -21,6 +22,5 @@ pub struct Cursor {
     /// Neither the end nor a fault was met.
     pub is_open: bool,
     ghost named: { journal.bytes ≡ journal_name },
-    ghost buffer_size: { vec_len buffer ≡ 16384 },
     ghost decoded_size: { vec_len decoded ≡ 4095 },
 }

@@ -8,6 +8,7 @@
 //! `specs/Text` has the text, `specs/Bad` which line is bad, `specs/Reading` what a reader's answers mean.
 #![tactic(auto)]
 
+mod ahead;
 mod beside;
 mod cursor;
 mod fault;

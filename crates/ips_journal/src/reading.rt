@@ -9,19 +9,16 @@ ghost use Rattle.ips_journal.specs.Holding.{HaveRoom, IsBehindHead, IsFresh, IsH
 ghost use Rattle.ips_journal.specs.declared.parts.Parts.{Parts as PartsMeant};
 ghost use Rattle.ips_journal.specs.declared.fault.StepFault.TheVariants as fault;
 
+use crate::ahead::Ahead;
 use crate::cursor::Cursor;
 use crate::fault::StepFault;
-use crate::lines::{read_line, size_of};
+use crate::lines::size_of;
 use crate::parts::Parts;
 use crate::words::{behind_word, sort_of_line};
 use ips_folder::Folder;
 use ips_steps::Sort;
 use ips_text::{RelPath, decimal};
 use std::alloc::{AllocError, Global};
-
-/// As many bytes as hold each line of a journal: the longest has 15,361 with its newline, in which a path of 1,023 bytes and
-/// a target of 4,095 have three bytes for each.
-const LINE_BYTES: usize = 16_384;
 
 /// As many bytes as the longest field says.
 const FIELD_BYTES: usize = 4_095;
@@ -35,11 +32,11 @@ impl Cursor {
         let Ok(journal) = RelPath::parse(alloc, b"var/pkg/journal") else {
             return Err(AllocError);
         };
-        let buffer = vec![in alloc; 0u8; LINE_BYTES]?;
+        let ahead = Ahead::new(alloc)?;
         let decoded = vec![in alloc; 0u8; FIELD_BYTES]?;
         Ok(Cursor {
             journal,
-            buffer,
+            ahead,
             decoded,
             place: 0,
             steps: 0,
@@ -53,6 +50,7 @@ impl Cursor {
     pub fn rewind(&mut self)
         ensures { IsFresh self.new }
     {
+        self.ahead.clear();
         self.place = 0;
         self.steps = 0;
         self.puts = 0;
@@ -100,7 +98,7 @@ impl Cursor {
 
     // Reads the first line. A look tells before that the file has fewer than 2^64 bytes.
     fn read_head<F: Folder>(&mut self, folder: &mut F) -> Result<(), StepFault>
-        ensures head { IsTrue (F.outside.tells folder.old) → OnOk result (IsHeaded (journal_of (F.outside.state folder.old).held) self.new.place) }
+        ensures head { IsTrue (F.outside.tells folder.old) → OnOk result (IsHeaded (journal_of (F.outside.state folder.old).held) self.new.place self.new.ahead) }
         ensures bad { IsTrue (F.outside.tells folder.old) → IfErr result (IsFaultOf (journal_of (F.outside.state folder.old).held)) }
         ensures first { IfErr result (TellsLine 1) }
         ensures counts { SameCounts self.old self.new }
@@ -109,13 +107,15 @@ impl Cursor {
     {
         self.line = 1;
         let _size = size_of(folder, &self.journal)?;
-        let found = read_line(folder, &self.journal, 0, self.buffer.as_mut_slice())?;
+        self.ahead.clear();
+        let found = self.ahead.find_line(folder, &self.journal, 0)?;
         let Some(length) = found else {
             return Err(StepFault::BadJournal { line: 1 });
         };
-        if !is_head(&self.buffer[..length]) {
+        if !is_head(&self.ahead.bytes()[..length]) {
             return Err(StepFault::BadJournal { line: 1 });
         }
+        self.ahead.skip(length + 1);
         self.place = 10;
         Ok(())
     }
@@ -138,12 +138,7 @@ impl Cursor {
         ensures reads { Reads F.outside folder.old folder.new (result ≡ Err fault.FolderFault) }
     {
         self.line = self.steps.saturating_add(2);
-        let found = read_line(
-            folder,
-            &self.journal,
-            self.place,
-            self.buffer.as_mut_slice(),
-        )?;
+        let found = self.ahead.find_line(folder, &self.journal, self.place)?;
         let Some(length) = found else {
             return Err(StepFault::BadJournal { line: self.line });
         };
@@ -157,22 +152,23 @@ impl Cursor {
         Ok(None)
     }
 
-    // Takes the step of the line that the buffer begins with, and goes behind that.
+    // Takes the step of the line that comes first ahead, and goes behind that.
     fn take_step(&mut self, parts: &mut Parts, length: usize) -> Option<Sort>
         requires room { HaveRoom parts.old }
-        requires length { length < 16384 }
+        requires length { length < list_length self.old.ahead }
         ensures room { HaveRoom parts.new }
-        ensures taken { IfSome result (λ sort. IsStepLine (take length self.old.buffer.items) self.old.puts (step_by sort parts.new)) }
+        ensures taken { IfSome result (λ sort. IsStepLine (take length self.old.ahead) self.old.puts (step_by sort parts.new)) }
         ensures moved { IfSome result (λ sort. IsMoved (step_by sort parts.new) length self.old self.new) }
-        ensures none { IfNone result ((s : Step) → IsStepLine (take length self.old.buffer.items) self.old.puts s → ⊥) }
+        ensures none { IfNone result ((s : Step) → IsStepLine (take length self.old.ahead) self.old.puts s → ⊥) }
         ensures still { IfNone result (IsStill self.old self.new) }
     {
         let sort = read_step(
             parts,
             self.decoded.as_mut_slice(),
-            &self.buffer[..length],
+            &self.ahead.bytes()[..length],
             self.puts,
         )?;
+        self.ahead.skip(length + 1);
         self.puts = self.puts.saturating_add(puts_of(sort));
         self.place = self.place.saturating_add(length as u64 + 1);
         self.steps = self.steps.saturating_add(1);
@@ -180,18 +176,17 @@ impl Cursor {
         Some(sort)
     }
 
-    // Whether the buffer begins with the last line of a journal of just the steps that were read.
+    // Whether the line that comes first ahead is the last of a journal of just the steps that were read.
     fn is_at_end(&self, length: usize) -> bool
-        requires { length < 16384 }
-        ensures found { IsTrue result → take length self.now.buffer.items ≡ end_line self.now.steps }
-        ensures none { IsFalse result → take length self.now.buffer.items ≡ end_line self.now.steps → ⊥ }
+        requires { length < list_length self.now.ahead }
+        ensures found { IsTrue result → take length self.now.ahead ≡ end_line self.now.steps }
+        ensures none { IsFalse result → take length self.now.ahead ≡ end_line self.now.steps → ⊥ }
     {
-        tells_end(&self.buffer[..length], self.steps)
+        tells_end(&self.ahead.bytes()[..length], self.steps)
     }
 
     // Sees that nothing stands behind the last line, which has this length.
     fn check_end<F: Folder>(&mut self, length: usize, folder: &mut F) -> Result<(), StepFault>
-        requires { length < 16384 }
         ensures end { IsTrue (F.outside.tells folder.old) → self.old.place + (length + 1) < 2 ^ 64
             → OnOk result (list_length (journal_of (F.outside.state folder.old).held) ≤ self.old.place + (length + 1)) }
         ensures more { IsTrue (F.outside.tells folder.old) → self.old.place + (length + 1) < 2 ^ 64
@@ -200,7 +195,7 @@ impl Cursor {
         ensures line { IfErr result (TellsLine self.new.line) }
         ensures reads { Reads F.outside folder.old folder.new (result ≡ Err fault.FolderFault) }
     {
-        let end = self.place.saturating_add(length as u64 + 1);
+        let end = self.place.saturating_add(length as u64).saturating_add(1);
         let mut more = [0u8; 1];
         let count = folder.read(&self.journal, end, &mut more)?;
         if count > 0 {

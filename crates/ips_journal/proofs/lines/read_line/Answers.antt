@@ -1,10 +1,10 @@
-use Rattle.std.proofs.Common.{◌≡◌, ◌+◌, ◌-◌, ◌<◌, List, ℕ, IsErr, length, length-take, take, drop, refl, sym, ◌∙◌, ap, subst, arith}
+use Rattle.std.proofs.Common.{◌≡◌, ◌+◌, ◌-◌, ◌<◌, ◌≤◌, List, ℕ, false, IsErr, length, length-take, take, drop, refl, sym, ◌∙◌, ap, subst, arith}
 use Rattle.ips_outside.specs.State.{State}
-use Rattle.ips_outside.specs.Outside.{readable}
+use Rattle.ips_outside.specs.Outside.{readable, IsRead}
 use Rattle.ips_journal.specs.Line.{has, IsCut}
 use Rattle.ips_outside.proofs.Reading.{answered, reads_then}
 use Rattle.ips_journal.proofs.Cuts.{found_cuts, none_lacks}
-use Rattle.ips_journal.proofs.LinePieces.{filled_within, piece_read, more_filled, line_at}
+use Rattle.ips_journal.proofs.LinePieces.{filled_within, piece_read, piece_more, more_filled, at_end, all_filled, line_at, line_among, filled_first}
 use Rattle.ips_journal.proofs.lines.read_line.Goals as goal
 
 pub shape_of-buffer-in_err-count : goal.shape_of-buffer-in_err-count
@@ -54,7 +54,38 @@ returns-in-Some-clause-found g c = λ told within small.
     let same = ap (λ (s : State). readable (s.held.look c.args.path.now.bytes)) c.loop-filled.invariant.reads.kept in
     let read = piece_read file (readable ((g.S.Source.outside.state c.loop-filled.source).held.look c.args.path.now.bytes)) (drop c.loop-filled.filled c.read_piece.new.buffer) c.args.place c.loop-filled.filled c.in_ok-count.count same
     (c.in_ok-count.ensures.found (c.loop-filled.invariant.reads.call.same_kind ∙ told) (omega (arith, filled_within file c.loop-filled.buffer c.args.place c.loop-filled.filled filled c.loop-filled.invariant.within within, small))) in
-    line_at (drop c.args.place file) c.loop-filled.buffer c.read_piece.new.buffer c.loop-filled.filled filled c.in_ok-count.ensures.before c.in_ok-count.count c.in-Some.end read (omega (arith, c.in_ok-count.ensures.fits, c.read_piece.auto.buffer)) cut.0 cut.1
+    let ahead = drop c.args.place file in
+    let count = c.in_ok-count.count in
+    let new = c.read_piece.new.buffer in
+    let fits : c.loop-filled.filled + count ≤ length new = omega (arith, c.in_ok-count.ensures.fits, c.read_piece.auto.buffer) in (
+      filled_first ahead new (c.loop-filled.filled + count) fits (piece_more ahead c.loop-filled.buffer new c.loop-filled.filled filled c.in_ok-count.ensures.before count read),
+      line_among ahead new (c.loop-filled.filled + c.in-Some.end) (c.loop-filled.filled + count) (omega (arith, cut.0, length-take count (drop c.loop-filled.filled new)))
+          (line_at ahead c.loop-filled.buffer new c.loop-filled.filled filled c.in_ok-count.ensures.before count c.in-Some.end read fits cut.0 cut.1),
+    )
+
+pub returns-then-count-eq0-clause-found : goal.returns-then-count-eq0-clause-found
+returns-then-count-eq0-clause-found g c = λ told within small.
+    let file = readable ((g.S.Source.outside.state c.args.source.now).held.look c.args.path.now.bytes) in
+    let filled = c.loop-filled.invariant.found told within small in
+    let same = ap (λ (s : State). readable (s.held.look c.args.path.now.bytes)) c.loop-filled.invariant.reads.kept in
+    let read = piece_read file (readable ((g.S.Source.outside.state c.loop-filled.source).held.look c.args.path.now.bytes)) (drop c.loop-filled.filled c.read_piece.new.buffer) c.args.place c.loop-filled.filled c.in_ok-count.count same
+    (c.in_ok-count.ensures.found (c.loop-filled.invariant.reads.call.same_kind ∙ told) (omega (arith, filled_within file c.loop-filled.buffer c.args.place c.loop-filled.filled filled c.loop-filled.invariant.within within, small))) in
+    let ahead = drop c.args.place file in
+    let new = c.read_piece.new.buffer in
+    let none : IsRead ahead c.loop-filled.filled (drop c.loop-filled.filled new) 0 = subst (IsRead ahead c.loop-filled.filled (drop c.loop-filled.filled new)) c.if-count-eq0.true read in
+    let sized : length new ≡ length c.args.buffer.now = c.read_piece.auto.buffer ∙ c.loop-filled.invariant.size in (
+      filled_first ahead new c.loop-filled.filled (omega (arith, sized, c.loop-filled.invariant.size, c.loop-filled.invariant.within)) (c.in_ok-count.ensures.before ∙ filled.same),
+      subst (λ (n : ℕ). has 10 (take n ahead) ≡ false) sized (at_end ahead c.loop-filled.buffer new c.loop-filled.filled filled c.in_ok-count.ensures.before none (omega (arith, c.loop-filled-test.true, c.read_piece.auto.buffer))),
+    )
+
+pub returns-clause-found : goal.returns-clause-found
+returns-clause-found g c = λ told within small.
+    let file = readable ((g.S.Source.outside.state c.args.source.now).held.look c.args.path.now.bytes) in
+    let ahead = drop c.args.place file in
+    let filled = c.loop-filled.invariant.found told within small in (
+      filled_first ahead c.loop-filled.buffer c.loop-filled.filled c.loop-filled.invariant.within filled.same,
+      subst (λ (n : ℕ). has 10 (take n ahead) ≡ false) c.loop-filled.invariant.size (all_filled ahead c.loop-filled.buffer c.loop-filled.filled filled c.loop-filled.invariant.within (omega (arith, c.loop-filled-test.false))),
+    )
 
 pub loop-filled-preserved : goal.loop-filled-preserved
 loop-filled-preserved g c = record {

@@ -1,4 +1,4 @@
-use Rattle.std.proofs.Common.{◌^◌, ◌<◌, List, ℕ, None, length, ap, ◌∙◌, arith}
+use Rattle.std.proofs.Common.{◌^◌, ◌<◌, List, ℕ, None, length, take, sym, ap, ◌∙◌, arith}
 use Rattle.ips_outside.specs.State.{State}
 use Rattle.ips_outside.specs.Outside.{readable}
 use Rattle.ips_journal.specs.Reading.{journal_of}
@@ -12,5 +12,6 @@ returns-in_default-clause-bad g c = λ told.
     let named = ap (λ (p : List ℕ). readable ((g.F.Source.outside.state c.args.folder.now).held.look p)) c.args.self.now.named in
     let file = ap (λ (s : State). readable (s.held.look c.args.self.now.journal.bytes)) c.size_of.ensures.reads.kept ∙ named in
     let small : length text < 2 ^ 64 = omega (arith, ap length named, c.in_ok-_size.ensures.found told, c.in_ok-_size.ensures.small) in
-    let found = line_found text (readable ((g.F.Source.outside.state c.size_of.new.source).held.look c.args.self.now.journal.bytes)) c.read_line.new.buffer 0 c.in_ok-found.found None file c.in_default.is (c.in_ok-found.ensures.found (c.size_of.ensures.reads.call.same_kind ∙ told)) (omega arith) small in
-    no_first text (length c.read_line.new.buffer) (omega (arith, c.read_line.auto.buffer, c.as_mut_slice.ensures.len, c.args.self.now.buffer_size)) found
+    let found = line_found text (readable ((g.F.Source.outside.state c.size_of.new.source).held.look c.args.self.now.journal.bytes)) c.clear.new.self c.find_line.new.self 0 c.in_ok-found.found None file c.in_default.is (c.in_ok-found.ensures.found (c.size_of.ensures.reads.call.same_kind ∙ told)) (omega arith) small
+    (ap (λ (l : List ℕ). take (length l) text) c.clear.ensures ∙ sym c.clear.ensures) in
+    no_first text found.1
