@@ -61,13 +61,9 @@ seen_on begun t u v h k = agrees_on _ _ t u v h (agrees_less is_private nowhere 
 -- ---- on images that agree but at some of the updater's own names
 
 -- no content is a mark or the gate
-pub content_unmarked : (n : ℕ) → begins mark_front (stage_path n) ≡ false
-unfolding mark_front stage_name
-content_unmarked n = refl
-
-pub content_ungated : (n : ℕ) → covers gate_name (stage_path n) ≡ false
-unfolding gate_name stage_name
-content_ungated n = refl
+pub content_else : (n : ℕ) → (begins mark_front (stage_path n) ≡ false) × (covers gate_name (stage_path n) ≡ false)
+unfolding mark_front gate_name stage_name
+content_else n = (refl, refl)
 
 module _ (apart : List ℕ → Bool) (own : (q : List ℕ) → apart q ≡ true → is_private q ≡ true) where
   off : (q : List ℕ) → is_private q ≡ false → apart q ≡ false

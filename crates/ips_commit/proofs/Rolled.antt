@@ -35,7 +35,7 @@ use Rattle.ips_commit.specs.declared.fault.CommitFault.TheVariants as fault
 use Rattle.ips_commit.specs.Pending.{HasNoOtherMark, AreMarkNames, IsSwept, IsDone, is_swept, is_other, mark_names}
 use Rattle.ips_commit.specs.Phases.{IsUnderWay}
 use Rattle.ips_commit.specs.Recovering.{AreCounted, AreLaidTo, CanResume, IsJournalled, IsStuckAt, IsPlaced, IsUnfinished, CanRollForward, IfBadJournal, SaysOfFinding, SaysOfSteps, SaysOfLaying, SaysOfRecovery}
-use Rattle.ips_commit.proofs.CutOff.{none_laid, as_own, laid_alike, content_unmarked}
+use Rattle.ips_commit.proofs.CutOff.{none_laid, as_own, laid_alike, content_else}
 use Rattle.ips_commit.proofs.Going.{cannot_alike}
 use Rattle.ips_commit.proofs.Lays.{allowed_before}
 use Rattle.ips_commit.proofs.Marked.{absent_later, gate_marked, journal_marked}
@@ -286,7 +286,7 @@ module _ {F : Type 0} (o : Outside F) (sane : IsOutside o) (old mid : F) (marks 
     first_unfinished s before now steps m is found = record {
       laid = found.laid;
       are = subst (λ (l : List Step). AreLaidTo l found.laid t s.held before now) (rest_as t r count placed steps m is)
-          (laid_alike (begins mark_front) mark_private left found.laid t u s.held before now may content_unmarked agree found.are);
+          (laid_alike (begins mark_front) mark_private left found.laid t u s.held before now may (λ k. (content_else k).0) agree found.are);
       resumes = λ a is_open.
           let some = found.resumes a (first_still steps m a is_open) in
           ⊎_elim

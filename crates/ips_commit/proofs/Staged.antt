@@ -1,13 +1,13 @@
 -- A list of steps staged behind a closed gate.
-use Rattle.std.proofs.Common.{◌≡◌, inl, inr, ⊎_elim, ℕ, ◌<◌, Bool, true, false, ◌||◌, List, length, ◌++◌, Option, Some, None, Result, is_some, refl, sym, ◌∙◌, ap, subst, arith}
+use Rattle.std.proofs.Common.{◌≡◌, inl, inr, ⊎_elim, ℕ, ◌<◌, ◌≤◌, Bool, true, false, ◌||◌, List, length, ◌++◌, Option, Some, None, Result, is_some, refl, sym, ◌∙◌, ap, subst, arith}
 use Rattle.std.specs.Fmt.{decimal}
-use Rattle.std.proofs.lemmas.Bool.{or_parts, or_right, and_parts, not-true}
+use Rattle.std.proofs.lemmas.Bool.{or_parts, or_right, and_parts, not-true, cases_lt}
 use Rattle.std.proofs.lemmas.Option.{slice_get_cases}
 use Rattle.ips_text.specs.Ancestry.{covers, is_below, parent}
 use Rattle.ips_outside.specs.Image.{Image, IsImage, Agrees, Dir, is_dir, file_bytes, has_parent, dir_or_none}
 use Rattle.ips_outside.specs.Change.{placed}
 use Rattle.ips_outside.specs.State.{State, Within, IsSettled, nowhere, settled}
-use Rattle.ips_outside.specs.Outside.{Outside, IsOutside, Elapses, Reads}
+use Rattle.ips_outside.specs.Outside.{Outside, IsOutside, Elapses, Reads, Rose, counted}
 use Rattle.ips_outside.proofs.Moments.{agrees_less, within_self, within_then}
 use Rattle.ips_outside.proofs.Placed.{look_placed}
 use Rattle.ips_folder.specs.Calls.{CanMake, Writes, Keeps, Throughout}
@@ -28,6 +28,13 @@ use Rattle.ips_commit.proofs.OwnNames.{swept_private, gate_unswept, records_unsw
 use Rattle.ips_commit.proofs.Swept.{wrote}
 use Rattle.ips_commit.proofs.Owing.{nodes_of, unswept, swept_seen, swept_gone}
 use Rattle.ips_commit.proofs.AllWritten.{standing_kept, content_kept}
+
+-- a count that was counted up rose
+pub rose_of : (before now : ℕ) → counted before ≤ now → Rose before now
+rose_of before now up = elim (cases_lt before now) [
+  | inl more ↦ inl more
+  | inr less ↦ inr (omega (arith, up, less))
+]
 
 -- ---- what was left is taken away
 

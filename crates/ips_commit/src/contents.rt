@@ -1,6 +1,6 @@
 //! Contents, written into the stage one by one.
 
-ghost use Rattle.std.specs.Prelude.{◌≡◌, ◌⊎◌, ◌<◌, ℕ, List, Some, None, Err, IsTrue, IsFalse, IsErr, IfOk, IfErr, OnOk, length};
+ghost use Rattle.std.specs.Prelude.{◌≡◌, ◌⊎◌, ◌<◌, ◌≤◌, ℕ, List, Some, None, Err, IsTrue, IsFalse, IsErr, IfOk, IfErr, OnOk, length};
 ghost use Rattle.ips_text.specs.Ancestry.{covers, is_below};
 ghost use Rattle.ips_text.specs.Reading.{IfBad};
 ghost use Rattle.ips_text.specs.declared.refusal.Or.TheVariants.{Bad};
@@ -51,6 +51,7 @@ pub(crate) fn write_contents<S: Source, F: Folder>(
     ensures reads { Reads S.outside source.old source.new (result ≡ Err (Bad fault.SourceFault)) }
     ensures cause { HasCause (F.outside.faults folder.old) (F.outside.faults folder.new) (result ≡ Err (Bad fault.FolderFault)) }
     ensures same_kind { F.outside.tells folder.new ≡ F.outside.tells folder.old }
+    ensures changes { F.outside.changes folder.old ≤ F.outside.changes folder.new }
 {
     for (number, content) in staged.iter().enumerate() {
         let path = content_path(alloc, number as u64)?;
@@ -85,6 +86,7 @@ fn write_content<S: Source, F: Folder>(
     ensures reads { Reads S.outside source.old source.new (result ≡ Err (Bad fault.SourceFault)) }
     ensures cause { HasCause (F.outside.faults folder.old) (F.outside.faults folder.new) (result ≡ Err (Bad fault.FolderFault)) }
     ensures same_kind { F.outside.tells folder.new ≡ F.outside.tells folder.old }
+    ensures changes { F.outside.changes folder.old ≤ F.outside.changes folder.new }
 {
     match content {
         Staged::Payload(name) => write_payload(
@@ -108,6 +110,7 @@ fn write_file<F: Folder>(folder: &mut F, path: &RelPath, bytes: &[u8]) -> Result
     ensures any_moment { IsTrue (F.outside.tells folder.old) → Keeps F.outside (covers path.now.bytes) nowhere folder.old folder.new }
     ensures cause { HasCause (F.outside.faults folder.old) (F.outside.faults folder.new) (IsErr result) }
     ensures same_kind { F.outside.tells folder.new ≡ F.outside.tells folder.old }
+    ensures changes { F.outside.changes folder.old ≤ F.outside.changes folder.new }
 {
     folder.make_file(path)?;
     folder.append(path, bytes)?;
@@ -131,6 +134,7 @@ fn write_copy<F: Folder>(
     ensures any_moment { IsTrue (F.outside.tells folder.old) → Keeps F.outside (covers path.now.bytes) nowhere folder.old folder.new }
     ensures cause { HasCause (F.outside.faults folder.old) (F.outside.faults folder.new) (IsErr result) }
     ensures same_kind { F.outside.tells folder.new ≡ F.outside.tells folder.old }
+    ensures changes { F.outside.changes folder.old ≤ F.outside.changes folder.new }
 {
     folder.make_file(path)?;
     copy(folder, from, path, buffer)?;
@@ -158,6 +162,7 @@ fn write_payload<S: Source, F: Folder>(
     ensures reads { Reads S.outside source.old source.new (result ≡ Err (Bad fault.SourceFault)) }
     ensures cause { HasCause (F.outside.faults folder.old) (F.outside.faults folder.new) (result ≡ Err (Bad fault.FolderFault)) }
     ensures same_kind { F.outside.tells folder.new ≡ F.outside.tells folder.old }
+    ensures changes { F.outside.changes folder.old ≤ F.outside.changes folder.new }
 {
     let mut payload = open_payload(alloc, publisher, name, source)?;
     let Ok(()) = folder.make_file(path) else {
@@ -215,6 +220,7 @@ fn copy_payload<S: Source, F: Folder>(
     ensures reads { Reads S.outside source.old source.new (result ≡ Err fault.SourceFault) }
     ensures cause { HasCause (F.outside.faults folder.old) (F.outside.faults folder.new) (result ≡ Err fault.FolderFault) }
     ensures same_kind { F.outside.tells folder.new ≡ F.outside.tells folder.old }
+    ensures changes { F.outside.changes folder.old ≤ F.outside.changes folder.new }
 {
     loop {
         let Ok(count) = payload.next(source, buffer) else {

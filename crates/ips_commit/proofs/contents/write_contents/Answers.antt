@@ -14,6 +14,7 @@ pub loop-number-init : goal.loop-number-init
 loop-number-init g c = record {
   kind = refl;
   faults = refl;
+  changes = omega arith;
   reads = reads_none g.S.Source.outside c.args.source.now ⊥ (λ f. f);
   stage = c.requires.stage;
   stands = λ told. refl;
@@ -81,6 +82,7 @@ loop-number-preserved g c =
     let same : (so.state c.loop-number.source).held ≡ (so.state c.args.source.now).held = ap (λ (x : State). x.held) inv.reads.kept in
     record {
       kind = c.write_content.ensures.same_kind ∙ inv.kind;
+      changes = omega (arith, inv.changes, c.write_content.ensures.changes);
       faults = c.write_content.ensures.cause.steady (λ failed. let bad = sym c.in-Ok.is ∙ failed in cc) ∙ inv.faults;
       reads = reads_then so c.args.source.now c.loop-number.source c.write_content.new.source _ ⊥ inv.reads c.write_content.ensures.reads (λ failed. let bad = sym c.in-Ok.is ∙ failed in cc) (λ f. absurd f);
       stage = λ told. ap is_dir ((c.write_content.ensures.any_moment (inv.kind ∙ told)).now.agrees.look stage_name (ap (λ (x : List ℕ). covers x stage_name) c.in_ok-path.ensures ∙ stage_apart i) refl) ∙ inv.stage told;

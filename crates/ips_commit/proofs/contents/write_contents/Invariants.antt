@@ -15,6 +15,7 @@ abbrev pub invariant-loop-number : goal.invariant-loop-number
 invariant-loop-number g l = record {
   kind : g.F.Source.outside.tells l.folder ≡ g.F.Source.outside.tells l.fn.folder;
   faults : g.F.Source.outside.faults l.folder ≡ g.F.Source.outside.faults l.fn.folder;
+  changes : g.F.Source.outside.changes l.fn.folder ≤ g.F.Source.outside.changes l.folder;
   reads : Reads g.S.Source.outside l.fn.source l.source ⊥;
   stage : IsTrue (g.F.Source.outside.tells l.fn.folder) → IsTrue (is_dir ((g.F.Source.outside.state l.folder).held.look stage_name));
   stands : IsTrue (g.F.Source.outside.tells l.fn.folder) → (g.F.Source.outside.state l.folder).held.look stage_name ≡ (g.F.Source.outside.state l.fn.folder).held.look stage_name;
