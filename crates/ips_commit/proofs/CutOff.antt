@@ -1,13 +1,13 @@
 -- Steps that were laid before a call failed, with one more that may have been begun.
-use Rattle.std.proofs.Common.{◌≡◌, ◌⊎◌, inl, inr, ⊎_elim, ℕ, zero, suc, ◌≤◌, Bool, true, false, ◌||◌, List, [], ◌∷◌, ◌++◌, append-nil, length, take, drop, refl, sym, ◌∙◌, ap, subst, arith}
+use Rattle.std.proofs.Common.{◌≡◌, ◌⊎◌, inl, inr, ℕ, Bool, true, false, ◌||◌, List, [], ◌∷◌, ◌++◌, append-nil, length, take, drop, refl, sym, ◌∙◌, ap, subst, arith}
 use Rattle.std.proofs.Math.Seq.{drop-append_seam, drop-length}
-use Rattle.std.proofs.lemmas.Bool.{or_parts, or_from, and_parts, and_from, not-true, false_from_ne_true}
+use Rattle.std.proofs.lemmas.Bool.{or_parts, and_parts, and_from, not-true, false_from_ne_true}
 use Rattle.std.proofs.lemmas.List.{take-append-drop}
 use Rattle.ips_text.specs.Ancestry.{same_path, covers}
 use Rattle.ips_outside.specs.Image.{Image, Agrees}
 use Rattle.ips_outside.specs.State.{nowhere}
 use Rattle.ips_outside.proofs.Moments.{agrees_less, agrees_on}
-use Rattle.ips_steps.specs.Steps.{Step, Gone, Fresh, Mode, Put, Symlink, Hard, stage_name, stage_path, stage_of, after, possible, freed, meets, met}
+use Rattle.ips_steps.specs.Steps.{Step, Gone, Fresh, Mode, Put, Symlink, Hard, stage_name, stage_path, stage_of, after, freed, meets, met}
 use Rattle.ips_steps.specs.Private.{gate_name, mark_front, begins, is_private}
 use Rattle.ips_steps.specs.Journal.{step_allowed, allowed}
 use Rattle.ips_steps.proofs.Apart.{own_alike}
@@ -18,7 +18,7 @@ use Rattle.ips_apply.specs.Applied.{AgreesBut}
 use Rattle.ips_apply.proofs.Turns.{allowed_behind}
 use Rattle.ips_commit.specs.Phases.{IsSeenBut}
 use Rattle.ips_commit.specs.Recovering.{AreLaidTo}
-use Rattle.ips_commit.proofs.Lays.{next_of, allowed_before}
+use Rattle.ips_commit.proofs.Lays.{allowed_before}
 
 -- ---- the one more
 

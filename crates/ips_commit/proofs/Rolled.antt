@@ -23,7 +23,7 @@ use Rattle.ips_steps.proofs.Lists.{clash}
 use Rattle.ips_steps.proofs.PrivateNames.{mark_private}
 use Rattle.ips_steps.proofs.Owing.{owed_open}
 use Rattle.ips_steps.proofs.Unmarking.{owes_unmarking, open_unmarked}
-use Rattle.ips_kinds.specs.Tallies.{Carrier, all_counted}
+use Rattle.ips_kinds.specs.Tallies.{Carrier}
 use Rattle.ips_journal.specs.Text.{journal_text}
 use Rattle.ips_journal.specs.Bad.{IsBadLine}
 use Rattle.ips_journal.specs.Reading.{Reading, IsAt, journal_of}

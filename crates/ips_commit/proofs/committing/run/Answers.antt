@@ -1,4 +1,4 @@
-use Rattle.std.proofs.Common.{inr, [], refl, sym, ◌∙◌, subst, arith}
+use Rattle.std.proofs.Common.{inr, [], sym, ◌∙◌, subst, arith}
 use Rattle.ips_outside.specs.Image.{Image}
 use Rattle.ips_commit.specs.Pending.{IsDone}
 use Rattle.ips_commit.proofs.Committed.{opened_way, opening, is_open, none_laid_yet, laid_since, owed_since, due_since, is_journalled}
