@@ -1,14 +1,14 @@
 -- Contents written one by one into the stage.
-use Rattle.std.proofs.Common.{◌≡◌, ◌⊎◌, inl, inr, ⊎_elim, ℕ, ◌+◌, ◌%◌, ◌<◌, ◌≤◌, ◌^◌, Bool, true, false, ◌==◌, List, [], ◌∷◌, ◌++◌, length, get_or, slice_get, Some, None, Err, append_assoc, refl, sym, ◌∙◌, ap, subst, arith}
-use Rattle.std.proofs.lemmas.Bool.{or_parts, ne_eqb, false_from_ne_true, cases_lt}
+use Rattle.std.proofs.Common.{◌≡◌, ◌⊎◌, inl, inr, ⊎_elim, ℕ, ◌+◌, ◌%◌, ◌<◌, ◌≤◌, ◌^◌, Bool, true, false, ◌==◌, List, [], ◌∷◌, ◌++◌, length, get_or, slice_get, Option, Some, None, is_none, Err, append_assoc, refl, sym, ◌∙◌, ap, subst, arith}
+use Rattle.std.proofs.lemmas.Bool.{or_parts, or_cases, ne_eqb, false_from_ne_true, cases_lt}
 use Rattle.std.proofs.lemmas.Fmt.{decimal_by_steps}
 use Rattle.std.proofs.lemmas.Option.{slice_get_read}
-use Rattle.ips_text.specs.Ancestry.{covers, parent}
+use Rattle.ips_text.specs.Ancestry.{same_path, covers, is_below, parent}
 use Rattle.ips_text.specs.Reading.{IfBad}
 use Rattle.ips_text.specs.declared.refusal.Or.{Or}
 use Rattle.ips_text.specs.declared.refusal.Or.TheVariants.{Bad, OutOfMemory}
-use Rattle.ips_text.proofs.Ancestry.{covers_trans, parent_cut, parent_on}
-use Rattle.ips_outside.specs.Image.{File, Image, Agrees, is_file, is_dir, file_bytes, has_parent, dir_or_none}
+use Rattle.ips_text.proofs.Ancestry.{same_path-true, covers_trans, parent_cut, parent_on}
+use Rattle.ips_outside.specs.Image.{Entry, File, Image, IsImage, Agrees, is_file, is_dir, file_bytes, has_parent, dir_or_none}
 use Rattle.ips_outside.specs.State.{nowhere}
 use Rattle.ips_folder.specs.Calls.{CanMake}
 use Rattle.ips_steps.specs.Steps.{stage_name, stage_path, stage_of}
@@ -21,6 +21,7 @@ use Rattle.ips_repo.specs.Places.{payload_place}
 use Rattle.ips_journal.specs.declared.staged.Staged.{Staged}
 use Rattle.ips_journal.specs.declared.staged.Staged.TheVariants.{Payload, Bytes, Standing}
 use Rattle.ips_commit.specs.Contents.{IsContent, IsStanding, IsApart, IsSeen, IsIntactContent, IsPayloadFault, IsFaultOf, SaysOfContent, SaysOfStage}
+use Rattle.ips_commit.specs.Staging.{HoldsOnly}
 use Rattle.ips_commit.specs.declared.fault.StageFault.{StageFault}
 use Rattle.ips_commit.specs.declared.fault.StageFault.TheVariants as stage
 
@@ -55,6 +56,30 @@ content_parent = decimal_by_steps (λ n ds. parent (stage_name ++ 47 ∷ ds) ≡
 
     one_more : (ds : List ℕ) (c : ℕ) → (c == 47) ≡ false → parent (stage_name ++ 47 ∷ ds) ≡ Some stage_name → parent (stage_name ++ 47 ∷ (ds ++ c ∷ [])) ≡ Some stage_name
     one_more ds c off so_far = ap parent (sym (append_assoc stage_name (47 ∷ ds) (c ∷ []))) ∙ parent_on (stage_name ++ 47 ∷ ds) c off ∙ so_far
+
+-- a content stands below the stage
+pub content_below : (n : ℕ) → is_below stage_name (stage_path n) ≡ true
+unfolding stage_name
+content_below n = refl
+
+none_there : (e : Option Entry) → is_none e ≡ true → e ≡ None
+none_there None is = refl
+none_there (Some x) is = cc
+
+-- one content more stands there, and nothing else
+pub only_more : (i : ℕ) (u v : Image) → Agrees (covers (stage_path i)) nowhere u v → IsImage v → (bytes : List ℕ) → v.look (stage_path i) ≡ Some (File 384 bytes) → HoldsOnly i u → HoldsOnly (i + 1) v
+only_more i u v wrote formed bytes file before q below there = at (covers (stage_path i) q) refl (same_path (stage_path i) q) refl
+  where
+    place : List ℕ
+    place = stage_path i
+
+    at : (c : Bool) → covers place q ≡ c → (s : Bool) → same_path place q ≡ s → (n : ℕ) × (n < i + 1) × (q ≡ stage_path n)
+    at false off s is_s = let old = before q below (λ none. there (wrote.look q off refl ∙ none)) in (old.0, omega (arith, old.1), old.2)
+    at true covered true same = (i, omega arith, sym (same_path-true place q same))
+    at true covered false apart = elim (or_cases (is_none (v.look q)) (is_dir (v.look place)) (formed.below_dirs place q covered apart)) [
+      | inl none ↦ absurd (there (none_there (v.look q) none))
+      | inr dir ↦ absurd (let bad : is_dir (Some (File 384 bytes)) ≡ true = ap is_dir (sym file) ∙ dir in cc)
+    ]
 
 pub can_put : (t : Image) (n : ℕ) (p : List ℕ) → p ≡ stage_path n → n < 2 ^ 64 → t.look (stage_path n) ≡ None → is_dir (t.look stage_name) ≡ true → CanMake t p
 can_put t n p at small none dir = record {

@@ -1,5 +1,5 @@
 -- A staged change committed, phase by phase.
-use Rattle.std.proofs.Common.{◌≡◌, inl, inr, true, false, List, [], Some, refl, ◌∙◌, arith}
+use Rattle.std.proofs.Common.{◌≡◌, ℕ, inl, inr, true, false, List, [], Some, refl, ◌∙◌, arith}
 use Rattle.ips_text.specs.Ancestry.{covers}
 use Rattle.ips_outside.specs.Image.{Image}
 use Rattle.ips_outside.specs.State.{IsSettled, nowhere}
@@ -9,12 +9,15 @@ use Rattle.ips_folder.proofs.Runs.{joins, weaker}
 use Rattle.ips_steps.specs.Steps.{Step}
 use Rattle.ips_steps.specs.Private.{gate_name, mark_name, visible}
 use Rattle.ips_steps.specs.Owed.{IsOpen, FolderOwes}
+use Rattle.ips_steps.proofs.PrivateNames.{gate_private}
+use Rattle.ips_kinds.specs.Tallies.{Carrier}
 use Rattle.ips_journal.specs.Text.{journal_text}
 use Rattle.ips_commit.specs.Due.{DueOnceOpen}
 use Rattle.ips_commit.specs.Pending.{HasNoOtherMark}
 use Rattle.ips_commit.specs.Staging.{IsStaged}
 use Rattle.ips_commit.specs.Phases.{Opens, IsUnderWay}
-use Rattle.ips_commit.specs.Recovering.{IsJournalled}
+use Rattle.ips_commit.specs.Recovering.{AreLaidTo, IsJournalled}
+use Rattle.ips_commit.proofs.CutOff.{none_laid, as_own, laid_alike, content_else}
 use Rattle.ips_commit.proofs.OwnNames.{unmarked_gate}
 use Rattle.ips_commit.proofs.Marked.{mark_own}
 use Rattle.ips_commit.proofs.Owing.{ready_text, owes_less, opening_owed, gate_opened}
@@ -39,9 +42,16 @@ module _ {F : Type 0} (o : Outside F) (sane : IsOutside o) where
     pub opening : (mid : F) → Keeps o (covers gate_name) nowhere old mid → Throughout o old mid (FolderOwes journal_text before (Some a) false)
     opening mid run = opening_owed o sane steps 0 a old mid told staged.ready staged.safe run
 
+    pub none_laid_yet : (mid : F) → Keeps o (covers gate_name) nowhere old mid → (counts : List Carrier) → AreLaidTo steps 0 (o.state old).held (o.state mid).held counts counts
+    none_laid_yet mid run counts = none_laid steps (o.state old).held (o.state mid).held counts (as_own (covers gate_name) gate_private (o.state old).held (o.state mid).held run.now.agrees)
+
     module _ (mid : F) (kind : o.tells mid ≡ o.tells old) (run : Keeps o (covers gate_name) nowhere old mid) (opens : Opens o old mid) (clean : IsSettled (o.state mid)) where
       pub is_open : IsOpen journal_text steps 0 a (o.state mid).held
       is_open = gate_opened o sane steps 0 a old mid told staged.ready staged.safe run opens
+
+      -- so many steps are laid, told of the image before
+      pub laid_since : (n : ℕ) (u : Image) (before now : List Carrier) → AreLaidTo steps n (o.state mid).held u before now → AreLaidTo steps n (o.state old).held u before now
+      laid_since n u counts now are = laid_alike (covers gate_name) gate_private steps n (o.state old).held (o.state mid).held u counts now staged.ready.lists.names (λ k. (content_else k).1) run.now.agrees are
 
       -- from then on the new image is due
       module _ (new : F) (owed : Throughout o mid new (FolderOwes journal_text before (Some a) true)) where

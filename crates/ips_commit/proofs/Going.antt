@@ -14,7 +14,7 @@ use Rattle.ips_steps.specs.View.{sort_of}
 use Rattle.ips_steps.specs.declared.step.Sort.{Sort}
 use Rattle.ips_steps.proofs.Apart.{marks_alike}
 use Rattle.ips_steps.proofs.Owing.{owes_laying}
-use Rattle.ips_steps.proofs.PrivateNames.{same_stage}
+use Rattle.ips_steps.proofs.PrivateNames.{mark_private, same_stage}
 use Rattle.ips_steps.proofs.Within.{laid_within}
 use Rattle.ips_kinds.specs.Tallies.{Carrier, counted, all_counted, taken}
 use Rattle.ips_kinds.proofs.Counting.{taken_stays}
@@ -24,7 +24,8 @@ use Rattle.ips_journal.specs.Reading.{Reading, IsAt, journal_of}
 use Rattle.ips_journal.specs.declared.fault.StepFault.{StepFault}
 use Rattle.ips_journal.specs.declared.fault.StepFault.TheVariants.{BadJournal, FolderFault}
 use Rattle.ips_apply.proofs.Turns.{allowed_behind}
-use Rattle.ips_commit.specs.Phases.{IsUnderWay, AreMarkedOff, IsHeldUp, LaysTo, Lays, LaysThousand, LaysAll, ended_of}
+use Rattle.ips_commit.specs.Phases.{IsUnderWay, AreMarkedOff, IsHeldUp, AreCutOff, LaysTo, Lays, LaysThousand, LaysAll, ended_of}
+use Rattle.ips_commit.proofs.CutOff.{allowed_both, but_alike}
 use Rattle.ips_commit.proofs.Lays.{begins_next, front_grown, allowed_before}
 use Rattle.ips_commit.proofs.Marked.{journal_laid, journal_marked, same_marks}
 use Rattle.ips_commit.proofs.Owing.{nodes, ready_text, safe_left}
@@ -81,7 +82,9 @@ module _ {F : Type 0} (o : Outside F) (sane : IsOutside o) (first : ℕ) where
     marks = first;
     tallies = refl;
     more = omega arith;
+    many = omega arith;
     few = omega arith;
+    fewer = λ line bad. cc;
     full = λ same. omega arith;
     next = λ told way front at all lists is. begins_next (journal_of (o.state old).held) front [] (start, here told front at) all lists is;
     ends = λ told way front at. (here told front at, record { can = refl; held = agrees_self (begins mark_front) nowhere (o.state old).held; way = way });
@@ -152,7 +155,7 @@ module _ {F : Type 0} (o : Outside F) (sane : IsOutside o) (first : ℕ) where
             }
 
         -- two moved to the front of the first
-        held_up : (line : ℕ) → IsHeldUp o (journal_of (o.state mid).held) (front ++ one.steps) two.steps line mid new → IsHeldUp o text front both line old new
+        held_up : (line : ℕ) → IsHeldUp o (journal_of (o.state mid).held) (front ++ one.steps) two.steps two.marks line mid new → IsHeldUp o text front both two.marks line old new
         held_up line up =
             let s = up.next.step in
             let may = may_first told way front at in
@@ -173,6 +176,25 @@ module _ {F : Type 0} (o : Outside F) (sane : IsOutside o) (first : ℕ) where
                 cannot = cannot_alike s (after both t) (after two.steps (o.state mid).held) last (both_agree t (o.state mid).held one.steps two.steps may may_2 h) up.next.cannot;
                 number = subst (λ (l : List Step). line ≡ length l + 2) assoc up.next.number;
               };
+              marked = up.marked;
+              others = up.others;
+            }
+
+        cut_off : AreCutOff o (journal_of (o.state mid).held) (front ++ one.steps) two.steps mid new → AreCutOff o text front both old new
+        cut_off cut =
+            let may = may_first told way front at in
+            let h = (laid_off told way front at).1.held in
+            let may_2 : allowed two.steps ≡ true = allowed_before two.steps cut.begun cut.names in
+            let whole : one.steps ++ (two.steps ++ cut.begun) ≡ both ++ cut.begun = sym (append_assoc one.steps two.steps cut.begun) in
+            record {
+              begun = cut.begun;
+              one_more = cut.one_more;
+              names = subst (λ (l : List Step). allowed l ≡ true) whole (allowed_both one.steps (two.steps ++ cut.begun) may cut.names);
+              next = λ all lists is. subst (λ (l : List Step). l ≡ take (length l) all) (append_assoc front one.steps (two.steps ++ cut.begun) ∙ ap (λ (l : List Step). front ++ l) whole)
+                  (cut.next all lists (same_text told way front at ∙ is));
+              can = both_possible t (o.state mid).held one.steps two.steps may may_2 h (laid_off told way front at).1.can cut.can;
+              held = but_alike (begins mark_front) mark_private cut.begun cut.one_more (allowed_behind two.steps cut.begun cut.names) (after both t) (after two.steps (o.state mid).held) (o.state new).held
+                  (both_agree t (o.state mid).held one.steps two.steps may may_2 h) cut.held;
             }
 
         both_ends : (x : Result Bool StepFault) → LaysTo o (journal_of (o.state mid).held) (front ++ one.steps) two.steps two.marks mid new r x → LaysTo o text front both two.marks old new r x
@@ -190,7 +212,7 @@ module _ {F : Type 0} (o : Outside F) (sane : IsOutside o) (first : ℕ) where
             (λ bad. inl (subst (λ (l : List ℕ). IsBadLine l line) (same_text told way front at) bad))
             (λ up. inr (held_up line up))
             ends
-        both_ends (Err FolderFault) ends = tt
+        both_ends (Err FolderFault) ends = cut_off ends
 
       module _ (told : o.tells old ≡ true) (way : IsUnderWay (o.state old) first) (all : List Step) (a : Image) (is_open : IsOpen journal_text all first a t) (at : IsAt text (take (1000 * first) all) start) where
         still_open : IsOpen journal_text all marks a (o.state mid).held
@@ -207,7 +229,9 @@ module _ {F : Type 0} (o : Outside F) (sane : IsOutside o) (first : ℕ) where
         marks = two.marks;
         tallies = two.tallies ∙ ap (all_counted two.steps) one.tallies ∙ sym (counted_on one.steps two.steps before);
         more = let up = one.more in let more = two.more in omega (arith, are);
+        many = let so_many = two.many in omega (arith, sum, grown);
         few = let so_many = two.few in omega (arith, sum, grown);
+        fewer = λ line is. let so_many = two.fewer line is in omega (arith, sum, grown);
         full = λ same. let so_many = two.full same in omega (arith, sum, grown);
         next = both_next;
         ends = λ told way front at. both_ends told way front at how (two.ends (kind ∙ told) (way_on told way front at) (front ++ one.steps) (at_half told way front at));
@@ -289,7 +313,9 @@ module _ {F : Type 0} (o : Outside F) (sane : IsOutside o) (first turn : ℕ) (o
       marks = g.lays.marks;
       tallies = g.lays.tallies;
       more = g.lays.more;
+      many = g.lays.many;
       few = g.lays.few;
+      fewer = λ line bad. let so_many = g.lays.full refl in omega (arith, so_many);
       full = λ bad. cc;
       next = g.lays.next;
       ends = λ told way front at.

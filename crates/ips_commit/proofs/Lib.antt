@@ -6,6 +6,7 @@ pub mod Written
 pub mod AllWritten
 pub mod GateOpens
 pub mod Lays
+pub mod CutOff
 pub mod Marked
 pub mod Numbered
 pub mod Owing

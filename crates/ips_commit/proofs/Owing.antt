@@ -17,7 +17,7 @@ use Rattle.ips_steps.specs.Private.{gate_name, journal_name, mark_front, mark_na
 use Rattle.ips_steps.specs.Owed.{AreMarks, steps_left, IsReady, IsOpen, Owes, Old, Open, New, FolderOwes}
 use Rattle.ips_steps.proofs.AtTurn.{front_frees, front_meets}
 use Rattle.ips_steps.proofs.Lists.{clash}
-use Rattle.ips_steps.proofs.PrivateNames.{visible_agrees}
+use Rattle.ips_steps.proofs.PrivateNames.{gate_private, visible_agrees}
 use Rattle.ips_steps.proofs.Owing.{open_laying, gate_ready, owes_laying, owes_opening, owes_closing, owes_sweeping, closed_seen}
 use Rattle.ips_journal.specs.Text.{journal_text}
 use Rattle.ips_journal.specs.Reading.{journal_of}
@@ -42,6 +42,10 @@ unswept_of q seen false is = is
 
 pub unswept : (q : List ℕ) → is_private q ≡ false → is_swept q ≡ false
 unswept q seen = unswept_of q seen (is_swept q) refl
+
+ungated : (q : List ℕ) → is_private q ≡ false → (c : Bool) → covers gate_name q ≡ c → covers gate_name q ≡ false
+ungated q seen true is = clash (is_private q) (gate_private q is) seen
+ungated q seen false is = is
 
 -- what is swept isn't seen
 pub swept_seen : (t u : Image) → Agrees is_swept nowhere t u → visible u ≡ visible t
@@ -148,6 +152,13 @@ module _ {F : Type 0} (o : Outside F) (sane : IsOutside o) where
       (λ s w. owes_sweeping journal_text b a due is_swept (o.state old) s owes shut clean swept_private gate_unswept w) run.moments
 
   -- ---- the gate closed, and what is left swept
+
+  -- only the updater's own names are changed and touched
+  pub at_gate : (old new : F) → Keeps o (covers gate_name) nowhere old new → Keeps o is_private nowhere old new
+  at_gate old new run = keeps_wider o (covers gate_name) nowhere is_private nowhere old new (λ q seen. ungated q seen (covers gate_name q) refl) (λ q l. l) run
+
+  pub at_swept : (old new : F) → Keeps o is_swept nowhere old new → Keeps o is_private nowhere old new
+  at_swept old new run = keeps_wider o is_swept nowhere is_private nowhere old new unswept (λ q l. l) run
 
   -- a crash as the gate opens or closes leaves the marks
   pub gate_left : (old new : F) (count : ℕ) → Keeps o (covers gate_name) nowhere old new → IsSettled (o.state old) → AreMarks (o.state old).held count → (c : Image) → MayLeave (o.state new) c → AreMarks c count

@@ -3,7 +3,7 @@ use Rattle.std.proofs.Common.{◌≡◌, ◌≢◌, ◌⊎◌, inl, inr, ⊎_eli
 use Rattle.std.specs.List.{list_all}
 use Rattle.std.proofs.lemmas.Bool.{cases_lt, false_from_ne_true}
 use Rattle.std.proofs.Math.ListN.{drop_of_length-le}
-use Rattle.std.proofs.lemmas.List.{take-append-drop, take_all}
+use Rattle.std.proofs.lemmas.List.{take-append-drop}
 use Rattle.ips_text.specs.declared.refusal.Or.{Or}
 use Rattle.ips_text.specs.declared.refusal.Or.TheVariants.{Bad, OutOfMemory}
 use Rattle.ips_text.specs.Reading.{IfBad}
@@ -20,9 +20,10 @@ use Rattle.ips_steps.specs.Journal.{allowed}
 use Rattle.ips_steps.specs.Owed.{AreMarks, steps_left, IsOpen, Owes, Old, Open, New, FolderOwes}
 use Rattle.ips_steps.proofs.Apart.{marks_alike}
 use Rattle.ips_steps.proofs.Lists.{clash}
+use Rattle.ips_steps.proofs.PrivateNames.{mark_private}
 use Rattle.ips_steps.proofs.Owing.{owed_open}
 use Rattle.ips_steps.proofs.Unmarking.{owes_unmarking, open_unmarked}
-use Rattle.ips_kinds.specs.Tallies.{Carrier, all_counted}
+use Rattle.ips_kinds.specs.Tallies.{Carrier}
 use Rattle.ips_journal.specs.Text.{journal_text}
 use Rattle.ips_journal.specs.Bad.{IsBadLine}
 use Rattle.ips_journal.specs.Reading.{Reading, IsAt, journal_of}
@@ -33,7 +34,8 @@ use Rattle.ips_commit.specs.declared.fault.CommitFault.{CommitFault}
 use Rattle.ips_commit.specs.declared.fault.CommitFault.TheVariants as fault
 use Rattle.ips_commit.specs.Pending.{HasNoOtherMark, AreMarkNames, IsSwept, IsDone, is_swept, is_other, mark_names}
 use Rattle.ips_commit.specs.Phases.{IsUnderWay}
-use Rattle.ips_commit.specs.Recovering.{AreCounted, CanResume, IsJournalled, IsStuckAt, IsPlaced, CanRollForward, IfBadJournal, SaysOfFinding, SaysOfSteps, SaysOfLaying, SaysOfRecovery}
+use Rattle.ips_commit.specs.Recovering.{AreCounted, AreLaidTo, CanResume, IsJournalled, IsStuckAt, IsPlaced, IsUnfinished, CanRollForward, IfBadJournal, SaysOfFinding, SaysOfSteps, SaysOfLaying, SaysOfRecovery}
+use Rattle.ips_commit.proofs.CutOff.{none_laid, as_own, laid_alike, content_else}
 use Rattle.ips_commit.proofs.Going.{cannot_alike}
 use Rattle.ips_commit.proofs.Lays.{allowed_before}
 use Rattle.ips_commit.proofs.Marked.{absent_later, gate_marked, journal_marked}
@@ -154,14 +156,12 @@ counted_left t steps m n ms ns = elim (cases_lt m n) [
         (λ all. let more : length steps ≤ 1000 * y = omega (arith, all, lt) in drop_of_length-le steps all ∙ sym (drop_of_length-le steps more))
         xs.last
 
--- what was counted, told by any list and count that the journal and the marks are of
-pub front_as : (t : Image) (r : Reading) (n : ℕ) (placed : IsPlaced t r n) (steps : List Step) (count : ℕ) → IsJournalled t steps count → (counts now : List Carrier)
-    → (laid : ℕ) × (now ≡ all_counted (take laid (steps_left n placed.steps)) counts) → (laid : ℕ) × (now ≡ all_counted (take laid (steps_left count steps)) counts)
-front_as t r n placed steps count is counts now front =
+-- what is left, told by any list and count that the journal and the marks are of
+rest_as : (t : Image) (r : Reading) (n : ℕ) (placed : IsPlaced t r n) (steps : List Step) (count : ℕ) → IsJournalled t steps count → steps_left n placed.steps ≡ steps_left count steps
+rest_as t r n placed steps count is =
     let same : placed.steps ≡ steps = one_text placed.steps steps placed.is.lists is.lists (sym placed.is.text_is ∙ is.text_is) in
     let marked = subst (λ (l : List Step). AreCounted t (length l) n) same placed.is.marked in
-    let left : steps_left n placed.steps ≡ steps_left count steps = ap (steps_left n) same ∙ counted_left t steps n count marked is.marked in
-    (front.0, front.1 ∙ ap (λ (l : List Step). all_counted (take front.0 l) counts) left)
+    ap (steps_left n) same ∙ counted_left t steps n count marked is.marked
 
 -- ---- the marks but the first ones taken away behind an open gate
 
@@ -192,26 +192,18 @@ module _ {F : Type 0} (o : Outside F) (sane : IsOutside o) (old mid : F) (marks 
         (λ i lt. other_keeps count i marks own lt) (other_absent t (mark_names count) marks (m + 1) own are is_open.ready.marked.last) w) run.moments
 
     -- what a crash leaves
-    pub unmarking_resumes : CanResume (o.state mid) m 0
+    unmarking_resumes : CanResume (o.state mid) m 0
     unmarking_resumes c may = ⊎_elim (λ shut. inl shut) (λ some. inr (some.0, some.1, omega arith)) (owes_marks t (Some a) false c
         ((owes_unmarking journal_text steps m count t a false (is_other (mark_names count) marks) (o.state old) (o.state mid) is_open clean left_same (other_own (mark_names count) marks own)
         (λ i lt. other_keeps count i marks own lt) (other_absent t (mark_names count) marks (m + 1) own are is_open.ready.marked.last) run.now).left c may))
 
-    -- and what it leaves behind that, told of the marks before
-    pub first_resumes : (s : State) (before now : List Carrier) → (n : ℕ) × (now ≡ all_counted (take n (steps_left count placed.steps)) before) × CanResume s count n
-        → (n : ℕ) × (now ≡ all_counted (take n (steps_left m steps)) before) × CanResume s m n
-    first_resumes s before now found =
-        let listed = same_steps t r count placed steps m a is_open in
-        let same : steps_left count placed.steps ≡ steps_left m steps = ap (steps_left count) listed ∙ left_same in
-        ⊎_elim
-        (λ one. (found.0, found.1 ∙ ap (λ (l : List Step). all_counted (take found.0 l) before) same, subst (λ (k : ℕ). CanResume s k found.0) one found.2))
-        (λ both.
-        let none : steps_left count placed.steps ≡ [] = ap (steps_left count) listed ∙ drop_of_length-le steps both.0 in (
-          0,
-          found.1 ∙ ap (λ (l : List Step). all_counted (take found.0 l) before) none ∙ ap (λ (l : List Step). all_counted l before) (take_all found.0 [] (omega arith)),
-          λ c may. ⊎_elim (λ shut. inl shut) (λ some. inr (some.0, some.1, omega arith)) (found.2 c may),
-        ))
-        (counts t r count placed steps m a is_open)
+  -- nothing was begun
+  pub not_begun : (steps : List Step) (m : ℕ) → IsJournalled t steps m → (kinds : List Carrier) → IsUnfinished t (o.state mid) steps m kinds kinds
+  not_begun steps m is kinds = record {
+    laid = 0;
+    are = none_laid (steps_left m steps) t u kinds (as_own (is_other (mark_names count) marks) (λ q other. mark_private q (other_own (mark_names count) marks own q other)) t u run.now.agrees);
+    resumes = λ a is_open. unmarking_resumes steps m a is_open;
+  }
 
   module _ (others : HasNoOtherMark u (mark_names count)) (safe : IsSettled (o.state mid)) where
     agree : Agrees (begins mark_front) nowhere t u
@@ -268,6 +260,8 @@ module _ {F : Type 0} (o : Outside F) (sane : IsOutside o) (old mid : F) (marks 
           };
           held = agrees_on (begins mark_front) nowhere (after some t) (after some u) v alike.1 stuck.held;
           gate = stuck.gate;
+          marked = stuck.marked;
+          others = stuck.others;
           tallies = stuck.tallies;
         }
 
@@ -286,6 +280,24 @@ module _ {F : Type 0} (o : Outside F) (sane : IsOutside o) (old mid : F) (marks 
 
       pub first_means : (s : State) → IsDone (visible (after left t)) s → IsDone a s
       first_means s done = subst (λ (x : Image). IsDone x s) (ap (λ (l : List Step). visible (after l t)) (left_same placed.steps m a here) ∙ here.ready.means) done
+
+    -- what was laid and what a crash leaves, told of the marks before
+    pub first_unfinished : (s : State) (before now : List Carrier) (steps : List Step) (m : ℕ) → IsJournalled t steps m → IsUnfinished u s placed.steps count before now → IsUnfinished t s steps m before now
+    first_unfinished s before now steps m is found = record {
+      laid = found.laid;
+      are = subst (λ (l : List Step). AreLaidTo l found.laid t s.held before now) (rest_as t r count placed steps m is)
+          (laid_alike (begins mark_front) mark_private left found.laid t u s.held before now may (λ k. (content_else k).0) agree found.are);
+      resumes = λ a is_open.
+          let some = found.resumes a (first_still steps m a is_open) in
+          ⊎_elim
+          (λ one. subst (λ (k : ℕ). CanResume s k found.laid) one some)
+          (λ both.
+          let none : left ≡ [] = ap (steps_left count) (same_steps t r count placed steps m a is_open) ∙ drop_of_length-le steps both.0 in
+          let few = found.are.few in
+          let zero : length left ≡ 0 = ap length none in
+          λ c may. ⊎_elim (λ shut. inl shut) (λ marks. inr (marks.0, marks.1, omega (arith, few, zero))) (some c may))
+          (counts t r count placed steps m a is_open);
+    }
 
     -- what is owed, whatever it is
     pub first_owed : (new : F) → t.look gate_name ≢ None → (b : Image) (x : Option Image) (due : Bool) → FolderOwes journal_text b x due (o.state old)

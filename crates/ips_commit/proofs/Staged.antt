@@ -1,13 +1,13 @@
 -- A list of steps staged behind a closed gate.
-use Rattle.std.proofs.Common.{◌≡◌, inl, inr, ⊎_elim, ℕ, ◌<◌, Bool, true, false, ◌||◌, List, length, ◌++◌, Option, Some, None, Result, is_some, refl, sym, ◌∙◌, ap, subst, arith}
+use Rattle.std.proofs.Common.{◌≡◌, inl, inr, ⊎_elim, ℕ, ◌<◌, ◌≤◌, Bool, true, false, ◌||◌, List, length, ◌++◌, Option, Some, None, Result, is_some, refl, sym, ◌∙◌, ap, subst, arith}
 use Rattle.std.specs.Fmt.{decimal}
-use Rattle.std.proofs.lemmas.Bool.{or_parts, or_right}
+use Rattle.std.proofs.lemmas.Bool.{or_parts, or_right, and_parts, not-true, cases_lt}
 use Rattle.std.proofs.lemmas.Option.{slice_get_cases}
-use Rattle.ips_text.specs.Ancestry.{covers, parent}
+use Rattle.ips_text.specs.Ancestry.{covers, is_below, parent}
 use Rattle.ips_outside.specs.Image.{Image, IsImage, Agrees, Dir, is_dir, file_bytes, has_parent, dir_or_none}
 use Rattle.ips_outside.specs.Change.{placed}
 use Rattle.ips_outside.specs.State.{State, Within, IsSettled, nowhere, settled}
-use Rattle.ips_outside.specs.Outside.{Outside, IsOutside, Elapses, Reads}
+use Rattle.ips_outside.specs.Outside.{Outside, IsOutside, Elapses, Reads, Rose, counted}
 use Rattle.ips_outside.proofs.Moments.{agrees_less, within_self, within_then}
 use Rattle.ips_outside.proofs.Placed.{look_placed}
 use Rattle.ips_folder.specs.Calls.{CanMake, Writes, Keeps, Throughout}
@@ -17,17 +17,24 @@ use Rattle.ips_steps.specs.Private.{records_name, journal_name, gate_name, mark_
 use Rattle.ips_steps.specs.Journal.{IsJournal}
 use Rattle.ips_steps.specs.Owed.{Old, FolderOwes}
 use Rattle.ips_steps.proofs.Again.{again_but}
-use Rattle.ips_steps.proofs.PrivateNames.{all_clear, begins_front, visible_agrees, stage_parent, journal_parent}
+use Rattle.ips_steps.proofs.PrivateNames.{all_clear, begins_below, begins_front, visible_agrees, stage_parent, journal_parent}
 use Rattle.ips_steps.proofs.Owing.{owes_sweeping}
 use Rattle.ips_journal.specs.Text.{journal_text}
 use Rattle.ips_journal.specs.declared.staged.Staged.{Staged}
 use Rattle.ips_commit.specs.Pending.{IsBehindGate, HasNoOtherMark, IsSwept, is_swept}
 use Rattle.ips_commit.specs.Contents.{AreContents, AreStanding, AreSeen}
-use Rattle.ips_commit.specs.Staging.{CanStage, HasStaged, IsCleared, IsFilled}
+use Rattle.ips_commit.specs.Staging.{CanStage, HasStaged, HoldsOnly, IsCleared, IsFilled}
 use Rattle.ips_commit.proofs.OwnNames.{swept_private, gate_unswept, records_unswept, stage_swept, journal_swept, behind_front}
 use Rattle.ips_commit.proofs.Swept.{wrote}
 use Rattle.ips_commit.proofs.Owing.{nodes_of, unswept, swept_seen, swept_gone}
 use Rattle.ips_commit.proofs.AllWritten.{standing_kept, content_kept}
+
+-- a count that was counted up rose
+pub rose_of : (before now : ℕ) → counted before ≤ now → Rose before now
+rose_of before now up = elim (cases_lt before now) [
+  | inl more ↦ inl more
+  | inr less ↦ inr (omega (arith, up, less))
+]
 
 -- ---- what was left is taken away
 
@@ -109,6 +116,7 @@ filled_swept tells repository publisher text staged t u s h seen filled = record
   safe = filled.safe;
   journal = filled.journal;
   stage = filled.stage;
+  only = filled.only;
   contents = contents_swept tells repository publisher t u h staged seen (stage_of s.held) filled.contents;
   unmarked = filled.unmarked;
 }
@@ -138,6 +146,20 @@ content_unlisted n = refl
 stage_unlisted : covers journal_name stage_name ≡ false
 unfolding stage_name journal_name
 stage_unlisted = refl
+
+stage_itself : begins stage_name stage_name ≡ true
+unfolding stage_name
+stage_itself = refl
+
+front_unlisted : (d : List ℕ) → covers journal_name (stage_name ++ d) ≡ false
+unfolding stage_name journal_name
+front_unlisted d = refl
+
+-- nothing in the stage is the journal
+below_unlisted : (q : List ℕ) → is_below stage_name q ≡ true → covers journal_name q ≡ false
+below_unlisted q below =
+    let cut = behind_front stage_name q (begins_below stage_name stage_name q stage_itself (and_parts (covers stage_name q) _ below).0) in
+    ap (covers journal_name) cut.1 ∙ front_unlisted cut.0
 
 journal_is_swept : is_swept journal_name ≡ true
 unfolding stage_name journal_name
@@ -169,12 +191,11 @@ made_entry p t u at made = ap u.look (sym at) ∙ ap (λ (w : Image). w.look p) 
 pub made_dir : (p : List ℕ) (t u : Image) → p ≡ stage_name → u ≡ placed p (Some (Dir 448 false)) t → is_dir (u.look stage_name) ≡ true
 made_dir p t u at made = ap is_dir (made_entry p t u at made)
 
-none_in_stage : (t : Image) (n : ℕ) → (placed stage_name (Some (Dir 448 false)) t).look (stage_path n) ≡ None
-unfolding stage_name
-none_in_stage t n = refl
+none_in_stage : (t : Image) (q : List ℕ) → is_below stage_name q ≡ true → (placed stage_name (Some (Dir 448 false)) t).look q ≡ None
+none_in_stage t q below = let parts = and_parts (covers stage_name q) _ below in rw (not-true _ parts.1, parts.0) refl
 
-pub made_empty : (p : List ℕ) (t u : Image) → p ≡ stage_name → u ≡ placed p (Some (Dir 448 false)) t → (n : ℕ) → u.look (stage_path n) ≡ None
-made_empty p t u at made n = ap (λ (w : Image). w.look (stage_path n)) (made ∙ ap (λ (x : List ℕ). placed x (Some (Dir 448 false)) t) at) ∙ none_in_stage t n
+pub made_empty : (p : List ℕ) (t u : Image) → p ≡ stage_name → u ≡ placed p (Some (Dir 448 false)) t → (q : List ℕ) → is_below stage_name q ≡ true → u.look q ≡ None
+made_empty p t u at made q below = ap (λ (w : Image). w.look q) (made ∙ ap (λ (x : List ℕ). placed x (Some (Dir 448 false)) t) at) ∙ none_in_stage t q below
 
 in_stage : (t u : Image) → Agrees (covers stage_name) nowhere t u → Agrees is_swept nowhere t u
 in_stage t u h = agrees_less (covers stage_name) nowhere is_swept nowhere t u stage_swept (λ q l. l) h
@@ -194,12 +215,13 @@ module _ {F : Type 0} (o : Outside F) (sane : IsOutside o) where
       (keeps_wider o (covers p) nowhere is_swept nowhere mid new (λ q off. ap (λ (x : List ℕ). covers x q) at ∙ journal_swept q off) (λ q n. n) run)
 
 pub all_filled : (tells : Bool) (repository : Image) (publisher text : List ℕ) (staged : List Staged) (p : List ℕ) (t u v : Image) (s : State) → p ≡ journal_name → IsCleared t → AreSeen staged
-    → Agrees (covers stage_name) nowhere t u → Agrees (covers stage_name) nowhere t v → Agrees (covers p) nowhere v s.held → AreContents tells repository publisher u staged (stage_of v) → v.look stage_name ≡ Some (Dir 448 false)
+    → Agrees (covers stage_name) nowhere t u → Agrees (covers stage_name) nowhere t v → Agrees (covers p) nowhere v s.held → AreContents tells repository publisher u staged (stage_of v) → v.look stage_name ≡ Some (Dir 448 false) → HoldsOnly (length staged) v
     → file_bytes (s.held.look journal_name) ≡ Some text → IsSettled s → IsFilled tells repository publisher text staged t s
-all_filled tells repository publisher text staged p t u v s at cleared seen made filled last are stands file safe = record {
+all_filled tells repository publisher text staged p t u v s at cleared seen made filled last are stands only file safe = record {
   safe = safe;
   journal = file;
   stage = last.look stage_name (off stage_name stage_unlisted) refl ∙ stands;
+  only = λ q below there. only q below (λ none. there (last.look q (off q (below_unlisted q below)) refl ∙ none));
   contents = λ n x there.
       let old = contents_swept tells repository publisher t u (in_stage t u made) staged seen (stage_of v) are n x there in
       (old.0, ap file_bytes (last.look (stage_path n) (off (stage_path n) (content_unlisted n)) refl) ∙ old.1, old.2);
@@ -232,6 +254,7 @@ has_staged tells repository publisher text steps staged t s formed lists can tex
       contents = contents;
       are = filled.contents;
       stage = filled.stage;
+      only = filled.only;
       is = record {
         safe = filled.safe;
         shut = h.look gate_name gate_unswept refl ∙ can.shut;

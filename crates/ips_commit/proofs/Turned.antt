@@ -1,5 +1,5 @@
 -- One turn of laying: at most a thousand steps laid and made safe, and a mark made behind them.
-use Rattle.std.proofs.Common.{◌≡◌, ◌≢◌, inl, inr, ⊎_elim, ℕ, ◌+◌, ◌*◌, ◌^◌, ◌<◌, Bool, true, false, cond, ◌||◌, List, [], ◌++◌, length, take, Some, None, Result, Ok, Err, refl, sym, ◌∙◌, ap, subst, arith, ◌≤◌}
+use Rattle.std.proofs.Common.{◌≡◌, ◌≢◌, inl, inr, ⊎_elim, ℕ, ◌+◌, ◌*◌, ◌^◌, ◌<◌, Bool, true, false, cond, ◌||◌, List, [], ◌++◌, append-nil, length, take, drop, Some, None, Result, Ok, Err, refl, sym, ◌∙◌, ap, subst, arith, ◌≤◌}
 use Rattle.std.proofs.lemmas.Bool.{or_from}
 use Rattle.ips_text.specs.Ancestry.{covers}
 use Rattle.ips_outside.specs.Image.{File, Image, Agrees}
@@ -9,11 +9,12 @@ use Rattle.ips_outside.proofs.Moments.{agrees_self, agrees_on, agrees_less, with
 use Rattle.ips_folder.specs.Calls.{Keeps, Syncs, Throughout}
 use Rattle.ips_folder.proofs.Runs.{joins, weaker, keeps_then, one_sync}
 use Rattle.ips_steps.specs.Steps.{Step, after, possible, stage_of, freed, met}
-use Rattle.ips_steps.specs.Private.{mark_front, mark_name, begins, visible}
+use Rattle.ips_steps.specs.Private.{mark_front, mark_name, begins, is_private, visible}
 use Rattle.ips_steps.specs.Journal.{IsJournal, allowed}
 use Rattle.ips_steps.specs.Owed.{AreMarks, steps_left, IsOpen, FolderOwes}
 use Rattle.ips_steps.proofs.Lists.{clash}
 use Rattle.ips_steps.proofs.Owing.{owes_marking, open_marked, thousand_laid}
+use Rattle.ips_steps.proofs.PrivateNames.{mark_private}
 use Rattle.ips_kinds.specs.Tallies.{Carrier}
 use Rattle.ips_journal.specs.Text.{journal_text}
 use Rattle.ips_journal.specs.Reading.{Reading, IsAt, journal_of}
@@ -22,8 +23,9 @@ use Rattle.ips_journal.specs.declared.fault.StepFault.TheVariants.{BadJournal, F
 use Rattle.ips_apply.specs.Applied.{AppliedPart, ChangedByAll, IsImpossible, StopsBy, EndsOrNot}
 use Rattle.ips_apply.proofs.Turns.{allowed_behind}
 use Rattle.ips_commit.specs.Pending.{mark_names}
-use Rattle.ips_commit.specs.Phases.{IsUnderWay, LaysTo, LaysThousand}
-use Rattle.ips_commit.proofs.Lays.{HasBegun, next_of, part_next, part_lists, stopped_begun, stopped_next}
+use Rattle.ips_commit.specs.Phases.{IsUnderWay, AreCutOff, LaysTo, LaysThousand}
+use Rattle.ips_commit.proofs.CutOff.{begun_is, one_at_most, seen_but, seen_same, as_own}
+use Rattle.ips_commit.proofs.Lays.{HasBegun, next_of, begins_next, part_next, part_lists, stopped_begun, stopped_next}
 use Rattle.ips_commit.proofs.Marked.{gate_laid, marks_laid, others_laid, gate_marked, at_marks, absent_later, one_more_stands, one_more_or_not, others_more, same_marks}
 use Rattle.ips_commit.proofs.Owing.{ready_text, laying_owed, laying_open, laying_left, nodes, safe_left}
 
@@ -39,12 +41,46 @@ module _ {F : Type 0} (o : Outside F) (sane : IsOutside o) (first : ℕ) (old at
 
   -- ---- laying that was stopped
 
-  stopped : (front steps : List Step) (marks : ℕ) (e : StepFault) → StopsBy o text front steps old at e → LaysTo o text front steps marks old at r (Err e)
-  stopped front steps marks (BadJournal line) ends = ⊎_elim
+  stopped : IsUnderWay (o.state old) first → (front steps : List Step) (e : StepFault) → StopsBy o text front steps old at e → LaysTo o text front steps first old at r (Err e)
+  stopped way front steps (BadJournal line) ends = ⊎_elim
       (λ bad. inl bad)
-      (λ cannot. inr (record { can = ends.0.can; held = same_image (o.state at).held steps ends.0.held; next = subst (λ (u : Image). IsImpossible text (front ++ steps) u line) ends.0.held cannot }))
+      (λ cannot.
+      let may = allowed_behind front steps ends.2.stands.1.1.listed.names in
+      let h = ends.0.moments.now.agrees in
+      inr (record {
+        can = ends.0.can;
+        held = same_image (o.state at).held steps ends.0.held;
+        next = subst (λ (u : Image). IsImpossible text (front ++ steps) u line) ends.0.held cannot;
+        marked = marks_laid steps may _ t (o.state at).held h first way.marked;
+        others = others_laid steps may _ t (o.state at).held h (mark_names first) way.others;
+      }))
       ends.1
-  stopped front steps marks FolderFault ends = tt
+  stopped way front steps FolderFault ends =
+      let more = drop (length steps) ends.begun in
+      let whole : ends.begun ≡ steps ++ more = begun_is steps ends.begun ends.one_more in
+      record {
+        begun = more;
+        one_more = one_at_most steps ends.begun ends.one_more;
+        names = subst (λ (l : List Step). allowed l ≡ true) whole (allowed_behind front ends.begun ends.stands.1.1.listed.names);
+        next = λ all lists is. subst (λ (l : List Step). front ++ l ≡ take (length (front ++ l)) all) whole (begins_next text front ends.begun ends.stands all lists is);
+        can = ends.can;
+        held = seen_but more (after steps t) (o.state at).held ends.held;
+      }
+
+  -- all that was begun was finished, and nothing but the updater's own names was changed since
+  cut_behind : (new : F) (front steps : List Step) → allowed steps ≡ true → ((all : List Step) → IsJournal all → text ≡ journal_text all → front ++ steps ≡ take (length (front ++ steps)) all)
+      → possible (stage_of t) steps t ≡ true → Agrees is_private nowhere (after steps t) (o.state new).held → AreCutOff o text front steps old new
+  cut_behind new front steps may next can held = record {
+    begun = [];
+    one_more = inl refl;
+    names = subst (λ (l : List Step). allowed l ≡ true) whole may;
+    next = λ all lists is. subst (λ (l : List Step). front ++ l ≡ take (length (front ++ l)) all) whole (next all lists is);
+    can = can;
+    held = seen_same [] (after steps t) (o.state new).held held;
+  }
+    where
+      whole : steps ≡ steps ++ []
+      whole = sym (append-nil steps)
 
   pub turn_stopped : (result : Result (ℕ × Bool) StepFault) (e : StepFault) → result ≡ Err e → AppliedPart o 1000 old at start r before now result → LaysThousand o first old at start r before now (Err e)
   turn_stopped result e is applied =
@@ -56,9 +92,11 @@ module _ {F : Type 0} (o : Outside F) (sane : IsOutside o) (first : ℕ) (old at
           tallies = a.tallies;
           more = omega arith;
           few = let few = a.few in omega arith;
+          many = omega arith;
+          fewer = λ line bad. let less = a.fewer refl in omega arith;
           full = λ bad. cc;
           next = λ told way front from all lists is_text. stopped_next o old at text front a.steps e (a.ends told front from) all lists is_text;
-          ends = λ told way front from. stopped front a.steps first e (a.ends told front from);
+          ends = λ told way front from. stopped way front a.steps e (a.ends told front from);
           owed = λ told way all b x due is_open from. laying_owed o sane all first x old at told is_open way.safe (stopped_begun o old at text (take (1000 * first) all) a.steps e (a.ends told (take (1000 * first) all) from)) b due;
           stays_open = λ told way all x is_open from. tt;
           left = λ told way all x is_open from c may. (first, laying_left o sane all first x old at told is_open (stopped_begun o old at text (take (1000 * first) all) a.steps e (a.ends told (take (1000 * first) all) from)) way.safe c may, (let few = a.few in omega arith));
@@ -104,17 +142,22 @@ module _ {F : Type 0} (o : Outside F) (sane : IsOutside o) (first : ℕ) (old at
       left_here told way all x is_open from c may = (first, laying_left o sane all first x old mid told is_open (begun told (take (1000 * first) all) from) way.safe c may, (let few = done.few in omega arith))
 
       -- the sync failed
-      pub turn_unsynced : LaysThousand o first old mid start r before now (Err FolderFault)
-      turn_unsynced = record {
+      pub turn_unsynced : o.state mid ≡ o.state at → LaysThousand o first old mid start r before now (Err FolderFault)
+      turn_unsynced kept = record {
         lays = record {
           steps = steps;
           marks = first;
           tallies = done.tallies;
           more = omega arith;
           few = let few = done.few in omega arith;
+          many = omega arith;
+          fewer = λ line bad. cc;
           full = λ bad. cc;
           next = λ told way front from. next told front from;
-          ends = λ told way front from. tt;
+          ends = λ told way front from.
+              let same : (o.state mid).held ≡ after steps t = ap (λ (s : State). s.held) kept ∙ (done.ends told front from).1.held in
+              cut_behind mid front steps (may told front from) (next told front from) (done.ends told front from).1.can
+              (subst (λ (u : Image). Agrees is_private nowhere (after steps t) u) (sym same) (agrees_self is_private nowhere (after steps t)));
           owed = owed;
           stays_open = λ told way all x is_open from. tt;
           left = left_here;
@@ -147,6 +190,8 @@ module _ {F : Type 0} (o : Outside F) (sane : IsOutside o) (first : ℕ) (old at
             tallies = done.tallies;
             more = omega arith;
             few = let few = done.few in omega arith;
+            many = omega arith;
+            fewer = λ line bad. cc;
             full = λ same. absurd (let off : ended ≡ false = cc in clash ended at_end off);
             next = λ told way front from. next told front from;
             ends = λ told way front from.
@@ -206,9 +251,14 @@ module _ {F : Type 0} (o : Outside F) (sane : IsOutside o) (first : ℕ) (old at
                 tallies = done.tallies;
                 more = omega arith;
                 few = let few = done.few in omega arith;
+                many = omega arith;
+                fewer = λ line bad. cc;
                 full = λ bad. cc;
                 next = λ told way front from. next told front from;
-                ends = λ told way front from. tt;
+                ends = λ told way front from.
+                    let same = held told front from in
+                    cut_behind new front steps (may told front from) (next told front from) (done.ends told front from).1.can
+                    (subst (λ (u : Image). Agrees is_private nowhere u (o.state new).held) same (as_own (begins mark_front) mark_private (o.state mid).held (o.state new).held (at_marks (first + 1) (o.state mid).held (o.state new).held (run (kind_1 ∙ told)).now.agrees)));
                 owed = marking;
                 stays_open = λ told way all x is_open from. tt;
                 left = λ told way all x is_open from c may.
@@ -248,6 +298,8 @@ module _ {F : Type 0} (o : Outside F) (sane : IsOutside o) (first : ℕ) (old at
                   tallies = done.tallies;
                   more = omega arith;
                   few = let few = done.few in omega arith;
+                  many = let so_many = thousand in omega (arith, so_many);
+                  fewer = λ line bad. cc;
                   full = λ same. let so_many = thousand in omega (arith, so_many);
                   next = λ told way front from. next told front from;
                   ends = λ told way front from.

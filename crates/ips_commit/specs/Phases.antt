@@ -1,12 +1,12 @@
 -- What the phases of a commit do to a folder.
-use Rattle.std.specs.Prelude.{◌≡◌, ◌≢◌, ◌⊎◌, ℕ, ◌+◌, ◌-◌, ◌*◌, ◌^◌, ◌≤◌, min, Bool, true, false, cond, IsTrue, IfOk, OnOk, List, ◌++◌, length, take, Some, None, Result, Ok, Err}
+use Rattle.std.specs.Prelude.{◌≡◌, ◌≢◌, ◌⊎◌, ℕ, ◌+◌, ◌-◌, ◌*◌, ◌^◌, ◌<◌, ◌≤◌, min, Bool, true, false, cond, ◌||◌, IsTrue, IfOk, OnOk, List, [], ◌∷◌, ◌++◌, length, take, Some, None, Result, Ok, Err}
 use Rattle.ips_outside.specs.Image.{Image, Agrees}
 use Rattle.ips_outside.specs.State.{State, MayLeave, IsSettled, nowhere, settled}
 use Rattle.ips_outside.specs.Outside.{Outside, Elapses}
 use Rattle.ips_folder.specs.Calls.{Throughout}
-use Rattle.ips_steps.specs.Steps.{Step, after, possible, stage_of}
-use Rattle.ips_steps.specs.Journal.{IsJournal}
-use Rattle.ips_steps.specs.Private.{gate_name, mark_front, begins}
+use Rattle.ips_steps.specs.Steps.{Step, after, possible, stage_of, freed, met}
+use Rattle.ips_steps.specs.Journal.{IsJournal, allowed}
+use Rattle.ips_steps.specs.Private.{gate_name, mark_front, begins, is_private}
 use Rattle.ips_steps.specs.Owed.{AreMarks, IsOpen, FolderOwes}
 use Rattle.ips_kinds.specs.Tallies.{Carrier, all_counted}
 use Rattle.ips_journal.specs.Text.{journal_text}
@@ -42,20 +42,37 @@ pub record AreMarkedOff {F : Type 0} (o : Outside F) (steps : List Step) (count 
   pub held : Agrees (begins mark_front) nowhere (after steps (o.state old).held) (o.state new).held
   pub way : IsUnderWay (o.state new) count
 
--- These steps were possible and are laid, but for what stands at the names of marks, and the next can't be laid at its turn.
-pub record IsHeldUp {F : Type 0} (o : Outside F) (text : List ℕ) (front steps : List Step) (line : ℕ) (old new : F) : Type 0 where
+-- These steps were possible and are laid, but for what stands at the names of marks, and the next can't be laid at its turn. So
+-- many marks stand, and no other.
+pub record IsHeldUp {F : Type 0} (o : Outside F) (text : List ℕ) (front steps : List Step) (marks line : ℕ) (old new : F) : Type 0 where
   pub can : IsTrue (possible (stage_of (o.state old).held) steps (o.state old).held)
   pub held : Agrees (begins mark_front) nowhere (after steps (o.state old).held) (o.state new).held
   pub next : IsImpossible text (front ++ steps) (after steps (o.state old).held) line
+  pub marked : AreMarks (o.state new).held marks
+  pub others : HasNoOtherMark (o.state new).held (mark_names marks)
+
+-- The second image is the first, but at what these steps free, but for the modes that they meet, and but at the updater's own names.
+abbrev pub IsSeenBut : List Step → Image → Image → Type 0
+IsSeenBut steps t u = Agrees (λ q. freed steps q || is_private q) (met (stage_of t) steps t) t u
+
+-- These steps were possible and are laid, and one more may have been begun; they are the next ones of whatever list the text is
+-- the journal of. What is held is what the steps make, but at what that one frees and meets, and but at the updater's own names.
+pub record AreCutOff {F : Type 0} (o : Outside F) (text : List ℕ) (front steps : List Step) (old new : F) : Type 0 where
+  pub begun : List Step
+  pub one_more : (begun ≡ []) ⊎ ((s : Step) × (begun ≡ s ∷ []))
+  pub names : IsTrue (allowed (steps ++ begun))
+  pub next : (all : List Step) → IsJournal all → text ≡ journal_text all → front ++ (steps ++ begun) ≡ take (length (front ++ (steps ++ begun))) all
+  pub can : IsTrue (possible (stage_of (o.state old).held) steps (o.state old).held)
+  pub held : IsSeenBut begun (after steps (o.state old).held) (o.state new).held
 
 -- How laying ended where these steps behind the front were finished and so many marks stand: all that the text lists are laid
 -- and safe; or these are, and the reader stands behind them; or a line isn't of the grammar, or a step is held up; or a call on
--- the folder failed.
+-- the folder failed, and they were cut off.
 abbrev pub LaysTo : {F : Type 0} → Outside F → List ℕ → List Step → List Step → ℕ → F → F → Reading → Result Bool StepFault → Type 0
 LaysTo o text front steps marks old new r (Ok true) = IsJournal (front ++ steps) × (text ≡ journal_text (front ++ steps)) × AreMarkedOff o steps marks old new
 LaysTo o text front steps marks old new r (Ok false) = IsAt text (front ++ steps) r × AreMarkedOff o steps marks old new
-LaysTo o text front steps marks old new r (Err (BadJournal line)) = IsBadLine text line ⊎ IsHeldUp o text front steps line old new
-LaysTo o text front steps marks old new r (Err FolderFault) = Unit {0}
+LaysTo o text front steps marks old new r (Err (BadJournal line)) = IsBadLine text line ⊎ IsHeldUp o text front steps marks line old new
+LaysTo o text front steps marks old new r (Err FolderFault) = AreCutOff o text front steps old new
 
 -- What laying does from a reader's place and so many marks on: some steps are finished, each counted by the first kind that
 -- takes it, and a mark is made behind each thousand of them. Where the folder tells its image
@@ -65,7 +82,9 @@ pub record Lays {F : Type 0} (o : Outside F) (first : ℕ) (old new : F) (start 
   pub marks : ℕ
   pub tallies : now ≡ all_counted steps before
   pub more : first ≤ marks
+  pub many : 1000 * marks ≤ length steps + 1000 * first
   pub few : length steps + 1000 * first ≤ 1000 * marks + 1000
+  pub fewer : (line : ℕ) → how ≡ Err (BadJournal line) → length steps + 1000 * first < 1000 * marks + 1000
   pub full : how ≡ Ok false → length steps + 1000 * first ≡ 1000 * marks
   pub next : IsTrue (o.tells old) → IsUnderWay (o.state old) first → (front : List Step) → IsAt (journal_of (o.state old).held) front start → (all : List Step) → IsJournal all
       → journal_of (o.state old).held ≡ journal_text all → front ++ steps ≡ take (length (front ++ steps)) all

@@ -1,5 +1,5 @@
 -- What can be recovered, and how a recovery ends.
-use Rattle.std.specs.Prelude.{◌≡◌, ◌≢◌, ◌⊎◌, ℕ, ◌+◌, ◌-◌, ◌*◌, ◌<◌, ◌≤◌, IsTrue, List, ◌++◌, length, take, Result, Ok, Err, None}
+use Rattle.std.specs.Prelude.{◌≡◌, ◌≢◌, ◌⊎◌, ℕ, ◌+◌, ◌-◌, ◌*◌, ◌/◌, ◌<◌, ◌≤◌, IsTrue, List, ◌++◌, length, take, drop, Result, Ok, Err, None}
 use Rattle.ips_text.specs.declared.refusal.Or.{Or}
 use Rattle.ips_text.specs.declared.refusal.Or.TheVariants.{Bad, OutOfMemory}
 use Rattle.ips_outside.specs.Image.{Image, Agrees}
@@ -7,7 +7,7 @@ use Rattle.ips_outside.specs.State.{State, MayLeave, nowhere}
 use Rattle.ips_steps.specs.Steps.{Step, after, possible, stage_of}
 use Rattle.ips_steps.specs.Private.{gate_name, mark_front, mark_name, begins}
 use Rattle.ips_steps.specs.Journal.{IsJournal}
-use Rattle.ips_steps.specs.Owed.{AreMarks, steps_left}
+use Rattle.ips_steps.specs.Owed.{AreMarks, steps_left, IsOpen}
 use Rattle.ips_kinds.specs.Tallies.{Carrier, all_counted}
 use Rattle.ips_journal.specs.Text.{journal_text}
 use Rattle.ips_journal.specs.Bad.{IsBadLine}
@@ -15,6 +15,8 @@ use Rattle.ips_journal.specs.Reading.{Reading, IsAt, journal_of}
 use Rattle.ips_journal.specs.declared.fault.StepFault.{StepFault}
 use Rattle.ips_journal.specs.declared.fault.StepFault.TheVariants as step_fault
 use Rattle.ips_apply.specs.Applied.{IsImpossible}
+use Rattle.ips_commit.specs.Pending.{HasNoOtherMark, mark_names}
+use Rattle.ips_commit.specs.Phases.{IsSeenBut}
 use Rattle.ips_commit.specs.declared.fault.CommitFault.{CommitFault}
 use Rattle.ips_commit.specs.declared.fault.CommitFault.TheVariants.{Unchanged, Unfinished, BadJournal}
 
@@ -35,13 +37,16 @@ pub record CanRollForward (t : Image) (steps : List Step) (count : ℕ) : Type 0
   pub can : IsTrue (possible (stage_of t) (steps_left count steps) t)
 
 -- Of the steps that so many marks leave so many can be laid, and then the next can't; its line has this number. They are laid,
--- but for what stands at the names of marks, each counted by the first kind that takes it, and the gate stands open.
+-- but for what stands at the names of marks, each counted by the first kind that takes it, and the gate stands open. A mark more
+-- stands for each thousand of them, and no other.
 pub record IsStuckAt (t u : Image) (before now : List Carrier) (steps : List Step) (count : ℕ) (line : ℕ) : Type 0 where
   pub laid : ℕ
   pub can : IsTrue (possible (stage_of t) (take laid (steps_left count steps)) t)
   pub next : IsImpossible (journal_of t) (take (1000 * count) steps ++ take laid (steps_left count steps)) (after (take laid (steps_left count steps)) t) line
   pub held : Agrees (begins mark_front) nowhere (after (take laid (steps_left count steps)) t) u
   pub gate : u.look gate_name ≢ None
+  pub marked : AreMarks u (count + laid / 1000)
+  pub others : HasNoOtherMark u (mark_names (count + laid / 1000))
   pub tallies : now ≡ all_counted (take laid (steps_left count steps)) before
 
 -- The journal lists steps, and those that the marks leave are stuck.
@@ -112,7 +117,26 @@ SaysOfLaying t u before now Unchanged = ⊥
 SaysOfLaying t u before now Unfinished = Unit {0}
 SaysOfLaying t u before now (BadJournal line) = IsStuck t u before now line
 
+-- So many of these steps are laid: what is held is what they make of the image, but at what the next one frees, but for the modes
+-- that it meets, and but at the updater's own names.
+abbrev pub IsLaidTo : List Step → ℕ → Image → Image → Type 0
+IsLaidTo steps laid t u = IsSeenBut (take 1 (drop laid steps)) (after (take laid steps) t) u
+
+-- So many of these steps were possible and are laid, and each of them was counted by the first kind that takes it.
+pub record AreLaidTo (steps : List Step) (laid : ℕ) (t u : Image) (before now : List Carrier) : Type 0 where
+  pub few : laid ≤ length steps
+  pub can : IsTrue (possible (stage_of t) (take laid steps) t)
+  pub held : IsLaidTo steps laid t u
+  pub tallies : now ≡ all_counted (take laid steps) before
+
 -- So many steps were laid from so many marks on. Each image that a crash now may leave has nothing at the gate, or so many marks
 -- that no more than a thousand of those steps are to be laid again.
 abbrev pub CanResume : State → ℕ → ℕ → Type 0
 CanResume s first laid = (c : Image) → MayLeave s c → (c.look gate_name ≡ None) ⊎ ((count : ℕ) × AreMarks c count × (laid ≤ 1000 * (count - first + 1)))
+
+-- Unfinished, where the journal lists these steps and so many marks stood: some of the steps that these leave are laid and
+-- counted. Where the change is owed, no more than a thousand of them are to be laid again.
+pub record IsUnfinished (t : Image) (s : State) (steps : List Step) (count : ℕ) (before now : List Carrier) : Type 0 where
+  pub laid : ℕ
+  pub are : AreLaidTo (steps_left count steps) laid t s.held before now
+  pub resumes : (a : Image) → IsOpen journal_text steps count a t → CanResume s count laid

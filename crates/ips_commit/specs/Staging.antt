@@ -1,8 +1,9 @@
 -- What can be staged, and what then stands ready.
-use Rattle.std.specs.Prelude.{◌≡◌, ℕ, ◌<◌, Bool, false, IsTrue, List, length, Some, None, is_some}
+use Rattle.std.specs.Prelude.{◌≡◌, ◌≢◌, ℕ, ◌<◌, Bool, false, IsTrue, List, length, Some, None, is_some}
+use Rattle.ips_text.specs.Ancestry.{is_below}
 use Rattle.ips_outside.specs.Image.{Image, Dir, is_dir, file_bytes}
 use Rattle.ips_outside.specs.State.{State, IsSettled}
-use Rattle.ips_steps.specs.Steps.{Step, Stage, stage_name, stage_of, all_laid, possible, sound}
+use Rattle.ips_steps.specs.Steps.{Step, Stage, stage_name, stage_path, stage_of, all_laid, possible, sound}
 use Rattle.ips_steps.specs.Private.{records_name, journal_name, gate_name, mark_front, begins, visible}
 use Rattle.ips_steps.specs.Owed.{IsReady}
 use Rattle.ips_journal.specs.Text.{journal_text}
@@ -28,12 +29,17 @@ pub record IsStaged (steps : List Step) (a : Image) (s : State) : Type 0 where
   pub unmarked : (q : List ℕ) → IsTrue (begins mark_front q) → s.held.look q ≡ None
   pub ready : IsReady journal_text steps 0 a s.held
 
+-- nothing stands below the stage but the first so many contents
+abbrev pub HoldsOnly : ℕ → Image → Type 0
+HoldsOnly count t = (q : List ℕ) → IsTrue (is_below stage_name q) → t.look q ≢ None → (n : ℕ) × (n < count) × (q ≡ stage_path n)
+
 -- The list was staged with the contents that were to be staged. It means what is seen once it is laid with these on the
 -- image that was held before. Nobody else may enter the stage.
 pub record HasStaged (tells : Bool) (repository : Image) (publisher : List ℕ) (steps : List Step) (staged : List Staged) (t : Image) (s : State) : Type 0 where
   pub contents : Stage
   pub are : AreContents tells repository publisher t staged contents
   pub stage : s.held.look stage_name ≡ Some (Dir 448 false)
+  pub only : HoldsOnly (length staged) s.held
   pub is : IsStaged steps (visible (all_laid contents steps t)) s
 
 -- nothing stands where staging writes
@@ -45,5 +51,6 @@ pub record IsFilled (tells : Bool) (repository : Image) (publisher text : List �
   pub safe : IsSettled s
   pub journal : file_bytes (s.held.look journal_name) ≡ Some text
   pub stage : s.held.look stage_name ≡ Some (Dir 448 false)
+  pub only : HoldsOnly (length staged) s.held
   pub contents : AreContents tells repository publisher t staged (stage_of s.held)
   pub unmarked : (q : List ℕ) → IsTrue (begins mark_front q) → s.held.look q ≡ None

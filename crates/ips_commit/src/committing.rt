@@ -12,7 +12,7 @@ ghost use Rattle.ips_kinds.specs.Tallies.{seen_by, taken, all_counted};
 ghost use Rattle.ips_journal.specs.Text.{journal_text};
 ghost use Rattle.ips_commit.specs.Pending.{HasNoOtherMark, IsDone};
 ghost use Rattle.ips_commit.specs.Due.{DueOnceOpen};
-ghost use Rattle.ips_commit.specs.Recovering.{CanResume};
+ghost use Rattle.ips_commit.specs.Recovering.{AreLaidTo, CanResume};
 ghost use Rattle.ips_commit.specs.Staging.{IsStaged};
 ghost use Rattle.ips_commit.specs.declared.fault.CommitFault.TheVariants as fault;
 
@@ -55,14 +55,11 @@ pub fn commit<F: Folder>(
     ensures counted { IsTrue (F.outside.tells folder.old) → (steps : List Step) (a : Image) → IsStaged steps a (F.outside.state folder.old)
         → OnOk result (seen_by sorts finished kinds.new.items ≡ all_counted steps (seen_by sorts finished kinds.old.items)) }
 
-    // Wherever it ends, the steps that were counted are a front of the list.
-    ensures front { IsTrue (F.outside.tells folder.old) → (steps : List Step) (a : Image) → IsStaged steps a (F.outside.state folder.old)
-        → IfErr result (λ why. (laid : ℕ) × (seen_by sorts finished kinds.new.items ≡ all_counted (take laid steps) (seen_by sorts finished kinds.old.items))) }
-
-    // Unfinished: whatever a crash leaves now, the gate is closed, or the marks leave at most a thousand of those steps to be
-    // laid again.
-    ensures resumes { IsTrue (F.outside.tells folder.old) → (steps : List Step) (a : Image) → IsStaged steps a (F.outside.state folder.old)
-        → IfErr result (λ why. why ≡ fault.Unfinished → (laid : ℕ) × (seen_by sorts finished kinds.new.items ≡ all_counted (take laid steps) (seen_by sorts finished kinds.old.items))
+    // Unfinished: a front of the list is laid and counted, and one step more at most was begun. Whatever a crash leaves now, the
+    // gate is closed, or the marks leave at most a thousand of those steps to be laid again.
+    ensures stopped { IsTrue (F.outside.tells folder.old) → (steps : List Step) (a : Image) → IsStaged steps a (F.outside.state folder.old)
+        → IfErr result (λ why. (laid : ℕ)
+        × AreLaidTo steps laid (F.outside.state folder.old).held (F.outside.state folder.new).held (seen_by sorts finished kinds.old.items) (seen_by sorts finished kinds.new.items)
         × CanResume (F.outside.state folder.new) 0 laid) }
 
     // Behind `stage` a failed call is the only cause of a fault; the first call is the gate's, so nothing fails before it.
@@ -71,6 +68,7 @@ pub fn commit<F: Folder>(
     ensures begun { IfErr result (λ why. why ≡ fault.Unchanged → ⊥) }
     ensures cause { HasCause (F.outside.faults folder.old) (F.outside.faults folder.new) (result ≡ Err fault.Unfinished) }
     ensures same_kind { F.outside.tells folder.new ≡ F.outside.tells folder.old }
+    ensures changes { F.outside.changes folder.old ≤ F.outside.changes folder.new }
     ensures changed { Rose (F.outside.changes folder.old) (F.outside.changes folder.new) }
 {
     let memory = &mut ready;
@@ -107,16 +105,16 @@ fn run<F: Folder>(
         → IfOk result (λ count. (count ≡ length steps) × IsDone a (F.outside.state folder.new)) }
     ensures counted { IsTrue (F.outside.tells folder.old) → (steps : List Step) (a : Image) → IsStaged steps a (F.outside.state folder.old)
         → OnOk result (seen_by sorts finished kinds.new.items ≡ all_counted steps (seen_by sorts finished kinds.old.items)) }
-    ensures front { IsTrue (F.outside.tells folder.old) → (steps : List Step) (a : Image) → IsStaged steps a (F.outside.state folder.old)
-        → IfErr result (λ why. (laid : ℕ) × (seen_by sorts finished kinds.new.items ≡ all_counted (take laid steps) (seen_by sorts finished kinds.old.items))) }
-    ensures resumes { IsTrue (F.outside.tells folder.old) → (steps : List Step) (a : Image) → IsStaged steps a (F.outside.state folder.old)
-        → IfErr result (λ why. why ≡ fault.Unfinished → (laid : ℕ) × (seen_by sorts finished kinds.new.items ≡ all_counted (take laid steps) (seen_by sorts finished kinds.old.items))
+    ensures stopped { IsTrue (F.outside.tells folder.old) → (steps : List Step) (a : Image) → IsStaged steps a (F.outside.state folder.old)
+        → IfErr result (λ why. (laid : ℕ)
+        × AreLaidTo steps laid (F.outside.state folder.old).held (F.outside.state folder.new).held (seen_by sorts finished kinds.old.items) (seen_by sorts finished kinds.new.items)
         × CanResume (F.outside.state folder.new) 0 laid) }
     ensures faults { IsTrue (F.outside.tells folder.old) → (steps : List Step) (a : Image) → IsStaged steps a (F.outside.state folder.old)
         → IfErr result (λ why. why ≡ fault.Unfinished) }
     ensures begun { IfErr result (λ why. why ≡ fault.Unchanged → ⊥) }
     ensures cause { HasCause (F.outside.faults folder.old) (F.outside.faults folder.new) (result ≡ Err fault.Unfinished) }
     ensures same_kind { F.outside.tells folder.new ≡ F.outside.tells folder.old }
+    ensures changes { F.outside.changes folder.old ≤ F.outside.changes folder.new }
     ensures changed { Rose (F.outside.changes folder.old) (F.outside.changes folder.new) }
 {
     let Ok(()) = open(folder, names) else {

@@ -1,18 +1,19 @@
 //! Contents, written into the stage one by one.
 
-ghost use Rattle.std.specs.Prelude.{◌≡◌, ◌⊎◌, ◌<◌, ℕ, List, Some, None, Err, IsTrue, IsFalse, IsErr, IfOk, IfErr, OnOk, length};
-ghost use Rattle.ips_text.specs.Ancestry.{covers};
+ghost use Rattle.std.specs.Prelude.{◌≡◌, ◌⊎◌, ◌<◌, ◌≤◌, ℕ, List, Some, None, Err, IsTrue, IsFalse, IsErr, IfOk, IfErr, OnOk, length};
+ghost use Rattle.ips_text.specs.Ancestry.{covers, is_below};
 ghost use Rattle.ips_text.specs.Reading.{IfBad};
 ghost use Rattle.ips_text.specs.declared.refusal.Or.TheVariants.{Bad};
 ghost use Rattle.ips_outside.specs.Image.{File, is_dir, is_file, file_bytes};
 ghost use Rattle.ips_outside.specs.State.{nowhere};
 ghost use Rattle.ips_outside.specs.Outside.{HasCause, Reads};
 ghost use Rattle.ips_folder.specs.Calls.{CanMake, Keeps};
-ghost use Rattle.ips_steps.specs.Steps.{stage_name, stage_path, stage_of};
+ghost use Rattle.ips_steps.specs.Steps.{stage_name, stage_of};
 ghost use Rattle.ips_repo.specs.Files.{file_at};
 ghost use Rattle.ips_repo.specs.Places.{payload_place};
 ghost use Rattle.ips_repo.specs.Payload.{IsOpened, IsFrontOf};
 ghost use Rattle.ips_commit.specs.Contents.{IsContent, AreContents, IsStanding, AreStanding, IsApart, AreSeen, IsIntact, IsIntactContent, AreIntact, IsPayload, SaysOfPayload, SaysOfContent, SaysOfStage, HoldsAlone};
+ghost use Rattle.ips_commit.specs.Staging.{HoldsOnly};
 ghost use Rattle.ips_commit.specs.declared.fault.StageFault.TheVariants as fault;
 
 use crate::fault::StageFault;
@@ -26,7 +27,7 @@ use ips_repo::{Payload, RepoFault};
 use ips_text::{Or, RelPath};
 use std::alloc::Global;
 
-/// Writes each content into the stage, a directory with nothing at the contents' places, under its number.
+/// Writes each content into the stage, a directory with nothing below it, under its number.
 pub(crate) fn write_contents<S: Source, F: Folder>(
     alloc: Global,
     publisher: &str,
@@ -36,19 +37,21 @@ pub(crate) fn write_contents<S: Source, F: Folder>(
     buffer: &mut [u8],
 ) -> Result<(), Or<StageFault>>
     requires stage { IsTrue (F.outside.tells folder.old) → IsTrue (is_dir ((F.outside.state folder.old).held.look stage_name)) }
-    requires empty { IsTrue (F.outside.tells folder.old) → (n : ℕ) → (F.outside.state folder.old).held.look (stage_path n) ≡ None }
+    requires empty { IsTrue (F.outside.tells folder.old) → (q : List ℕ) → IsTrue (is_below stage_name q) → (F.outside.state folder.old).held.look q ≡ None }
     requires standing { IsTrue (F.outside.tells folder.old) → AreStanding (F.outside.state folder.old).held staged.now }
     requires seen { AreSeen staged.now }
     requires room { 0 < length buffer.old }
     ensures written { IsTrue (F.outside.tells folder.old) → OnOk result
         (AreContents (S.outside.tells source.old) (S.outside.state source.old).held publisher.now (F.outside.state folder.old).held staged.now (stage_of (F.outside.state folder.new).held)) }
     ensures stands { IsTrue (F.outside.tells folder.old) → OnOk result ((F.outside.state folder.new).held.look stage_name ≡ (F.outside.state folder.old).held.look stage_name) }
+    ensures only { IsTrue (F.outside.tells folder.old) → OnOk result (HoldsOnly (length staged.now) (F.outside.state folder.new).held) }
     ensures intact { IsTrue (S.outside.tells source.old) → OnOk result (AreIntact (S.outside.state source.old).held publisher.now staged.now) }
     ensures refused { IfBad result (SaysOfStage (S.outside.tells source.old) (S.outside.state source.old).held publisher.now staged.now) }
     ensures any_moment { IsTrue (F.outside.tells folder.old) → Keeps F.outside (covers stage_name) nowhere folder.old folder.new }
     ensures reads { Reads S.outside source.old source.new (result ≡ Err (Bad fault.SourceFault)) }
     ensures cause { HasCause (F.outside.faults folder.old) (F.outside.faults folder.new) (result ≡ Err (Bad fault.FolderFault)) }
     ensures same_kind { F.outside.tells folder.new ≡ F.outside.tells folder.old }
+    ensures changes { F.outside.changes folder.old ≤ F.outside.changes folder.new }
 {
     for (number, content) in staged.iter().enumerate() {
         let path = content_path(alloc, number as u64)?;
@@ -83,6 +86,7 @@ fn write_content<S: Source, F: Folder>(
     ensures reads { Reads S.outside source.old source.new (result ≡ Err (Bad fault.SourceFault)) }
     ensures cause { HasCause (F.outside.faults folder.old) (F.outside.faults folder.new) (result ≡ Err (Bad fault.FolderFault)) }
     ensures same_kind { F.outside.tells folder.new ≡ F.outside.tells folder.old }
+    ensures changes { F.outside.changes folder.old ≤ F.outside.changes folder.new }
 {
     match content {
         Staged::Payload(name) => write_payload(
@@ -106,6 +110,7 @@ fn write_file<F: Folder>(folder: &mut F, path: &RelPath, bytes: &[u8]) -> Result
     ensures any_moment { IsTrue (F.outside.tells folder.old) → Keeps F.outside (covers path.now.bytes) nowhere folder.old folder.new }
     ensures cause { HasCause (F.outside.faults folder.old) (F.outside.faults folder.new) (IsErr result) }
     ensures same_kind { F.outside.tells folder.new ≡ F.outside.tells folder.old }
+    ensures changes { F.outside.changes folder.old ≤ F.outside.changes folder.new }
 {
     folder.make_file(path)?;
     folder.append(path, bytes)?;
@@ -129,6 +134,7 @@ fn write_copy<F: Folder>(
     ensures any_moment { IsTrue (F.outside.tells folder.old) → Keeps F.outside (covers path.now.bytes) nowhere folder.old folder.new }
     ensures cause { HasCause (F.outside.faults folder.old) (F.outside.faults folder.new) (IsErr result) }
     ensures same_kind { F.outside.tells folder.new ≡ F.outside.tells folder.old }
+    ensures changes { F.outside.changes folder.old ≤ F.outside.changes folder.new }
 {
     folder.make_file(path)?;
     copy(folder, from, path, buffer)?;
@@ -156,6 +162,7 @@ fn write_payload<S: Source, F: Folder>(
     ensures reads { Reads S.outside source.old source.new (result ≡ Err (Bad fault.SourceFault)) }
     ensures cause { HasCause (F.outside.faults folder.old) (F.outside.faults folder.new) (result ≡ Err (Bad fault.FolderFault)) }
     ensures same_kind { F.outside.tells folder.new ≡ F.outside.tells folder.old }
+    ensures changes { F.outside.changes folder.old ≤ F.outside.changes folder.new }
 {
     let mut payload = open_payload(alloc, publisher, name, source)?;
     let Ok(()) = folder.make_file(path) else {
@@ -213,6 +220,7 @@ fn copy_payload<S: Source, F: Folder>(
     ensures reads { Reads S.outside source.old source.new (result ≡ Err fault.SourceFault) }
     ensures cause { HasCause (F.outside.faults folder.old) (F.outside.faults folder.new) (result ≡ Err fault.FolderFault) }
     ensures same_kind { F.outside.tells folder.new ≡ F.outside.tells folder.old }
+    ensures changes { F.outside.changes folder.old ≤ F.outside.changes folder.new }
 {
     loop {
         let Ok(count) = payload.next(source, buffer) else {

@@ -10,7 +10,7 @@ ghost use Rattle.ips_outside.specs.Outside.{HasCause, counted};
 ghost use Rattle.ips_outside.specs.Children.{bytes_of};
 ghost use Rattle.ips_folder.specs.Calls.{CanMake, Keeps, Throughout};
 ghost use Rattle.ips_steps.specs.Steps.{Step};
-ghost use Rattle.ips_steps.specs.Private.{gate_name, mark_front, begins, visible};
+ghost use Rattle.ips_steps.specs.Private.{gate_name, mark_front, begins, is_private, visible};
 ghost use Rattle.ips_steps.specs.Owed.{AreMarks, IsReady, FolderOwes};
 ghost use Rattle.ips_journal.specs.Text.{journal_text};
 ghost use Rattle.ips_commit.specs.Pending.{is_swept, HasNoOtherMark, IsSwept, IsDone, mark_names};
@@ -56,6 +56,7 @@ pub(crate) fn finish<F: Folder>(
         → Throughout F.outside folder.old folder.new (FolderOwes journal_text b (Some a) due) }
     ensures done { IsTrue (F.outside.tells folder.old) → HasNoOtherMark (F.outside.state folder.old).held (mark_names marks)
         → OnOk result (IsDone (visible (F.outside.state folder.old).held) (F.outside.state folder.new)) }
+    ensures any_moment { IsTrue (F.outside.tells folder.old) → Keeps F.outside is_private nowhere folder.old folder.new }
     ensures left { IsTrue (F.outside.tells folder.old) → IsSettled (F.outside.state folder.old) → (count : ℕ) → AreMarks (F.outside.state folder.old).held count
         → OnErr result ((c : Image) → MayLeave (F.outside.state folder.new) c → (c.look gate_name ≡ None) ⊎ AreMarks c count) }
     ensures path { 1023 ≤ mark.new.room }

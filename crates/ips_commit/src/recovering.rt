@@ -19,7 +19,7 @@ ghost use Rattle.ips_journal.specs.Text.{journal_text};
 ghost use Rattle.ips_journal.specs.Reading.{journal_of};
 ghost use Rattle.ips_commit.specs.Answers.{IfStarved};
 ghost use Rattle.ips_commit.specs.Pending.{is_swept, AreMarkNames, IsDone};
-ghost use Rattle.ips_commit.specs.Recovering.{CanResume, CanRollForward, IfBadJournal, IsJournalled, IsPlaced, SaysOfLaying, SaysOfRecovery};
+ghost use Rattle.ips_commit.specs.Recovering.{CanRollForward, IfBadJournal, IsJournalled, IsPlaced, IsUnfinished, SaysOfLaying, SaysOfRecovery};
 ghost use Rattle.ips_commit.specs.declared.fault.CommitFault.TheVariants as fault;
 
 use crate::fault::CommitFault;
@@ -84,19 +84,16 @@ pub fn recover<F: Folder>(
     ensures untouched { IsTrue (F.outside.tells folder.old) → (F.outside.state folder.old).held.look gate_name ≢ None
         → result ≡ Err (Bad fault.Unchanged) → F.outside.changes folder.new ≡ F.outside.changes folder.old }
 
-    // Wherever it ends, the steps that were counted are a front of those that the marks leave, and none are where nothing was
-    // begun or the gate was closed.
-    ensures front { IsTrue (F.outside.tells folder.old) → (steps : List Step) (count : ℕ) → IsJournalled (F.outside.state folder.old).held steps count
-        → IfErr result (λ why. (laid : ℕ) × (seen_by sorts finished kinds.new.items ≡ all_counted (take laid (steps_left count steps)) (seen_by sorts finished kinds.old.items))) }
+    // Nothing is counted where nothing was begun or the gate was closed.
     ensures unlaid { result ≡ Err (Bad fault.Unchanged) → seen_by sorts finished kinds.new.items ≡ seen_by sorts finished kinds.old.items }
     ensures uncounted { IsTrue (F.outside.tells folder.old) → (F.outside.state folder.old).held.look gate_name ≡ None
         → seen_by sorts finished kinds.new.items ≡ seen_by sorts finished kinds.old.items }
 
-    // Unfinished: whatever a crash leaves now, the gate is closed, or the marks leave at most a thousand of those steps to be
-    // laid again.
-    ensures resumes { IsTrue (F.outside.tells folder.old) → (steps : List Step) (count : ℕ) (a : Image) → IsOpen journal_text steps count a (F.outside.state folder.old).held
-        → IfBad result (λ why. why ≡ fault.Unfinished → (laid : ℕ) × (seen_by sorts finished kinds.new.items ≡ all_counted (take laid (steps_left count steps)) (seen_by sorts finished kinds.old.items))
-        × CanResume (F.outside.state folder.new) count laid) }
+    // Unfinished: a front of the steps that the marks leave is laid and counted, and one more at most was begun. Whatever a crash
+    // leaves now, the gate is closed, or the marks leave at most a thousand of those steps to be laid again.
+    ensures stopped { IsTrue (F.outside.tells folder.old) → (steps : List Step) (count : ℕ) → IsJournalled (F.outside.state folder.old).held steps count
+        → IfBad result (λ why. why ≡ fault.Unfinished
+        → IsUnfinished (F.outside.state folder.old).held (F.outside.state folder.new) steps count (seen_by sorts finished kinds.old.items) (seen_by sorts finished kinds.new.items)) }
 {
     let Ok(mut ready) = Ready::new(alloc) else {
         return Err(Or::OutOfMemory);
@@ -152,11 +149,9 @@ fn restore<F: Folder>(
     ensures changed { result ≡ Err (Bad fault.Unfinished) → Rose (F.outside.changes folder.old) (F.outside.changes folder.new) }
     ensures untouched { IsTrue (F.outside.tells folder.old) → (F.outside.state folder.old).held.look gate_name ≢ None
         → result ≡ Err (Bad fault.Unchanged) → F.outside.changes folder.new ≡ F.outside.changes folder.old }
-    ensures front { IsTrue (F.outside.tells folder.old) → (steps : List Step) (count : ℕ) → IsJournalled (F.outside.state folder.old).held steps count
-        → IfErr result (λ why. (laid : ℕ) × (seen_by sorts finished kinds.new.items ≡ all_counted (take laid (steps_left count steps)) (seen_by sorts finished kinds.old.items))) }
-    ensures resumes { IsTrue (F.outside.tells folder.old) → (steps : List Step) (count : ℕ) (a : Image) → IsOpen journal_text steps count a (F.outside.state folder.old).held
-        → IfBad result (λ why. why ≡ fault.Unfinished → (laid : ℕ) × (seen_by sorts finished kinds.new.items ≡ all_counted (take laid (steps_left count steps)) (seen_by sorts finished kinds.old.items))
-        × CanResume (F.outside.state folder.new) count laid) }
+    ensures stopped { IsTrue (F.outside.tells folder.old) → (steps : List Step) (count : ℕ) → IsJournalled (F.outside.state folder.old).held steps count
+        → IfBad result (λ why. why ≡ fault.Unfinished
+        → IsUnfinished (F.outside.state folder.old).held (F.outside.state folder.new) steps count (seen_by sorts finished kinds.old.items) (seen_by sorts finished kinds.new.items)) }
     ensures unlaid { result ≡ Err (Bad fault.Unchanged) → seen_by sorts finished kinds.new.items ≡ seen_by sorts finished kinds.old.items }
     ensures uncounted { IsTrue (F.outside.tells folder.old) → (F.outside.state folder.old).held.look gate_name ≡ None
         → seen_by sorts finished kinds.new.items ≡ seen_by sorts finished kinds.old.items }
@@ -212,11 +207,9 @@ fn roll_forward<F: Folder>(
     ensures meant { IsTrue (F.outside.tells folder.old) → (steps : List Step) (count : ℕ) (a : Image) → IsOpen journal_text steps count a (F.outside.state folder.old).held
         → OnOk result (IsDone a (F.outside.state folder.new)) × IfErr result (λ why. why ≡ fault.Unfinished) }
     ensures refused { IsTrue (F.outside.tells folder.old) → IfErr result (SaysOfLaying (F.outside.state folder.old).held (F.outside.state folder.new).held (seen_by sorts finished kinds.old.items) (seen_by sorts finished kinds.new.items)) }
-    ensures front { IsTrue (F.outside.tells folder.old) → (steps : List Step) (count : ℕ) → IsJournalled (F.outside.state folder.old).held steps count
-        → IfErr result (λ why. (laid : ℕ) × (seen_by sorts finished kinds.new.items ≡ all_counted (take laid (steps_left count steps)) (seen_by sorts finished kinds.old.items))) }
-    ensures resumes { IsTrue (F.outside.tells folder.old) → (steps : List Step) (count : ℕ) (a : Image) → IsOpen journal_text steps count a (F.outside.state folder.old).held
-        → IfErr result (λ why. why ≡ fault.Unfinished → (laid : ℕ) × (seen_by sorts finished kinds.new.items ≡ all_counted (take laid (steps_left count steps)) (seen_by sorts finished kinds.old.items))
-        × CanResume (F.outside.state folder.new) count laid) }
+    ensures stopped { IsTrue (F.outside.tells folder.old) → (steps : List Step) (count : ℕ) → IsJournalled (F.outside.state folder.old).held steps count
+        → IfErr result (λ why. why ≡ fault.Unfinished
+        → IsUnfinished (F.outside.state folder.old).held (F.outside.state folder.new) steps count (seen_by sorts finished kinds.old.items) (seen_by sorts finished kinds.new.items)) }
     ensures begun { IfErr result (λ why. why ≡ fault.Unchanged → ⊥) }
     ensures path { 1023 ≤ mark.new.room }
     ensures cause { HasCause (F.outside.faults folder.old) (F.outside.faults folder.new) (result ≡ Err fault.Unfinished) }

@@ -13,7 +13,7 @@ ghost use Rattle.ips_journal.specs.Text.{journal_text};
 ghost use Rattle.ips_journal.specs.Reading.{IsAt, journal_of};
 ghost use Rattle.ips_commit.specs.Pending.{IsDone};
 ghost use Rattle.ips_commit.specs.Phases.{IsUnderWay};
-ghost use Rattle.ips_commit.specs.Recovering.{CanResume, CanRollForward, IsJournalled, SaysOfSteps};
+ghost use Rattle.ips_commit.specs.Recovering.{CanRollForward, IsJournalled, IsUnfinished, SaysOfSteps};
 ghost use Rattle.ips_commit.specs.declared.fault.CommitFault.TheVariants as fault;
 
 use crate::fault::CommitFault;
@@ -58,13 +58,10 @@ pub(crate) fn roll<F: Folder>(
     ensures refused { IsTrue (F.outside.tells folder.old) → (steps : List Step)
         → IsJournalled (F.outside.state folder.old).held steps first → IsAt (journal_of (F.outside.state folder.old).held) (take (1000 * first) steps) reader.old
         → IfErr result (SaysOfSteps (F.outside.state folder.old).held (F.outside.state folder.new).held (seen_by sorts finished kinds.old.items) (seen_by sorts finished kinds.new.items) steps first) }
-    ensures front { IsTrue (F.outside.tells folder.old) → (steps : List Step)
+    ensures stopped { IsTrue (F.outside.tells folder.old) → (steps : List Step)
         → IsJournalled (F.outside.state folder.old).held steps first → IsAt (journal_of (F.outside.state folder.old).held) (take (1000 * first) steps) reader.old
-        → IfErr result (λ why. (laid : ℕ) × (seen_by sorts finished kinds.new.items ≡ all_counted (take laid (steps_left first steps)) (seen_by sorts finished kinds.old.items))) }
-    ensures resumes { IsTrue (F.outside.tells folder.old) → (steps : List Step) (a : Image)
-        → IsOpen journal_text steps first a (F.outside.state folder.old).held → IsAt (journal_of (F.outside.state folder.old).held) (take (1000 * first) steps) reader.old
-        → IfErr result (λ why. why ≡ fault.Unfinished → (laid : ℕ) × (seen_by sorts finished kinds.new.items ≡ all_counted (take laid (steps_left first steps)) (seen_by sorts finished kinds.old.items))
-        × CanResume (F.outside.state folder.new) first laid) }
+        → IfErr result (λ why. why ≡ fault.Unfinished
+        → IsUnfinished (F.outside.state folder.old).held (F.outside.state folder.new) steps first (seen_by sorts finished kinds.old.items) (seen_by sorts finished kinds.new.items)) }
     ensures begun { IfErr result (λ why. why ≡ fault.Unchanged → ⊥) }
     ensures path { 1023 ≤ mark.new.room }
     ensures cause { HasCause (F.outside.faults folder.old) (F.outside.faults folder.new) (result ≡ Err fault.Unfinished) }

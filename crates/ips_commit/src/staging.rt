@@ -1,12 +1,12 @@
 //! A list of steps staged, with all that it puts.
 
-ghost use Rattle.std.specs.Prelude.{◌≡◌, ◌<◌, [], Option, false, Some, Err, IsTrue, IsErr, OnOk, length, map};
+ghost use Rattle.std.specs.Prelude.{◌≡◌, ◌⊎◌, ◌<◌, ◌≤◌, [], Option, false, Some, Err, IsTrue, IsErr, OnOk, length, map};
 ghost use Rattle.ips_text.specs.Reading.{IfBad};
 ghost use Rattle.ips_text.specs.declared.refusal.Or.TheVariants.{Bad};
 ghost use Rattle.ips_text.specs.Ancestry.{covers};
 ghost use Rattle.ips_outside.specs.Image.{Image, is_dir, file_bytes};
 ghost use Rattle.ips_outside.specs.State.{IsSettled, Within, nowhere, settled};
-ghost use Rattle.ips_outside.specs.Outside.{HasCause, Reads};
+ghost use Rattle.ips_outside.specs.Outside.{HasCause, Reads, Rose, counted};
 ghost use Rattle.ips_folder.specs.Calls.{CanMake, IsSole, Keeps, Throughout};
 ghost use Rattle.ips_steps.specs.Private.{records_name, journal_name, visible};
 ghost use Rattle.ips_steps.specs.Journal.{IsJournal};
@@ -63,6 +63,11 @@ pub fn stage<S: Source, F: Folder>(
     ensures reads { Reads S.outside source.old source.new (result ≡ Err (Bad fault.SourceFault)) }
     ensures cause { HasCause (F.outside.faults folder.old) (F.outside.faults folder.new) (result ≡ Err (Bad fault.FolderFault)) }
     ensures same_kind { F.outside.tells folder.new ≡ F.outside.tells folder.old }
+    ensures changes { F.outside.changes folder.old ≤ F.outside.changes folder.new }
+
+    // Either a call was made that may change something, or none was and the folder is as it was.
+    ensures begun { Rose (F.outside.changes folder.old) (F.outside.changes folder.new)
+        ⊎ ((F.outside.changes folder.new ≡ F.outside.changes folder.old) × (F.outside.state folder.new ≡ F.outside.state folder.old)) }
 {
     let Ok(mut ready) = Ready::new(alloc) else {
         return Err(Or::OutOfMemory);
@@ -108,6 +113,8 @@ fn write_stage<S: Source, F: Folder>(
     ensures reads { Reads S.outside source.old source.new (result ≡ Err (Bad fault.SourceFault)) }
     ensures cause { HasCause (F.outside.faults folder.old) (F.outside.faults folder.new) (result ≡ Err (Bad fault.FolderFault)) }
     ensures same_kind { F.outside.tells folder.new ≡ F.outside.tells folder.old }
+    ensures changes { F.outside.changes folder.old ≤ F.outside.changes folder.new }
+    ensures changed { counted (F.outside.changes folder.old) ≤ F.outside.changes folder.new }
 {
     match settle(alloc, folder, names) {
         Ok(()) => {}
@@ -127,6 +134,8 @@ fn settle<F: Folder>(alloc: Global, folder: &mut F, names: &OwnNames) -> Result<
     ensures cleared { IsTrue (F.outside.tells folder.old) → OnOk result (IsCleared (F.outside.state folder.new).held) }
     ensures cause { HasCause (F.outside.faults folder.old) (F.outside.faults folder.new) (IsBad result) }
     ensures same_kind { F.outside.tells folder.new ≡ F.outside.tells folder.old }
+    ensures changes { F.outside.changes folder.old ≤ F.outside.changes folder.new }
+    ensures changed { counted (F.outside.changes folder.old) ≤ F.outside.changes folder.new }
 {
     let Ok(()) = folder.sync() else {
         return Err(Or::Bad(Failed));
@@ -163,6 +172,7 @@ fn fill<S: Source, F: Folder>(
     ensures reads { Reads S.outside source.old source.new (result ≡ Err (Bad fault.SourceFault)) }
     ensures cause { HasCause (F.outside.faults folder.old) (F.outside.faults folder.new) (result ≡ Err (Bad fault.FolderFault)) }
     ensures same_kind { F.outside.tells folder.new ≡ F.outside.tells folder.old }
+    ensures changes { F.outside.changes folder.old ≤ F.outside.changes folder.new }
 {
     let Ok(()) = folder.make_dir(&names.stage, 0o700) else {
         return Err(Or::Bad(StageFault::FolderFault));
@@ -189,6 +199,7 @@ fn write_journal<F: Folder>(
     ensures any_moment { IsTrue (F.outside.tells folder.old) → Keeps F.outside (covers journal_name) nowhere folder.old folder.new }
     ensures cause { HasCause (F.outside.faults folder.old) (F.outside.faults folder.new) (IsBad result) }
     ensures same_kind { F.outside.tells folder.new ≡ F.outside.tells folder.old }
+    ensures changes { F.outside.changes folder.old ≤ F.outside.changes folder.new }
 {
     let Ok(mut writer) = JournalWriter::new(alloc) else {
         return Err(Or::OutOfMemory);
@@ -214,6 +225,7 @@ fn write_safely<F: Folder>(
     ensures any_moment { IsTrue (F.outside.tells folder.old) → Keeps F.outside (covers journal_name) nowhere folder.old folder.new }
     ensures cause { HasCause (F.outside.faults folder.old) (F.outside.faults folder.new) (IsErr result) }
     ensures same_kind { F.outside.tells folder.new ≡ F.outside.tells folder.old }
+    ensures changes { F.outside.changes folder.old ≤ F.outside.changes folder.new }
 {
     folder.make_file(&names.journal)?;
     write_steps(steps, writer, folder)?;
@@ -233,6 +245,7 @@ fn write_steps<F: Folder>(
     ensures any_moment { IsTrue (F.outside.tells folder.old) → Keeps F.outside (covers journal_name) nowhere folder.old folder.new }
     ensures cause { HasCause (F.outside.faults folder.old) (F.outside.faults folder.new) (IsErr result) }
     ensures same_kind { F.outside.tells folder.new ≡ F.outside.tells folder.old }
+    ensures changes { F.outside.changes folder.old ≤ F.outside.changes folder.new }
 {
     for step in steps {
         writer.step(folder, step)?;

@@ -1,7 +1,7 @@
-use Rattle.std.proofs.Common.{inr, [], refl, sym, ◌∙◌, subst, arith}
+use Rattle.std.proofs.Common.{inr, [], sym, ◌∙◌, subst, arith}
 use Rattle.ips_outside.specs.Image.{Image}
 use Rattle.ips_commit.specs.Pending.{IsDone}
-use Rattle.ips_commit.proofs.Committed.{opened_way, opening, is_open, owed_since, due_since, is_journalled}
+use Rattle.ips_commit.proofs.Committed.{opened_way, opening, is_open, none_laid_yet, laid_since, owed_since, due_since, is_journalled}
 use Rattle.ips_commit.proofs.Owing.{gate_left}
 use Rattle.ips_commit.proofs.committing.run.Goals as goal
 
@@ -91,21 +91,29 @@ returns-in-Ok-roll-clause-counted g c = λ told steps a staged.
     let kind = c.open.ensures.same_kind in
     (c.in-Ok-roll.ensures.done (kind ∙ told) steps (is_journalled g.F.Source.outside g.met.F.Source.sane steps a c.args.folder.now told staged c.open.new.folder kind (c.open.ensures.any_moment told) (c.in-Ok.ensures.opened told) (c.in-Ok.ensures.safe told)) (c.rewind.ensures.start _)).3
 
-pub returns-in-Err-clause-front : goal.returns-in-Err-clause-front
-returns-in-Err-clause-front g c = λ told steps a staged.
-    let kind = c.open.ensures.same_kind in
-    c.in-Err.ensures.front (kind ∙ told) steps (is_journalled g.F.Source.outside g.met.F.Source.sane steps a c.args.folder.now told staged c.open.new.folder kind (c.open.ensures.any_moment told) (c.in-Ok.ensures.opened told) (c.in-Ok.ensures.safe told)) (c.rewind.ensures.start _)
-
 pub returns-in-Err-clause-faults : goal.returns-in-Err-clause-faults
 returns-in-Err-clause-faults g c = λ told steps a staged.
     let kind = c.open.ensures.same_kind in
     c.in-Err.ensures.meant (kind ∙ told) steps a (is_open g.F.Source.outside g.met.F.Source.sane steps a c.args.folder.now told staged c.open.new.folder kind (c.open.ensures.any_moment told) (c.in-Ok.ensures.opened told) (c.in-Ok.ensures.safe told)) (c.rewind.ensures.start _)
 
-pub returns-in_default-clause-resumes : goal.returns-in_default-clause-resumes
-returns-in_default-clause-resumes g c = λ told steps a staged is.
-    (0, refl, λ x may. inr (0, gate_left g.F.Source.outside g.met.F.Source.sane c.args.folder.now c.open.new.folder 0 (c.open.ensures.any_moment told) staged.safe staged.ready.marked x may, omega arith))
+pub returns-in_default-clause-stopped : goal.returns-in_default-clause-stopped
+returns-in_default-clause-stopped g c = λ told steps a staged. (
+  0,
+  none_laid_yet g.F.Source.outside g.met.F.Source.sane steps a c.args.folder.now told staged c.open.new.folder (c.open.ensures.any_moment told) _,
+  λ x may. inr (0, gate_left g.F.Source.outside g.met.F.Source.sane c.args.folder.now c.open.new.folder 0 (c.open.ensures.any_moment told) staged.safe staged.ready.marked x may, omega arith),
+)
 
-pub returns-in-Err-clause-resumes : goal.returns-in-Err-clause-resumes
-returns-in-Err-clause-resumes g c = λ told steps a staged.
+pub returns-in-Err-clause-stopped : goal.returns-in-Err-clause-stopped
+returns-in-Err-clause-stopped g c = λ told steps a staged.
+    let o = g.F.Source.outside in
+    let sane = g.met.F.Source.sane in
+    let old = c.args.folder.now in
+    let mid = c.open.new.folder in
     let kind = c.open.ensures.same_kind in
-    c.in-Err.ensures.resumes (kind ∙ told) steps a (is_open g.F.Source.outside g.met.F.Source.sane steps a c.args.folder.now told staged c.open.new.folder kind (c.open.ensures.any_moment told) (c.in-Ok.ensures.opened told) (c.in-Ok.ensures.safe told)) (c.rewind.ensures.start _)
+    let run = c.open.ensures.any_moment told in
+    let opens = c.in-Ok.ensures.opened told in
+    let clean = c.in-Ok.ensures.safe told in
+    let here = is_open o sane steps a old told staged mid kind run opens clean in
+    let begins = c.rewind.ensures.start _ in
+    let found = c.in-Err.ensures.stopped (kind ∙ told) steps (is_journalled o sane steps a old told staged mid kind run opens clean) begins (c.in-Err.ensures.meant (kind ∙ told) steps a here begins) in
+    (found.laid, laid_since o sane steps a old told staged mid kind run opens clean found.laid (o.state c.roll.new.folder).held _ _ found.are, found.resumes a here)

@@ -1,4 +1,4 @@
-use Rattle.std.proofs.Common.{List, ℕ, take, IsErr, sym, ◌∙◌, ap, subst}
+use Rattle.std.proofs.Common.{List, ℕ, take, IsErr, sym, ◌∙◌, ap, subst, arith}
 use Rattle.ips_text.specs.Ancestry.{covers}
 use Rattle.ips_outside.specs.Image.{Image}
 use Rattle.ips_outside.specs.State.{State}
@@ -24,6 +24,7 @@ loop-count-preserved g c =
           subst (λ (u : Image). IsFrontOf u c.next.new.self) same
           (c.next.ensures.front (inv.reads.call.same_kind ∙ told) (subst (λ (u : Image). IsFrontOf u c.loop-count.payload) (sym same) (inv.front told was)));
       kind = c.append.ensures.call.same_kind ∙ inv.kind;
+      changes = omega (arith, inv.changes, c.append.ensures.one_made.later);
       faults = c.append.ensures.call.cause.steady (answered c.append.result _ c.in-Ok-append.is) ∙ inv.faults;
       holds = λ told. subst (λ (bytes : List ℕ). HoldsAlone p bytes (g.F.Source.outside.state c.append.new.self).held) (sym (ap (λ (r : Reading). r.bytes) c.in-Ok.ensures.given))
           (alone_appended p c.loop-count.payload.bytes part (g.F.Source.outside.state c.loop-count.folder).held (g.F.Source.outside.state c.append.new.self).held (inv.holds told)

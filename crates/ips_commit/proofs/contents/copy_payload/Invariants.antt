@@ -1,4 +1,4 @@
-use Rattle.std.proofs.Common.{◌≡◌, ◌-◌, IsTrue, length}
+use Rattle.std.proofs.Common.{◌≡◌, ◌≤◌, ◌-◌, IsTrue, length}
 use Rattle.ips_text.specs.Ancestry.{covers}
 use Rattle.ips_outside.specs.State.{nowhere}
 use Rattle.ips_outside.specs.Outside.{Reads}
@@ -16,6 +16,7 @@ invariant-loop-count g l = record {
   front : IsTrue (g.S.Source.outside.tells l.fn.source) → IsFrontOf (g.S.Source.outside.state l.fn.source).held l.fn.payload → IsFrontOf (g.S.Source.outside.state l.fn.source).held l.payload;
   kind : g.F.Source.outside.tells l.folder ≡ g.F.Source.outside.tells l.fn.folder;
   faults : g.F.Source.outside.faults l.folder ≡ g.F.Source.outside.faults l.fn.folder;
+  changes : g.F.Source.outside.changes l.fn.folder ≤ g.F.Source.outside.changes l.folder;
   holds : IsTrue (g.F.Source.outside.tells l.fn.folder) → HoldsAlone l.path.bytes l.payload.bytes (g.F.Source.outside.state l.folder).held;
   moments : IsTrue (g.F.Source.outside.tells l.fn.folder) → Keeps g.F.Source.outside (covers l.path.bytes) nowhere l.fn.folder l.folder;
 }

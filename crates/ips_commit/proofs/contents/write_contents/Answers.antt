@@ -4,20 +4,22 @@ use Rattle.ips_text.specs.Ancestry.{covers}
 use Rattle.ips_outside.specs.Image.{Image, is_dir}
 use Rattle.ips_outside.specs.State.{State, nowhere}
 use Rattle.ips_folder.proofs.Runs.{begun, keeps_then, keeps_wider}
-use Rattle.ips_steps.specs.Steps.{stage_name}
+use Rattle.ips_steps.specs.Steps.{stage_name, stage_path}
 use Rattle.ips_outside.proofs.Reading.{reads_none, reads_then}
 use Rattle.ips_commit.specs.Contents.{IsIntactContent, SaysOfContent, SaysOfStage}
-use Rattle.ips_commit.proofs.AllWritten.{IsIntactAt, can_put, standing_in_stage, content_then, content_apart, content_in_stage, wrote_at, here, stage_apart, written_more, empty_more, each_more, says_of_stage, as_bad}
+use Rattle.ips_commit.proofs.AllWritten.{IsIntactAt, can_put, standing_in_stage, content_then, content_apart, content_in_stage, wrote_at, here, stage_apart, written_more, empty_more, only_more, content_below, each_more, says_of_stage, as_bad}
 use Rattle.ips_commit.proofs.contents.write_contents.Goals as goal
 
 pub loop-number-init : goal.loop-number-init
 loop-number-init g c = record {
   kind = refl;
   faults = refl;
+  changes = omega arith;
   reads = reads_none g.S.Source.outside c.args.source.now ⊥ (λ f. f);
   stage = c.requires.stage;
   stands = λ told. refl;
-  empty = λ told n le small. c.requires.empty told n;
+  empty = λ told n le small. c.requires.empty told (stage_path n) (content_below n);
+  only = λ told q below there. absurd (there (c.requires.empty told q below));
   written = λ told n s lt at. absurd (omega (arith, lt));
   intact = λ told n s lt at. absurd (omega (arith, lt));
   moments = λ told. begun g.F.Source.outside (covers stage_name) nowhere c.args.folder.now (g.met.F.Source.sane.only_now c.args.folder.now);
@@ -65,6 +67,7 @@ returns-in-Err-clause-any_moment g c = λ told.
 pub loop-number-preserved : goal.loop-number-preserved
 loop-number-preserved g c =
     let o = g.F.Source.outside in
+    let o_sane = g.met.F.Source.sane in
     let so = g.S.Source.outside in
     let inv = c.loop-number.invariant in
     let i = c.loop-number.number in
@@ -79,6 +82,7 @@ loop-number-preserved g c =
     let same : (so.state c.loop-number.source).held ≡ (so.state c.args.source.now).held = ap (λ (x : State). x.held) inv.reads.kept in
     record {
       kind = c.write_content.ensures.same_kind ∙ inv.kind;
+      changes = omega (arith, inv.changes, c.write_content.ensures.changes);
       faults = c.write_content.ensures.cause.steady (λ failed. let bad = sym c.in-Ok.is ∙ failed in cc) ∙ inv.faults;
       reads = reads_then so c.args.source.now c.loop-number.source c.write_content.new.source _ ⊥ inv.reads c.write_content.ensures.reads (λ failed. let bad = sym c.in-Ok.is ∙ failed in cc) (λ f. absurd f);
       stage = λ told. ap is_dir ((c.write_content.ensures.any_moment (inv.kind ∙ told)).now.agrees.look stage_name (ap (λ (x : List ℕ). covers x stage_name) c.in_ok-path.ensures ∙ stage_apart i) refl) ∙ inv.stage told;
@@ -86,6 +90,11 @@ loop-number-preserved g c =
       empty = λ told.
           let wrote = wrote_at i p c.in_ok-path.ensures t u (c.write_content.ensures.any_moment (inv.kind ∙ told)).now.agrees in
           empty_more staged i s c.loop-number-test.true c.index-staged-number.is (so.tells c.args.source.now) (so.state c.args.source.now).held publisher t0 t u (omega arith) wrote (inv.empty told);
+      only = λ told.
+          let told_1 = inv.kind ∙ told in
+          let wrote = wrote_at i p c.in_ok-path.ensures t u (c.write_content.ensures.any_moment told_1).now.agrees in
+          let made = c.in-Ok.ensures.written told_1 in
+          only_more i t u wrote (o_sane.formed c.write_content.new.folder (c.write_content.ensures.same_kind ∙ told_1)) made.0 (ap u.look (sym c.in_ok-path.ensures) ∙ made.1) (inv.only told);
       written = λ told.
           let wrote = wrote_at i p c.in_ok-path.ensures t u (c.write_content.ensures.any_moment (inv.kind ∙ told)).now.agrees in
           let made = c.in-Ok.ensures.written (inv.kind ∙ told) in
@@ -107,3 +116,7 @@ returns-clause-written g c = λ told n s at.
 pub returns-clause-intact : goal.returns-clause-intact
 returns-clause-intact g c = λ told n s at.
     c.loop-number.invariant.intact told n s (omega (arith, slice_get_within c.args.staged.now n s at)) at
+
+pub returns-clause-only : goal.returns-clause-only
+returns-clause-only g c = λ told q below there.
+    let old = c.loop-number.invariant.only told q below there in (old.0, omega (arith, old.1), old.2)

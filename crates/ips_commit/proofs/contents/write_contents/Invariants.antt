@@ -7,6 +7,7 @@ use Rattle.ips_folder.specs.Calls.{Keeps}
 use Rattle.ips_steps.specs.Steps.{stage_name, stage_path}
 use Rattle.ips_journal.specs.declared.staged.Staged.{Staged}
 use Rattle.ips_commit.specs.Contents.{IsIntactContent}
+use Rattle.ips_commit.specs.Staging.{HoldsOnly}
 use Rattle.ips_commit.proofs.AllWritten.{IsWritten}
 use Rattle.ips_commit.proofs.contents.write_contents.Given as goal
 
@@ -14,10 +15,12 @@ abbrev pub invariant-loop-number : goal.invariant-loop-number
 invariant-loop-number g l = record {
   kind : g.F.Source.outside.tells l.folder ≡ g.F.Source.outside.tells l.fn.folder;
   faults : g.F.Source.outside.faults l.folder ≡ g.F.Source.outside.faults l.fn.folder;
+  changes : g.F.Source.outside.changes l.fn.folder ≤ g.F.Source.outside.changes l.folder;
   reads : Reads g.S.Source.outside l.fn.source l.source ⊥;
   stage : IsTrue (g.F.Source.outside.tells l.fn.folder) → IsTrue (is_dir ((g.F.Source.outside.state l.folder).held.look stage_name));
   stands : IsTrue (g.F.Source.outside.tells l.fn.folder) → (g.F.Source.outside.state l.folder).held.look stage_name ≡ (g.F.Source.outside.state l.fn.folder).held.look stage_name;
   empty : IsTrue (g.F.Source.outside.tells l.fn.folder) → (n : ℕ) → l.number ≤ n → n < 2 ^ 64 → (g.F.Source.outside.state l.folder).held.look (stage_path n) ≡ None;
+  only : IsTrue (g.F.Source.outside.tells l.fn.folder) → HoldsOnly l.number (g.F.Source.outside.state l.folder).held;
   written : IsTrue (g.F.Source.outside.tells l.fn.folder) → (n : ℕ) (s : Staged) → n < l.number → slice_get l.staged n ≡ Some s
       → IsWritten (g.S.Source.outside.tells l.fn.source) (g.S.Source.outside.state l.fn.source).held l.publisher (g.F.Source.outside.state l.fn.folder).held (g.F.Source.outside.state l.folder).held n s;
   intact : IsTrue (g.S.Source.outside.tells l.fn.source) → (n : ℕ) (s : Staged) → n < l.number → slice_get l.staged n ≡ Some s → IsIntactContent (g.S.Source.outside.state l.fn.source).held l.publisher s;

@@ -3,10 +3,10 @@ use Rattle.ips_outside.specs.State.{nowhere}
 use Rattle.ips_folder.proofs.Runs.{keeps_then, keeps_wider}
 use Rattle.ips_outside.specs.Image.{Image}
 use Rattle.ips_outside.proofs.Placed.{look_placed}
-use Rattle.ips_steps.specs.Private.{gate_name, mark_front, begins}
+use Rattle.ips_steps.specs.Private.{gate_name, mark_front, begins, is_private}
 use Rattle.ips_commit.specs.Pending.{is_swept, mark_names}
 use Rattle.ips_commit.proofs.OwnNames.{marks_swept}
-use Rattle.ips_commit.proofs.Owing.{closing_owed, closed_owed, done_of, swept_twice, gate_left, shut_left}
+use Rattle.ips_commit.proofs.Owing.{closing_owed, closed_owed, done_of, swept_twice, gate_left, shut_left, at_gate, at_swept}
 use Rattle.ips_commit.proofs.GateOpens.{on_err}
 use Rattle.ips_commit.proofs.gate.finish.Goals as goal
 
@@ -72,3 +72,34 @@ returns-in_err-clear-clause-left g c = λ told clean count are.
     (keeps_then o is_swept nowhere c.close.new.folder c.unmark.new.folder c.clear.new.folder
     (keeps_wider o (begins mark_front) nowhere is_swept nowhere c.close.new.folder c.unmark.new.folder marks_swept (λ q l. l) (c.unmark.ensures.any_moment told_1)) (c.clear.ensures.any_moment (c.unmark.ensures.same_kind ∙ told_1))) (c.in_ok-close.ensures.safe told)
     (ap (λ (w : Image). w.look gate_name) (c.in_ok-close.ensures.closed told) ∙ look_placed gate_name None (o.state c.args.folder.now).held) x may))
+
+pub returns-in_err-close-clause-any_moment : goal.returns-in_err-close-clause-any_moment
+returns-in_err-close-clause-any_moment g c = λ told.
+    at_gate g.F.Source.outside g.met.F.Source.sane c.args.folder.now c.close.new.folder (c.close.ensures.any_moment told)
+
+pub returns-in_err-unmark-clause-any_moment : goal.returns-in_err-unmark-clause-any_moment
+returns-in_err-unmark-clause-any_moment g c = λ told.
+    let o = g.F.Source.outside in
+    keeps_then o is_private nowhere c.args.folder.now c.close.new.folder c.unmark.new.folder (at_gate o g.met.F.Source.sane c.args.folder.now c.close.new.folder (c.close.ensures.any_moment told))
+    (at_swept o g.met.F.Source.sane c.close.new.folder c.unmark.new.folder
+    (keeps_wider o (begins mark_front) nowhere is_swept nowhere c.close.new.folder c.unmark.new.folder marks_swept (λ q l. l) (c.unmark.ensures.any_moment (c.close.ensures.same_kind ∙ told))))
+
+pub returns-in_err-clear-clause-any_moment : goal.returns-in_err-clear-clause-any_moment
+returns-in_err-clear-clause-any_moment g c = λ told.
+    let o = g.F.Source.outside in
+    let told_1 = c.close.ensures.same_kind ∙ told in
+    keeps_then o is_private nowhere c.args.folder.now c.close.new.folder c.clear.new.folder (at_gate o g.met.F.Source.sane c.args.folder.now c.close.new.folder (c.close.ensures.any_moment told))
+    (at_swept o g.met.F.Source.sane c.close.new.folder c.clear.new.folder
+    (keeps_then o is_swept nowhere c.close.new.folder c.unmark.new.folder c.clear.new.folder
+    (keeps_wider o (begins mark_front) nowhere is_swept nowhere c.close.new.folder c.unmark.new.folder marks_swept (λ q l. l) (c.unmark.ensures.any_moment told_1))
+    (c.clear.ensures.any_moment (c.unmark.ensures.same_kind ∙ told_1))))
+
+pub returns-clause-any_moment : goal.returns-clause-any_moment
+returns-clause-any_moment g c = λ told.
+    let o = g.F.Source.outside in
+    let told_1 = c.close.ensures.same_kind ∙ told in
+    keeps_then o is_private nowhere c.args.folder.now c.close.new.folder c.clear.new.folder (at_gate o g.met.F.Source.sane c.args.folder.now c.close.new.folder (c.close.ensures.any_moment told))
+    (at_swept o g.met.F.Source.sane c.close.new.folder c.clear.new.folder
+    (keeps_then o is_swept nowhere c.close.new.folder c.unmark.new.folder c.clear.new.folder
+    (keeps_wider o (begins mark_front) nowhere is_swept nowhere c.close.new.folder c.unmark.new.folder marks_swept (λ q l. l) (c.unmark.ensures.any_moment told_1))
+    (c.clear.ensures.any_moment (c.unmark.ensures.same_kind ∙ told_1))))

@@ -10,7 +10,7 @@ returns-in-Err-clause-lays g c =
 pub returns-in_default-clause-lays : goal.returns-in_default-clause-lays
 returns-in_default-clause-lays g c =
     turn_unsynced g.F.Source.outside g.met.F.Source.sane c.args.marks c.args.folder.now c.apply_block.new.folder c.args.reader.now c.apply_block.new.reader _ _ c.in-Ok.laid.0 c.in-Ok.laid.1 c.apply_block.result c.in-Ok.is c.apply_block.ensures.applied c.apply_block.ensures.same_kind
-    c.sync.new.self c.sync.result c.sync.ensures
+    c.sync.new.self c.sync.result c.sync.ensures c.in_default.ensures.kept
 
 pub returns-then-laid-clause-lays : goal.returns-then-laid-clause-lays
 returns-then-laid-clause-lays g c =

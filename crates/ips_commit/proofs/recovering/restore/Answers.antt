@@ -12,7 +12,7 @@ use Rattle.ips_journal.specs.Text.{journal_text}
 use Rattle.ips_kinds.specs.Tallies.{seen_by}
 use Rattle.ips_commit.specs.declared.fault.CommitFault.TheVariants as fault
 use Rattle.ips_commit.specs.Pending.{AreMarkNames, IsDone, IsSwept, is_swept}
-use Rattle.ips_commit.specs.Recovering.{IsPlaced, IsJournalled, CanRollForward, SaysOfFinding, SaysOfRecovery, SaysOfLaying}
+use Rattle.ips_commit.specs.Recovering.{IsPlaced, IsJournalled, IsUnfinished, CanRollForward, SaysOfFinding, SaysOfRecovery, SaysOfLaying}
 use Rattle.ips_commit.proofs.AllWritten.{as_bad}
 use Rattle.ips_commit.proofs.Rolled.{still_owed, still_clean, swept_keeps, swept_owed, swept_done, found_open, found_shut, says_rolled, never_refused, says_only_read, if_starved, read_cause, roll_cause, never_found, calm_cause, no_answer}
 use Rattle.ips_commit.proofs.recovering.restore.Goals as goal
@@ -208,17 +208,17 @@ returns-in-Err-roll_forward-clause-refused g c = λ told.
     (found_open c.in-Ok.left.is_open (o.state c.args.folder.now).held (c.in-Ok.ensures.gate told) c.if-is_open.true) c.in-Err-roll_forward.fault
     (subst (λ (s : State). SaysOfLaying s.held (o.state c.roll_forward.new.folder).held before after_it c.in-Err-roll_forward.fault) c.find_left.ensures.reads.kept (c.in-Err-roll_forward.ensures.refused (c.find_left.ensures.reads.call.same_kind ∙ told)))
 
-pub returns-in-Err-roll_forward-clause-front : goal.returns-in-Err-roll_forward-clause-front
-returns-in-Err-roll_forward-clause-front g c = λ told steps count is.
-    c.in-Err-roll_forward.ensures.front (c.find_left.ensures.reads.call.same_kind ∙ told) steps count (subst (λ (s : State). IsJournalled s.held steps count) (sym c.find_left.ensures.reads.kept) is)
+pub returns-in-Err-clause-stopped : goal.returns-in-Err-clause-stopped
+returns-in-Err-clause-stopped g c = λ told steps count is.
+    as_bad Bool c.in-Err.fault (λ why. why ≡ fault.Unfinished → ⊥) _ (λ why never unfinished. absurd (never unfinished)) c.in-Err.ensures.unbegun
 
-pub returns-in-Err-clause-resumes : goal.returns-in-Err-clause-resumes
-returns-in-Err-clause-resumes g c = λ told steps count a is_open.
-    as_bad Bool c.in-Err.fault (λ why. why ≡ fault.Unfinished → ⊥) _ (λ why never is. absurd (never is)) c.in-Err.ensures.unbegun
+pub returns-in-Err-roll_forward-clause-stopped : goal.returns-in-Err-roll_forward-clause-stopped
+returns-in-Err-roll_forward-clause-stopped g c = λ told steps count is unfinished.
+    let kept = c.find_left.ensures.reads.kept in
+    let before = seen_by (λ k. (goal.Kind-dyn g (k.vtable, k.value)).sorts k.value) (λ k. (goal.Kind-dyn g (k.vtable, k.value)).finished k.value) c.args.kinds.now.items in
+    let after_it = seen_by (λ k. (goal.Kind-dyn g (k.vtable, k.value)).sorts k.value) (λ k. (goal.Kind-dyn g (k.vtable, k.value)).finished k.value) c.roll_forward.new.kinds.items in
+    subst (λ (s : State). IsUnfinished s.held (g.F.Source.outside.state c.roll_forward.new.folder) steps count before after_it) kept
+    (c.in-Err-roll_forward.ensures.stopped (c.find_left.ensures.reads.call.same_kind ∙ told) steps count (subst (λ (s : State). IsJournalled s.held steps count) (sym kept) is) unfinished)
 
-pub returns-in-Err-roll_forward-clause-resumes : goal.returns-in-Err-roll_forward-clause-resumes
-returns-in-Err-roll_forward-clause-resumes g c = λ told steps count a is_open.
-    c.in-Err-roll_forward.ensures.resumes (c.find_left.ensures.reads.call.same_kind ∙ told) steps count a (subst (λ (s : State). IsOpen journal_text steps count a s.held) (sym c.find_left.ensures.reads.kept) is_open)
-
-pub returns-in_default-clause-resumes : goal.returns-in_default-clause-resumes
-returns-in_default-clause-resumes g c = λ told steps count a is_open is. cc
+pub returns-in_default-clause-stopped : goal.returns-in_default-clause-stopped
+returns-in_default-clause-stopped g c = λ told steps count is unfinished. cc

@@ -1,6 +1,6 @@
-use Rattle.std.proofs.Common.{refl, sym, ◌∙◌}
+use Rattle.std.proofs.Common.{sym, ◌∙◌}
 use Rattle.ips_outside.specs.Children.{bytes_of}
-use Rattle.ips_commit.proofs.Rolled.{unmarked_owed, first_way, first_at, first_journalled, first_can, first_done, first_says, first_still, first_means, first_owed, front_as, unmarking_resumes, first_resumes}
+use Rattle.ips_commit.proofs.Rolled.{unmarked_owed, first_way, first_at, first_journalled, first_can, first_done, first_says, first_still, first_means, first_owed, not_begun, first_unfinished}
 use Rattle.ips_commit.proofs.recovering.roll_forward.Goals as goal
 
 pub returns-in_default-clause-owed : goal.returns-in_default-clause-owed
@@ -87,24 +87,16 @@ returns-in-Err-clause-refused g c = λ told.
     (first_at g.F.Source.outside g.met.F.Source.sane c.args.folder.now c.keep_first.new.folder (bytes_of c.args.marks.now) c.requires.own (c.requires.marks told) c.args.reader.now c.args.count c.requires.few (c.requires.placed told) (c.requires.safe told) (c.keep_first.ensures.any_moment told)
     (c.in-Ok.ensures.others told (c.requires.marks told).others) (c.in-Ok.ensures.safe told)))
 
-pub returns-in-Err-clause-front : goal.returns-in-Err-clause-front
-returns-in-Err-clause-front g c = λ told steps n is.
-    front_as (g.F.Source.outside.state c.args.folder.now).held c.args.reader.now c.args.count (c.requires.placed told) steps n is _ _
-    (c.in-Err.ensures.front (c.keep_first.ensures.same_kind ∙ told) (c.requires.placed told).steps
+pub returns-in_default-clause-stopped : goal.returns-in_default-clause-stopped
+returns-in_default-clause-stopped g c = λ told steps m is unfinished.
+    not_begun g.F.Source.outside g.met.F.Source.sane c.args.folder.now c.keep_first.new.folder (bytes_of c.args.marks.now) c.requires.own (c.requires.marks told) c.args.reader.now c.args.count c.requires.few (c.requires.placed told) (c.requires.safe told) (c.keep_first.ensures.any_moment told) steps m is _
+
+pub returns-in-Err-clause-stopped : goal.returns-in-Err-clause-stopped
+returns-in-Err-clause-stopped g c = λ told steps m is unfinished.
+    first_unfinished g.F.Source.outside g.met.F.Source.sane c.args.folder.now c.keep_first.new.folder (bytes_of c.args.marks.now) c.requires.own (c.requires.marks told) c.args.reader.now c.args.count c.requires.few (c.requires.placed told) (c.requires.safe told) (c.keep_first.ensures.any_moment told)
+    (c.in-Ok.ensures.others told (c.requires.marks told).others) (c.in-Ok.ensures.safe told) (g.F.Source.outside.state c.roll.new.folder) _ _ steps m is
+    (c.in-Err.ensures.stopped (c.keep_first.ensures.same_kind ∙ told) (c.requires.placed told).steps
     (first_journalled g.F.Source.outside g.met.F.Source.sane c.args.folder.now c.keep_first.new.folder (bytes_of c.args.marks.now) c.requires.own (c.requires.marks told) c.args.reader.now c.args.count c.requires.few (c.requires.placed told) (c.requires.safe told) (c.keep_first.ensures.any_moment told)
     (c.in-Ok.ensures.others told (c.requires.marks told).others) (c.in-Ok.ensures.safe told))
     (first_at g.F.Source.outside g.met.F.Source.sane c.args.folder.now c.keep_first.new.folder (bytes_of c.args.marks.now) c.requires.own (c.requires.marks told) c.args.reader.now c.args.count c.requires.few (c.requires.placed told) (c.requires.safe told) (c.keep_first.ensures.any_moment told)
-    (c.in-Ok.ensures.others told (c.requires.marks told).others) (c.in-Ok.ensures.safe told)))
-
-pub returns-in_default-clause-resumes : goal.returns-in_default-clause-resumes
-returns-in_default-clause-resumes g c = λ told steps m a is_open is.
-    (0, refl, unmarking_resumes g.F.Source.outside g.met.F.Source.sane c.args.folder.now c.keep_first.new.folder (bytes_of c.args.marks.now) c.requires.own (c.requires.marks told) c.args.reader.now c.args.count c.requires.few (c.requires.placed told) (c.requires.safe told) (c.keep_first.ensures.any_moment told) steps m a is_open)
-
-pub returns-in-Err-clause-resumes : goal.returns-in-Err-clause-resumes
-returns-in-Err-clause-resumes g c = λ told steps m a is_open is.
-    first_resumes g.F.Source.outside g.met.F.Source.sane c.args.folder.now c.keep_first.new.folder (bytes_of c.args.marks.now) c.requires.own (c.requires.marks told) c.args.reader.now c.args.count c.requires.few (c.requires.placed told) (c.requires.safe told) (c.keep_first.ensures.any_moment told) steps m a is_open (g.F.Source.outside.state c.roll.new.folder) _ _
-    (c.in-Err.ensures.resumes (c.keep_first.ensures.same_kind ∙ told) (c.requires.placed told).steps a
-    (first_still g.F.Source.outside g.met.F.Source.sane c.args.folder.now c.keep_first.new.folder (bytes_of c.args.marks.now) c.requires.own (c.requires.marks told) c.args.reader.now c.args.count c.requires.few (c.requires.placed told) (c.requires.safe told) (c.keep_first.ensures.any_moment told)
-    (c.in-Ok.ensures.others told (c.requires.marks told).others) (c.in-Ok.ensures.safe told) steps m a is_open)
-    (first_at g.F.Source.outside g.met.F.Source.sane c.args.folder.now c.keep_first.new.folder (bytes_of c.args.marks.now) c.requires.own (c.requires.marks told) c.args.reader.now c.args.count c.requires.few (c.requires.placed told) (c.requires.safe told) (c.keep_first.ensures.any_moment told)
-    (c.in-Ok.ensures.others told (c.requires.marks told).others) (c.in-Ok.ensures.safe told)) is)
+    (c.in-Ok.ensures.others told (c.requires.marks told).others) (c.in-Ok.ensures.safe told)) unfinished)

@@ -1,6 +1,6 @@
 use Rattle.std.proofs.Common.{Err, ◌∙◌, ap}
 use Rattle.ips_journal.specs.declared.fault.StepFault.{StepFault}
-use Rattle.ips_commit.proofs.Rolls.{roll_owed, roll_line, roll_finished, roll_front, roll_stuck, roll_can, roll_counted, roll_done, roll_marks, roll_resumes, roll_closes, roll_number}
+use Rattle.ips_commit.proofs.Rolls.{roll_owed, roll_line, roll_finished, roll_cut, roll_shut, roll_stuck, roll_can, roll_counted, roll_done, roll_marks, roll_number}
 use Rattle.ips_commit.proofs.rolling.roll.Goals as goal
 
 pub returns-in-Err-FolderFault-clause-owed : goal.returns-in-Err-FolderFault-clause-owed
@@ -20,18 +20,6 @@ pub returns-in-Err-BadJournal-clause-refused : goal.returns-in-Err-BadJournal-cl
 returns-in-Err-BadJournal-clause-refused g c = λ told steps is begins.
     roll_stuck g.F.Source.outside c.args.first c.args.folder.now c.lay_marked.new.folder told (c.requires.way told) c.args.reader.now c.lay_marked.new.reader _ _ c.lay_marked.result c.lay_marked.ensures.lays steps begins is
     c.in-Err-BadJournal.line (c.in-Err-BadJournal.is ∙ ap (λ (e : StepFault). Err e) c.in-Err-BadJournal.field-0-is)
-
-pub returns-in-Err-FolderFault-clause-front : goal.returns-in-Err-FolderFault-clause-front
-returns-in-Err-FolderFault-clause-front g c = λ told steps is begins.
-    roll_front g.F.Source.outside c.args.first c.args.folder.now c.lay_marked.new.folder told (c.requires.way told) c.args.reader.now c.lay_marked.new.reader _ _ c.lay_marked.result c.lay_marked.ensures.lays steps begins is
-
-pub returns-in-Err-BadJournal-clause-front : goal.returns-in-Err-BadJournal-clause-front
-returns-in-Err-BadJournal-clause-front g c = λ told steps is begins.
-    roll_front g.F.Source.outside c.args.first c.args.folder.now c.lay_marked.new.folder told (c.requires.way told) c.args.reader.now c.lay_marked.new.reader _ _ c.lay_marked.result c.lay_marked.ensures.lays steps begins is
-
-pub returns-in_default-clause-front : goal.returns-in_default-clause-front
-returns-in_default-clause-front g c = λ told steps is begins.
-    roll_front g.F.Source.outside c.args.first c.args.folder.now c.lay_marked.new.folder told (c.requires.way told) c.args.reader.now c.lay_marked.new.reader _ _ c.lay_marked.result c.lay_marked.ensures.lays steps begins is
 
 pub returns-in_default-clause-owed : goal.returns-in_default-clause-owed
 returns-in_default-clause-owed g c = λ told steps b a due is_open begins.
@@ -55,14 +43,16 @@ returns-clause-done g c = λ told steps is begins.
       roll_counted o c.args.first c.args.folder.now c.lay_marked.new.folder told way c.args.reader.now c.lay_marked.new.reader _ _ c.lay_marked.result c.lay_marked.ensures.lays steps begins is c.in-Ok.laid c.in-Ok.is,
     )
 
-pub returns-in-Err-FolderFault-clause-resumes : goal.returns-in-Err-FolderFault-clause-resumes
-returns-in-Err-FolderFault-clause-resumes g c = λ told steps a is_open begins is.
-    roll_resumes g.F.Source.outside c.args.first c.args.folder.now c.lay_marked.new.folder told (c.requires.way told) c.args.reader.now c.lay_marked.new.reader _ _ c.lay_marked.result c.lay_marked.ensures.lays steps begins a is_open
+pub returns-in-Err-FolderFault-clause-stopped : goal.returns-in-Err-FolderFault-clause-stopped
+returns-in-Err-FolderFault-clause-stopped g c = λ told steps is begins unfinished.
+    roll_cut g.F.Source.outside c.args.first c.args.folder.now c.lay_marked.new.folder told (c.requires.way told) c.args.reader.now c.lay_marked.new.reader _ _ c.lay_marked.result c.lay_marked.ensures.lays steps begins is
+    (c.in-Err-FolderFault.is ∙ ap (λ (e : StepFault). Err e) c.in-Err-FolderFault.field-0-is)
 
-pub returns-in-Err-BadJournal-clause-resumes : goal.returns-in-Err-BadJournal-clause-resumes
-returns-in-Err-BadJournal-clause-resumes g c = λ told steps a is_open begins is. cc
+pub returns-in-Err-BadJournal-clause-stopped : goal.returns-in-Err-BadJournal-clause-stopped
+returns-in-Err-BadJournal-clause-stopped g c = λ told steps is begins unfinished. cc
 
-pub returns-in_default-clause-resumes : goal.returns-in_default-clause-resumes
-returns-in_default-clause-resumes g c = λ told steps a is_open begins is.
-    roll_closes g.F.Source.outside c.args.first c.args.folder.now c.lay_marked.new.folder told (c.requires.way told) c.args.reader.now c.lay_marked.new.reader _ _ c.lay_marked.result c.lay_marked.ensures.lays steps begins a is_open c.in-Ok.laid c.in-Ok.is
-    c.finish.new.folder (c.in_default.ensures.left (c.lay_marked.ensures.same_kind ∙ told))
+pub returns-in_default-clause-stopped : goal.returns-in_default-clause-stopped
+returns-in_default-clause-stopped g c = λ told steps is begins unfinished.
+    let told_1 = c.lay_marked.ensures.same_kind ∙ told in
+    roll_shut g.F.Source.outside c.args.first c.args.folder.now c.lay_marked.new.folder told (c.requires.way told) c.args.reader.now c.lay_marked.new.reader _ _ c.lay_marked.result c.lay_marked.ensures.lays steps begins is c.in-Ok.laid c.in-Ok.is
+    c.finish.new.folder (c.in_default.ensures.left told_1) (c.finish.ensures.any_moment told_1)

@@ -100,4 +100,4 @@ returns-in-Ok-write_journal-clause-filled g c = λ told.
     (o.state c.args.folder.now).held (o.state c.make_dir.new.self).held (o.state c.write_contents.new.folder).held (o.state c.write_journal.new.folder) refl
     (c.requires.cleared told) c.requires.seen made.now.agrees run.now.agrees (c.write_journal.ensures.any_moment told_2).now.agrees (c.in_ok-write_contents.ensures.written told_1)
     (c.in_ok-write_contents.ensures.stands told_1 ∙ made_entry c.args.names.now.stage.bytes (o.state c.args.folder.now).held (o.state c.make_dir.new.self).held c.args.names.now.stage_is (ap (λ (s : State). s.held) (c.in-Ok.ensures.done told)))
-    (c.in-Ok-write_journal.ensures.written told_2) (c.in-Ok-write_journal.ensures.safe told_2)
+    (c.in_ok-write_contents.ensures.only told_1) (c.in-Ok-write_journal.ensures.written told_2) (c.in-Ok-write_journal.ensures.safe told_2)

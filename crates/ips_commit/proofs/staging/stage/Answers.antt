@@ -1,7 +1,7 @@
-use Rattle.std.proofs.Common.{map, refl}
+use Rattle.std.proofs.Common.{map, refl, inl, inr}
 use Rattle.ips_steps.specs.View.{step_of}
 use Rattle.ips_journal.specs.Text.{journal_text}
-use Rattle.ips_commit.proofs.Staged.{unbegun, staging_owed, staging_seen, has_staged}
+use Rattle.ips_commit.proofs.Staged.{rose_of, unbegun, staging_owed, staging_seen, has_staged}
 use Rattle.ips_commit.proofs.staging.stage.Goals as goal
 
 pub returns-in_default-clause-owed : goal.returns-in_default-clause-owed
@@ -30,3 +30,12 @@ returns-in-Ok-write_stage-clause-staged g c = λ told.
     has_staged (g.S.Source.outside.tells c.args.source.now) (g.S.Source.outside.state c.args.source.now).held c.args.publisher.now (journal_text (map step_of c.args.steps.now)) (map step_of c.args.steps.now) c.args.staged.now
     (o.state c.args.folder.now).held (o.state c.write_stage.new.folder) (g.met.F.Source.sane.formed c.args.folder.now told) c.requires.lists (c.requires.can told)
     refl (c.in-Ok-write_stage.ensures.within told).agrees (c.in-Ok-write_stage.ensures.filled told)
+
+pub returns-in_default-clause-begun : goal.returns-in_default-clause-begun
+returns-in_default-clause-begun g c = inr (refl, refl)
+
+pub returns-in-Err-clause-begun : goal.returns-in-Err-clause-begun
+returns-in-Err-clause-begun g c = inl (rose_of _ _ c.write_stage.ensures.changed)
+
+pub returns-in-Ok-write_stage-clause-begun : goal.returns-in-Ok-write_stage-clause-begun
+returns-in-Ok-write_stage-clause-begun g c = inl (rose_of _ _ c.write_stage.ensures.changed)

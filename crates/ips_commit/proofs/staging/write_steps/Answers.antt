@@ -10,7 +10,7 @@ use Rattle.ips_commit.proofs.staging.write_steps.Goals as goal
 use Rattle.ips_text.proofs.Lists.{map_item}
 
 pub loop-step-init : goal.loop-step-init
-loop-step-init g c = record { kind = refl; faults = refl; written = c.requires; moments = λ told. begun g.F.Source.outside (covers journal_name) nowhere c.args.folder.now (g.met.F.Source.sane.only_now c.args.folder.now) }
+loop-step-init g c = record { kind = refl; faults = refl; changes = omega arith; written = c.requires; moments = λ told. begun g.F.Source.outside (covers journal_name) nowhere c.args.folder.now (g.met.F.Source.sane.only_now c.args.folder.now) }
 
 pub step-requires : goal.step-requires
 step-requires g c = λ told_now. (c.loop-step.invariant.written (sym c.loop-step.invariant.kind ∙ told_now)).sole
@@ -24,6 +24,7 @@ loop-step-preserved g c =
     let inv = c.loop-step.invariant in
     record {
       kind = c.step.ensures.same_kind ∙ inv.kind;
+      changes = omega (arith, inv.changes, c.step.ensures.changes);
       faults = c.step.ensures.cause.steady (answered c.step.result _ c.in_ok-step.was) ∙ inv.faults;
       written = λ told. subst (IsWritten c.step.new.self (g.F.Source.outside.state c.step.new.folder).held) (sym (map_item step_of c.args.steps.now c.loop-step.step-index c.step-item.result c.loop-step-test.true c.step-item.is))
           (c.in_ok-step.ensures.written (inv.kind ∙ told) (map step_of (take c.loop-step.step-index c.args.steps.now)) (inv.written told));
