@@ -15,10 +15,10 @@ use Rattle.std.specs.declared.vec.Vec.{Vec}
 use Rattle.std.specs.BTreeMap.{BTreeMap, get_by_text}
 use Rattle.std.specs.BTreeSet.{BTreeSet}
 use Rattle.std.specs.declared.alloc.Global.{Global}
-use Rattle.std.proofs.lemmas.Bool.{true≢false, eq-eqb}
+use Rattle.std.proofs.lemmas.Bool.{true≢false, eq-eqb, and_parts}
 use Rattle.std.proofs.lemmas.Option.{slice_get_within, none-some, same_Some}
 use Rattle.std.proofs.lemmas.List.Elements.{Contains-append_left, Contains-push, Contains-push_cases}
-use Rattle.ips_text.specs.Ancestry.{is_below}
+use Rattle.ips_text.specs.Ancestry.{same_path, covers, is_below}
 use Rattle.ips_action.specs.Attrs.{is_same}
 use Rattle.ips_action.specs.declared.kind.ActionKind.TheVariants.{File}
 use Rattle.ips_conflict.specs.declared.placed.Placed.{Placed}
@@ -28,9 +28,10 @@ use Rattle.ips_conflict.specs.Key.{Key, key_of, sort_of, sort_rank, text_of, val
 use Rattle.ips_conflict.specs.Order.{place_cmp}
 use Rattle.ips_conflict.specs.Alike.{takes_place}
 use Rattle.ips_conflict.specs.Clash.{HasKey, path_key, has_path_key, IsFileAt, Counts, file_rank, file_cmp}
-use Rattle.ips_conflict.specs.Index.{Groups, AreGroups, AreAbove, AreFiles, places_at, has_text, has_path, place_of, counted, first_counted}
+use Rattle.ips_conflict.specs.Index.{Groups, AreGroups, AreAbove, HoldsAbove, AreFiles, places_at, has_text, has_path, place_of, counted, first_counted}
 use Rattle.ips_conflict.proofs.Places.{one_there, below_or_last}
 use Rattle.ips_conflict.proofs.Kept.{is_same_self}
+use Rattle.ips_conflict.proofs.Marked.{below_covers}
 use Rattle.ips_conflict.proofs.Ordered.{le_trans, le_of_less, le_self, le_unless, file_total}
 use Rattle.ips_text.proofs.Orders.{less_is}
 use Rattle.ips_action.proofs.KeyOrder.{same_true}
@@ -140,6 +141,12 @@ above_same placed k p set here has so_far path = (
         absurd (true≢false (sym (gives_path h.1 h.0 h.2.key_is).0 ∙ ap has_path_key one ∙ has))
   ],
 )
+
+-- what stands above something marked is marked
+pub above_holds : (placed : List Placed) (k : ℕ) (set : BTreeSet (Vec ℕ Global)) → AboveTo placed k set → HoldsAbove set
+above_holds placed k set all p q had upper =
+    let w = (all q).0 had in
+    (all p).1 (w.0, w.1, (w.2.0, w.2.1, w.2.2, below_covers p q w.2.0 upper (and_parts (covers q w.2.0) (not (same_path q w.2.0)) w.2.3).0))
 
 pub above_done : (placed : List Placed) (k : ℕ) (set : BTreeSet (Vec ℕ Global)) → length placed ≤ k → AboveTo placed k set → AreAbove placed set
 above_done placed k set le all path = (

@@ -16,7 +16,7 @@ use std::collections::BTreeMap;
 
 /// The place of the action that counts at each path: of files the one that takes the place of others, and else the first by
 /// stem and line.
-pub fn leading(alloc: Global, kept: &[Placed]) -> Result<BTreeMap<Vec<u8>, usize>, AllocError>
+pub fn leading(alloc: Global, kept: &[Placed<'_>]) -> Result<BTreeMap<Vec<u8>, usize>, AllocError>
     ensures { IfOk result (λ found. AreLeading kept.now found) }
 {
     let mut found = BTreeMap::new(alloc);
@@ -31,7 +31,7 @@ pub fn leading(alloc: Global, kept: &[Placed]) -> Result<BTreeMap<Vec<u8>, usize
 // Counts an action at its path, where none that was counted there comes before it.
 fn count(
     alloc: Global,
-    kept: &[Placed],
+    kept: &[Placed<'_>],
     found: &mut BTreeMap<Vec<u8>, usize>,
     i: usize,
     path: &[u8],
@@ -54,7 +54,7 @@ pub fn place_at(found: &BTreeMap<Vec<u8>, usize>, path: &[u8]) -> Option<usize>
 }
 
 // The place that counts of two at one path, of which the first may be none.
-fn first_of(kept: &[Placed], counted: Option<usize>, i: usize) -> usize
+fn first_of(kept: &[Placed<'_>], counted: Option<usize>, i: usize) -> usize
     requires counted { ForSome counted (λ j. j < length kept.now) }
     requires i { i < length kept.now }
     ensures { result ≡ places.first_of kept.now counted i }
@@ -65,7 +65,7 @@ fn first_of(kept: &[Placed], counted: Option<usize>, i: usize) -> usize
     }
 }
 
-fn comes_before(kept: &[Placed], i: usize, j: usize) -> bool
+fn comes_before(kept: &[Placed<'_>], i: usize, j: usize) -> bool
     requires i { i < length kept.now }
     requires j { j < length kept.now }
     ensures { IsTrue result ↔ (count_cmp kept.now i j ≡ Ordering.Less) }
@@ -74,7 +74,7 @@ fn comes_before(kept: &[Placed], i: usize, j: usize) -> bool
 }
 
 // How two actions stand to one another: by rank, then by stem, line and place.
-fn count_order(kept: &[Placed], i: usize, j: usize) -> Ordering
+fn count_order(kept: &[Placed<'_>], i: usize, j: usize) -> Ordering
     requires i { i < length kept.now }
     requires j { j < length kept.now }
     ensures { result ≡ count_cmp kept.now i j }
@@ -82,19 +82,19 @@ fn count_order(kept: &[Placed], i: usize, j: usize) -> Ordering
     let a = &kept[i];
     let b = &kept[j];
     rank(a).cmp(&rank(b)).then(
-        a.stem
-            .cmp(&b.stem)
-            .then(a.line.cmp(&b.line))
+        a.stem()
+            .cmp(b.stem())
+            .then(a.line().cmp(&b.line()))
             .then(i.cmp(&j)),
     )
 }
 
 // The file that takes the place of others comes first, then other files, then what is no file.
-fn rank(item: &Placed) -> u8
+fn rank(item: &Placed<'_>) -> u8
     ensures { result ≡ rank_of item.now }
 {
-    match item.action.kind {
-        ActionKind::File => { if takes_place(&item.action) { 0 } else { 1 } }
+    match item.kind() {
+        ActionKind::File => { if takes_place(item.action()) { 0 } else { 1 } }
         _ => 2,
     }
 }

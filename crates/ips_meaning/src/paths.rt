@@ -17,7 +17,7 @@ use std::alloc::{AllocError, Global};
 use std::collections::BTreeSet;
 
 /// The wanted paths: those that actions give, those that the image itself needs, and those above them.
-pub fn paths(alloc: Global, kept: &[Placed]) -> Result<BTreeSet<Vec<u8>>, AllocError>
+pub fn paths(alloc: Global, kept: &[Placed<'_>]) -> Result<BTreeSet<Vec<u8>>, AllocError>
     ensures { IfOk result (λ paths. AreWanted kept.now paths) }
 {
     let mut paths = needed(alloc, kept)?;
@@ -30,7 +30,7 @@ pub fn paths(alloc: Global, kept: &[Placed]) -> Result<BTreeSet<Vec<u8>>, AllocE
 }
 
 // The paths that the image itself needs, and those above them.
-fn needed(alloc: Global, kept: &[Placed]) -> Result<BTreeSet<Vec<u8>>, AllocError>
+fn needed(alloc: Global, kept: &[Placed<'_>]) -> Result<BTreeSet<Vec<u8>>, AllocError>
     ensures paths { IfOk result (λ paths. (p : List ℕ) → (has_path paths p ≡ true) ↔ (is_needed kept.now p ≡ true)) }
     ensures proper { IfOk result (λ paths. (p : List ℕ) → has_path paths p ≡ true → IsPath p) }
 {
@@ -73,10 +73,10 @@ fn add_one(alloc: Global, paths: &mut BTreeSet<Vec<u8>>, path: &[u8]) -> Result<
 }
 
 // Whether an entry of a legacy package stands among the actions.
-fn has_legacy(kept: &[Placed]) -> bool
+fn has_legacy(kept: &[Placed<'_>]) -> bool
     ensures { result ≡ clashes.has_legacy kept.now }
 {
-    kept.iter().any(|item| is_legacy(item.action.kind))
+    kept.iter().any(|item| is_legacy(item.kind()))
 }
 
 fn is_legacy(kind: ActionKind) -> bool
