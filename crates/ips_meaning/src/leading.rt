@@ -1,7 +1,6 @@
 //! The action that counts at each path.
 
 ghost use Rattle.std.specs.Prelude.{◌≡◌, ◌↔◌, ◌<◌, List, ℕ, Some, IfOk, IfSome, OnOk, IsTrue, length, slice_get, if◌then◌else◌};
-ghost use Rattle.std.specs.Option.{ForSome};
 ghost use Rattle.ips_action.specs.Attrs.{is_same};
 ghost use Rattle.ips_conflict.specs.Order.{place_cmp};
 ghost use Rattle.ips_meaning.specs.Places as places;
@@ -40,9 +39,13 @@ fn count(
     requires counted { IfSome (place_of found.old path.now) (λ j. j < length kept.now) }
     ensures { OnOk result ((q : List ℕ) → place_of found.new q ≡ (if is_same q path.now then Some (places.first_of kept.now (place_of found.old q) i) else place_of found.old q)) }
 {
-    let first = first_of(kept, place_at(found, path), i);
     let key = Vec::from_slice(alloc, path)?;
-    found.insert(key, first)?;
+    let Some(j) = found.insert(key, i)? else {
+        return Ok(());
+    };
+    let first = first_of(kept, j, i);
+    let again = Vec::from_slice(alloc, path)?;
+    found.insert(again, first)?;
     Ok(())
 }
 
@@ -53,16 +56,13 @@ pub fn place_at(found: &BTreeMap<Vec<u8>, usize>, path: &[u8]) -> Option<usize>
     found.get(path).copied()
 }
 
-// The place that counts of two at one path, of which the first may be none.
-fn first_of(kept: &[Placed<'_>], counted: Option<usize>, i: usize) -> usize
-    requires counted { ForSome counted (λ j. j < length kept.now) }
+// The place that counts of two at one path.
+fn first_of(kept: &[Placed<'_>], j: usize, i: usize) -> usize
+    requires j { j < length kept.now }
     requires i { i < length kept.now }
-    ensures { result ≡ places.first_of kept.now counted i }
+    ensures { result ≡ places.first_of kept.now (Some j) i }
 {
-    match counted {
-        Some(j) if !comes_before(kept, i, j) => j,
-        _ => i,
-    }
+    if comes_before(kept, i, j) { i } else { j }
 }
 
 fn comes_before(kept: &[Placed<'_>], i: usize, j: usize) -> bool
