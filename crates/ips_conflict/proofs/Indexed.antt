@@ -302,13 +302,21 @@ by_places placed i j p q a b hi hj ea eb same =
 
 -- ---- a place is put behind those at a text
 
-pub put_is : (old mid new : Groups) (text : List ℕ) (i : ℕ) (before : List ℕ) (pushed : Vec ℕ Global) → before ≡ places_at old text → ((q : List ℕ) → is_same text q ≡ false → places_at mid q ≡ places_at old q)
-    → pushed.items ≡ before ++ i ∷ [] → ((q : List ℕ) → get_by_text new q ≡ cond (is_same text q) (Some pushed) (get_by_text mid q)) → (q : List ℕ) → places_at new q ≡ cond (is_same text q) (places_at old q ++ i ∷ []) (places_at old q)
-put_is old mid new text i before pushed taken others items inserted q = go (is_same text q) refl (inserted q)
+pub put_is : (old new : Groups) (text places : List ℕ) (kept : Vec ℕ Global) → kept.items ≡ places → ((q : List ℕ) → get_by_text new q ≡ cond (is_same text q) (Some kept) (get_by_text old q))
+    → (q : List ℕ) → places_at new q ≡ cond (is_same text q) places (places_at old q)
+put_is old new text places kept items inserted q = go (is_same text q) (inserted q)
   where
-    go : (t : Bool) → is_same text q ≡ t → get_by_text new q ≡ cond t (Some pushed) (get_by_text mid q) → places_at new q ≡ cond t (places_at old q ++ i ∷ []) (places_at old q)
-    go true same e = ap (λ (o : _). option_map_or (λ g. g.items) o []) e ∙ items ∙ ap (λ (l : List ℕ). l ++ i ∷ []) (taken ∙ ap (places_at old) (same_true text q same))
-    go false same e = ap (λ (o : _). option_map_or (λ g. g.items) o []) e ∙ others q same
+    go : (t : Bool) → get_by_text new q ≡ cond t (Some kept) (get_by_text old q) → places_at new q ≡ cond t places (places_at old q)
+    go true e = ap (λ (o : _). option_map_or (λ g. g.items) o []) e ∙ items
+    go false e = ap (λ (o : _). option_map_or (λ g. g.items) o []) e
+
+-- the place is the first at its text, or stands behind the others there
+pub put_first : (text q before : List ℕ) (i : ℕ) (old : Groups) → places_at old text ≡ before → cond (is_same text q) (before ++ i ∷ []) (places_at old q) ≡ cond (is_same text q) (places_at old q ++ i ∷ []) (places_at old q)
+put_first text q before i old is = go (is_same text q) refl
+  where
+    go : (t : Bool) → is_same text q ≡ t → cond t (before ++ i ∷ []) (places_at old q) ≡ cond t (places_at old q ++ i ∷ []) (places_at old q)
+    go true same = ap (λ (l : List ℕ). l ++ i ∷ []) (sym is ∙ ap (places_at old) (same_true text q same))
+    go false same = refl
 
 -- what is found at a path once a file is counted
 pub counts_as : (placed : List Placed) (files : BTreeMap (Vec ℕ Global) ℕ) (q path : List ℕ) (item : Placed) (i first : ℕ) → path ≡ value_of (codes "path") item.action → first ≡ first_counted placed (place_of files path) i

@@ -85,34 +85,36 @@ fn group(
         return Ok(());
     };
     let text = key_text(alloc, sort, item)?;
-    put(alloc, groups, text, i)?;
+    let Some(others) = groups.insert(text, alone(alloc, i)?)? else {
+        return Ok(());
+    };
+    let text = key_text(alloc, sort, item)?;
+    put(groups, text, others, i)?;
     Ok(())
 }
 
-// Puts a place behind those at a text.
+// The place as the only one of its text.
+fn alone(alloc: Global, i: usize) -> Result<Vec<usize>, AllocError>
+    ensures { IfOk result (λ places. places.items ≡ i ∷ []) }
+{
+    let mut places = Vec::with_capacity(alloc, 1)?;
+    places.push(i)?;
+    Ok(places)
+}
+
+// Puts a place behind the others at a text.
 fn put(
-    alloc: Global,
     groups: &mut BTreeMap<String, Vec<usize>>,
     text: String,
+    others: Vec<usize>,
     i: usize,
 ) -> Result<(), AllocError>
-    ensures { OnOk result ((q : List ℕ) → places_at groups.new q ≡ (if is_same (string_bytes text) q then places_at groups.old q ++ i ∷ [] else places_at groups.old q)) }
+    ensures { OnOk result ((q : List ℕ) → places_at groups.new q ≡ (if is_same (string_bytes text) q then others.items ++ i ∷ [] else places_at groups.old q)) }
 {
-    let mut places = taken(alloc, groups, text.as_str());
+    let mut places = others;
     places.push(i)?;
     groups.insert(text, places)?;
     Ok(())
-}
-
-// Takes the places at a text away, and gives them.
-fn taken(alloc: Global, groups: &mut BTreeMap<String, Vec<usize>>, text: &str) -> Vec<usize>
-    ensures places { result.items ≡ places_at groups.old text.now }
-    ensures others { (q : List ℕ) → is_same text.now q ≡ false → places_at groups.new q ≡ places_at groups.old q }
-{
-    match groups.remove(text) {
-        Some(places) => places,
-        None => Vec::new(alloc),
-    }
 }
 
 // The paths below which actions stand.
