@@ -15,10 +15,10 @@ use Rattle.std.specs.declared.vec.Vec.{Vec}
 use Rattle.std.specs.BTreeMap.{BTreeMap, get_by_text}
 use Rattle.std.specs.BTreeSet.{BTreeSet}
 use Rattle.std.specs.declared.alloc.Global.{Global}
-use Rattle.std.proofs.lemmas.Bool.{true≢false, eq-eqb}
+use Rattle.std.proofs.lemmas.Bool.{true≢false, eq-eqb, and_parts}
 use Rattle.std.proofs.lemmas.Option.{slice_get_within, none-some, same_Some}
 use Rattle.std.proofs.lemmas.List.Elements.{Contains-append_left, Contains-push, Contains-push_cases}
-use Rattle.ips_text.specs.Ancestry.{is_below}
+use Rattle.ips_text.specs.Ancestry.{same_path, covers, is_below}
 use Rattle.ips_action.specs.Attrs.{is_same}
 use Rattle.ips_action.specs.declared.kind.ActionKind.TheVariants.{File}
 use Rattle.ips_conflict.specs.declared.placed.Placed.{Placed}
@@ -28,9 +28,10 @@ use Rattle.ips_conflict.specs.Key.{Key, key_of, sort_of, sort_rank, text_of, val
 use Rattle.ips_conflict.specs.Order.{place_cmp}
 use Rattle.ips_conflict.specs.Alike.{takes_place}
 use Rattle.ips_conflict.specs.Clash.{HasKey, path_key, has_path_key, IsFileAt, Counts, file_rank, file_cmp}
-use Rattle.ips_conflict.specs.Index.{Groups, AreGroups, AreAbove, AreFiles, places_at, has_text, has_path, place_of, counted, first_counted}
+use Rattle.ips_conflict.specs.Index.{Groups, AreGroups, AreAbove, HoldsAbove, AreFiles, places_at, has_text, has_path, place_of, counted, first_counted}
 use Rattle.ips_conflict.proofs.Places.{one_there, below_or_last}
 use Rattle.ips_conflict.proofs.Kept.{is_same_self}
+use Rattle.ips_conflict.proofs.Marked.{below_covers}
 use Rattle.ips_conflict.proofs.Ordered.{le_trans, le_of_less, le_self, le_unless, file_total}
 use Rattle.ips_text.proofs.Orders.{less_is}
 use Rattle.ips_action.proofs.KeyOrder.{same_true}
@@ -140,6 +141,12 @@ above_same placed k p set here has so_far path = (
         absurd (true≢false (sym (gives_path h.1 h.0 h.2.key_is).0 ∙ ap has_path_key one ∙ has))
   ],
 )
+
+-- what stands above something marked is marked
+pub above_holds : (placed : List Placed) (k : ℕ) (set : BTreeSet (Vec ℕ Global)) → AboveTo placed k set → HoldsAbove set
+above_holds placed k set all p q had upper =
+    let w = (all q).0 had in
+    (all p).1 (w.0, w.1, (w.2.0, w.2.1, w.2.2, below_covers p q w.2.0 upper (and_parts (covers q w.2.0) (not (same_path q w.2.0)) w.2.3).0))
 
 pub above_done : (placed : List Placed) (k : ℕ) (set : BTreeSet (Vec ℕ Global)) → length placed ≤ k → AboveTo placed k set → AreAbove placed set
 above_done placed k set le all path = (
@@ -295,13 +302,21 @@ by_places placed i j p q a b hi hj ea eb same =
 
 -- ---- a place is put behind those at a text
 
-pub put_is : (old mid new : Groups) (text : List ℕ) (i : ℕ) (before : List ℕ) (pushed : Vec ℕ Global) → before ≡ places_at old text → ((q : List ℕ) → is_same text q ≡ false → places_at mid q ≡ places_at old q)
-    → pushed.items ≡ before ++ i ∷ [] → ((q : List ℕ) → get_by_text new q ≡ cond (is_same text q) (Some pushed) (get_by_text mid q)) → (q : List ℕ) → places_at new q ≡ cond (is_same text q) (places_at old q ++ i ∷ []) (places_at old q)
-put_is old mid new text i before pushed taken others items inserted q = go (is_same text q) refl (inserted q)
+pub put_is : (old new : Groups) (text places : List ℕ) (kept : Vec ℕ Global) → kept.items ≡ places → ((q : List ℕ) → get_by_text new q ≡ cond (is_same text q) (Some kept) (get_by_text old q))
+    → (q : List ℕ) → places_at new q ≡ cond (is_same text q) places (places_at old q)
+put_is old new text places kept items inserted q = go (is_same text q) (inserted q)
   where
-    go : (t : Bool) → is_same text q ≡ t → get_by_text new q ≡ cond t (Some pushed) (get_by_text mid q) → places_at new q ≡ cond t (places_at old q ++ i ∷ []) (places_at old q)
-    go true same e = ap (λ (o : _). option_map_or (λ g. g.items) o []) e ∙ items ∙ ap (λ (l : List ℕ). l ++ i ∷ []) (taken ∙ ap (places_at old) (same_true text q same))
-    go false same e = ap (λ (o : _). option_map_or (λ g. g.items) o []) e ∙ others q same
+    go : (t : Bool) → get_by_text new q ≡ cond t (Some kept) (get_by_text old q) → places_at new q ≡ cond t places (places_at old q)
+    go true e = ap (λ (o : _). option_map_or (λ g. g.items) o []) e ∙ items
+    go false e = ap (λ (o : _). option_map_or (λ g. g.items) o []) e
+
+-- the place is the first at its text, or stands behind the others there
+pub put_first : (text q before : List ℕ) (i : ℕ) (old : Groups) → places_at old text ≡ before → cond (is_same text q) (before ++ i ∷ []) (places_at old q) ≡ cond (is_same text q) (places_at old q ++ i ∷ []) (places_at old q)
+put_first text q before i old is = go (is_same text q) refl
+  where
+    go : (t : Bool) → is_same text q ≡ t → cond t (before ++ i ∷ []) (places_at old q) ≡ cond t (places_at old q ++ i ∷ []) (places_at old q)
+    go true same = ap (λ (l : List ℕ). l ++ i ∷ []) (sym is ∙ ap (places_at old) (same_true text q same))
+    go false same = refl
 
 -- what is found at a path once a file is counted
 pub counts_as : (placed : List Placed) (files : BTreeMap (Vec ℕ Global) ℕ) (q path : List ℕ) (item : Placed) (i first : ℕ) → path ≡ value_of (codes "path") item.action → first ≡ first_counted placed (place_of files path) i

@@ -47,7 +47,7 @@ both_found true false a b c apart = refl
 both_found false true a b c apart = refl
 both_found false false a b c apart = refl
 
-once : {A : Type 0} (s : Bool) (a b c : A) → cond s a c ≡ cond s a (cond s b c)
+pub once : {A : Type 0} (s : Bool) (a b c : A) → cond s a c ≡ cond s a (cond s b c)
 once true a b c = refl
 once false a b c = refl
 

@@ -9,5 +9,6 @@ pub mod Found
 pub mod Likeness
 pub mod Grouped
 pub mod FirstPair
+pub mod Alone
 pub mod OfPaths
 pub mod FirstOver

@@ -41,6 +41,10 @@ AreGroups placed groups = (text : List ℕ) → IsGroup placed text (places_at g
 abbrev pub has_path : BTreeSet (Vec ℕ Global) → List ℕ → Bool
 has_path set path = list_any (λ k. is_same path k.items) set.keys
 
+-- The set has with each path all that stand above it.
+abbrev pub HoldsAbove : BTreeSet (Vec ℕ Global) → Type 0
+HoldsAbove set = (p q : List ℕ) → has_path set q ≡ true → is_below p q ≡ true → has_path set p ≡ true
+
 -- An action gives a path below this one.
 abbrev pub HasBelow : List Placed → List ℕ → Type 0
 HasBelow placed path = (i : ℕ) × (below : List ℕ) × (p : Placed) × HasKey placed (path_key below) i p × (is_below path below ≡ true)

@@ -1,3 +1,4 @@
+pub mod Delivered
 pub mod Key
 pub mod Alike
 pub mod Verdict

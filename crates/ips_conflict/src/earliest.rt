@@ -42,7 +42,7 @@ pub enum Test<'a> {
 /// The earliest of these places at which an action stands whose keys are of this sort, and which passes the test.
 pub fn earliest(
     alloc: Global,
-    placed: &[Placed],
+    placed: &[Placed<'_>],
     index: &Index,
     members: &[usize],
     sort: Sort,
@@ -63,7 +63,7 @@ pub fn earliest(
 }
 
 // The earlier of two places, of which the first may be none.
-fn earlier(placed: &[Placed], found: Option<usize>, j: usize) -> usize
+fn earlier(placed: &[Placed<'_>], found: Option<usize>, j: usize) -> usize
     requires found { ForSome found (λ i. i < length placed.now) }
     requires j { j < length placed.now }
     ensures { result ≡ earlier_of placed.now found j }
@@ -77,7 +77,7 @@ fn earlier(placed: &[Placed], found: Option<usize>, j: usize) -> usize
 // Whether an action whose keys are of this sort stands at the place, and passes the test.
 fn meets(
     alloc: Global,
-    placed: &[Placed],
+    placed: &[Placed<'_>],
     index: &Index,
     sort: Sort,
     test: Test<'_>,
@@ -96,7 +96,7 @@ fn meets(
     Ok(answer)
 }
 
-fn is_of_sort(item: &Placed, sort: Sort) -> bool
+fn is_of_sort(item: &Placed<'_>, sort: Sort) -> bool
     ensures { IsTrue result ↔ (keys.sort_of item.now.action.kind ≡ Some sort) }
 {
     match sort_of(item) {
@@ -108,11 +108,11 @@ fn is_of_sort(item: &Placed, sort: Sort) -> bool
 // Whether the action at the place passes the test.
 fn passes(
     alloc: Global,
-    placed: &[Placed],
+    placed: &[Placed<'_>],
     index: &Index,
     test: Test<'_>,
     j: usize,
-    item: &Placed,
+    item: &Placed<'_>,
 ) -> Result<bool, AllocError>
     requires index { IsIndex placed.now index.now }
     requires here { slice_get placed.now j ≡ Some item.now }
@@ -122,25 +122,25 @@ fn passes(
 {
     match test {
         Test::Any => Ok(true),
-        Test::Linked => Ok(is_link(item.action.kind)),
+        Test::Linked => Ok(is_link(item.kind())),
         Test::After(i) => Ok(is_earlier(placed, i, j)),
         Test::Against(i, rule) => {
             let answer = is_against(alloc, placed, index, rule, i, j)?;
             Ok(answer)
         }
-        Test::Obstacle => Ok(!is_dir(item.action.kind)),
+        Test::Obstacle => Ok(!is_dir(item.kind())),
         Test::Lost => {
-            let answer = is_lost(alloc, placed, index, &item.action)?;
+            let answer = is_lost(alloc, placed, index, item.action())?;
             Ok(answer)
         }
-        Test::Under(path) => Ok(is_under(path, &item.action)),
+        Test::Under(path) => Ok(is_under(path, item.action())),
     }
 }
 
 // Whether the action at the second place stands behind the first, and breaks the rule with what stands there.
 fn is_against(
     alloc: Global,
-    placed: &[Placed],
+    placed: &[Placed<'_>],
     index: &Index,
     rule: Rule,
     i: usize,
@@ -156,13 +156,13 @@ fn is_against(
     }
     let first = &placed[i];
     let second = &placed[j];
-    breaks(alloc, &index.table, rule, &first.action, &second.action)
+    breaks(alloc, &index.table, rule, first.action(), second.action())
 }
 
 // Whether an action is a hardlink that leads to no file that is always there.
 fn is_lost(
     alloc: Global,
-    placed: &[Placed],
+    placed: &[Placed<'_>],
     index: &Index,
     action: &Action,
 ) -> Result<bool, AllocError>
@@ -184,12 +184,12 @@ fn is_hardlink(action: &Action) -> bool
 }
 
 // Whether a file counts at the path that is never missing.
-fn has_sure_file(placed: &[Placed], index: &Index, path: &[u8]) -> bool
+fn has_sure_file(placed: &[Placed<'_>], index: &Index, path: &[u8]) -> bool
     requires { IsIndex placed.now index.now }
     ensures { IsTrue result ↔ HasSureFile placed.now path.now }
 {
     match counted_at(&index.files, path) {
-        Some(i) => !may_be_missing(&placed[i].action),
+        Some(i) => !may_be_missing(placed[i].action()),
         None => false,
     }
 }

@@ -21,7 +21,7 @@ use std::alloc::{AllocError, Global};
 ///
 /// Of mediated links, those of other mediations than the best are left out before (`ips_mediate`). The entry of a legacy package
 /// among the actions tells that the image itself keeps something below `var/sadm/pkg`.
-pub fn clash(alloc: Global, placed: &[Placed]) -> Result<Option<Clash>, AllocError>
+pub fn clash(alloc: Global, placed: &[Placed<'_>]) -> Result<Option<Clash>, AllocError>
     ensures { IfOk result (λ found. MatchOption found ((c : Conflict) → IsConflict placed.now c → ⊥) (λ clash. (c : Conflict) × IsFirst placed.now c × (clash ≡ told placed.now c))) }
 {
     let index = Index::new(alloc, placed)?;
@@ -36,7 +36,7 @@ pub fn clash(alloc: Global, placed: &[Placed]) -> Result<Option<Clash>, AllocErr
 // The first clash over the keys of this text.
 fn first_of_text(
     alloc: Global,
-    placed: &[Placed],
+    placed: &[Placed<'_>],
     index: &Index,
     text: &str,
     members: &[usize],
@@ -57,7 +57,7 @@ fn first_of_text(
 // The first clash over a key.
 fn first_of_key(
     alloc: Global,
-    placed: &[Placed],
+    placed: &[Placed<'_>],
     index: &Index,
     text: &str,
     members: &[usize],
@@ -90,10 +90,10 @@ fn first_of_key(
     }
 }
 
-// The first clash over a key by a rule that two actions of it break.
+// The first clash over a key by a rule that two actions of it break. Most keys have one action, of which nothing is asked.
 fn first_broken(
     alloc: Global,
-    placed: &[Placed],
+    placed: &[Placed<'_>],
     index: &Index,
     text: &str,
     members: &[usize],
@@ -103,6 +103,9 @@ fn first_broken(
     requires group { IsGroup placed.now text.now members.now }
     ensures { IfOk result (λ found. IsFirstBelow placed.now (record { sort = sort; text = text.now }) 4 found) }
 {
+    if members.len() < 2 {
+        return Ok(None);
+    }
     for rank in 0..4 {
         let rule = Rule::ranked(rank);
         if let Some((first, second)) = first_pair(
@@ -119,7 +122,7 @@ fn first_broken(
 }
 
 // The clash as it is told.
-fn tell(alloc: Global, placed: &[Placed], text: &str, found: Found) -> Result<Clash, AllocError>
+fn tell(alloc: Global, placed: &[Placed<'_>], text: &str, found: Found) -> Result<Clash, AllocError>
     requires first { found.first < length placed.now }
     requires second { ForSome found.second (λ j. j < length placed.now) }
     ensures { IfOk result (λ clash. (key : Key) → key.text ≡ text.now → clash ≡ told placed.now (conflict key found.rule found.first found.second)) }
@@ -133,7 +136,7 @@ fn tell(alloc: Global, placed: &[Placed], text: &str, found: Found) -> Result<Cl
 }
 
 // The name of the action at a place, or of the image itself.
-fn name(alloc: Global, placed: &[Placed], place: Option<usize>) -> Result<Text, AllocError>
+fn name(alloc: Global, placed: &[Placed<'_>], place: Option<usize>) -> Result<Text, AllocError>
     requires { ForSome place (λ i. i < length placed.now) }
     ensures { IfOk result (λ name. name ≡ clashes.name_at placed.now place) }
 {
@@ -143,12 +146,12 @@ fn name(alloc: Global, placed: &[Placed], place: Option<usize>) -> Result<Text, 
     }
 }
 
-fn name_of(alloc: Global, placed: &Placed) -> Result<Text, AllocError>
+fn name_of(alloc: Global, placed: &Placed<'_>) -> Result<Text, AllocError>
     ensures { IfOk result (λ name. name ≡ clashes.name_of placed.now) }
 {
-    let mut text = String::from_str(alloc, placed.stem.as_str())?;
+    let mut text = String::from_str(alloc, placed.stem().as_str())?;
     text.push_str(":")?;
-    let line = placed.line;
+    let line = placed.line();
     write!(text, "{line}")?;
     Ok(Text::from_string(text))
 }

@@ -17,7 +17,7 @@ use std::alloc::{AllocError, Global};
 /// place or give it to it, so that the second tells of the rest.
 pub fn first_pair(
     alloc: Global,
-    placed: &[Placed],
+    placed: &[Placed<'_>],
     index: &Index,
     text: &str,
     members: &[usize],

@@ -17,7 +17,7 @@ use std::alloc::{AllocError, Global};
 /// that wants it, or none where the image itself does.
 pub fn first_obstacle(
     alloc: Global,
-    placed: &[Placed],
+    placed: &[Placed<'_>],
     index: &Index,
     text: &str,
     members: &[usize],
@@ -51,7 +51,7 @@ pub fn first_obstacle(
 /// The first hardlink at the path that leads to no file that is always there.
 pub fn first_lost(
     alloc: Global,
-    placed: &[Placed],
+    placed: &[Placed<'_>],
     index: &Index,
     text: &str,
     members: &[usize],

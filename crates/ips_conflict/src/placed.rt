@@ -9,16 +9,71 @@ use ips_action::{Action, ActionKind};
 use ips_text::Text;
 use std::alloc::{AllocError, Global};
 use std::cmp::Ordering;
+use std::marker::Model;
 
-/// An action in its place: the package that delivers it, and its line there.
+/// An action in its place: the package that delivers it, and its line there. Stem and action are lent.
 #[derive(Drop)]
-pub struct Placed {
+pub struct Placed<'a> {
+    stem: &'a Text,
+    line: u64,
+    action: &'a Action,
+}
+
+impl<'a> Model for Placed<'a> {
+    ghost use Rattle.ips_conflict.specs.Delivered.{Delivered};
+
+    ghost Value = { Delivered };
+
+    ghost view = { λ p. record { stem = p.stem.now; line = p.line; action = p.action.now } };
+}
+
+impl<'a> Placed<'a> {
+    /// The action of a line, by its number, of the package of this stem.
+    pub fn new(stem: &'a Text, line: u64, action: &'a Action) -> Placed<'a>
+        ensures { result ≡ record { stem = stem.now; line = line; action = action.now } }
+    {
+        Placed { stem, line, action }
+    }
+
+    /// The same action in its place.
+    pub fn copy(&self) -> Placed<'a>
+        ensures { result ≡ self.now }
+    {
+        Placed {
+            stem: self.stem,
+            line: self.line,
+            action: self.action,
+        }
+    }
+
     /// The package's stem.
-    pub stem: Text,
+    pub fn stem(&self) -> &'a Text
+        ensures { result.now ≡ self.now.stem }
+    {
+        self.stem
+    }
+
     /// The number of the action's line in the package's manifest.
-    pub line: u64,
+    pub fn line(&self) -> u64
+        ensures { result ≡ self.now.line }
+    {
+        self.line
+    }
+
     /// The action.
-    pub action: Action,
+    pub fn action(&self) -> &'a Action
+        ensures { result.now ≡ self.now.action }
+    {
+        self.action
+    }
+
+    /// The action's kind.
+    pub fn kind(&self) -> ActionKind
+        ensures { result ≡ self.now.action.kind }
+    {
+        let action = self.action;
+        action.kind
+    }
 }
 
 /// What an action may clash over. Keys of one text go by the order of their sorts.
@@ -70,10 +125,10 @@ impl Sort {
 }
 
 /// The sort of an action's key, where it has one.
-pub(crate) fn sort_of(item: &Placed) -> Option<Sort>
+pub(crate) fn sort_of(item: &Placed<'_>) -> Option<Sort>
     ensures { result ≡ spec.sort_of item.now.action.kind }
 {
-    match item.action.kind {
+    match item.kind() {
         ActionKind::Dir | ActionKind::File | ActionKind::Link | ActionKind::Hardlink => {
             Some(Sort::Path)
         }
@@ -87,25 +142,25 @@ pub(crate) fn sort_of(item: &Placed) -> Option<Sort>
 }
 
 /// The text of an action's key of this sort.
-pub(crate) fn key_text(alloc: Global, sort: Sort, placed: &Placed) -> Result<String, AllocError>
+pub(crate) fn key_text(alloc: Global, sort: Sort, placed: &Placed<'_>) -> Result<String, AllocError>
     ensures { IfOk result (λ text. string_bytes text ≡ spec.text_of sort placed.now) }
 {
     match sort {
-        Sort::Path => Ok(String::from_str(alloc, value(&placed.action, "path"))?),
-        Sort::User => Ok(String::from_str(alloc, value(&placed.action, "username"))?),
-        Sort::Group => Ok(String::from_str(alloc, value(&placed.action, "groupname"))?),
-        Sort::Driver => Ok(String::from_str(alloc, value(&placed.action, "name"))?),
-        Sort::Legacy => Ok(String::from_str(alloc, value(&placed.action, "pkg"))?),
+        Sort::Path => Ok(String::from_str(alloc, value(placed.action(), "path"))?),
+        Sort::User => Ok(String::from_str(alloc, value(placed.action(), "username"))?),
+        Sort::Group => Ok(String::from_str(alloc, value(placed.action(), "groupname"))?),
+        Sort::Driver => Ok(String::from_str(alloc, value(placed.action(), "name"))?),
+        Sort::Legacy => Ok(String::from_str(alloc, value(placed.action(), "pkg"))?),
         Sort::License => license_text(alloc, placed),
     }
 }
 
-fn license_text(alloc: Global, placed: &Placed) -> Result<String, AllocError>
+fn license_text(alloc: Global, placed: &Placed<'_>) -> Result<String, AllocError>
     ensures { IfOk result (λ text. string_bytes text ≡ spec.text_of Sort.License placed.now) }
 {
-    let mut text = String::from_str(alloc, placed.stem.as_str())?;
+    let mut text = String::from_str(alloc, placed.stem().as_str())?;
     text.push_str(" ")?;
-    text.push_str(value(&placed.action, "license"))?;
+    text.push_str(value(placed.action(), "license"))?;
     Ok(text)
 }
 
@@ -128,10 +183,10 @@ pub(crate) fn is_dir(kind: ActionKind) -> bool
 }
 
 /// Whether the action delivers a file.
-pub(crate) fn is_file(item: &Placed) -> bool
+pub(crate) fn is_file(item: &Placed<'_>) -> bool
     ensures { IsTrue result ↔ (item.now.action.kind ≡ ActionKind.File) }
 {
-    matches!(item.action.kind, ActionKind::File)
+    matches!(item.kind(), ActionKind::File)
 }
 
 /// Whether the kind is that of a link, symbolic or hard.
@@ -149,7 +204,7 @@ pub(crate) fn is_legacy(kind: ActionKind) -> bool
 }
 
 /// Whether the action at one place stands before that at another: by stem, then by line, then by place.
-pub(crate) fn is_earlier(placed: &[Placed], i: usize, j: usize) -> bool
+pub(crate) fn is_earlier(placed: &[Placed<'_>], i: usize, j: usize) -> bool
     requires i { i < length placed.now }
     requires j { j < length placed.now }
     ensures { IsTrue result ↔ (place_cmp placed.now i j ≡ Ordering.Less) }
@@ -157,15 +212,15 @@ pub(crate) fn is_earlier(placed: &[Placed], i: usize, j: usize) -> bool
     place_order(placed, i, j) == Ordering::Less
 }
 
-fn place_order(placed: &[Placed], i: usize, j: usize) -> Ordering
+fn place_order(placed: &[Placed<'_>], i: usize, j: usize) -> Ordering
     requires i { i < length placed.now }
     requires j { j < length placed.now }
     ensures { result ≡ place_cmp placed.now i j }
 {
     let a = &placed[i];
     let b = &placed[j];
-    a.stem
-        .cmp(&b.stem)
-        .then(a.line.cmp(&b.line))
+    a.stem()
+        .cmp(b.stem())
+        .then(a.line().cmp(&b.line()))
         .then(i.cmp(&j))
 }

@@ -1,14 +1,16 @@
 -- The wanted paths in a set.
-use Rattle.std.proofs.Common.{◌≡◌, ◌⊎◌, ◌&&◌, ◌||◌, ℕ, ◌+◌, ◌<◌, ◌≤◌, Bool, true, false, List, [], length, Some, None, sym, ap, subst, ◌∙◌, inl, inr, arith}
+use Rattle.std.proofs.Common.{◌≡◌, ◌⊎◌, ◌&&◌, ◌||◌, ℕ, ◌+◌, ◌<◌, ◌≤◌, Bool, true, false, not, List, [], length, Some, None, sym, ap, subst, ◌∙◌, inl, inr, arith}
 use Rattle.std.specs.Prelude.{◌↔◌, slice_get, codes}
 use Rattle.std.specs.List.{list_any}
 use Rattle.std.proofs.lemmas.Bool.{true≢false, or_cases, or_left, or_right, and_parts, and_from}
 use Rattle.std.proofs.lemmas.Option.{slice_get_within, none-some, same_Some}
 use Rattle.ips_text.specs.Path.{IsPath}
-use Rattle.ips_text.specs.Ancestry.{covers, is_below}
+use Rattle.ips_text.specs.Ancestry.{same_path, covers, is_below}
 use Rattle.ips_action.specs.Attrs.{is_same}
 use Rattle.ips_conflict.specs.declared.placed.Placed.{Placed}
 use Rattle.ips_conflict.specs.Clash.{HasKey, path_key, has_legacy}
+use Rattle.ips_conflict.specs.Index.{HoldsAbove}
+use Rattle.ips_conflict.proofs.Marked.{below_covers}
 use Rattle.ips_conflict.proofs.Places.{one_there, below_or_last}
 use Rattle.ips_meaning.specs.Want.{is_needed}
 use Rattle.ips_meaning.specs.Places.{given_path, PathSet, has_path, AreWanted}
@@ -17,16 +19,16 @@ use Rattle.ips_meaning.proofs.Fronts.{covered, covers_path, legacy_path}
 use Rattle.ips_text.proofs.Fronts.{records_path}
 
 -- a path is added with what stands above it
-pub added : (path p : List ℕ) (old mid new : Bool) → mid ≡ (is_same p path || old) → (new ≡ true) ↔ ((mid ≡ true) ⊎ (is_below p path ≡ true)) → (new ≡ true) ↔ ((old ≡ true) ⊎ (covers p path ≡ true))
-added path p old mid new one above = (
-  λ h. elim (above.0 h) [
-    | inl here ↦ elim (or_cases (is_same p path) old (sym one ∙ here)) [ inl same ↦ inr ((covered p path).1 (inl same)) | inr had ↦ inl had ]
-    | inr below ↦ inr ((covered p path).1 (inr below))
+pub added : (path p : List ℕ) (old mid new : Bool) → (mid ≡ true) ↔ ((old ≡ true) ⊎ (is_below p path ≡ true)) → new ≡ (is_same p path || mid) → (new ≡ true) ↔ ((old ≡ true) ⊎ (covers p path ≡ true))
+added path p old mid new above one = (
+  λ h. elim (or_cases (is_same p path) mid (sym one ∙ h)) [
+    | inl same ↦ inr ((covered p path).1 (inl same))
+    | inr marked ↦ elim (above.0 marked) [ inl had ↦ inl had | inr below ↦ inr ((covered p path).1 (inr below)) ]
   ],
-  λ w. above.1 (elim w [
-    | inl had ↦ inl (one ∙ or_right (is_same p path) old had)
-    | inr cover ↦ elim ((covered p path).0 cover) [ inl same ↦ inl (one ∙ or_left (is_same p path) old same) | inr below ↦ inr below ]
-  ]),
+  λ w. elim w [
+    | inl had ↦ one ∙ or_right (is_same p path) mid (above.1 (inl had))
+    | inr cover ↦ elim ((covered p path).0 cover) [ inl same ↦ one ∙ or_left (is_same p path) mid same | inr below ↦ one ∙ or_right (is_same p path) mid (above.1 (inr below)) ]
+  ],
 )
 
 -- ---- what the image itself needs
@@ -58,6 +60,14 @@ needed_legacy kept none mid set p e legacy first second =
       ]),
     )
 
+-- ---- what stands above something in the set
+
+above_cover : (p q below : List ℕ) → is_below p q ≡ true → covers q below ≡ true → covers p below ≡ true
+above_cover p q below upper cover = (and_parts (covers p below) (not (same_path p below)) (below_covers p q below upper cover)).0
+
+pub first_holds : (none set : PathSet) (path : List ℕ) → none.keys ≡ [] → ((p : List ℕ) → (has_path set p ≡ true) ↔ ((has_path none p ≡ true) ⊎ (covers p path ≡ true))) → HoldsAbove set
+first_holds none set path e adds p q had upper = (adds p).1 (elim ((adds q).0 had) [ inl never ↦ absurd (nothing none q e never) | inr cover ↦ inr (above_cover p q path upper cover) ])
+
 -- what is needed is a path
 pub needed_proper : (kept : List Placed) (p : List ℕ) → is_needed kept p ≡ true → IsPath p
 needed_proper kept p h = elim (or_cases (covers p (codes "var/pkg")) (has_legacy kept && covers p (codes "var/sadm/pkg")) h) [
@@ -79,6 +89,17 @@ wanted_none kept set needs proper = record {
   paths = λ p. (λ h. inl ((needs p).0 h), λ w. elim w [ inl h ↦ (needs p).1 h | inr given ↦ absurd (omega (arith, given.1.2)) ]);
   proper = proper;
 }
+
+pub wanted_holds : (kept : List Placed) (k : ℕ) (set : PathSet) → WantedTo kept k set → HoldsAbove set
+wanted_holds kept k set all p q had upper = (all.paths p).1 (elim ((all.paths q).0 had) [
+  | inl need ↦ inl (elim (or_cases (covers q (codes "var/pkg")) (has_legacy kept && covers q (codes "var/sadm/pkg")) need) [
+    | inl cover ↦ or_left (covers p (codes "var/pkg")) (has_legacy kept && covers p (codes "var/sadm/pkg")) (above_cover p q (codes "var/pkg") upper cover)
+    | inr both ↦
+        let w = and_parts (has_legacy kept) (covers q (codes "var/sadm/pkg")) both in
+        or_right (covers p (codes "var/pkg")) (has_legacy kept && covers p (codes "var/sadm/pkg")) (and_from (has_legacy kept) (covers p (codes "var/sadm/pkg")) w.0 (above_cover p q (codes "var/sadm/pkg") upper w.1))
+  ])
+  | inr given ↦ inr (given.0, given.1, above_cover p q given.0 upper given.2)
+])
 
 pub wanted_more : (kept : List Placed) (k : ℕ) (q : Placed) (path : List ℕ) (old new : PathSet) → slice_get kept k ≡ Some q → given_path q ≡ Some path → IsPath path → WantedTo kept k old
     → ((p : List ℕ) → (has_path new p ≡ true) ↔ ((has_path old p ≡ true) ⊎ (covers p path ≡ true))) → WantedTo kept (k + 1) new

@@ -6,13 +6,13 @@ use Rattle.std.specs.Option.{option_eq}
 use Rattle.std.specs.Ordering.{ordering_reverse}
 use Rattle.std.specs.declared.cmp.Ordering.{Ordering}
 use Rattle.std.specs.declared.cmp.Ordering.TheVariants.{Less, Equal, Greater}
-use Rattle.std.proofs.lemmas.Bool.{and_parts, and_from, or_cases, or_left, or_right, cases_Bool, true≢false, false_from_ne_true, not-true, not_from_false, eqb-true}
+use Rattle.std.proofs.lemmas.Bool.{and_parts, and_from, or_cases, or_left, or_right, cases_Bool, true≢false, false_from_ne_true, eqb-true}
 use Rattle.std.proofs.lemmas.Cmp.{nat_list_eq_equiv}
 use Rattle.std.proofs.lemmas.Option.{same_Some}
 use Rattle.std.proofs.lemmas.List.Elements.{All-contains, All-weaker, Contains-append_right}
 use Rattle.std.proofs.lemmas.Map.Views.{Contains-from_any, list_any-from_Contains}
 use Rattle.ips_text.specs.Ancestry.{covers, is_below, same_path, parent}
-use Rattle.ips_text.proofs.Ancestry.{same_path-true, covers-self, covers_trans, above}
+use Rattle.ips_text.proofs.Ancestry.{covers-self, covers_trans}
 use Rattle.ips_action.specs.Attrs.{is_same, values_of}
 use Rattle.ips_action.specs.Action.{Fields, preserve_values}
 use Rattle.ips_action.specs.declared.action.Preserve.{Preserve}
@@ -27,7 +27,7 @@ use Rattle.ips_conflict.specs.Clash.{HasKey, Counts, HasSureFile, path_key, has_
 use Rattle.ips_conflict.proofs.Places.{one_there}
 use Rattle.ips_conflict.proofs.Ordered.{place_total}
 use Rattle.ips_conflict.proofs.FirstPair.{place_tie}
-use Rattle.ips_conflict.proofs.Marked.{up_one, down_one, no_parent}
+use Rattle.ips_conflict.proofs.Marked.{below_covers, up_one, down_one, no_parent}
 use Rattle.ips_meaning.specs.declared.entry.Entry.{Entry}
 use Rattle.ips_meaning.specs.declared.entry.Entry.TheVariants.{Dir, File, Link, Hard}
 use Rattle.ips_meaning.specs.Want.{Means, Gives, IsWanted, IsWantOf, IsFreeOfClashes, is_needed}
@@ -38,15 +38,6 @@ use Rattle.ips_action.proofs.KeyOrder.{same_true}
 use Rattle.ips_conflict.proofs.Found.{one_counts}
 
 -- ---- what stands above a path
-
--- what is above a path is above what that covers
-below_covers : (d p q : List ℕ) → is_below d p ≡ true → covers p q ≡ true → is_below d q ≡ true
-below_covers d p q below c =
-    let w = and_parts (covers d p) (not (same_path d p)) below in
-    let apart : same_path d q ≡ false = false_from_ne_true (same_path d q) (λ same.
-    let back : covers p d ≡ true = subst (λ (x : List ℕ). covers p x ≡ true) (sym (same_path-true d q same)) c in
-    true≢false (sym back ∙ above d p w.0 (not-true (same_path d p) w.1))) in
-    and_from (covers d q) (not (same_path d q)) (covers_trans d p q w.0 c) (not_from_false (same_path d q) apart)
 
 over_records : (d : List ℕ) → is_below d (codes "var/pkg") ≡ true → d ≡ codes "var"
 over_records d below = elim (up_one d (codes "var/pkg") (codes "var") refl below) [ inl one ↦ one | inr more ↦ absurd (no_parent d (codes "var") refl more) ]

@@ -41,13 +41,13 @@ pub fn mediator(action: &Action) -> Option<&str>
 }
 
 /// The path that an action gives, where it gives one.
-pub fn path_of(item: &Placed) -> Option<&str>
+pub fn path_of<'a>(item: &Placed<'a>) -> Option<&'a str>
     ensures path { option_map (λ text. text.now) result ≡ given_path item.now }
     ensures proper { IfSome result (λ text. IsPath text.now) }
 {
-    match item.action.kind {
+    match item.kind() {
         ActionKind::Dir | ActionKind::File | ActionKind::Link | ActionKind::Hardlink => {
-            Some(value(&item.action, "path"))
+            Some(value(item.action(), "path"))
         }
         _ => None,
     }

@@ -1,6 +1,6 @@
 //! The kept actions.
 
-ghost use Rattle.std.specs.Prelude.{◌≡◌, IfOk};
+ghost use Rattle.std.specs.Prelude.{IfOk};
 ghost use Rattle.ips_meaning.specs.Taken.{Leaves, Stays};
 
 use crate::mediated::{is_of_best, links, set_places};
@@ -10,11 +10,11 @@ use std::alloc::{AllocError, Global};
 use std::collections::BTreeMap;
 
 /// The actions that are left of the admitted ones without the links of other mediations than the best.
-pub fn kept(
+pub fn kept<'a>(
     alloc: Global,
-    admitted: &[Placed],
+    admitted: &[Placed<'a>],
     mediators: &[SetMediator],
-) -> Result<Vec<Placed>, AllocError>
+) -> Result<Vec<Placed<'a>>, AllocError>
     ensures { IfOk result (λ kept. Leaves (Stays mediators.now admitted.now) admitted.now kept.items) }
 {
     let links = links(alloc, admitted)?;
@@ -28,21 +28,10 @@ pub fn kept(
             mediators,
             &places,
             &mut choices,
-            &item.action,
+            item.action(),
         )? {
-            kept.push(copy(alloc, item)?)?;
+            kept.push(item.copy())?;
         }
     }
     Ok(kept)
-}
-
-// The same action in its place.
-fn copy(alloc: Global, item: &Placed) -> Result<Placed, AllocError>
-    ensures { IfOk result (λ copy. copy ≡ item.now) }
-{
-    Ok(Placed {
-        stem: item.stem.copy(alloc)?,
-        line: item.line,
-        action: item.action.copy(alloc)?,
-    })
 }

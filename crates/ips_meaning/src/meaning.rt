@@ -57,7 +57,7 @@ fn fault_of(reserved: Option<RelPath>, clashing: Option<Clash>) -> Option<WantFa
 }
 
 // The first clash among the kept actions.
-fn first_clash(alloc: Global, kept: &[Placed]) -> Result<Option<Clash>, AllocError>
+fn first_clash(alloc: Global, kept: &[Placed<'_>]) -> Result<Option<Clash>, AllocError>
     ensures { IfOk result (λ found. MatchOption found ((c : Conflict) → IsConflict kept.now c → ⊥) (λ clash. (c : Conflict) × IsFirst kept.now c × (clash ≡ told kept.now c))) }
 {
     clash(alloc, kept)

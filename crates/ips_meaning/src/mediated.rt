@@ -17,13 +17,13 @@ use std::collections::BTreeMap;
 /// The links of each mediator, by its name, in their order.
 pub fn links(
     alloc: Global,
-    admitted: &[Placed],
+    admitted: &[Placed<'_>],
 ) -> Result<BTreeMap<String, Vec<Action>>, AllocError>
     ensures { IfOk result (λ links. AreLinks admitted.now links) }
 {
     let mut links = BTreeMap::new(alloc);
     for item in admitted {
-        add_link(alloc, &mut links, &item.action)?;
+        add_link(alloc, &mut links, item.action())?;
     }
     Ok(links)
 }

@@ -1,11 +1,12 @@
 //! The wanted paths.
 
-ghost use Rattle.std.specs.Prelude.{◌≡◌, ◌↔◌, ◌⊎◌, ◌||◌, List, ℕ, true, IfOk, OnOk};
+ghost use Rattle.std.specs.Prelude.{◌≡◌, ◌↔◌, ◌⊎◌, ◌||◌, List, ℕ, not, true, IfOk, OnOk};
 ghost use Rattle.ips_text.specs.Path.{IsPath};
 ghost use Rattle.ips_text.specs.Ancestry as ancestry;
 ghost use Rattle.ips_action.specs.Attrs.{is_same};
 ghost use Rattle.ips_conflict.specs.Key as keys;
 ghost use Rattle.ips_conflict.specs.Clash as clashes;
+ghost use Rattle.ips_conflict.specs.Index.{HoldsAbove};
 ghost use Rattle.ips_meaning.specs.Want.{is_needed};
 ghost use Rattle.ips_meaning.specs.Places.{AreWanted, has_path};
 
@@ -17,7 +18,7 @@ use std::alloc::{AllocError, Global};
 use std::collections::BTreeSet;
 
 /// The wanted paths: those that actions give, those that the image itself needs, and those above them.
-pub fn paths(alloc: Global, kept: &[Placed]) -> Result<BTreeSet<Vec<u8>>, AllocError>
+pub fn paths(alloc: Global, kept: &[Placed<'_>]) -> Result<BTreeSet<Vec<u8>>, AllocError>
     ensures { IfOk result (λ paths. AreWanted kept.now paths) }
 {
     let mut paths = needed(alloc, kept)?;
@@ -30,7 +31,7 @@ pub fn paths(alloc: Global, kept: &[Placed]) -> Result<BTreeSet<Vec<u8>>, AllocE
 }
 
 // The paths that the image itself needs, and those above them.
-fn needed(alloc: Global, kept: &[Placed]) -> Result<BTreeSet<Vec<u8>>, AllocError>
+fn needed(alloc: Global, kept: &[Placed<'_>]) -> Result<BTreeSet<Vec<u8>>, AllocError>
     ensures paths { IfOk result (λ paths. (p : List ℕ) → (has_path paths p ≡ true) ↔ (is_needed kept.now p ≡ true)) }
     ensures proper { IfOk result (λ paths. (p : List ℕ) → has_path paths p ≡ true → IsPath p) }
 {
@@ -45,38 +46,43 @@ fn needed(alloc: Global, kept: &[Placed]) -> Result<BTreeSet<Vec<u8>>, AllocErro
 
 // Adds a path, and what stands above it.
 fn add(alloc: Global, paths: &mut BTreeSet<Vec<u8>>, path: &[u8]) -> Result<(), AllocError>
+    requires { HoldsAbove paths.old }
     ensures { OnOk result ((p : List ℕ) → (has_path paths.new p ≡ true) ↔ ((has_path paths.old p ≡ true) ⊎ (ancestry.covers p path.now ≡ true))) }
 {
-    add_one(alloc, paths, path)?;
     add_above(alloc, paths, path)?;
+    add_one(alloc, paths, path)?;
     Ok(())
 }
 
-// Adds what stands above a path.
+// Adds what stands above a path. Above one that was there already nothing is new.
 fn add_above(alloc: Global, paths: &mut BTreeSet<Vec<u8>>, path: &[u8]) -> Result<(), AllocError>
+    requires { HoldsAbove paths.old }
     ensures { OnOk result ((p : List ℕ) → (has_path paths.new p ≡ true) ↔ ((has_path paths.old p ≡ true) ⊎ (ancestry.is_below p path.now ≡ true))) }
 {
     let mut at = parent(path);
     while let Some(dir) = at {
-        add_one(alloc, paths, dir)?;
+        if !add_one(alloc, paths, dir)? {
+            return Ok(());
+        }
         at = parent(dir);
     }
     Ok(())
 }
 
-fn add_one(alloc: Global, paths: &mut BTreeSet<Vec<u8>>, path: &[u8]) -> Result<(), AllocError>
-    ensures { OnOk result ((p : List ℕ) → has_path paths.new p ≡ (is_same p path.now || has_path paths.old p)) }
+// Adds a path, and tells whether it is new.
+fn add_one(alloc: Global, paths: &mut BTreeSet<Vec<u8>>, path: &[u8]) -> Result<bool, AllocError>
+    ensures new { IfOk result (λ added. added ≡ not (has_path paths.old path.now)) }
+    ensures paths { OnOk result ((p : List ℕ) → has_path paths.new p ≡ (is_same p path.now || has_path paths.old p)) }
 {
     let key = Vec::from_slice(alloc, path)?;
-    paths.insert(key)?;
-    Ok(())
+    Ok(paths.insert(key)?)
 }
 
 // Whether an entry of a legacy package stands among the actions.
-fn has_legacy(kept: &[Placed]) -> bool
+fn has_legacy(kept: &[Placed<'_>]) -> bool
     ensures { result ≡ clashes.has_legacy kept.now }
 {
-    kept.iter().any(|item| is_legacy(item.action.kind))
+    kept.iter().any(|item| is_legacy(item.kind()))
 }
 
 fn is_legacy(kind: ActionKind) -> bool

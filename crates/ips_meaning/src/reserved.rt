@@ -13,7 +13,7 @@ use ips_text::{RelPath, covers};
 use std::alloc::{AllocError, Global};
 
 /// The least reserved path by bytes that one of the actions gives.
-pub fn least_reserved(alloc: Global, admitted: &[Placed]) -> Result<Option<RelPath>, AllocError>
+pub fn least_reserved(alloc: Global, admitted: &[Placed<'_>]) -> Result<Option<RelPath>, AllocError>
     ensures { IfOk result (λ found. MatchOption found (IsFreeOfReserved admitted.now) (λ path. IsLeastReserved admitted.now path.bytes)) }
 {
     let mut least: Option<&str> = None;
@@ -29,7 +29,7 @@ pub fn least_reserved(alloc: Global, admitted: &[Placed]) -> Result<Option<RelPa
 }
 
 // The reserved path that an action gives, where it gives one.
-fn reserved_path(item: &Placed) -> Option<&str>
+fn reserved_path<'a>(item: &Placed<'a>) -> Option<&'a str>
     ensures path { option_map (λ text. text.now) result ≡ reserved_path_of item.now }
     ensures proper { IfSome result (λ text. IsPath text.now) }
 {

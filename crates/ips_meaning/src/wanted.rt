@@ -51,7 +51,7 @@ impl Model for Want {
 
 impl Want {
     /// What these actions want.
-    pub(crate) fn of(alloc: Global, kept: &[Placed]) -> Result<Want, AllocError>
+    pub(crate) fn of(alloc: Global, kept: &[Placed<'_>]) -> Result<Want, AllocError>
         ensures want { IfOk result (λ want. IsWantOf kept.now want) }
         ensures whole { IfOk result (λ want. (path : List ℕ) → IsWantedPath kept.now path → Contains (map (λ e. e.0) want) path) }
         ensures proper { IfOk result (λ want. AreProper want) }
@@ -108,7 +108,7 @@ fn find(entries: &[Wanted], path: &RelPath) -> Option<usize>
 }
 
 // What is wanted, in the order of the paths' bytes.
-fn entries(alloc: Global, kept: &[Placed]) -> Result<Vec<Wanted>, AllocError>
+fn entries(alloc: Global, kept: &[Placed<'_>]) -> Result<Vec<Wanted>, AllocError>
     ensures want { IfOk result (λ entries. IsWantOf kept.now (entries_of entries.items)) }
     ensures whole { IfOk result (λ entries. (path : List ℕ) → IsWantedPath kept.now path → Contains (map (λ e. e.0) (entries_of entries.items)) path) }
     ensures proper { IfOk result (λ entries. AreProper (entries_of entries.items)) }
@@ -126,7 +126,7 @@ fn entries(alloc: Global, kept: &[Placed]) -> Result<Vec<Wanted>, AllocError>
 // What is wanted at a path: what the action says that counts there, or, where none does, a directory of any mode.
 fn wanted_at(
     alloc: Global,
-    kept: &[Placed],
+    kept: &[Placed<'_>],
     places: &BTreeMap<Vec<u8>, usize>,
     path: &[u8],
 ) -> Result<Wanted, AllocError>
@@ -144,7 +144,7 @@ fn wanted_at(
 
 fn entry_at(
     alloc: Global,
-    kept: &[Placed],
+    kept: &[Placed<'_>],
     places: &BTreeMap<Vec<u8>, usize>,
     path: &[u8],
 ) -> Result<Entry, AllocError>
@@ -154,7 +154,7 @@ fn entry_at(
     ensures proper { IfOk result (λ entry. HasProperParts entry) }
 {
     match place_at(places, path) {
-        Some(i) => Ok(entry_of(alloc, &kept[i].action)?),
+        Some(i) => Ok(entry_of(alloc, kept[i].action())?),
         None => Ok(Entry::Dir { mode: None }),
     }
 }

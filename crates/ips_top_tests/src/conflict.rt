@@ -2,7 +2,7 @@
 
 use crate::asked::{Asked, rows_told};
 use crate::rows::text_named;
-use ips_action::parse_line;
+use ips_action::{Action, parse_line};
 use ips_conflict::{Placed, Rule, clash};
 use ips_text::Text;
 use std::alloc::Global;
@@ -71,14 +71,17 @@ other_dash = b link path=x-y target=u
 link_w = a link path=w target=t
 other_link_w = b link path=w target=u";
 
-// The action that a line says.
-fn place(rt: &impl Abort, alloc: Global, number: usize, line: &str) -> Placed {
-    let (stem, action) = line.split_once(' ').expect(rt, "a line");
-    Placed {
-        stem: Text::new(alloc, stem).expect(rt, "memory"),
-        line: number as u64,
-        action: parse_line(alloc, action).ok().expect(rt, "no fault"),
+// The stems and actions that the lines of these names say.
+fn said(rt: &impl Abort, alloc: Global, names: &str) -> Vec<(Text, Action)> {
+    let mut said = Vec::new(alloc);
+    for name in names.split_whitespace() {
+        let line = text_named(LINES, name).expect(rt, "a name");
+        let (stem, action) = line.split_once(' ').expect(rt, "a line");
+        let stem = Text::new(alloc, stem).expect(rt, "memory");
+        let action = parse_line(alloc, action).ok().expect(rt, "no fault");
+        said.push((stem, action)).expect(rt, "memory");
     }
+    said
 }
 
 /// The rule of a clash.
@@ -95,11 +98,11 @@ pub fn rule_word(rule: Rule) -> &'static str {
 
 // What is told of the lines of these names, which are numbered from 0: the key, the rule and the two actions.
 pub fn clash_told(rt: &impl Abort, alloc: Global, names: &str) -> String {
+    let said = said(rt, alloc, names);
     let mut placed = Vec::new(alloc);
-    for (number, name) in names.split_whitespace().enumerate() {
-        let line = text_named(LINES, name).expect(rt, "a name");
+    for (number, (stem, action)) in said.iter().enumerate() {
         placed
-            .push(place(rt, alloc, number, line))
+            .push(Placed::new(stem, number as u64, action))
             .expect(rt, "memory");
     }
     match clash(alloc, &placed).ok().expect(rt, "no fault") {

@@ -10,4 +10,4 @@ returns-in-Some c =
     let w = MatchOption-at_some _ _ c.in-Some.i (sym c.in-Some.ensures) (c.requires.files c.args.path.now) in
     let there = get_or_from_slice_get c.args.placed.now c.in-Some.i w.0 c.index-placed-i.result w.1.at.at.here in
     not_missing c.may_be_missing.result (HasSureFile c.args.placed.now c.args.path.now)
-    (sure_by c.args.placed.now c.args.path.now c.in-Some.i w.0 c.may_be_missing.result w.1 (c.may_be_missing.ensures ∙ ap (λ (p : Placed). may_be_missing p.action) there))
+    (sure_by c.args.placed.now c.args.path.now c.in-Some.i w.0 c.may_be_missing.result w.1 (c.may_be_missing.ensures ∙ ap may_be_missing (c.action.ensures ∙ ap (λ (p : Placed). p.action) (c.index-placed-i.is ∙ there))))

@@ -1,16 +1,16 @@
 use Rattle.std.proofs.Common.{sym, subst, Option, Bor, List, ℕ, ◌<◌}
-use Rattle.ips_conflict.proofs.Marked.{MarksTo, height, marks_begin, marks_more, marks_end, height_falls}
 use Rattle.ips_meaning.specs.Places.{has_path}
+use Rattle.ips_conflict.proofs.Marked.{MarkingTo, height, marking_begins, marking_goes_on, marks_end, height_falls}
 use Rattle.ips_meaning.proofs.paths.add_above.Goals as goal
 
 pub loop-at-init : goal.loop-at-init
-loop-at-init c = marks_begin (has_path c.args.paths.now) c.args.path.now c.parent-at.result (c.parent-at.ensures.none, c.parent-at.ensures.some)
+loop-at-init c = marking_begins (has_path c.args.paths.now) c.args.path.now c.parent-at.result (c.parent-at.ensures.none, c.parent-at.ensures.some)
 
 pub loop-at-preserved : goal.loop-at-preserved
 loop-at-preserved c =
-    let P : Option (Bor (List ℕ)) → Type 0 = λ o. MarksTo (has_path c.args.paths.now) (has_path c.loop-at.paths) c.args.path.now o in
-    marks_more (has_path c.args.paths.now) (has_path c.loop-at.paths) (has_path c.add_one.new.paths) c.args.path.now c.in-Some.dir c.parent-at-in-Some.result (subst P c.in-Some.is c.loop-at.invariant)
-    (c.parent-at-in-Some.ensures.none, c.parent-at-in-Some.ensures.some) c.in_ok-add_one.ensures
+    let P : Option (Bor (List ℕ)) → Type 0 = λ o. MarkingTo (has_path c.args.paths.now) (has_path c.loop-at.paths) c.args.path.now o in
+    marking_goes_on (has_path c.args.paths.now) (has_path c.loop-at.paths) (has_path c.add_one.new.paths) c.args.path.now c.in-Some.dir c.parent-at-in-Some.result (subst P c.in-Some.is c.loop-at.invariant)
+    (c.parent-at-in-Some.ensures.none, c.parent-at-in-Some.ensures.some) c.in_ok-add_one.ensures.paths
 
 pub loop-at-smaller : goal.loop-at-smaller
 loop-at-smaller c =
@@ -19,5 +19,5 @@ loop-at-smaller c =
 
 pub returns : goal.returns
 returns c = λ p.
-    let P : Option (Bor (List ℕ)) → Type 0 = λ o. MarksTo (has_path c.args.paths.now) (has_path c.loop-at.paths) c.args.path.now o in
-    marks_end (has_path c.args.paths.now) (has_path c.loop-at.paths) c.args.path.now p (subst P c.in_default.is c.loop-at.invariant)
+    let P : Option (Bor (List ℕ)) → Type 0 = λ o. MarkingTo (has_path c.args.paths.now) (has_path c.loop-at.paths) c.args.path.now o in
+    marks_end (has_path c.args.paths.now) (has_path c.loop-at.paths) c.args.path.now p (subst P c.in_default.is c.loop-at.invariant).marks

@@ -1,6 +1,10 @@
 use Rattle.std.proofs.Common.{◌∙◌, sym}
-use Rattle.ips_meaning.proofs.Added.{needed_plain, needed_legacy, needed_proper}
+use Rattle.std.specs.Prelude.{codes}
+use Rattle.ips_meaning.proofs.Added.{first_holds, needed_plain, needed_legacy, needed_proper}
 use Rattle.ips_meaning.proofs.paths.needed.Goals as goal
+
+pub add-requires-2 : goal.add-requires-2
+add-requires-2 c = first_holds c.new-paths.result c.add.new.paths (codes "var/pkg") c.new-paths.ensures.empty c.in_ok-add.ensures
 
 pub returns-then-not-has_legacy-clause-paths : goal.returns-then-not-has_legacy-clause-paths
 returns-then-not-has_legacy-clause-paths c = λ p. needed_plain c.args.kept.now c.new-paths.result c.add.new.paths p c.new-paths.ensures.empty (sym c.has_legacy.ensures ∙ c.if-not-has_legacy.true) (c.in_ok-add.ensures p)

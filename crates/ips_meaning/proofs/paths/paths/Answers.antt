@@ -2,12 +2,15 @@ use Rattle.std.proofs.Common.{◌∙◌, ◌<◌, Option, Bor, List, ℕ, Some, 
 use Rattle.std.specs.Prelude.{IfSome, option_map}
 use Rattle.ips_text.specs.Path.{IsPath}
 use Rattle.ips_conflict.proofs.Places.{at_index}
-use Rattle.ips_meaning.proofs.Added.{WantedTo, wanted_none, wanted_more, wanted_same, wanted_done}
+use Rattle.ips_meaning.proofs.Added.{WantedTo, wanted_none, wanted_holds, wanted_more, wanted_same, wanted_done}
 use Rattle.ips_meaning.proofs.paths.paths.Goals as goal
 use Rattle.ips_meaning.proofs.paths.paths.Goals.{in-Some+in_ok-add, in_default}
 
 pub loop-item-init : goal.loop-item-init
 loop-item-init c = wanted_none c.args.kept.now c.in_ok-paths.paths c.in_ok-paths.ensures.paths c.in_ok-paths.ensures.proper
+
+pub add-requires : goal.add-requires
+add-requires c = wanted_holds c.args.kept.now c.loop-item.item-index c.loop-item.paths c.loop-item.invariant
 
 pub loop-item-preserved : goal.loop-item-preserved
 loop-item-preserved c =
