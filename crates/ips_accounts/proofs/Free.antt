@@ -1,11 +1,10 @@
 -- The least free number.
-use Rattle.std.proofs.Common.{◌≡◌, ℕ, zero, suc, ◌+◌, ◌-◌, ◌^◌, ◌<◌, min, Bool, true, false, not, cond, ◌||◌, eqb, ltb, List, [], ◌∷◌, length, get_or, set, take, ◌++◌, ◌≤◌, Option, Some, None, unwrap_or, refl, sym, ap, ◌∙◌, arith}
+use Rattle.std.proofs.Common.{◌≡◌, ℕ, zero, suc, ◌+◌, ◌-◌, ◌^◌, ◌<◌, min, Bool, true, false, not, cond, ◌||◌, ltb, List, [], ◌∷◌, length, get_or, take, ◌≤◌, Option, Some, None, unwrap_or, refl, sym, ap, ◌∙◌, arith}
 use Rattle.std.specs.List.{position, position_or_len, list_any}
 use Rattle.std.proofs.lemmas.Bool.Decides.{nat_tests}
 use Rattle.std.proofs.lemmas.List.Sums.{prefix_len-le-length}
 use Rattle.std.proofs.lemmas.List.Folds.{list_any-append}
 use Rattle.ips_text.proofs.Lists.{take_item}
-use Rattle.ips_text.proofs.Truths.{or_false}
 use Rattle.ips_accounts.specs.Lines.{Line}
 use Rattle.ips_accounts.specs.Editing.{has_number, is_used, free_from, free_number}
 
@@ -26,7 +25,7 @@ free_at lines (u ∷ used) id (suc more) len said =
     next : (id k : ℕ) → id + suc k ≡ id + 1 + k
     next id k = omega arith
 
-    go : (t : Bool) → free_from lines (id + 1) more ≡ id + 1 + position_or_len not used → cond t (free_from lines (id + 1) more) id ≡ id + cond (not (not t)) (position_or_len not used + 1) 0
+    go : (t : Bool) → free_from lines (id + 1) more ≡ id + 1 + position_or_len not used → cond t (free_from lines (id + 1) more) id ≡ id + cond (not (not t)) (1 + position_or_len not used) 0
     go true e = e ∙ omega arith
     go false e = omega arith
 
@@ -52,7 +51,7 @@ free_is lines used free len said is =
     swap' k = omega arith
 
 pub free_small : (lines : List Line) (free : ℕ) → free_from lines 1 (length lines) ≡ free + 1 → free < 4294967295 → free + 1 ≡ free_number lines
-free_small lines free is lt = sym (ap (λ (n : ℕ). min n (2 ^ 32 - 1)) is ∙ least (free + 1) lt)
+free_small lines free is lt = sym (ap (λ (n : ℕ). min n (2 ^ 32 - 1)) is ∙ least (free + 1) (omega (arith, lt)))
   where
     least : (n : ℕ) → n ≤ 4294967295 → min n 4294967295 ≡ n
     least n le = omega arith

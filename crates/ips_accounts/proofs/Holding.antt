@@ -42,10 +42,10 @@ has_done f test actions i set past so_far text = so_far.has text ∙ ap (λ (l :
 
 -- what an action adds to a set, by whether it passes
 pub adds_none : (f : Fields → List ℕ) (test : Fields → Bool) (a : Fields) (set : BTreeSet (Vec ℕ Global)) → test a ≡ false → (text : List ℕ) → is_in set text ≡ (list_any (λ b. is_same text (f b)) (filter test (a ∷ [])) || is_in set text)
-adds_none f test a set no text = sym (ap (λ (t : Bool). list_any (λ b. is_same text (f b)) (cond t (a ∷ []) []) || is_in set text) no)
+adds_none f test a set fails text = sym (ap (λ (t : Bool). list_any (λ b. is_same text (f b)) (cond t (a ∷ []) []) || is_in set text) fails)
 
 pub adds_one : (f : Fields → List ℕ) (test : Fields → Bool) (a : Fields) (said : List ℕ) (old new : BTreeSet (Vec ℕ Global)) → test a ≡ true → said ≡ f a → ((text : List ℕ) → is_in new text ≡ (is_same text said || is_in old text))
     → (text : List ℕ) → is_in new text ≡ (list_any (λ b. is_same text (f b)) (filter test (a ∷ [])) || is_in old text)
-adds_one f test a said old new yes is more text =
+adds_one f test a said old new passes is more text =
     more text ∙ ap (λ (t : List ℕ). is_same text t || is_in old text) is ∙ ap (λ (b : Bool). b || is_in old text) (or_false (is_same text (f a)))
-    ∙ sym (ap (λ (t : Bool). list_any (λ b. is_same text (f b)) (cond t (a ∷ []) []) || is_in old text) yes)
+    ∙ sym (ap (λ (t : Bool). list_any (λ b. is_same text (f b)) (cond t (a ∷ []) []) || is_in old text) passes)

@@ -18,7 +18,7 @@ use Rattle.ips_accounts.specs.declared.fault.AccountFault.TheVariants.{UnknownGr
 use Rattle.ips_accounts.specs.Lines.{Line, last_ended}
 use Rattle.ips_accounts.specs.Accounts.{is_kept, is_of, field, joined, line_at, Accounts}
 use Rattle.ips_accounts.specs.Laws.{is_gone_user}
-use Rattle.ips_accounts.specs.Editing.{placed, ordered, ordered_with, at_first, rewritten, added, put, without, user_name, group_name, with_group, with_user, with_shadow, in_groups, number_for, number_given, gid_of, passwd_text, shadow_text, users_in, name_cmp, is_fresh, fresh_groups, fresh_users, after_gone, edited_books, standing_members, if_known, given_or, each, is_named_in}
+use Rattle.ips_accounts.specs.Editing.{placed, ordered, ordered_with, at_first, rewritten, added, put, without, user_name, group_name, with_group, with_user, with_shadow, in_groups, number_for, number_given, gid_of, passwd_text, shadow_text, users_in, name_cmp, is_fresh, fresh_groups, fresh_users, after_gone, edited_books, standing_members, if_known, each, is_named_in}
 
 -- ---- lists of actions
 

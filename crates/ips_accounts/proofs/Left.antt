@@ -1,5 +1,5 @@
 -- Members that go.
-use Rattle.std.proofs.Common.{◌≡◌, ℕ, Bool, true, false, cond, not, ◌&&◌, List, [], ◌∷◌, map, filter, Bor, refl, sym, ap, ◌∙◌}
+use Rattle.std.proofs.Common.{◌≡◌, ℕ, Bool, true, false, cond, not, ◌&&◌, ◌||◌, List, [], ◌∷◌, map, filter, refl, sym, ap, ◌∙◌}
 use Rattle.std.specs.List.{list_any}
 use Rattle.ips_accounts.specs.Lines.{Line}
 use Rattle.ips_accounts.specs.Accounts.{is_kept, members_of}
@@ -13,6 +13,11 @@ seen_filter {A} {B} view test (x ∷ xs) = go (test (view x)) (seen_filter view 
     go : (t : Bool) → map view (filter (λ x. test (view x)) xs) ≡ filter test (map view xs) → map view (cond t (x ∷ filter (λ x. test (view x)) xs) (filter (λ x. test (view x)) xs)) ≡ cond t (view x ∷ filter test (map view xs)) (filter test (map view xs))
     go true e = ap (λ l. view x ∷ l) e
     go false e = e
+
+-- a test of what is seen
+pub seen_any : {A B : Type 0} (view : A → B) (test : B → Bool) (xs : List A) → list_any (λ x. test (view x)) xs ≡ list_any test (map view xs)
+seen_any view test [] = refl
+seen_any view test (x ∷ xs) = ap (λ (t : Bool). test (view x) || t) (seen_any view test xs)
 
 module _ (gone : List ℕ → Bool) (line : Line) where
   pub left_kept : is_kept line ≡ true → line ≡ left_by gone line

@@ -4,7 +4,7 @@ use Rattle.std.specs.List.{insert, list_any}
 use Rattle.std.specs.BTreeSet.{BTreeSet}
 use Rattle.std.specs.Ordering.{is_lt}
 use Rattle.std.specs.declared.cmp.Ordering.{Ordering}
-use Rattle.std.proofs.lemmas.List.{append_assoc, append-nil, length-map, get_or-map, drop_more, take_all, drop_all}
+use Rattle.std.proofs.lemmas.List.{append_assoc, length-map, get_or-map, drop_more, take_all, drop_all}
 use Rattle.ips_text.proofs.Lists.{take_item}
 use Rattle.ips_action.specs.Attrs.{is_same}
 use Rattle.ips_action.specs.Action.{Fields, line_text}
@@ -35,15 +35,15 @@ Behind cmp sorted a i = placed cmp a (map (λ b. b.now) sorted) ≡ take i (map 
 pub place_found : (cmp : Compare) (sorted : List (Bor Fields)) (a : Fields) (i : ℕ) (item : Bor Fields) → i < length sorted → item ≡ get_or sorted i item → is_lt (cmp a item.now) ≡ true → Behind cmp sorted a i → placed cmp a (map (λ b. b.now) sorted) ≡ insert (map (λ b. b.now) sorted) i a
 place_found cmp sorted a i item lt is less behind =
     behind ∙ ap (λ l. take i (seen sorted) ++ l) (
-        ap (placed cmp a) (seen_drop sorted i item lt is)
-        ∙ ap (λ (t : Bool). cond t (a ∷ item.now ∷ drop (i + 1) (seen sorted)) (item.now ∷ placed cmp a (drop (i + 1) (seen sorted)))) less
-        ∙ ap (λ l. a ∷ l) (sym (seen_drop sorted i item lt is)))
+    ap (placed cmp a) (seen_drop sorted i item lt is)
+    ∙ ap (λ (t : Bool). cond t (a ∷ item.now ∷ drop (i + 1) (seen sorted)) (item.now ∷ placed cmp a (drop (i + 1) (seen sorted)))) less
+    ∙ ap (λ l. a ∷ l) (sym (seen_drop sorted i item lt is)))
 
 pub place_more : (cmp : Compare) (sorted : List (Bor Fields)) (a : Fields) (i : ℕ) (item : Bor Fields) → i < length sorted → item ≡ get_or sorted i item → is_lt (cmp a item.now) ≡ false → Behind cmp sorted a i → Behind cmp sorted a (i + 1)
 place_more cmp sorted a i item lt is less behind =
     behind ∙ ap (λ l. take i (seen sorted) ++ l) (
-        ap (placed cmp a) (seen_drop sorted i item lt is)
-        ∙ ap (λ (t : Bool). cond t (a ∷ item.now ∷ drop (i + 1) (seen sorted)) (item.now ∷ placed cmp a (drop (i + 1) (seen sorted)))) less)
+    ap (placed cmp a) (seen_drop sorted i item lt is)
+    ∙ ap (λ (t : Bool). cond t (a ∷ item.now ∷ drop (i + 1) (seen sorted)) (item.now ∷ placed cmp a (drop (i + 1) (seen sorted)))) less)
     ∙ sym (append_assoc (take i (seen sorted)) (item.now ∷ []) (placed cmp a (drop (i + 1) (seen sorted))))
     ∙ ap (λ l. l ++ placed cmp a (drop (i + 1) (seen sorted))) (sym (take_item (seen sorted) i item.now (seen_within sorted i lt) (seen_at sorted i item lt is)))
 

@@ -14,7 +14,7 @@ use Rattle.ips_accounts.specs.declared.fault.AccountFault.{AccountFault}
 use Rattle.ips_accounts.specs.declared.fault.AccountFault.TheVariants.{UnknownGroup}
 use Rattle.ips_accounts.specs.Lines.{Line, ended}
 use Rattle.ips_accounts.specs.Accounts.{is_kept, is_of, field, joined, Accounts}
-use Rattle.ips_accounts.specs.Editing.{at_first, rewritten, added, put, without, user_name, group_name, users_in, name_cmp, is_fresh, fresh_groups, fresh_users, after_gone, edited_books, standing_members, if_known, given_or, with_group, with_user, with_shadow, in_groups, number_for, number_given, gid_of, passwd_text, shadow_text, each, is_named_in}
+use Rattle.ips_accounts.specs.Editing.{at_first, rewritten, added, put, without, user_name, group_name, users_in, name_cmp, is_fresh, fresh_groups, fresh_users, after_gone, edited_books, standing_members, if_known, with_group, with_user, with_shadow, in_groups, number_for, number_given, gid_of, passwd_text, shadow_text, each, is_named_in}
 use Rattle.ips_accounts.specs.Laws.{is_gone_user, is_other_user, bytes_of, OthersStay}
 use Rattle.ips_accounts.proofs.Lacking.{bind_ok, same_is, err_no, ok_value, written_name, all_ordered, all_filtered}
 

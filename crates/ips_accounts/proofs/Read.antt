@@ -1,6 +1,6 @@
 -- The lines of a text, read from its front.
-use Rattle.std.proofs.Common.{◌≡◌, ℕ, zero, suc, ◌+◌, ◌<◌, Bool, true, false, cond, ◌||◌, eqb, ltb, List, [], ◌∷◌, ◌++◌, length, get_or, take, drop, Option, Some, None, refl, sym, ap, ◌∙◌, arith}
-use Rattle.std.specs.List.{list_any, position, position_or_len, prefix_len}
+use Rattle.std.proofs.Common.{◌≡◌, ℕ, zero, suc, ◌+◌, ◌<◌, Bool, true, false, not, cond, ◌||◌, eqb, ltb, List, [], ◌∷◌, ◌++◌, length, get_or, take, drop, Option, Some, None, refl, sym, ap, ◌∙◌, arith}
+use Rattle.std.specs.List.{list_any, position, position_or_len}
 use Rattle.std.proofs.lemmas.Bool.{eqb-true, or_parts}
 use Rattle.std.proofs.lemmas.List.{append-nil, append_assoc, take-append-drop, drop_more, nil_from_length}
 use Rattle.std.proofs.lemmas.List.Quantifiers.{position-Some}
@@ -10,14 +10,14 @@ use Rattle.ips_accounts.specs.Lines.{Line, onto_line, lines_of}
 -- ---- the first that passes
 
 pub none_before : {X : Type 0} (p : X → Bool) (xs : List X) (i : ℕ) (d : X) → i < length xs → ((k : ℕ) → k < i → p (get_or xs k d) ≡ false) → list_any p (take i xs) ≡ false
-none_before p [] i d lt no = absurd (omega (arith, lt))
-none_before p (x ∷ xs) zero d lt no = refl
-none_before p (x ∷ xs) (suc i) d lt no = ap (λ (t : Bool). t || list_any p (take i xs)) (no 0 (omega arith)) ∙ none_before p xs i d (omega (arith, lt)) (λ k h. no (suc k) (omega (arith, h)))
+none_before p [] i d lt fails = absurd (omega (arith, lt))
+none_before p (x ∷ xs) zero d lt fails = refl
+none_before p (x ∷ xs) (suc i) d lt fails = ap (λ (t : Bool). t || list_any p (take i xs)) (fails 0 (omega arith)) ∙ none_before p xs i d (omega (arith, lt)) (λ k h. fails (suc k) (omega (arith, h)))
 
 lt_first : (n : ℕ) → ltb 0 (suc n) ≡ true
 lt_first n = grind (arith, nat_tests)
 
-lt_next : (k n : ℕ) → ltb (k + 1) (suc n) ≡ ltb k n
+lt_next : (k n : ℕ) → ltb (1 + k) (suc n) ≡ ltb k n
 lt_next k n = grind (arith, nat_tests)
 
 -- some element passes exactly where there is a first that does
@@ -25,7 +25,7 @@ pub any_first : {X : Type 0} (p : X → Bool) (xs : List X) → list_any p xs �
 any_first p [] = refl
 any_first p (x ∷ xs) = go (p x) (any_first p xs)
   where
-    go : (t : Bool) → list_any p xs ≡ ltb (position_or_len p xs) (length xs) → (t || list_any p xs) ≡ ltb (cond t 0 (position_or_len p xs + 1)) (suc (length xs))
+    go : (t : Bool) → list_any p xs ≡ ltb (position_or_len p xs) (length xs) → (t || list_any p xs) ≡ ltb (cond (not t) (1 + position_or_len p xs) 0) (suc (length xs))
     go true e = sym (lt_first (length xs))
     go false e = e ∙ sym (lt_next (position_or_len p xs) (length xs))
 

@@ -1,9 +1,8 @@
 //! Names that go.
 
-ghost use Rattle.std.specs.Prelude.{◌≡◌, ◌<◌, ◌||◌, ◌∷◌, [], not, List, ℕ, length, map, filter, slice_index_or, slice_set, unwrap_or, IfOk, OnOk};
+ghost use Rattle.std.specs.Prelude.{◌≡◌, ◌||◌, ◌∷◌, [], not, List, ℕ, map, filter, unwrap_or, IfOk, OnOk};
 ghost use Rattle.std.specs.List.{list_any};
 ghost use Rattle.ips_conflict.specs.Key as key_spec;
-ghost use Rattle.ips_accounts.specs.Lines as lines_spec;
 ghost use Rattle.ips_accounts.specs.Editing as spec;
 ghost use Rattle.ips_accounts.specs.Seen.{as_line, files_seen, has_gone, is_in};
 
@@ -11,7 +10,7 @@ use crate::files::Files;
 use crate::line::{Line, field, is_kept};
 use crate::sets::{has, insert};
 use crate::values::{is_a, value_of};
-use crate::writing::{members_of, with_members};
+use crate::writing::{members_of, replace, with_members};
 use ips_action::Action;
 use std::alloc::{AllocError, Global};
 use std::collections::BTreeSet;
@@ -114,25 +113,9 @@ fn remove_members(alloc: Global, lines: &mut [Line], gone: &Gone) -> Result<(), 
     ensures { OnOk result (lines.new ≡ map (spec.left_by (has_gone gone.now)) lines.old) }
 {
     for i in 0..lines.len() {
-        remove_members_at(alloc, lines, i, gone)?;
+        let next = left_line(alloc, &lines[i], gone)?;
+        replace(lines, i, next);
     }
-    Ok(())
-}
-
-// Removes gone names from the member list of the line at a place.
-fn remove_members_at(
-    alloc: Global,
-    lines: &mut [Line],
-    i: usize,
-    gone: &Gone,
-) -> Result<(), AllocError>
-    requires { i < length lines.old }
-    ensures { OnOk result ((line : lines_spec.Line) → line ≡ slice_index_or lines.old i line → lines.new ≡ slice_set lines.old i (spec.left_by (has_gone gone.now) line)) }
-{
-    let Some(line) = left_line(alloc, &lines[i], gone)? else {
-        return Ok(());
-    };
-    lines[i] = line;
     Ok(())
 }
 

@@ -14,13 +14,17 @@ use crate::finding::{line_at, place_of};
 use crate::line::{Line, field};
 use crate::numbers::number_for;
 use crate::values::{number_given, value_of};
-use crate::writing::{join, members_of, put, with_members};
+use crate::writing::{join, members_of, put, replace, with_members};
 use ips_action::Action;
 use ips_text::{Or, Text};
 use std::alloc::{AllocError, Global};
 
 /// Adds each group in turn, or tells the first whose number is another name's.
-pub fn add_groups(alloc: Global, files: &mut Files, groups: &[&Action]) -> Result<(), Or<AccountFault>>
+pub fn add_groups(
+    alloc: Global,
+    files: &mut Files,
+    groups: &[&Action],
+) -> Result<(), Or<AccountFault>>
     ensures { Gives (λ _. files_seen files.new) result (spec.each spec.with_group (map (λ a. a.now) groups.now) (files_seen files.old)) }
 {
     for group in groups {
@@ -34,7 +38,12 @@ fn add_group(alloc: Global, files: &mut Files, group: &Action) -> Result<(), Or<
     ensures { Gives (λ _. files_seen files.new) result (spec.with_group group.now (files_seen files.old)) }
 {
     let name = value_of(group, "groupname");
-    let gid = number_for(alloc, &files.group, name.as_bytes(), number_given(group, "gid"))?;
+    let gid = number_for(
+        alloc,
+        &files.group,
+        name.as_bytes(),
+        number_given(group, "gid"),
+    )?;
     let text = group_text(alloc, &files.group, name, gid)?;
     put(&mut files.group, name.as_bytes(), text)?;
     Ok(())
@@ -45,7 +54,7 @@ fn group_text(alloc: Global, lines: &[Line], name: &str, gid: u32) -> Result<Vec
     ensures { IfOk result (λ text. text.items ≡ spec.group_text name.now gid (spec.standing_members lines.now name.now)) }
 {
     let gid = format!(in alloc; "{gid}")?;
-    let members = standing_members(lines, name.as_bytes());
+    let members = standing_members(lines, name);
     join(
         alloc,
         b':',
@@ -54,10 +63,10 @@ fn group_text(alloc: Global, lines: &[Line], name: &str, gid: u32) -> Result<Vec
 }
 
 // The members of the group as it stands, as they are written.
-fn standing_members<'a>(lines: &'a [Line], name: &[u8]) -> &'a [u8]
+fn standing_members<'a>(lines: &'a [Line], name: &str) -> &'a [u8]
     ensures { result.now ≡ spec.standing_members lines.now name.now }
 {
-    match line_at(lines, name) {
+    match line_at(lines, name.as_bytes()) {
         Some(line) => field(line.text(), 3),
         None => &[],
     }
@@ -66,11 +75,11 @@ fn standing_members<'a>(lines: &'a [Line], name: &[u8]) -> &'a [u8]
 /// Makes the user the last member of each of these groups that has a line, where it isn't a member.
 pub fn join_groups(
     alloc: Global,
-    lines: &mut Vec<Line>,
+    lines: &mut [Line],
     user: &str,
     groups: &[Text],
 ) -> Result<(), AllocError>
-    ensures { OnOk result (lines.new.items ≡ spec.in_groups user.now groups.now lines.old.items) }
+    ensures { OnOk result (lines.new ≡ spec.in_groups user.now groups.now lines.old) }
 {
     for group in groups {
         join_group(alloc, lines, user, group.as_str())?;
@@ -79,28 +88,28 @@ pub fn join_groups(
 }
 
 // Makes the user a member of the group.
-fn join_group(alloc: Global, lines: &mut Vec<Line>, user: &str, group: &str) -> Result<(), AllocError>
-    ensures { OnOk result (lines.new.items ≡ spec.at_first (lines_spec.is_of group.now) (spec.joined_by user.now) lines.old.items) }
+fn join_group(alloc: Global, lines: &mut [Line], user: &str, group: &str) -> Result<(), AllocError>
+    ensures { OnOk result (lines.new ≡ spec.at_first (lines_spec.is_of group.now) (spec.joined_by user.now) lines.old) }
 {
-    let Some(place) = place_of(lines, group.as_bytes()) else {
-        return Ok(());
-    };
-    let Some(line) = joined_line(alloc, &lines[place], user.as_bytes())? else {
-        return Ok(());
-    };
-    lines[place] = line;
-    Ok(())
+    match place_of(lines, group.as_bytes()) {
+        Some(place) => {
+            let next = joined_line(alloc, &lines[place], user)?;
+            replace(lines, place, next);
+            Ok(())
+        }
+        None => Ok(()),
+    }
 }
 
 // The line of a group with the user as its last member, where it isn't one.
-fn joined_line(alloc: Global, line: &Line, user: &[u8]) -> Result<Option<Line>, AllocError>
+fn joined_line(alloc: Global, line: &Line, user: &str) -> Result<Option<Line>, AllocError>
     ensures { IfOk result (λ next. unwrap_or next line.now ≡ spec.joined_by user.now line.now) }
 {
     let mut members = members_of(alloc, line.text())?;
-    if is_member(&members, user) {
+    if is_member(&members, user.as_bytes()) {
         return Ok(None);
     }
-    members.push(user)?;
+    members.push(user.as_bytes())?;
     Ok(Some(with_members(alloc, line, &members)?))
 }
 

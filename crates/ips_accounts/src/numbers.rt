@@ -1,6 +1,6 @@
 //! The numbers that actions want.
 
-ghost use Rattle.std.specs.Prelude.{◌≡◌, ◌<◌, ◌+◌, ◌||◌, ℕ, false, not, length, slice_index_or, IfOk};
+ghost use Rattle.std.specs.Prelude.{◌≡◌, ◌<◌, ◌+◌, ◌||◌, ℕ, false, not, length, slice_index_or, unwrap_or, IfOk};
 ghost use Rattle.std.specs.List.{position};
 ghost use Rattle.ips_text.specs.Reading.{Gives};
 ghost use Rattle.ips_accounts.specs.Editing as spec;
@@ -51,12 +51,19 @@ fn free_number(alloc: Global, lines: &[Line]) -> Result<u32, AllocError>
     ensures { IfOk result (λ n. n ≡ spec.free_number lines.now) }
 {
     let used = used_numbers(alloc, lines)?;
-    let free = first_unused(&used).unwrap_or(used.len());
+    let free = free_place(&used);
     if free < u32::MAX as usize {
         Ok(free as u32 + 1)
     } else {
         Ok(u32::MAX)
     }
+}
+
+// The place of the first number that isn't used, or their count.
+fn free_place(used: &[bool]) -> usize
+    ensures { result ≡ unwrap_or (position not used.now) (length used.now) }
+{
+    first_unused(used).unwrap_or(used.len())
 }
 
 // The place of the first number that isn't used.

@@ -18,7 +18,11 @@ use ips_text::{Or, Text};
 use std::alloc::{AllocError, Global};
 
 /// Adds each user in turn, or tells the first whose number is another name's.
-pub fn add_users(alloc: Global, files: &mut Files, users: &[&Action]) -> Result<(), Or<AccountFault>>
+pub fn add_users(
+    alloc: Global,
+    files: &mut Files,
+    users: &[&Action],
+) -> Result<(), Or<AccountFault>>
     ensures { Gives (λ _. files_seen files.new) result (spec.each spec.with_user (map (λ a. a.now) users.now) (files_seen files.old)) }
 {
     for user in users {
@@ -32,12 +36,22 @@ fn add_user(alloc: Global, files: &mut Files, user: &Action) -> Result<(), Or<Ac
     ensures { Gives (λ _. files_seen files.new) result (spec.with_user user.now (files_seen files.old)) }
 {
     let name = value_of(user, "username");
-    let uid = number_for(alloc, &files.passwd, name.as_bytes(), number_given(user, "uid"))?;
+    let uid = number_for(
+        alloc,
+        &files.passwd,
+        name.as_bytes(),
+        number_given(user, "uid"),
+    )?;
     let gid = gid_at(&files.group, value_of(user, "group")).unwrap_or(0);
     let text = passwd_text(alloc, user, uid, gid)?;
     put(&mut files.passwd, name.as_bytes(), text)?;
     add_password(alloc, &mut files.shadow, user)?;
-    join_groups(alloc, &mut files.group, name, user.attrs.values("group-list"))?;
+    join_groups(
+        alloc,
+        &mut files.group,
+        name,
+        user.attrs.values("group-list"),
+    )?;
     Ok(())
 }
 

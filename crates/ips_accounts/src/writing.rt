@@ -1,7 +1,8 @@
 //! Lines that are written.
 
-ghost use Rattle.std.specs.Prelude.{◌≡◌, ◌==◌, ◌++◌, ◌∷◌, [], map, if◌then◌else◌, IfOk, OnOk};
+ghost use Rattle.std.specs.Prelude.{◌≡◌, ◌==◌, ◌<◌, ◌++◌, ◌∷◌, [], length, map, slice_index_or, slice_set, unwrap_or, if◌then◌else◌, IfOk, OnOk};
 ghost use Rattle.std.specs.List.{join_with_byte, slice_split};
+ghost use Rattle.ips_accounts.specs.Lines as lines_spec;
 ghost use Rattle.ips_accounts.specs.Lines.{last_ended};
 ghost use Rattle.ips_accounts.specs.Accounts as spec;
 ghost use Rattle.ips_accounts.specs.Editing as editing_spec;
@@ -41,6 +42,16 @@ fn end_last(lines: &mut [Line])
     let count = lines.len();
     if count > 0 {
         lines[count - 1].end();
+    }
+}
+
+/// Puts the next line at a place, where there is one.
+pub fn replace(lines: &mut [Line], place: usize, next: Option<Line>)
+    requires { place < length lines.old }
+    ensures { (line : lines_spec.Line) → line ≡ slice_index_or lines.old place line → lines.new ≡ slice_set lines.old place (unwrap_or next line) }
+{
+    if let Some(line) = next {
+        lines[place] = line;
     }
 }
 
@@ -87,17 +98,19 @@ pub fn join(alloc: Global, mark: u8, parts: &[&[u8]]) -> Result<Vec<u8>, AllocEr
     ensures { IfOk result (λ text. text.items ≡ join_with_byte mark (map (λ part. part.now) parts.now)) }
 {
     let mut text = Vec::new(alloc);
-    for (i, part) in parts.iter().enumerate() {
-        push_part(&mut text, i, mark, part)?;
+    let mut is_behind = false;
+    for part in parts {
+        push_part(&mut text, is_behind, mark, part)?;
+        is_behind = true;
     }
     Ok(text)
 }
 
-// Writes the part at a place behind the text, and before it the mark where it isn't the first.
-fn push_part(text: &mut Vec<u8>, i: usize, mark: u8, part: &[u8]) -> Result<(), AllocError>
-    ensures { OnOk result (text.new.items ≡ text.old.items ++ ((if i == 0 then [] else mark ∷ []) ++ part.now)) }
+// Writes the part behind the text, and before it the mark where it is behind another.
+fn push_part(text: &mut Vec<u8>, is_behind: bool, mark: u8, part: &[u8]) -> Result<(), AllocError>
+    ensures { OnOk result (text.new.items ≡ text.old.items ++ ((if is_behind then mark ∷ [] else []) ++ part.now)) }
 {
-    if i > 0 {
+    if is_behind {
         text.push(mark)?;
     }
     text.extend_from_slice(part)

@@ -1,4 +1,4 @@
-use Rattle.std.proofs.Common.{Bool, List, sym, ap, set, ◌∙◌}
+use Rattle.std.proofs.Common.{Bool, sym, ap, set, ◌∙◌}
 use Rattle.std.specs.List.{position}
 use Rattle.std.proofs.lemmas.Result.{on_ok_weaker}
 use Rattle.ips_accounts.specs.Lines.{Line}
