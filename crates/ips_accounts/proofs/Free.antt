@@ -62,7 +62,7 @@ free_last lines free is le = sym (ap (λ (n : ℕ). min n (2 ^ 32 - 1)) is ∙ m
     most : (n : ℕ) → 4294967295 ≤ n → min n 4294967295 ≡ 4294967295
     most n le = omega arith
 
-turned : (a b : Bool) → (a || b) ≡ (b || (a || false))
+pub turned : (a b : Bool) → (a || b) ≡ (b || (a || false))
 turned true true = refl
 turned true false = refl
 turned false true = refl

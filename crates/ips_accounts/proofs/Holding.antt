@@ -10,15 +10,10 @@ use Rattle.ips_text.proofs.Truths.{or_false}
 use Rattle.ips_action.specs.Attrs.{is_same}
 use Rattle.ips_action.specs.Action.{Fields}
 use Rattle.ips_accounts.specs.Seen.{is_in}
+use Rattle.ips_accounts.proofs.Free.{turned}
 
 pub filter_item : {X : Type 0} (test : X → Bool) (xs : List X) (i : ℕ) (x : X) → i < length xs → x ≡ get_or xs i x → filter test (take (i + 1) xs) ≡ filter test (take i xs) ++ filter test (x ∷ [])
 filter_item test xs i x lt is = ap (filter test) (take_item xs i x lt is) ∙ filter-append test (take i xs) (x ∷ [])
-
-turned : (a b : Bool) → (a || b) ≡ (b || a)
-turned true true = refl
-turned true false = refl
-turned false true = refl
-turned false false = refl
 
 -- The set has what f says of the actions that pass.
 pub record HasAll (f : Fields → List ℕ) (test : Fields → Bool) (actions : List Fields) (set : BTreeSet (Vec ℕ Global)) : Type 0 where
@@ -33,6 +28,7 @@ has_more f test actions i a old new lt is more so_far = record {
   has = λ text.
       more text ∙ ap (λ (b : Bool). list_any (λ b. is_same text (f b)) (filter test (a ∷ [])) || b) (so_far.has text)
       ∙ turned (list_any (λ b. is_same text (f b)) (filter test (a ∷ []))) (list_any (λ b. is_same text (f b)) (filter test (take i actions)))
+      ∙ ap (λ (b : Bool). list_any (λ b. is_same text (f b)) (filter test (take i actions)) || b) (sym (or_false (list_any (λ b. is_same text (f b)) (filter test (a ∷ [])))))
       ∙ sym (list_any-append (λ b. is_same text (f b)) (filter test (take i actions)) (filter test (a ∷ [])))
       ∙ sym (ap (list_any (λ b. is_same text (f b))) (filter_item test actions i a lt is));
 }

@@ -9,6 +9,7 @@ use Rattle.std.proofs.lemmas.Slice.Eq.{bytes_eq-Decides}
 use Rattle.ips_text.specs.Reading.{◌>>=◌}
 use Rattle.ips_text.proofs.Lists.{all_append}
 use lib.Chars.{codes}
+use Rattle.ips_action.proofs.KeyOrder.{same_true}
 use Rattle.ips_action.specs.Attrs.{is_same, values_of}
 use Rattle.ips_action.specs.Action.{Fields}
 use Rattle.ips_conflict.specs.Key.{value_of}
@@ -112,9 +113,6 @@ lacks_put name other text lines new lacks = go (list_any (is_of other) lines)
     go true = lacks_first name text (is_of other) lines new lacks
     go false = lacks_added name text lines (new true) lacks
 
-pub same_is : (a b : List ℕ) → is_same a b ≡ true → a ≡ b
-same_is a b e = (bytes_eq-Decides a b).0 e
-
 -- Lines of a gone name go.
 pub lacks_without : (gone : List ℕ → Bool) (name : List ℕ) (lines : List Line) → gone name ≡ true → Lacks name (without gone lines)
 lacks_without gone name [] e = tt
@@ -123,7 +121,7 @@ lacks_without gone name (line ∷ lines) e = go (is_kept line) (gone (field 0 li
     go : (k g s : Bool) → is_kept line ≡ k → gone (field 0 line) ≡ g → is_same name (field 0 line) ≡ s → Lacks name (without gone lines) → Lacks name (cond (k || not g) (line ∷ without gone lines) (without gone lines))
     go true g s ke ge se rest = (ap (λ (t : Bool). not t && is_same name (field 0 line)) ke, rest)
     go false true s ke ge se rest = rest
-    go false false true ke ge se rest = absurd (true≢false (sym e ∙ ap gone (same_is name (field 0 line) se) ∙ ge))
+    go false false true ke ge se rest = absurd (true≢false (sym e ∙ ap gone (same_true name (field 0 line) se) ∙ ge))
     go false false false ke ge se rest = (not_of name line (field 0 line) refl se, rest)
 
 -- ---- users that are written

@@ -6,6 +6,8 @@ use Rattle.std.specs.Fmt.{decimal}
 use Rattle.std.proofs.lemmas.Bool.{and_parts}
 use Rattle.std.proofs.lemmas.Cmp.{nat_list_eq_equiv}
 use Rattle.ips_text.specs.Reading.{◌>>=◌}
+use Rattle.ips_text.proofs.Truths.{or_true, not_true}
+use Rattle.ips_action.proofs.KeyOrder.{same_true}
 use Rattle.ips_action.specs.Attrs.{is_same, values_of}
 use Rattle.ips_action.specs.Check.{IsAccount, begins_with_mark}
 use Rattle.ips_action.specs.Action.{Fields}
@@ -16,7 +18,8 @@ use Rattle.ips_accounts.specs.Lines.{Line, ended}
 use Rattle.ips_accounts.specs.Accounts.{is_kept, is_of, field, joined, Accounts}
 use Rattle.ips_accounts.specs.Editing.{at_first, rewritten, added, put, without, user_name, group_name, users_in, name_cmp, is_fresh, fresh_groups, fresh_users, after_gone, edited_books, standing_members, if_known, with_group, with_user, with_shadow, in_groups, number_for, number_given, gid_of, passwd_text, shadow_text, each, is_named_in}
 use Rattle.ips_accounts.specs.Laws.{is_gone_user, is_other_user, bytes_of, OthersStay}
-use Rattle.ips_accounts.proofs.Lacking.{bind_ok, same_is, err_no, ok_value, written_name, all_ordered, all_filtered}
+use Rattle.ips_accounts.proofs.Lacking.{bind_ok, err_no, ok_value, written_name, all_ordered, all_filtered}
+use Rattle.ips_accounts.proofs.Put.{later}
 
 -- The bytes of a list with one more line in front, by whether that passes.
 in_front : (passes : Line → Bool) (line : Line) (one two : List Line) → bytes_of passes one ≡ bytes_of passes two → bytes_of passes (line ∷ one) ≡ bytes_of passes (line ∷ two)
@@ -75,19 +78,12 @@ pub record Writes (users : List Fields) (a : Fields) : Type 0 where
   pub account : IsAccount (user_name a)
   pub named : is_named_in user_name users (user_name a) ≡ true
 
-some_length : (n : ℕ) → eqb (suc n) 0 ≡ false
-some_length n = grind arith
-
 not_kept : (name behind : List ℕ) (e : Bool) → IsAccount name → is_kept (record { text = name ++ 58 ∷ behind; ended = e }) ≡ false
 not_kept [] behind e account = absurd (none account.some)
   where
     none : 0 < 0 → ⊥
     none lt = omega (arith, lt)
-not_kept (b ∷ name) behind e account = ap (λ (t : Bool). t || begins_with_mark (b ∷ name)) (some_length (length (name ++ 58 ∷ behind))) ∙ account.unmarked
-
-or_true : (b : Bool) → (b || true) ≡ true
-or_true true = refl
-or_true false = refl
+not_kept (b ∷ name) behind e account = ap (λ (t : Bool). t || begins_with_mark (b ∷ name)) (later (length (name ++ 58 ∷ behind))) ∙ account.unmarked
 
 -- A line that isn't kept and has the name of a user that is written is no other line.
 no_other : (old new : List Fields) (line : Line) (name : List ℕ) → is_kept line ≡ false → field 0 line ≡ name → is_named_in user_name (fresh_users old new) name ≡ true → is_other_user old new line ≡ false
@@ -97,14 +93,10 @@ no_other old new line name kept first named =
     ∙ ap (λ (t : Bool). not (is_gone_user old new name || t)) named
     ∙ ap not (or_true (is_gone_user old new name))
 
-not_true : (b : Bool) → not b ≡ true → b ≡ false
-not_true true e = sym e
-not_true false e = refl
-
 standing_no_other : (old new : List Fields) (line : Line) (name : List ℕ) → is_named_in user_name (fresh_users old new) name ≡ true → is_of name line ≡ true → is_other_user old new line ≡ false
 standing_no_other old new line name named of =
     let parts = and_parts (not (is_kept line)) (is_same name (field 0 line)) of in
-    no_other old new line name (not_true (is_kept line) parts.0) (sym (same_is name (field 0 line) parts.1)) named
+    no_other old new line name (not_true (is_kept line) parts.0) (sym (same_true name (field 0 line) parts.1)) named
 
 pub user_stays : (old new : List Fields) (a : Fields) (uid gid : ℕ) (lines : List Line) → Writes (fresh_users old new) a → bytes_of (is_other_user old new) (put (user_name a) (passwd_text a uid gid) lines) ≡ bytes_of (is_other_user old new) lines
 user_stays old new a uid gid lines writes = stay_put old new (user_name a) (passwd_text a uid gid) lines

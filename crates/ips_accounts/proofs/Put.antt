@@ -48,7 +48,7 @@ join_next : (mark : ℕ) (x : List ℕ) (xs : List (List ℕ)) (y : List ℕ) �
 join_next mark x [] y = refl
 join_next mark x (z ∷ xs) y = ap (λ (l : List ℕ). x ++ mark ∷ l) (join_next mark z xs y) ∙ sym (append_assoc x (mark ∷ join_with_byte mark (z ∷ xs)) (mark ∷ y))
 
-later : (n : ℕ) → eqb (suc n) 0 ≡ false
+pub later : (n : ℕ) → eqb (suc n) 0 ≡ false
 later n = grind arith
 
 pub is_later : (i : ℕ) → true ≡ not (eqb (i + 1) 0)
