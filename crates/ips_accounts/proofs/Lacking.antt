@@ -188,7 +188,7 @@ pub bind_ok : (r : Result Accounts AccountFault) (f : Accounts → Result Accoun
 bind_ok (Ok x) f y e = (x, refl, e)
 bind_ok (Err d) f y e = absurd (err_no d y e)
 
-not_there : (s t : Bool) → (s && not t) ≡ true → t ≡ false
+pub not_there : (s t : Bool) → (s && not t) ≡ true → t ≡ false
 not_there s false e = refl
 not_there true true e = sym e
 not_there false true e = sym e

@@ -9,5 +9,6 @@ pub mod Others
 pub mod Pieces
 pub mod Put
 pub mod Read
+pub mod GroupNames
 pub mod Holding
 pub mod Steps

@@ -106,14 +106,14 @@ user_stays old new a uid gid lines writes = stay_put old new (user_name a) (pass
 -- ---- the whole
 
 -- Each step keeps what it should.
-each_keeps : (P : Fields → Type 0) (Q : Accounts → Type 0) (step : Fields → Accounts → Result Accounts AccountFault) → ((a : Fields) (b c : Accounts) → P a → Q b → step a b ≡ Ok c → Q c)
+pub each_keeps : (P : Fields → Type 0) (Q : Accounts → Type 0) (step : Fields → Accounts → Result Accounts AccountFault) → ((a : Fields) (b c : Accounts) → P a → Q b → step a b ≡ Ok c → Q c)
     → (actions : List Fields) (books after : Accounts) → AllByRecursion P actions → Q books → each step actions books ≡ Ok after → Q after
 each_keeps P Q step keeps [] books after all q e = subst Q (ok_value books after e) q
 each_keeps P Q step keeps (a ∷ actions) books after all q e =
     let one = bind_ok (step a books) (each step actions) after e in
     each_keeps P Q step keeps actions one.0 after all.1 (keeps a books one.0 all.0 q one.1) one.2
 
-all_units : (actions : List Fields) → AllByRecursion (λ (a : Fields). Unit {0}) actions
+pub all_units : (actions : List Fields) → AllByRecursion (λ (a : Fields). Unit {0}) actions
 all_units [] = tt
 all_units (a ∷ actions) = (tt, all_units actions)
 
@@ -151,7 +151,7 @@ shadow_stays old new a lines writes = go (list_any (is_of (user_name a)) lines)
     go true e = refl
     go false e = stay_added old new (shadow_text a) lines e
 
-known_keeps : (users : List Fields) (books after : Accounts) → if_known users books ≡ Ok after → books ≡ after
+pub known_keeps : (users : List Fields) (books after : Accounts) → if_known users books ≡ Ok after → books ≡ after
 known_keeps [] books after e = ok_value books after e
 known_keeps (a ∷ users) books after e = go (is_some (gid_of books.group a)) (known_keeps users books after) e
   where

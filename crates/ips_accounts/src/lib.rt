@@ -29,5 +29,7 @@ mod writing;
 pub use books::{Book, Books};
 pub use editing::edit;
 pub use fault::{AccountFault, Unknown};
-pub use laws::{gone_users_have_no_line, lines_are_the_text, other_lines_stay};
+pub use laws::{
+    gone_groups_have_no_line, gone_users_have_no_line, lines_are_the_text, other_lines_stay,
+};
 pub use resolving::resolve;
