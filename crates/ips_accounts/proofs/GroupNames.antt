@@ -1,5 +1,5 @@
 -- Names of groups that go stay away.
-use Rattle.std.proofs.Common.{◌≡◌, ℕ, Bool, true, false, cond, not, ◌&&◌, ◌||◌, eqb, List, [], ◌∷◌, ◌++◌, filter, map, Option, Some, None, Result, Ok, Err, unwrap_or, slice_get, refl, sym, ap, subst, ◌∙◌}
+use Rattle.std.proofs.Common.{◌≡◌, ℕ, Bool, true, false, cond, not, ◌&&◌, ◌||◌, eqb, List, [], ◌∷◌, ◌++◌, filter, map, None, Result, Ok, Err, unwrap_or, slice_get, refl, sym, ap, subst, ◌∙◌}
 use lib.Chars.{codes}
 use Rattle.std.specs.List.{slice_split, onto_first, list_any, AllByRecursion}
 use Rattle.std.proofs.lemmas.Bool.{or_parts, and_parts}
@@ -39,7 +39,7 @@ name_plain line = first_plain (fields line) (parts_plain line.text)
 
 -- ---- lines of groups
 
-apart_of : (k s : Bool) → k ≡ false → (not k && s) ≡ false → s ≡ false
+pub apart_of : (k s : Bool) → k ≡ false → (not k && s) ≡ false → s ≡ false
 apart_of k s kept e = sym (ap (λ (t : Bool). not t && s) kept) ∙ e
 
 -- A line with other members speaks of the name that it spoke of.

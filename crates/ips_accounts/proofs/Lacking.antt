@@ -5,7 +5,6 @@ use Rattle.std.specs.declared.cmp.Ordering.{Ordering}
 use Rattle.std.specs.Ordering.{is_lt}
 use Rattle.std.specs.Fmt.{decimal}
 use Rattle.std.proofs.lemmas.Bool.{or_parts, true≢false}
-use Rattle.std.proofs.lemmas.Slice.Eq.{bytes_eq-Decides}
 use Rattle.ips_text.specs.Reading.{◌>>=◌}
 use Rattle.ips_text.proofs.Lists.{all_append}
 use lib.Chars.{codes}
@@ -80,7 +79,7 @@ written_name name text behind e plain is =
     ap (λ (t : List ℕ). unwrap_or (slice_get (slice_split (λ b. eqb b 58) t) 0) []) is
     ∙ ap (λ (parts : List (List ℕ)). unwrap_or (slice_get parts 0) []) (split_at name behind plain)
 
-and_false : (b : Bool) → (b && false) ≡ false
+pub and_false : (b : Bool) → (b && false) ≡ false
 and_false true = refl
 and_false false = refl
 

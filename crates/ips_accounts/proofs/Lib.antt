@@ -4,6 +4,7 @@ mod Examples
 pub mod Free
 pub mod Lacking
 pub mod Left
+pub mod Members
 pub mod Ordered
 pub mod Others
 pub mod Pieces

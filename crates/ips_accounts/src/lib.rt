@@ -30,6 +30,7 @@ pub use books::{Book, Books};
 pub use editing::edit;
 pub use fault::{AccountFault, Unknown};
 pub use laws::{
-    gone_groups_have_no_line, gone_users_have_no_line, lines_are_the_text, other_lines_stay,
+    gone_groups_have_no_line, gone_users_are_no_members, gone_users_have_no_line,
+    lines_are_the_text, other_lines_stay,
 };
 pub use resolving::resolve;
