@@ -1,7 +1,9 @@
 //! Tests of what is said of packages: actions and manifests, catalogs, variants and facets, dependencies, mediators, the state of
-//! an image, which line can't be installed yet or is at or below a path, the keep table, actuators, and the texts of records. `table` reads the cases.
+//! an image, which line can't be installed yet or is at or below a path, the keep table, account files, actuators, and the texts of records. `table` reads the cases.
 #![tactic(auto)]
 
+#[cfg(test)]
+mod accounts;
 #[cfg(test)]
 mod action;
 #[cfg(test)]

@@ -8,7 +8,7 @@ use std::alloc::Global;
 use std::process::Abort;
 
 // The actions of these lines, one after the other.
-fn actions(rt: &impl Abort, alloc: Global, lines: &str) -> Vec<Action> {
+pub fn actions(rt: &impl Abort, alloc: Global, lines: &str) -> Vec<Action> {
     let mut actions = Vec::new(alloc);
     if !lines.is_empty() {
         for line in lines.split(';') {

@@ -1,0 +1,147 @@
+use crate::records::actions;
+use crate::table::{Ask, columns, holds, spelled};
+use ips_accounts::{AccountFault, Book, Books, Unknown, edit, resolve};
+use ips_text::Or;
+use std::alloc::Global;
+use std::process::Abort;
+
+// What a table asks of account files.
+#[derive(Drop)]
+enum Asked {
+    // The files behind an edit: `passwd ! shadow ! group | old actions | new actions`.
+    Edited,
+    // The numbers of a user and a group: `passwd ! shadow ! group | user group`.
+    Owned,
+}
+
+impl Ask for Asked {
+    fn answer(&mut self, rt: &impl Abort, alloc: Global, question: &str) -> String {
+        match self {
+            Asked::Edited => edited(rt, alloc, question),
+            Asked::Owned => owned(rt, alloc, question),
+        }
+    }
+}
+
+fn edited(rt: &impl Abort, alloc: Global, question: &str) -> String {
+    let (base, lines) = columns(question);
+    let (old, new) = columns(lines);
+    let base = books(rt, alloc, base);
+    let old = actions(rt, alloc, old);
+    let new = actions(rt, alloc, new);
+    match edit(alloc, &base, &old, &new) {
+        Ok(books) => files(rt, alloc, &books),
+        Err(Or::Bad(fault)) => told(rt, alloc, &fault),
+        Err(Or::OutOfMemory) => panic!(rt; "memory"),
+    }
+}
+
+fn owned(rt: &impl Abort, alloc: Global, question: &str) -> String {
+    let (base, names) = columns(question);
+    let base = books(rt, alloc, base);
+    let (user, group) = names.split_once(" ").expect(rt, "two names");
+    match resolve(&base, user, group) {
+        Ok((uid, gid)) => format!(in alloc; "{uid} {gid}").expect(rt, "memory"),
+        Err(Unknown::Owner) => String::from_str(alloc, "no owner").expect(rt, "memory"),
+        Err(Unknown::Group) => String::from_str(alloc, "no group").expect(rt, "memory"),
+    }
+}
+
+// The three files that a column spells.
+fn books(rt: &impl Abort, alloc: Global, column: &str) -> Books {
+    let (passwd, rest) = column.split_once("!").expect(rt, "three files");
+    let (shadow, group) = rest.split_once("!").expect(rt, "three files");
+    Books {
+        passwd: spelled(rt, alloc, passwd.trim()),
+        shadow: spelled(rt, alloc, shadow.trim()),
+        group: spelled(rt, alloc, group.trim()),
+    }
+}
+
+fn files(rt: &impl Abort, alloc: Global, books: &Books) -> String {
+    let mut out = String::new(alloc);
+    push_file(rt, &mut out, &books.passwd);
+    out.push_str("!").expect(rt, "memory");
+    push_file(rt, &mut out, &books.shadow);
+    out.push_str("!").expect(rt, "memory");
+    push_file(rt, &mut out, &books.group);
+    out
+}
+
+fn push_file(rt: &impl Abort, out: &mut String, bytes: &[u8]) {
+    out.push_str(str::from_utf8(bytes).ok().expect(rt, "a text"))
+        .expect(rt, "memory");
+}
+
+fn told(rt: &impl Abort, alloc: Global, fault: &AccountFault) -> String {
+    match fault {
+        AccountFault::BadAccountLine { book, line } => {
+            let book = match book {
+                Book::Passwd => "passwd",
+                Book::Shadow => "shadow",
+                Book::Group => "group",
+            };
+            format!(in alloc; "bad {book} {line}").expect(rt, "memory")
+        }
+        AccountFault::IdTaken { id } => format!(in alloc; "taken {id}").expect(rt, "memory"),
+        AccountFault::UnknownGroup { name } => {
+            let name = name.as_str();
+            format!(in alloc; "unknown {name}").expect(rt, "memory")
+        }
+    }
+}
+
+const ACCOUNTS_ARE_EDITED: &str = "
+# A group and its user where no file stands.
+!! | | group groupname=svc gid=70; user username=svc uid=70 group=svc -> svc:x:70:70:& User:/:¶!svc:*LK*:::::::¶!svc::70:¶
+# Another user wants the number.
+svc:x:70:70:& User:/:¶ ! svc:*LK*:::::::¶ ! svc::70:¶ | user username=svc uid=70 group=svc | user username=svc uid=70 group=svc; user username=tvc uid=70 group=svc -> taken 70
+# A line that isn't one of its file: passwd before shadow before group.
+a:b !! | | user username=svc group=bin -> bad passwd 1
+{hash}¶a:b ! c ! d | | user username=svc group=bin -> bad passwd 2
+! {hash}¶¶c ! d | | user username=svc group=bin -> bad shadow 3
+!! g::007: | | user username=svc group=bin -> bad group 1
+!! g::4294967296: | | user username=svc group=bin -> bad group 1
+# A number that is another name's is told before a group that has none, and that one where no number is taken.
+a:x:1:1::/:¶ ! ! | | user username=b group=none; user username=c uid=1 group=bin -> taken 1
+!! | | user username=b group=none -> unknown none
+# Without a number: that of the line that stands, else the least free one.
+a:x:1:1::/:¶b:x:3:1::/:¶ ! ! | | user username=c group=bin -> a:x:1:1::/:¶b:x:3:1::/:¶c:x:2:2:& User:/:¶!c:*LK*:::::::¶!
+a:x:7:1::/:¶ ! a:p:::::::¶ ! | | user username=a group=bin home-dir=/a login-shell=/sh password=q -> a:x:7:2:& User:/a:/sh¶!a:p:::::::¶!
+# A line without its newline is rewritten so, and gets it where another is added.
+a:x:1:1::/: ! a:p::::::: ! | | user username=a group=bin -> a:x:1:2:& User:/:!a:p:::::::!
+a:x:1:1::/: ! a:p::::::: ! | | user username=b uid=9 group=bin -> a:x:1:1::/:¶b:x:9:2:& User:/:¶!a:p:::::::¶b:*LK*:::::::¶!
+# Lines that speak of no one are kept.
++a¶{hash}b:x¶¶-c:::::: !! +g | | user username=a group=bin -> +a¶{hash}b:x¶¶-c::::::¶a:x:1:2:& User:/:¶!a:*LK*:::::::¶!+g
+# A user in three groups goes; a group keeps its line when its last member goes.
+u:x:5:2::/:¶ ! u:p:::::::¶ ! g::1:u¶h::2:v,u¶i::3:u,w¶j::4:v | user username=u group=bin group-list=g group-list=h group-list=i | -> !!g::1:¶h::2:v¶i::3:w¶j::4:v
+# A group goes with all its lines.
+!! g::1:a¶h::2:¶g::3: | group groupname=g | -> !!h::2:¶
+# A user becomes the last member of each of its groups that has a line, once.
+!! g::1:a¶h::2:¶i::3:u,a | | user username=u group=g group-list=g group-list=h group-list=i group-list=none -> u:x:1:1:& User:/:¶!u:*LK*:::::::¶!g::1:a,u¶h::2:u¶i::3:u,a
+# A group that stands keeps its members and its number.
+!! g:x:8:a,b¶ | | group groupname=g -> !!g::8:a,b¶
+# Two users of one number that stand: what the edit isn't about isn't judged, and a user keeps no number that is another's.
+a:x:1:1::/:¶b:x:1:1::/:¶ ! a:p:::::::¶b:p:::::::¶ ! | | user username=c group=bin -> a:x:1:1::/:¶b:x:1:1::/:¶c:x:2:2:& User:/:¶!a:p:::::::¶b:p:::::::¶c:*LK*:::::::¶!
+a:x:1:1::/:¶b:x:1:1::/:¶ !! | | user username=a group=bin -> taken 1
+# A line that stays asks for nothing.
+!! | user username=a group=none | user username=a group=none -> !!
+# Groups come before users, each by the bytes of their names.
+!! | | user username=b group=b; user username=a group=b; group groupname=b; group groupname=a -> a:x:1:2:& User:/:¶b:x:2:2:& User:/:¶!a:*LK*:::::::¶b:*LK*:::::::¶!a::1:¶b::2:¶
+";
+
+const OWNERS_HAVE_NUMBERS: &str = "
+root:x:7:1::/:¶root:x:8:1::/:¶ !! g::9: | root g -> 7 9
+!! | root tty -> 0 7
+!! | adm mail -> 4 6
+!! | mail root -> no owner
+!! | none none -> no owner
+!! | root daemon -> no group
+";
+
+#[test]
+fn edits_account_files(rt: HostRuntime) {
+    let alloc = rt.alloc();
+    holds(&rt, alloc, &mut Asked::Edited, 22, ACCOUNTS_ARE_EDITED);
+    holds(&rt, alloc, &mut Asked::Owned, 6, OWNERS_HAVE_NUMBERS);
+}
