@@ -14,7 +14,7 @@ none_passes : (mark : ℕ) (cs : List ℕ) → NonePass (λ d. eqb d mark) cs �
 none_passes mark [] h = tt
 none_passes mark (c ∷ cs) h = (eqb-false c mark h.0, none_passes mark cs h.1)
 
-no_char : (mark : ℕ) (text : List ℕ) → IsUtf8 text → NoCharPasses (λ d. eqb d mark) text → HasNone mark (chars text)
+pub no_char : (mark : ℕ) (text : List ℕ) → IsUtf8 text → NoCharPasses (λ d. eqb d mark) text → HasNone mark (chars text)
 no_char mark text utf8 h = subst (HasNone mark) (chars_from_encodes h.0 text utf8 h.1) (none_passes mark h.0 h.2)
 
 pub split_none : (mark : ℕ) (text : List ℕ) (r : Option (Bor (List ℕ) × Bor (List ℕ))) → IsUtf8 text → IsSplitOnceResult mark text r → IfNone r (HasNone mark (chars text))

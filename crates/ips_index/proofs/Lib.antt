@@ -1,0 +1,10 @@
+pub mod Order
+pub mod InSets
+pub mod LastPart
+pub mod Growing
+pub mod Picked
+pub mod Scanned
+pub mod Listed
+pub mod Found
+pub mod Plain
+pub mod Facts

@@ -1,0 +1,9 @@
+use Rattle.std.proofs.Common.{length}
+use Rattle.ips_index.proofs.Growing.{Going}
+use Rattle.ips_index.proofs.sets.insert_all.Given as goal
+
+abbrev pub invariant-loop-row : goal.invariant-loop-row
+invariant-loop-row l = Going l.initial.set.keys l.fn.rows.items l.left.items l.set
+
+abbrev pub decreases-loop-row : goal.decreases-loop-row
+decreases-loop-row l = length l.left.items

@@ -1,0 +1,6 @@
+use Rattle.std.proofs.Common.{take}
+use Rattle.ips_index.proofs.Growing.{Shrunk}
+use Rattle.ips_index.proofs.sets.remove_all.Given as goal
+
+abbrev pub invariant-loop-row : goal.invariant-loop-row
+invariant-loop-row l = Shrunk l.initial.set.keys (take l.row-index l.rows) l.set

@@ -1,0 +1,58 @@
+-- Rows as they are kept: the token and the index are told by the field.
+use Rattle.std.specs.Prelude.{◌≡◌, ◌≢◌, Contains, ℕ, List, [], Option, codes}
+use Rattle.std.specs.Option.{unwrap_or, option_map_or}
+use Rattle.std.specs.declared.vec.Vec.{Vec}
+use Rattle.std.specs.declared.alloc.Global.{Global}
+use Rattle.std.specs.declared.string.String.{String}
+use Rattle.std.specs.BTreeMap.{BTreeMap, get_by_text}
+use Rattle.std.specs.BTreeSet.{BTreeSet}
+use Rattle.std.specs.List.{AllByRecursion}
+use Rattle.std.specs.Str.{chars, IsUtf8}
+use Rattle.ips_fmri.specs.Matching.{HasNone}
+use Rattle.ips_action.specs.declared.kind.ActionKind.{ActionKind}
+use Rattle.ips_action.specs.Action.{naming_key}
+use Rattle.ips_index.specs.declared.entry.Field.{Field}
+use Rattle.ips_index.specs.declared.entry.Field.TheVariants.{Start, Key, Value, Payload}
+use Rattle.ips_index.specs.Rows.{Row}
+
+-- the name of the index of a field
+abbrev pub index_name : ActionKind → Field → List ℕ
+index_name kind Start = []
+index_name kind Key = unwrap_or (naming_key kind) []
+index_name kind Value = codes "value"
+index_name kind Payload = codes "payload"
+
+-- the row of what is kept: it is found by the part of its value that is kept beside it, or else by the value
+abbrev pub row_at : ActionKind → Field → Option (List ℕ) → List ℕ → List ℕ → Row
+row_at kind field last value stem = record { token = unwrap_or last value; index = index_name kind field; kind = kind; value = value; stem = stem }
+
+-- each row is found by a text
+abbrev pub AreTexts : List Row → Type 0
+AreTexts rows = AllByRecursion (λ (row : Row). IsUtf8 row.token) rows
+
+-- Each row is found by a text, in an index.
+abbrev pub AreNamed : List Row → Type 0
+AreNamed rows = (row : Row) → Contains rows row → (row.index ≢ []) × IsUtf8 row.token
+
+-- Neither `*` nor `?` stands in the text.
+abbrev pub IsPlain : List ℕ → Type 0
+IsPlain text = HasNone 42 (chars text) × HasNone 63 (chars text)
+
+-- Rows by their stems.
+abbrev pub Stems : Type 0
+Stems = BTreeMap (String Global) (Vec Row Global)
+
+-- the rows of a stem
+abbrev pub listed_at : Stems → List ℕ → List Row
+listed_at stems stem = option_map_or (λ rows. rows.items) (get_by_text stems stem) []
+
+-- Each row is listed at its stem, each listed row is of its stem, and each has an index.
+pub record IsKept (rows : BTreeSet Row) (stems : Stems) : Type 0 where
+  pub listed : (row : Row) → Contains rows.keys row → Contains (listed_at stems row.stem) row
+  pub own : (stem : List ℕ) (row : Row) → Contains (listed_at stems stem) row → row.stem ≡ stem
+  pub named : AreNamed rows.keys
+
+-- The rows are all of the stem, and each is found by a text, in an index.
+pub record AreOf (stem : List ℕ) (rows : List Row) : Type 0 where
+  pub of_stem : (row : Row) → Contains rows row → row.stem ≡ stem
+  pub named : AreNamed rows

@@ -1,0 +1,88 @@
+//! The index of an image.
+
+ghost use Rattle.std.specs.Prelude.{◌≡◌, ◌↔◌, [], IfOk, OnOk, Contains, map};
+ghost use Rattle.ips_index.specs.Rows.{Row, row_seen, scanned, index_text};
+ghost use Rattle.ips_index.specs.Scan.{IsDropped, IsPut, AreFound};
+
+use crate::entry::Entry;
+use crate::keeping::{drop_rows, put_rows};
+use crate::row::IndexRow;
+use crate::scanning::scan;
+use crate::sets::{Stems, by_stem, copied_set};
+use crate::{finding, printing};
+use ips_action::Action;
+use std::alloc::{AllocError, Global};
+use std::collections::{BTreeMap, BTreeSet};
+use std::marker::Model;
+
+/// By which words the actions of packages are found. Contracts see its rows, which ascend by token, index, kind, value and stem.
+#[derive(Drop)]
+pub struct Index {
+    rows: BTreeSet<Entry>,
+    stems: Stems,
+}
+
+impl Model for Index {
+    ghost use Rattle.std.specs.Prelude.{List};
+    ghost use Rattle.ips_index.specs.Rows.{Row};
+    ghost use Rattle.ips_index.specs.Entries.{IsKept};
+
+    ghost Value = { List Row };
+
+    ghost view = { λ x. x.rows.keys };
+
+    ghost invariant = { λ x. IsKept x.rows x.stems };
+}
+
+impl Index {
+    /// An index without rows.
+    pub fn new(alloc: Global) -> Index
+        ensures { result ≡ [] }
+    {
+        Index {
+            rows: BTreeSet::new(alloc),
+            stems: BTreeMap::new(alloc),
+        }
+    }
+
+    /// Replaces the rows of the stem by those of these actions. Where memory runs out, rows of the stem may lack, and those of
+    /// other stems are as before.
+    pub fn put(&mut self, alloc: Global, stem: &str, actions: &[Action]) -> Result<(), AllocError>
+        ensures put { OnOk result (IsPut stem.now (scanned stem.now actions.now) self.old self.new) }
+        ensures others { (row : Row) → (row.stem ≡ stem.now → ⊥) → Contains self.new row ↔ Contains self.old row }
+    {
+        let rows = scan(alloc, stem, actions)?;
+        put_rows(alloc, &mut self.rows, &mut self.stems, stem, rows)
+    }
+
+    /// Takes the rows of the stem away.
+    pub fn drop_stem(&mut self, stem: &str)
+        ensures dropped { IsDropped stem.now self.old self.new }
+    {
+        drop_rows(&mut self.rows, &mut self.stems, stem);
+    }
+
+    /// The rows whose token the pattern matches, in order: `*` stands for any text and `?` for any one character (pkg(1), "search").
+    /// Where the pattern has neither, no other rows are looked at.
+    pub fn find(&self, alloc: Global, pattern: &str) -> Result<Vec<IndexRow>, AllocError>
+        ensures { IfOk result (λ found. AreFound pattern.now self.now (map row_seen found.items)) }
+    {
+        finding::find(alloc, &self.rows, pattern)
+    }
+
+    /// An index of the same rows.
+    pub fn copy(&self, alloc: Global) -> Result<Index, AllocError>
+        ensures { IfOk result (λ index. index ≡ self.now) }
+    {
+        let rows = copied_set(alloc, &self.rows)?;
+        let stems = by_stem(alloc, &rows)?;
+        Ok(Index { rows, stems })
+    }
+
+    /// The record of the index, `var/pkg/index`: a line that tells its form, and a line for each row.
+    pub fn print(&self, alloc: Global) -> Result<Vec<u8>, AllocError>
+        ensures { IfOk result (λ bytes. bytes.items ≡ index_text self.now) }
+    {
+        printing::print(alloc, &self.rows)
+    }
+}

@@ -1,0 +1,168 @@
+//! The rows of actions.
+
+ghost use Rattle.std.specs.Prelude.{◌≡◌, ◌++◌, ◌∷◌, [], ◌&&◌, codes, IfOk, OnOk, Some, None};
+ghost use Rattle.std.specs.Option.{option_to_list};
+ghost use Rattle.ips_action.specs.Attrs.{values_of, is_same};
+ghost use Rattle.ips_action.specs.Action.{payload_word};
+ghost use Rattle.ips_index.specs.Rows as rows;
+ghost use Rattle.ips_index.specs.Rows.{rows_at, rows_in, rows_of, scanned};
+ghost use Rattle.ips_index.specs.Entries as spec;
+ghost use Rattle.ips_index.specs.Entries.{AreTexts};
+
+use crate::entry::{Entry, Field, index_name, key_name, last_part};
+use ips_action::{Action, ActionKind};
+use ips_text::Text;
+use std::alloc::{AllocError, Global};
+
+/// The rows of a stem's actions.
+pub(crate) fn scan(alloc: Global, stem: &str, actions: &[Action]) -> Result<Vec<Entry>, AllocError>
+    ensures rows { IfOk result (λ entries. entries.items ≡ scanned stem.now actions.now) }
+    ensures texts { IfOk result (λ entries. AreTexts entries.items) }
+{
+    let mut entries = Vec::new(alloc);
+    for action in actions {
+        push_action(alloc, &mut entries, stem, action)?;
+    }
+    Ok(entries)
+}
+
+fn push_action(
+    alloc: Global,
+    entries: &mut Vec<Entry>,
+    stem: &str,
+    action: &Action,
+) -> Result<(), AllocError>
+    ensures rows { OnOk result (entries.new.items ≡ entries.old.items ++ rows_of stem.now action.now) }
+    ensures texts { AreTexts entries.old.items → OnOk result (AreTexts entries.new.items) }
+{
+    if let Some(key) = key_name(action.kind) {
+        push_values(alloc, entries, stem, action, key, Field::Key)?;
+    }
+    if let ActionKind::Set = action.kind {
+        push_values(alloc, entries, stem, action, "value", Field::Value)?;
+    }
+    push_payload(alloc, entries, stem, action)
+}
+
+// The rows of all values of an attribute.
+fn push_values(
+    alloc: Global,
+    entries: &mut Vec<Entry>,
+    stem: &str,
+    action: &Action,
+    key: &str,
+    field: Field,
+) -> Result<(), AllocError>
+    ensures rows { OnOk result (entries.new.items ≡ entries.old.items ++ rows_in stem.now action.now.kind (spec.index_name action.now.kind field) (values_of key.now action.now.attrs)) }
+    ensures texts { AreTexts entries.old.items → OnOk result (AreTexts entries.new.items) }
+{
+    for i in 0..action.count(key) {
+        if let Some(value) = action.nth(key, i) {
+            push_value(alloc, entries, stem, action.kind, field, value)?;
+        }
+    }
+    Ok(())
+}
+
+// The rows of the payload, where there is one.
+fn push_payload(
+    alloc: Global,
+    entries: &mut Vec<Entry>,
+    stem: &str,
+    action: &Action,
+) -> Result<(), AllocError>
+    ensures rows { OnOk result (entries.new.items ≡ entries.old.items ++ rows_in stem.now action.now.kind (codes "payload") (option_to_list (payload_word action.now.payload))) }
+    ensures texts { AreTexts entries.old.items → OnOk result (AreTexts entries.new.items) }
+{
+    let Some(name) = &action.payload else {
+        return Ok(());
+    };
+    let mut digits = [0; 64];
+    let count = name.print(&mut digits);
+    match str::from_utf8(&digits[..count]) {
+        Ok(text) => push_value(alloc, entries, stem, action.kind, Field::Payload, text),
+        Err(_) => unreachable!(),
+    }
+}
+
+// The rows of a value: a path with a `/` has one more.
+fn push_value(
+    alloc: Global,
+    entries: &mut Vec<Entry>,
+    stem: &str,
+    kind: ActionKind,
+    field: Field,
+    value: &str,
+) -> Result<(), AllocError>
+    ensures rows { OnOk result (entries.new.items ≡ entries.old.items ++ rows_at stem.now kind (spec.index_name kind field) value.now) }
+    ensures texts { AreTexts entries.old.items → OnOk result (AreTexts entries.new.items) }
+{
+    push_whole(alloc, entries, stem, kind, field, value)?;
+    if has_last(kind, field, value) {
+        push_last(alloc, entries, stem, kind, field, last_part(value), value)?;
+    }
+    Ok(())
+}
+
+// Whether the value is also found by its last part.
+fn has_last(kind: ActionKind, field: Field, value: &str) -> bool
+    ensures { result ≡ (is_same (spec.index_name kind field) (codes "path") && rows.has_slash value.now) }
+{
+    index_name(kind, field) == "path" && has_slash(value)
+}
+
+fn has_slash(value: &str) -> bool
+    ensures { result ≡ rows.has_slash value.now }
+{
+    value.as_bytes().contains(&b'/')
+}
+
+// The row of a value that is found by itself.
+fn push_whole(
+    alloc: Global,
+    entries: &mut Vec<Entry>,
+    stem: &str,
+    kind: ActionKind,
+    field: Field,
+    value: &str,
+) -> Result<(), AllocError>
+    ensures rows { OnOk result (entries.new.items ≡ entries.old.items ++ (spec.row_at kind field None value.now stem.now ∷ [])) }
+    ensures texts { AreTexts entries.old.items → OnOk result (AreTexts entries.new.items) }
+{
+    let value = Text::new(alloc, value)?;
+    let stem = Text::new(alloc, stem)?;
+    entries.push(Entry {
+        kind,
+        field,
+        last: None,
+        value,
+        stem,
+    })?;
+    Ok(())
+}
+
+// The row of a value that is found by its last part.
+fn push_last(
+    alloc: Global,
+    entries: &mut Vec<Entry>,
+    stem: &str,
+    kind: ActionKind,
+    field: Field,
+    last: &str,
+    value: &str,
+) -> Result<(), AllocError>
+    ensures rows { OnOk result (entries.new.items ≡ entries.old.items ++ (spec.row_at kind field (Some last.now) value.now stem.now ∷ [])) }
+    ensures texts { AreTexts entries.old.items → OnOk result (AreTexts entries.new.items) }
+{
+    let last = Some(Text::new(alloc, last)?);
+    let value = Text::new(alloc, value)?;
+    let stem = Text::new(alloc, stem)?;
+    entries.push(Entry {
+        kind,
+        field,
+        last,
+        value,
+        stem,
+    })?;
+    Ok(())
+}
