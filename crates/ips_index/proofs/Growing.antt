@@ -15,7 +15,8 @@ Grown old rows new = (row : Row) → Contains new.keys row ↔ (Contains old row
 pub Shrunk : List Row → List Row → BTreeSet Row → Type 0
 Shrunk old rows new = (row : Row) → Contains new.keys row ↔ (Contains old row × (Contains rows row → ⊥))
 
-none_there : (row : Row) → Contains [] row → ⊥
+-- nothing stands in an empty list
+pub none_there : (row : Row) → Contains [] row → ⊥
 none_there row h = absurd (omega (arith, h.1))
 
 pub grown_none : (set : BTreeSet Row) → Grown set.keys [] set

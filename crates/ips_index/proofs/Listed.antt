@@ -12,14 +12,12 @@ use Rattle.ips_action.specs.Attrs.{is_same}
 use Rattle.ips_action.proofs.KeyOrder.{same_true, same_self}
 use Rattle.ips_index.specs.Rows.{Row}
 use Rattle.ips_index.specs.Scan.{IsDropped, IsPut}
+use Rattle.ips_index.proofs.Growing.{none_there}
 use Rattle.ips_index.specs.Entries.{Stems, listed_at, IsKept, AreNamed, AreOf}
 
 -- at each stem are those of the rows that are of it
 pub AreListed : List Row → Stems → Type 0
 AreListed rows stems = (stem : List ℕ) (row : Row) → Contains (listed_at stems stem) row ↔ (Contains rows row × (row.stem ≡ stem))
-
-none_there : (row : Row) → Contains [] row → ⊥
-none_there row h = absurd (omega (arith, h.1))
 
 pub listed_none : (stems : Stems) → stems.entries ≡ [] → AreListed [] stems
 unfolding AreListed

@@ -1,51 +1,15 @@
 -- Rows that stand at one place of their order are one.
-use Rattle.std.proofs.Common.{◌≡◌, ℕ, List, refl, sym, ◌∙◌, ap, if◌then◌else◌, codes}
+use Rattle.std.proofs.Common.{◌≡◌, ℕ, List, refl, sym, ◌∙◌, ap}
 use Rattle.std.specs.declared.cmp.Ordering.{Ordering}
 use Rattle.std.specs.declared.cmp.Ordering.TheVariants.{Less, Equal, Greater}
 use Rattle.std.specs.Ordering.{nat_cmp, on, ordering_then, then_cmp}
 use Rattle.std.specs.Cmp.Lexicographic.{slice_cmp}
 use Rattle.std.proofs.lemmas.Map.Lookups.{CmpEqualImpliesEq}
 use Rattle.ips_action.specs.declared.kind.ActionKind.{ActionKind}
-use Rattle.ips_action.specs.declared.kind.ActionKind.TheVariants.{Set, Depend, Dir, File, Link, Hardlink, User, Group, Driver, License, Legacy, Signature}
 use Rattle.ips_action.specs.Kind.{kind_name}
-use Rattle.ips_action.specs.Attrs.{is_same}
+use Rattle.ips_action.proofs.One.{one_kind}
 use Rattle.ips_action.proofs.KeyOrder.{equal_is}
 use Rattle.ips_index.specs.Rows.{Row, row_cmp, rest_cmp}
-
--- the kind of a name
-kind_of : List ℕ → ActionKind
-kind_of name =
-    if is_same name (codes "set") then Set
-    else if is_same name (codes "depend") then Depend
-    else if is_same name (codes "dir") then Dir
-    else if is_same name (codes "file") then File
-    else if is_same name (codes "link") then Link
-    else if is_same name (codes "hardlink") then Hardlink
-    else if is_same name (codes "user") then User
-    else if is_same name (codes "group") then Group
-    else if is_same name (codes "driver") then Driver
-    else if is_same name (codes "license") then License
-    else if is_same name (codes "legacy") then Legacy
-    else Signature
-
-named_back : (kind : ActionKind) → kind_of (kind_name kind) ≡ kind
-unfolding kind_of
-named_back Set = refl
-named_back Depend = refl
-named_back Dir = refl
-named_back File = refl
-named_back Link = refl
-named_back Hardlink = refl
-named_back User = refl
-named_back Group = refl
-named_back Driver = refl
-named_back License = refl
-named_back Legacy = refl
-named_back Signature = refl
-
--- no two kinds have one name
-pub kinds_apart : (a b : ActionKind) → kind_name a ≡ kind_name b → a ≡ b
-kinds_apart a b e = sym (named_back a) ∙ ap kind_of e ∙ named_back b
 
 both_equal : {K : Type 0} (R S : K → K → Ordering) (a b : K) → then_cmp R S a b ≡ Equal → (R a b ≡ Equal) × (S a b ≡ Equal)
 both_equal R S a b e = go (R a b) (S a b) e
@@ -75,4 +39,4 @@ exact_rows a b e =
     let second = both_equal (by (λ r. r.index)) (then_cmp (by (λ r. kind_name r.kind)) (then_cmp (by (λ r. r.value)) (by (λ r. r.stem)))) a b first.1 in
     let third = both_equal (by (λ r. kind_name r.kind)) (then_cmp (by (λ r. r.value)) (by (λ r. r.stem))) a b second.1 in
     let fourth = both_equal (by (λ r. r.value)) (by (λ r. r.stem)) a b third.1 in
-    same a b (equal_is a.token b.token first.0) (equal_is a.index b.index second.0) (kinds_apart a.kind b.kind (equal_is (kind_name a.kind) (kind_name b.kind) third.0)) (equal_is a.value b.value fourth.0) (equal_is a.stem b.stem fourth.1)
+    same a b (equal_is a.token b.token first.0) (equal_is a.index b.index second.0) (one_kind a.kind b.kind (equal_is (kind_name a.kind) (kind_name b.kind) third.0)) (equal_is a.value b.value fourth.0) (equal_is a.stem b.stem fourth.1)

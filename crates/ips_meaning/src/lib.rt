@@ -2,7 +2,7 @@
 //!
 //! An image takes the actions that its settings admit, without the links of other mediations than the best. Each path that such
 //! an action gives is wanted as it says, and the directories above it are wanted with it. Lines are brought together in maps by
-//! path, so that the time grows as n log n.
+//! path, so that the time grows as n log n. Actions are lent by the packages: but for mediated links, none is copied.
 //!
 //! In reading order: what is wanted at a path (`entry`), and why nothing can be wanted (`fault`), what an action says
 //! (`attributes`), the admitted actions (`admitted`), the best links of mediators (`mediated`), the kept actions (`kept`), the
