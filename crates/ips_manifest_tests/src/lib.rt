@@ -1,5 +1,5 @@
 //! Tests of what is said of packages: actions and manifests, catalogs, variants and facets, dependencies, mediators, the state of
-//! an image, which line can't be installed yet or is at or below a path, the keep table, account files, actuators, and the texts of records. `table` reads the cases.
+//! an image, which line can't be installed yet or is at or below a path, the keep table, account files, actuators, indexes, and the texts of records. `table` reads the cases.
 #![tactic(auto)]
 
 #[cfg(test)]
@@ -12,6 +12,8 @@ mod catalog;
 mod depend;
 #[cfg(test)]
 mod filter;
+#[cfg(test)]
+mod index;
 #[cfg(test)]
 mod manifest;
 #[cfg(test)]

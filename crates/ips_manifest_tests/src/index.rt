@@ -1,0 +1,90 @@
+use crate::records::actions;
+use crate::table::{Ask, holds, word};
+use ips_index::Index;
+use std::alloc::Global;
+use std::process::Abort;
+
+// What an index holds behind these calls, one after the other: `put stem lines | drop stem | find pattern | print`.
+#[derive(Drop)]
+struct Held;
+
+impl Ask for Held {
+    fn answer(&mut self, rt: &impl Abort, alloc: Global, question: &str) -> String {
+        let mut index = Index::new(alloc);
+        let mut out = String::new(alloc);
+        for call in question.split('|') {
+            let (name, rest) = call.trim().split_once(' ').unwrap_or((call.trim(), ""));
+            match name {
+                "put" => put(rt, alloc, &mut index, rest.trim()),
+                "drop" => index.drop_stem(rest.trim()),
+                "find" => push_found(rt, alloc, &mut out, &index, rest.trim()),
+                "print" => push_text(rt, alloc, &mut out, &index),
+                _ => out = word(rt, alloc, "no call"),
+            }
+        }
+        out
+    }
+}
+
+fn put(rt: &impl Abort, alloc: Global, index: &mut Index, words: &str) {
+    let (stem, lines) = words.split_once(' ').unwrap_or((words, ""));
+    let actions = actions(rt, alloc, lines.trim());
+    index.put(alloc, stem, &actions).expect(rt, "memory");
+}
+
+// The rows found, each as the line of a search.
+fn push_found(rt: &impl Abort, alloc: Global, out: &mut String, index: &Index, pattern: &str) {
+    let found = index.find(alloc, pattern).expect(rt, "memory");
+    for row in found.as_slice() {
+        for part in [
+            row.index.as_str(),
+            row.kind.name(),
+            row.stem.as_str(),
+            row.value.as_str(),
+        ] {
+            out.push_str(part).expect(rt, "memory");
+            out.push_str(" ").expect(rt, "memory");
+        }
+        out.push_str(";").expect(rt, "memory");
+    }
+}
+
+// The text of a copy, which is that of the index.
+fn push_text(rt: &impl Abort, alloc: Global, out: &mut String, index: &Index) {
+    let copy = index.copy(alloc).expect(rt, "memory");
+    let bytes = copy.print(alloc).expect(rt, "memory");
+    let text = str::from_utf8(bytes.as_slice()).ok().expect(rt, "a text");
+    out.push_str(text).expect(rt, "memory");
+}
+
+const ROWS_ARE_HELD: &str = "
+# A path is found by itself and by its last part, a payload by its name; rows stand by their tokens.
+put hello file da39a3ee5e6b4b0d3255bfef95601890afd80709 path=usr/share/hello mode=0644 owner=root group=root | find hello -> path file hello usr/share/hello ;
+put hello dir path=usr mode=0755 owner=root group=sys | print -> index 1¶usr path dir usr hello¶
+put s link path=a/b target=c | print -> index 1¶a%2Fb path link a%2Fb s¶b path link a%2Fb s¶
+put s license 0123456789012345678901234567890123456789 license=lic payload=0123456789012345678901234567890123456789 | print -> index 1¶0123456789012345678901234567890123456789 payload license 0123456789012345678901234567890123456789 s¶lic license license lic s¶
+# A set is found by its name and by its values, a dependency by each of its FMRIs, others by what names them.
+put s set name=n value=\"a b\" value=c | print -> index 1¶a%20b value set a%20b s¶c value set c s¶n name set n s¶
+put s depend fmri=b fmri=a type=require-any | print -> index 1¶a fmri depend a s¶b fmri depend b s¶
+put s user username=u group=g; group groupname=g; driver name=d; legacy pkg=l | print -> index 1¶d name driver d s¶g groupname group g s¶l pkg legacy l s¶u username user u s¶
+# Rows of one token stand by index, kind, value and stem, and a row that two actions give stands once.
+put b driver name=x; set name=x; link path=x target=y; dir path=x mode=0755 owner=o group=g | put a link path=z/x target=y; link path=x target=q | print -> index 1¶x name driver x b¶x name set x b¶x path dir x b¶x path link x a¶x path link x b¶x path link z%2Fx a¶z%2Fx path link z%2Fx a¶
+put s set name=n value=v value=v | print -> index 1¶n name set n s¶v value set v s¶
+# A stem's rows are replaced, or dropped; those of others stay.
+put a driver name=x | put b driver name=x | put a driver name=y | print -> index 1¶x name driver x b¶y name driver y a¶
+put a driver name=x; driver name=y | put b driver name=x | drop a | print -> index 1¶x name driver x b¶
+put a driver name=x | put a | print -> index 1¶
+put a driver name=x | drop b | print -> index 1¶x name driver x a¶
+# What a pattern finds.
+put a driver name=xa; driver name=xb; driver name=x; driver name=y | find x -> name driver a x ;
+put a driver name=xa; driver name=xb; driver name=x; driver name=y | find x? -> name driver a xa ;name driver a xb ;
+put a driver name=xa; driver name=xb; driver name=x; driver name=y | find *x* -> name driver a x ;name driver a xa ;name driver a xb ;
+put a driver name=xa | find XA -> 
+put a driver name=x | put b dir path=x mode=0755 owner=o group=g | find x -> name driver a x ;path dir b x ;
+";
+
+#[test]
+fn index_holds_what_was_put(rt: HostRuntime) {
+    let alloc = rt.alloc();
+    holds(&rt, alloc, &mut Held, 18, ROWS_ARE_HELD);
+}
