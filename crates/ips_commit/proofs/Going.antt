@@ -195,6 +195,7 @@ module _ {F : Type 0} (o : Outside F) (sane : IsOutside o) (first : ℕ) where
               can = both_possible t (o.state mid).held one.steps two.steps may may_2 h (laid_off told way front at).1.can cut.can;
               held = but_alike (begins mark_front) mark_private cut.begun cut.one_more (allowed_behind two.steps cut.begun cut.names) (after both t) (after two.steps (o.state mid).held) (o.state new).held
                   (both_agree t (o.state mid).held one.steps two.steps may may_2 h) cut.held;
+              gate = cut.gate;
             }
 
         both_ends : (x : Result Bool StepFault) → LaysTo o (journal_of (o.state mid).held) (front ++ one.steps) two.steps two.marks mid new r x → LaysTo o text front both two.marks old new r x

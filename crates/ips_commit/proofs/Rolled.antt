@@ -197,19 +197,20 @@ module _ {F : Type 0} (o : Outside F) (sane : IsOutside o) (old mid : F) (marks 
         ((owes_unmarking journal_text steps m count t a false (is_other (mark_names count) marks) (o.state old) (o.state mid) is_open clean left_same (other_own (mark_names count) marks own)
         (λ i lt. other_keeps count i marks own lt) (other_absent t (mark_names count) marks (m + 1) own are is_open.ready.marked.last) run.now).left c may))
 
+  agree : Agrees (begins mark_front) nowhere t u
+  agree = agrees_less (is_other (mark_names count) marks) nowhere (begins mark_front) nowhere t u
+      (λ q off. false_from_ne_true _ (λ other. clash (begins mark_front q) (other_own (mark_names count) marks own q other) off)) (λ q l. l) run.now.agrees
+
   -- nothing was begun
-  pub not_begun : (steps : List Step) (m : ℕ) → IsJournalled t steps m → (kinds : List Carrier) → IsUnfinished t (o.state mid) steps m kinds kinds
-  not_begun steps m is kinds = record {
+  pub not_begun : t.look gate_name ≢ None → (steps : List Step) (m : ℕ) → IsJournalled t steps m → (kinds : List Carrier) → IsUnfinished t (o.state mid) steps m kinds kinds
+  not_begun gate steps m is kinds = record {
     laid = 0;
     are = none_laid (steps_left m steps) t u kinds (as_own (is_other (mark_names count) marks) (λ q other. mark_private q (other_own (mark_names count) marks own q other)) t u run.now.agrees);
+    gate = λ lt. gate_marked t u agree gate;
     resumes = λ a is_open. unmarking_resumes steps m a is_open;
   }
 
   module _ (others : HasNoOtherMark u (mark_names count)) (safe : IsSettled (o.state mid)) where
-    agree : Agrees (begins mark_front) nowhere t u
-    agree = agrees_less (is_other (mark_names count) marks) nowhere (begins mark_front) nowhere t u
-        (λ q off. false_from_ne_true _ (λ other. clash (begins mark_front q) (other_own (mark_names count) marks own q other) off)) (λ q l. l) run.now.agrees
-
     are_first : AreMarks u count
     are_first = record {
       stand = λ i lt none. placed.is.marked.stand i lt (sym (run.now.agrees.look (mark_name (i + 1)) (other_keeps count i marks own lt) refl) ∙ none);
@@ -287,6 +288,7 @@ module _ {F : Type 0} (o : Outside F) (sane : IsOutside o) (old mid : F) (marks 
       laid = found.laid;
       are = subst (λ (l : List Step). AreLaidTo l found.laid t s.held before now) (rest_as t r count placed steps m is)
           (laid_alike (begins mark_front) mark_private left found.laid t u s.held before now may (λ k. (content_else k).0) agree found.are);
+      gate = λ lt. found.gate (subst (λ (l : List Step). found.laid < length l) (sym (rest_as t r count placed steps m is)) lt);
       resumes = λ a is_open.
           let some = found.resumes a (first_still steps m a is_open) in
           ⊎_elim

@@ -116,6 +116,7 @@ module _ {F : Type 0} (o : Outside F) (first : ℕ) (old at : F) (told : o.tells
         record {
           laid = length laid;
           are = laid_to at cut.begun cut.one_more (next_of steps (laid ++ cut.begun) (1000 * first) (cut.next steps is.lists is.text_is)) cut.can cut.held;
+          gate = λ lt. cut.gate;
           resumes = λ a is_open. roll_resumes a is_open;
         }
 
@@ -166,6 +167,7 @@ module _ {F : Type 0} (o : Outside F) (first : ℕ) (old at : F) (told : o.tells
             laid = length laid;
             are = laid_to new [] (inl refl) (subst (λ (l : List Step). l ≡ take (length l) left) (sym (append-nil laid)) is_front) off.2.can
                 (seen_on [] (after laid t) (o.state at).held (o.state new).held (seen_same [] (after laid t) (o.state at).held own) run.now.agrees);
+            gate = λ lt. let same = ap length all_left in absurd (omega (arith, lt, same));
             resumes = λ a is_open. closing_resumes a is_open x was new closing;
           }
 

@@ -9,7 +9,7 @@ use Rattle.ips_outside.proofs.Moments.{agrees_self, agrees_on, agrees_less, with
 use Rattle.ips_folder.specs.Calls.{Keeps, Syncs, Throughout}
 use Rattle.ips_folder.proofs.Runs.{joins, weaker, keeps_then, one_sync}
 use Rattle.ips_steps.specs.Steps.{Step, after, possible, stage_of, freed, met}
-use Rattle.ips_steps.specs.Private.{mark_front, mark_name, begins, is_private, visible}
+use Rattle.ips_steps.specs.Private.{gate_name, mark_front, mark_name, begins, is_private, visible}
 use Rattle.ips_steps.specs.Journal.{IsJournal, allowed}
 use Rattle.ips_steps.specs.Owed.{AreMarks, steps_left, IsOpen, FolderOwes}
 use Rattle.ips_steps.proofs.Lists.{clash}
@@ -65,18 +65,21 @@ module _ {F : Type 0} (o : Outside F) (sane : IsOutside o) (first : ℕ) (old at
         next = λ all lists is. subst (λ (l : List Step). front ++ l ≡ take (length (front ++ l)) all) whole (begins_next text front ends.begun ends.stands all lists is);
         can = ends.can;
         held = seen_but more (after steps t) (o.state at).held ends.held;
+        gate = gate_laid ends.begun (allowed_behind front ends.begun ends.stands.1.1.listed.names) _ t (o.state at).held ends.moments.now.agrees way.gate;
       }
 
   -- all that was begun was finished, and nothing but the updater's own names was changed since
   cut_behind : (new : F) (front steps : List Step) → allowed steps ≡ true → ((all : List Step) → IsJournal all → text ≡ journal_text all → front ++ steps ≡ take (length (front ++ steps)) all)
-      → possible (stage_of t) steps t ≡ true → Agrees is_private nowhere (after steps t) (o.state new).held → AreCutOff o text front steps old new
-  cut_behind new front steps may next can held = record {
+      → possible (stage_of t) steps t ≡ true → Agrees is_private nowhere (after steps t) (o.state new).held
+      → (o.state new).held.look gate_name ≢ None → AreCutOff o text front steps old new
+  cut_behind new front steps may next can held gate = record {
     begun = [];
     one_more = inl refl;
     names = subst (λ (l : List Step). allowed l ≡ true) whole may;
     next = λ all lists is. subst (λ (l : List Step). front ++ l ≡ take (length (front ++ l)) all) whole (next all lists is);
     can = can;
     held = seen_same [] (after steps t) (o.state new).held held;
+    gate = gate;
   }
     where
       whole : steps ≡ steps ++ []
@@ -157,7 +160,8 @@ module _ {F : Type 0} (o : Outside F) (sane : IsOutside o) (first : ℕ) (old at
           ends = λ told way front from.
               let same : (o.state mid).held ≡ after steps t = ap (λ (s : State). s.held) kept ∙ (done.ends told front from).1.held in
               cut_behind mid front steps (may told front from) (next told front from) (done.ends told front from).1.can
-              (subst (λ (u : Image). Agrees is_private nowhere (after steps t) u) (sym same) (agrees_self is_private nowhere (after steps t)));
+              (subst (λ (u : Image). Agrees is_private nowhere (after steps t) u) (sym same) (agrees_self is_private nowhere (after steps t)))
+              (gate_laid steps (may told front from) _ t (o.state mid).held (moments told front from).now.agrees way.gate);
           owed = owed;
           stays_open = λ told way all x is_open from. tt;
           left = left_here;
@@ -257,8 +261,10 @@ module _ {F : Type 0} (o : Outside F) (sane : IsOutside o) (first : ℕ) (old at
                 next = λ told way front from. next told front from;
                 ends = λ told way front from.
                     let same = held told front from in
+                    let marked = at_marks (first + 1) (o.state mid).held (o.state new).held (run (kind_1 ∙ told)).now.agrees in
                     cut_behind new front steps (may told front from) (next told front from) (done.ends told front from).1.can
-                    (subst (λ (u : Image). Agrees is_private nowhere u (o.state new).held) same (as_own (begins mark_front) mark_private (o.state mid).held (o.state new).held (at_marks (first + 1) (o.state mid).held (o.state new).held (run (kind_1 ∙ told)).now.agrees)));
+                    (subst (λ (u : Image). Agrees is_private nowhere u (o.state new).held) same (as_own (begins mark_front) mark_private (o.state mid).held (o.state new).held marked))
+                    (gate_marked (o.state mid).held (o.state new).held marked (turn_way told way front from).gate);
                 owed = marking;
                 stays_open = λ told way all x is_open from. tt;
                 left = λ told way all x is_open from c may.

@@ -56,7 +56,8 @@ abbrev pub IsSeenBut : List Step → Image → Image → Type 0
 IsSeenBut steps t u = Agrees (λ q. freed steps q || is_private q) (met (stage_of t) steps t) t u
 
 -- These steps were possible and are laid, and one more may have been begun; they are the next ones of whatever list the text is
--- the journal of. What is held is what the steps make, but at what that one frees and meets, and but at the updater's own names.
+-- the journal of. What is held is what the steps make, but at what that one frees and meets, and but at the updater's own names;
+-- the gate still stands open.
 pub record AreCutOff {F : Type 0} (o : Outside F) (text : List ℕ) (front steps : List Step) (old new : F) : Type 0 where
   pub begun : List Step
   pub one_more : (begun ≡ []) ⊎ ((s : Step) × (begun ≡ s ∷ []))
@@ -64,6 +65,7 @@ pub record AreCutOff {F : Type 0} (o : Outside F) (text : List ℕ) (front steps
   pub next : (all : List Step) → IsJournal all → text ≡ journal_text all → front ++ (steps ++ begun) ≡ take (length (front ++ (steps ++ begun))) all
   pub can : IsTrue (possible (stage_of (o.state old).held) steps (o.state old).held)
   pub held : IsSeenBut begun (after steps (o.state old).held) (o.state new).held
+  pub gate : (o.state new).held.look gate_name ≢ None
 
 -- How laying ended where these steps behind the front were finished and so many marks stand: all that the text lists are laid
 -- and safe; or these are, and the reader stands behind them; or a line isn't of the grammar, or a step is held up; or a call on

@@ -132,11 +132,13 @@ pub record AreLaidTo (steps : List Step) (laid : ℕ) (t u : Image) (before now 
 -- So many steps were laid from so many marks on. Each image that a crash now may leave has nothing at the gate, or so many marks
 -- that no more than a thousand of those steps are to be laid again.
 abbrev pub CanResume : State → ℕ → ℕ → Type 0
-CanResume s first laid = (c : Image) → MayLeave s c → (c.look gate_name ≡ None) ⊎ ((count : ℕ) × AreMarks c count × (laid ≤ 1000 * (count - first + 1)))
+CanResume s first laid = (c : Image) → MayLeave s c → (c.look gate_name ≡ None) ⊎ ((count : ℕ) × AreMarks c count × (laid ≤ 1000 * (count + 1 - first)))
 
 -- Unfinished, where the journal lists these steps and so many marks stood: some of the steps that these leave are laid and
--- counted. Where the change is owed, no more than a thousand of them are to be laid again.
+-- counted, and the gate stands open unless all are. Where the change is owed, no more than a thousand of them are to be laid
+-- again.
 pub record IsUnfinished (t : Image) (s : State) (steps : List Step) (count : ℕ) (before now : List Carrier) : Type 0 where
   pub laid : ℕ
   pub are : AreLaidTo (steps_left count steps) laid t s.held before now
+  pub gate : laid < length (steps_left count steps) → s.held.look gate_name ≢ None
   pub resumes : (a : Image) → IsOpen journal_text steps count a t → CanResume s count laid

@@ -1,6 +1,6 @@
 //! A staged change committed.
 
-ghost use Rattle.std.specs.Prelude.{◌≡◌, ◌<◌, ◌≤◌, ℕ, List, [], false, Some, Err, IsTrue, IfOk, IfErr, OnOk, length, take};
+ghost use Rattle.std.specs.Prelude.{◌≡◌, ◌≢◌, ◌<◌, ◌≤◌, ℕ, List, [], false, None, Some, Err, IsTrue, IfOk, IfErr, OnOk, length, take};
 ghost use Rattle.ips_outside.specs.Image.{Image};
 ghost use Rattle.ips_outside.specs.Outside.{HasCause, Rose};
 ghost use Rattle.ips_folder.specs.Calls.{CanMake, Throughout};
@@ -55,11 +55,13 @@ pub fn commit<F: Folder>(
     ensures counted { IsTrue (F.outside.tells folder.old) → (steps : List Step) (a : Image) → IsStaged steps a (F.outside.state folder.old)
         → OnOk result (seen_by sorts finished kinds.new.items ≡ all_counted steps (seen_by sorts finished kinds.old.items)) }
 
-    // Unfinished: a front of the list is laid and counted, and one step more at most was begun. Whatever a crash leaves now, the
-    // gate is closed, or the marks leave at most a thousand of those steps to be laid again.
+    // Unfinished: a front of the list is laid and counted, and one step more at most was begun; where some of the steps are laid
+    // but not all, the gate stands open. Whatever a crash leaves now, the gate is closed, or the marks leave at most a thousand
+    // of those steps to be laid again.
     ensures stopped { IsTrue (F.outside.tells folder.old) → (steps : List Step) (a : Image) → IsStaged steps a (F.outside.state folder.old)
         → IfErr result (λ why. (laid : ℕ)
         × AreLaidTo steps laid (F.outside.state folder.old).held (F.outside.state folder.new).held (seen_by sorts finished kinds.old.items) (seen_by sorts finished kinds.new.items)
+        × (0 < laid → laid < length steps → (F.outside.state folder.new).held.look gate_name ≢ None)
         × CanResume (F.outside.state folder.new) 0 laid) }
 
     // Behind `stage` a failed call is the only cause of a fault; the first call is the gate's, so nothing fails before it.
@@ -108,6 +110,7 @@ fn run<F: Folder>(
     ensures stopped { IsTrue (F.outside.tells folder.old) → (steps : List Step) (a : Image) → IsStaged steps a (F.outside.state folder.old)
         → IfErr result (λ why. (laid : ℕ)
         × AreLaidTo steps laid (F.outside.state folder.old).held (F.outside.state folder.new).held (seen_by sorts finished kinds.old.items) (seen_by sorts finished kinds.new.items)
+        × (0 < laid → laid < length steps → (F.outside.state folder.new).held.look gate_name ≢ None)
         × CanResume (F.outside.state folder.new) 0 laid) }
     ensures faults { IsTrue (F.outside.tells folder.old) → (steps : List Step) (a : Image) → IsStaged steps a (F.outside.state folder.old)
         → IfErr result (λ why. why ≡ fault.Unfinished) }

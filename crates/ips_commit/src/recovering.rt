@@ -89,8 +89,9 @@ pub fn recover<F: Folder>(
     ensures uncounted { IsTrue (F.outside.tells folder.old) → (F.outside.state folder.old).held.look gate_name ≡ None
         → seen_by sorts finished kinds.new.items ≡ seen_by sorts finished kinds.old.items }
 
-    // Unfinished: a front of the steps that the marks leave is laid and counted, and one more at most was begun. Whatever a crash
-    // leaves now, the gate is closed, or the marks leave at most a thousand of those steps to be laid again.
+    // Unfinished: a front of the steps that the marks leave is laid and counted, and one more at most was begun; the gate stands
+    // open unless all are laid. Whatever a crash leaves now, the gate is closed, or the marks leave at most a thousand of those
+    // steps to be laid again.
     ensures stopped { IsTrue (F.outside.tells folder.old) → (steps : List Step) (count : ℕ) → IsJournalled (F.outside.state folder.old).held steps count
         → IfBad result (λ why. why ≡ fault.Unfinished
         → IsUnfinished (F.outside.state folder.old).held (F.outside.state folder.new) steps count (seen_by sorts finished kinds.old.items) (seen_by sorts finished kinds.new.items)) }

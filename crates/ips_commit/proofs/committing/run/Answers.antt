@@ -100,6 +100,7 @@ pub returns-in_default-clause-stopped : goal.returns-in_default-clause-stopped
 returns-in_default-clause-stopped g c = λ told steps a staged. (
   0,
   none_laid_yet g.F.Source.outside g.met.F.Source.sane steps a c.args.folder.now told staged c.open.new.folder (c.open.ensures.any_moment told) _,
+  λ some less. absurd (omega (arith, some)),
   λ x may. inr (0, gate_left g.F.Source.outside g.met.F.Source.sane c.args.folder.now c.open.new.folder 0 (c.open.ensures.any_moment told) staged.safe staged.ready.marked x may, omega arith),
 )
 
@@ -116,4 +117,4 @@ returns-in-Err-clause-stopped g c = λ told steps a staged.
     let here = is_open o sane steps a old told staged mid kind run opens clean in
     let begins = c.rewind.ensures.start _ in
     let found = c.in-Err.ensures.stopped (kind ∙ told) steps (is_journalled o sane steps a old told staged mid kind run opens clean) begins (c.in-Err.ensures.meant (kind ∙ told) steps a here begins) in
-    (found.laid, laid_since o sane steps a old told staged mid kind run opens clean found.laid (o.state c.roll.new.folder).held _ _ found.are, found.resumes a here)
+    (found.laid, laid_since o sane steps a old told staged mid kind run opens clean found.laid (o.state c.roll.new.folder).held _ _ found.are, (λ some less. found.gate less), found.resumes a here)

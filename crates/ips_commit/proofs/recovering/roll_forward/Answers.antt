@@ -89,7 +89,7 @@ returns-in-Err-clause-refused g c = λ told.
 
 pub returns-in_default-clause-stopped : goal.returns-in_default-clause-stopped
 returns-in_default-clause-stopped g c = λ told steps m is unfinished.
-    not_begun g.F.Source.outside g.met.F.Source.sane c.args.folder.now c.keep_first.new.folder (bytes_of c.args.marks.now) c.requires.own (c.requires.marks told) c.args.reader.now c.args.count c.requires.few (c.requires.placed told) (c.requires.safe told) (c.keep_first.ensures.any_moment told) steps m is _
+    not_begun g.F.Source.outside g.met.F.Source.sane c.args.folder.now c.keep_first.new.folder (bytes_of c.args.marks.now) c.requires.own (c.requires.marks told) c.args.reader.now c.args.count c.requires.few (c.requires.placed told) (c.requires.safe told) (c.keep_first.ensures.any_moment told) (c.requires.gate told) steps m is _
 
 pub returns-in-Err-clause-stopped : goal.returns-in-Err-clause-stopped
 returns-in-Err-clause-stopped g c = λ told steps m is unfinished.
