@@ -78,3 +78,7 @@ are_of stem actions rows e texts =
       of_stem = λ row h. (member (Is stem) rows row all h).0;
       named = λ row h. ((member (Is stem) rows row all h).1, member (λ (r : Row). IsUtf8 r.token) rows row texts h);
     }
+
+pub of_stem : (stem : List ℕ) (actions : List Fields) (row : Row) → Contains (scanned stem actions) row → row.stem ≡ stem
+unfolding Is
+of_stem stem actions row h = (member (Is stem) (scanned stem actions) row (scanned_is stem actions) h).0

@@ -5,6 +5,7 @@ pub mod Growing
 pub mod Picked
 pub mod Scanned
 pub mod Listed
+pub mod Facts
+pub mod Scans
 pub mod Found
 pub mod Plain
-pub mod Facts

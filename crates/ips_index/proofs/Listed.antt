@@ -10,7 +10,8 @@ use Rattle.std.proofs.lemmas.Bool.{true≢false}
 use Rattle.std.proofs.lemmas.List.Elements.{Contains-append_left, Contains-push, Contains-push_cases}
 use Rattle.ips_action.specs.Attrs.{is_same}
 use Rattle.ips_action.proofs.KeyOrder.{same_true, same_self}
-use Rattle.ips_index.specs.Rows.{Row}
+use Rattle.std.specs.List.Sorted.{IsStrictlySortedBy}
+use Rattle.ips_index.specs.Rows.{Row, row_cmp}
 use Rattle.ips_index.specs.Scan.{IsDropped, IsPut}
 use Rattle.ips_index.proofs.Growing.{none_there}
 use Rattle.ips_index.specs.Entries.{Stems, listed_at, IsKept, AreNamed, AreOf}
@@ -54,11 +55,12 @@ unfolding AreListed
 listed_whole rows all stems e h = subst (λ (l : List Row). (stem : List ℕ) (row : Row) → Contains (listed_at stems stem) row ↔ (Contains l row × (row.stem ≡ stem))) e h
 
 -- a set whose rows are listed so is kept
-pub kept_listed : (rows : BTreeSet Row) (stems : Stems) → AreNamed rows.keys → ((stem : List ℕ) (row : Row) → Contains (listed_at stems stem) row ↔ (Contains rows.keys row × (row.stem ≡ stem))) → IsKept rows stems
-kept_listed rows stems named listed = record {
+pub kept_listed : (rows : BTreeSet Row) (stems : Stems) → AreNamed rows.keys → IsStrictlySortedBy row_cmp rows.keys → ((stem : List ℕ) (row : Row) → Contains (listed_at stems stem) row ↔ (Contains rows.keys row × (row.stem ≡ stem))) → IsKept rows stems
+kept_listed rows stems named ascend listed = record {
   listed = λ row h. (listed row.stem row).1 (h, refl);
   own = λ stem row h. ((listed stem row).0 h).1;
   named = named;
+  ascend = ascend;
 }
 
 -- the rows of a stem are taken away
@@ -79,8 +81,8 @@ same_or_apart stem q = go (is_same stem q) refl
 apart_from : (stem q : List ℕ) → (stem ≡ q → ⊥) → is_same stem q ≡ false
 apart_from stem q differs = elim (same_or_apart stem q) [ inl same ↦ absurd (differs (same_true stem q same)) | inr apart ↦ apart ]
 
-pub kept_dropped : (rows left : BTreeSet Row) (old new : Stems) (stem : List ℕ) → IsKept rows old → IsDropped stem rows.keys left.keys → listed_at new stem ≡ [] → ((q : List ℕ) → is_same stem q ≡ false → listed_at new q ≡ listed_at old q) → IsKept left new
-kept_dropped rows left old new stem kept dropped gone others = record {
+pub kept_dropped : (rows left : BTreeSet Row) (old new : Stems) (stem : List ℕ) → IsKept rows old → IsDropped stem rows.keys left.keys → listed_at new stem ≡ [] → ((q : List ℕ) → is_same stem q ≡ false → listed_at new q ≡ listed_at old q) → IsStrictlySortedBy row_cmp left.keys → IsKept left new
+kept_dropped rows left old new stem kept dropped gone others ascend = record {
   listed = λ row h. let w = (dropped row).0 h in
       subst (λ (l : List Row). Contains l row) (sym (others row.stem (apart_from stem row.stem (λ e. w.1 (sym e))))) (kept.listed row w.0);
   own = λ q row h. elim (same_or_apart stem q) [
@@ -88,14 +90,15 @@ kept_dropped rows left old new stem kept dropped gone others = record {
     | inr not_same ↦ kept.own q row (subst (λ (l : List Row). Contains l row) (others q not_same) h)
   ];
   named = λ row h. kept.named row ((dropped row).0 h).0;
+  ascend = ascend;
 }
 
 -- ---- rows put in
 
 -- the stem's rows are listed, and some of them stand in the set
 pub kept_put : (rows more : BTreeSet Row) (old new : Stems) (stem : List ℕ) (list : List Row) → IsKept rows old → ((row : Row) → Contains rows.keys row → row.stem ≢ stem) → AreOf stem list → listed_at new stem ≡ list
-    → ((q : List ℕ) → is_same stem q ≡ false → listed_at new q ≡ listed_at old q) → ((row : Row) → Contains more.keys row → Contains rows.keys row ⊎ Contains list row) → IsKept more new
-kept_put rows more old new stem list kept none are put others only = record {
+    → ((q : List ℕ) → is_same stem q ≡ false → listed_at new q ≡ listed_at old q) → ((row : Row) → Contains more.keys row → Contains rows.keys row ⊎ Contains list row) → IsStrictlySortedBy row_cmp more.keys → IsKept more new
+kept_put rows more old new stem list kept none are put others only ascend = record {
   listed = λ row h. elim (only row h) [
     | inl had ↦ subst (λ (l : List Row). Contains l row) (sym (others row.stem (apart_from stem row.stem (λ e. none row had (sym e))))) (kept.listed row had)
     | inr one ↦ subst (λ (l : List Row). Contains l row) (sym (ap (listed_at new) (are.of_stem row one) ∙ put)) one
@@ -105,6 +108,7 @@ kept_put rows more old new stem list kept none are put others only = record {
     | inr apart ↦ kept.own q row (subst (λ (l : List Row). Contains l row) (others q apart) h)
   ];
   named = λ row h. elim (only row h) [ inl had ↦ kept.named row had | inr one ↦ are.named row one ];
+  ascend = ascend;
 }
 
 -- the stem's rows are replaced
@@ -155,4 +159,10 @@ kept_same rows old new e kept = record {
   listed = λ row h. subst (λ (l : List Row). Contains l row) (sym (listed_same old new e row.stem)) (kept.listed row h);
   own = λ stem row h. kept.own stem row (subst (λ (l : List Row). Contains l row) (listed_same old new e stem) h);
   named = kept.named;
+  ascend = kept.ascend;
 }
+
+-- what holds however a call ends
+pub ok_sorted : {E : Type 0} (r : Result (Unit {0}) E) (rows : List Row) → IsStrictlySortedBy row_cmp rows → OnOk r (IsStrictlySortedBy row_cmp rows)
+ok_sorted (Ok x) rows h = h
+ok_sorted (Err e) rows h = tt

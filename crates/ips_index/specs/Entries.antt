@@ -7,13 +7,14 @@ use Rattle.std.specs.declared.string.String.{String}
 use Rattle.std.specs.BTreeMap.{BTreeMap, get_by_text}
 use Rattle.std.specs.BTreeSet.{BTreeSet}
 use Rattle.std.specs.List.{AllByRecursion}
+use Rattle.std.specs.List.Sorted.{IsStrictlySortedBy}
 use Rattle.std.specs.Str.{chars, IsUtf8}
 use Rattle.ips_fmri.specs.Matching.{HasNone}
 use Rattle.ips_action.specs.declared.kind.ActionKind.{ActionKind}
 use Rattle.ips_action.specs.Action.{naming_key}
 use Rattle.ips_index.specs.declared.entry.Field.{Field}
 use Rattle.ips_index.specs.declared.entry.Field.TheVariants.{Start, Key, Value, Payload}
-use Rattle.ips_index.specs.Rows.{Row}
+use Rattle.ips_index.specs.Rows.{Row, row_cmp}
 
 -- the name of the index of a field
 abbrev pub index_name : ActionKind → Field → List ℕ
@@ -46,11 +47,12 @@ Stems = BTreeMap (String Global) (Vec Row Global)
 abbrev pub listed_at : Stems → List ℕ → List Row
 listed_at stems stem = option_map_or (λ rows. rows.items) (get_by_text stems stem) []
 
--- Each row is listed at its stem, each listed row is of its stem, and each has an index.
+-- Each row is listed at its stem, each listed row is of its stem, each is found by a text, in an index, and they ascend.
 pub record IsKept (rows : BTreeSet Row) (stems : Stems) : Type 0 where
   pub listed : (row : Row) → Contains rows.keys row → Contains (listed_at stems row.stem) row
   pub own : (stem : List ℕ) (row : Row) → Contains (listed_at stems stem) row → row.stem ≡ stem
   pub named : AreNamed rows.keys
+  pub ascend : IsStrictlySortedBy row_cmp rows.keys
 
 -- The rows are all of the stem, and each is found by a text, in an index.
 pub record AreOf (stem : List ℕ) (rows : List Row) : Type 0 where

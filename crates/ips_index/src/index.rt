@@ -1,7 +1,8 @@
 //! The index of an image.
 
-ghost use Rattle.std.specs.Prelude.{◌≡◌, ◌↔◌, [], IfOk, OnOk, Contains, map};
-ghost use Rattle.ips_index.specs.Rows.{Row, row_seen, scanned, index_text};
+ghost use Rattle.std.specs.Prelude.{◌≡◌, ◌⊎◌, ◌↔◌, [], IfOk, OnOk, Contains, map};
+ghost use Rattle.std.specs.List.Sorted.{IsStrictlySortedBy};
+ghost use Rattle.ips_index.specs.Rows.{Row, row_cmp, row_seen, scanned, index_text};
 ghost use Rattle.ips_index.specs.Scan.{IsDropped, IsPut, AreFound};
 
 use crate::entry::Entry;
@@ -45,11 +46,13 @@ impl Index {
         }
     }
 
-    /// Replaces the rows of the stem by those of these actions. Where memory runs out, rows of the stem may lack, and those of
-    /// other stems are as before.
+    /// Replaces the rows of the stem by those of these actions. Where memory runs out, rows of the stem may be missing, also some
+    /// that stood before; those of other stems are as before.
     pub fn put(&mut self, alloc: Global, stem: &str, actions: &[Action]) -> Result<(), AllocError>
         ensures put { OnOk result (IsPut stem.now (scanned stem.now actions.now) self.old self.new) }
         ensures others { (row : Row) → (row.stem ≡ stem.now → ⊥) → Contains self.new row ↔ Contains self.old row }
+        ensures only { (row : Row) → Contains self.new row → Contains self.old row ⊎ Contains (scanned stem.now actions.now) row }
+        ensures order { OnOk result (IsStrictlySortedBy row_cmp self.new) }
     {
         let rows = scan(alloc, stem, actions)?;
         put_rows(alloc, &mut self.rows, &mut self.stems, stem, rows)
@@ -58,6 +61,7 @@ impl Index {
     /// Takes the rows of the stem away.
     pub fn drop_stem(&mut self, stem: &str)
         ensures dropped { IsDropped stem.now self.old self.new }
+        ensures order { IsStrictlySortedBy row_cmp self.new }
     {
         drop_rows(&mut self.rows, &mut self.stems, stem);
     }
@@ -72,7 +76,8 @@ impl Index {
 
     /// An index of the same rows.
     pub fn copy(&self, alloc: Global) -> Result<Index, AllocError>
-        ensures { IfOk result (λ index. index ≡ self.now) }
+        ensures same { IfOk result (λ index. index ≡ self.now) }
+        ensures order { IsStrictlySortedBy row_cmp self.now }
     {
         let rows = copied_set(alloc, &self.rows)?;
         let stems = by_stem(alloc, &rows)?;
@@ -81,7 +86,8 @@ impl Index {
 
     /// The record of the index, `var/pkg/index`: a line that tells its form, and a line for each row.
     pub fn print(&self, alloc: Global) -> Result<Vec<u8>, AllocError>
-        ensures { IfOk result (λ bytes. bytes.items ≡ index_text self.now) }
+        ensures text { IfOk result (λ bytes. bytes.items ≡ index_text self.now) }
+        ensures order { IsStrictlySortedBy row_cmp self.now }
     {
         printing::print(alloc, &self.rows)
     }

@@ -1,6 +1,6 @@
 //! The rows of an index, and the same by their stems.
 
-ghost use Rattle.std.specs.Prelude.{◌≡◌, ◌↔◌, OnOk, Contains};
+ghost use Rattle.std.specs.Prelude.{◌≡◌, ◌⊎◌, ◌↔◌, OnOk, Contains};
 ghost use Rattle.ips_index.specs.Rows.{Row};
 ghost use Rattle.ips_index.specs.Scan.{IsDropped, IsPut};
 ghost use Rattle.ips_index.specs.Entries.{IsKept, AreOf};
@@ -34,6 +34,7 @@ pub(crate) fn put_rows(
     ensures kept { IsKept rows.new stems.new }
     ensures put { OnOk result (IsPut stem.now list.items rows.old.keys rows.new.keys) }
     ensures others { (row : Row) → (row.stem ≡ stem.now → ⊥) → Contains rows.new.keys row ↔ Contains rows.old.keys row }
+    ensures only { (row : Row) → Contains rows.new.keys row → Contains rows.old.keys row ⊎ Contains list.items row }
 {
     let copies = copied(alloc, &list)?;
     let key = String::from_str(alloc, stem)?;

@@ -5,10 +5,12 @@ mod entry;
 mod finding;
 mod index;
 mod keeping;
+mod laws;
 mod printing;
 mod row;
 mod scanning;
 mod sets;
 
 pub use index::Index;
+pub use laws::index_is_scan;
 pub use row::IndexRow;

@@ -2,7 +2,8 @@
 
 ghost use Rattle.std.specs.Prelude.{◌≡◌, ◌⊎◌, ◌↔◌, ◌++◌, ◌∷◌, [], ℕ, List, false, if◌then◌else◌, IfOk, OnOk, Contains};
 ghost use Rattle.ips_action.specs.Attrs.{is_same};
-ghost use Rattle.ips_index.specs.Rows.{Row};
+ghost use Rattle.std.specs.List.Sorted.{IsStrictlySortedBy};
+ghost use Rattle.ips_index.specs.Rows.{Row, row_cmp};
 ghost use Rattle.ips_index.specs.Entries.{listed_at};
 
 use crate::entry::Entry;
@@ -28,6 +29,7 @@ pub(crate) fn insert_all(set: &mut BTreeSet<Entry>, rows: Vec<Entry>) -> Result<
     ensures all { OnOk result ((row : Row) → Contains rows.items row → Contains set.new.keys row) }
     ensures old { (row : Row) → Contains set.old.keys row → Contains set.new.keys row }
     ensures only { (row : Row) → Contains set.new.keys row → Contains set.old.keys row ⊎ Contains rows.items row }
+    ensures order { IsStrictlySortedBy row_cmp set.old.keys → IsStrictlySortedBy row_cmp set.new.keys }
 {
     let mut left = rows;
     while let Some(row) = left.pop() {
@@ -38,7 +40,8 @@ pub(crate) fn insert_all(set: &mut BTreeSet<Entry>, rows: Vec<Entry>) -> Result<
 
 /// Takes rows away.
 pub(crate) fn remove_all(set: &mut BTreeSet<Entry>, rows: &[Entry])
-    ensures { (row : Row) → Contains set.new.keys row ↔ (Contains set.old.keys row × (Contains rows.now row → ⊥)) }
+    ensures rows { (row : Row) → Contains set.new.keys row ↔ (Contains set.old.keys row × (Contains rows.now row → ⊥)) }
+    ensures order { IsStrictlySortedBy row_cmp set.old.keys → IsStrictlySortedBy row_cmp set.new.keys }
 {
     for row in rows {
         set.remove(row);

@@ -1,4 +1,4 @@
-use Rattle.std.proofs.Common.{◌≡◌, ◌∙◌, ap, sym, List, ℕ, Some}
+use Rattle.std.proofs.Common.{◌≡◌, ◌∙◌, ap, sym, List, ℕ, Some, inl, inr}
 use Rattle.std.specs.String.{string_bytes}
 use Rattle.std.proofs.lemmas.Map.Text.{btree_map_updates_text}
 use Rattle.ips_action.specs.Attrs.{is_same}
@@ -18,10 +18,16 @@ returns-clause-kept c =
     let same : key ≡ c.args.stem.now = c.in_ok-key.ensures.ok in
     let put = put_at c.drop_rows.new.stems c.insert.new.self key c.in_ok-copies.copies (btree_map_updates_text key c.drop_rows.new.stems c.insert.new.self (Some c.in_ok-copies.copies) c.in_ok-insert.ensures.updates) in
     kept_put c.drop_rows.new.rows c.insert_all.new.set c.drop_rows.new.stems c.insert.new.self c.args.stem.now c.args.list.items c.drop_rows.ensures.kept (λ row h. ((c.drop_rows.ensures.dropped row).0 h).1) c.requires.list
-    (ap (listed_at c.insert.new.self) (sym same) ∙ put.0 ∙ c.in_ok-copies.ensures ∙ c.deref.ensures.value) (λ q apart. put.1 q (ap (λ (k : List ℕ). is_same k q) same ∙ apart)) c.insert_all.ensures.only
+    (ap (listed_at c.insert.new.self) (sym same) ∙ put.0 ∙ c.in_ok-copies.ensures ∙ c.deref.ensures.value) (λ q apart. put.1 q (ap (λ (k : List ℕ). is_same k q) same ∙ apart)) c.insert_all.ensures.only (c.insert_all.ensures.order c.drop_rows.ensures.kept.ascend)
 
 pub returns-clause-put : goal.returns-clause-put
 returns-clause-put c = stem_put_ok c.args.rows.now.keys c.drop_rows.new.rows.keys c.insert_all.new.set.keys c.args.stem.now c.args.list.items c.insert_all.result c.drop_rows.ensures.dropped c.insert_all.ensures.all c.insert_all.ensures.old c.insert_all.ensures.only
 
 pub returns-clause-others : goal.returns-clause-others
 returns-clause-others c = others_stay c.args.rows.now.keys c.drop_rows.new.rows.keys c.insert_all.new.set.keys c.args.stem.now c.args.list.items c.drop_rows.ensures.dropped c.requires.list.of_stem c.insert_all.ensures.old c.insert_all.ensures.only
+
+pub returns-in_err-insert-clause-only : goal.returns-in_err-insert-clause-only
+returns-in_err-insert-clause-only c = λ row h. inl ((c.drop_rows.ensures.dropped row).0 h).0
+
+pub returns-clause-only : goal.returns-clause-only
+returns-clause-only c = λ row h. elim (c.insert_all.ensures.only row h) [ inl had ↦ inl ((c.drop_rows.ensures.dropped row).0 had).0 | inr one ↦ inr one ]

@@ -4,4 +4,7 @@ use Rattle.ips_index.specs.Scan.{IsDropped}
 use Rattle.ips_index.proofs.index.Index.drop_stem.Goals as goal
 
 pub returns : goal.returns
-returns c = record { dropped = subst (λ (old : List Row). IsDropped c.args.stem.now old c.drop_rows.new.rows.keys) c.self.view_is c.drop_rows.ensures.dropped }
+returns c = record {
+  dropped = subst (λ (old : List Row). IsDropped c.args.stem.now old c.drop_rows.new.rows.keys) c.self.view_is c.drop_rows.ensures.dropped;
+  order = c.drop_rows.ensures.kept.ascend;
+}

@@ -1,8 +1,9 @@
-use Rattle.std.proofs.Common.{◌≡◌, subst, List}
+use Rattle.std.proofs.Common.{◌≡◌, subst, List, ◌⊎◌}
 use Rattle.std.specs.Prelude.{◌↔◌, Contains, OnOk}
 use Rattle.ips_index.specs.Rows.{Row}
 use Rattle.ips_index.specs.Scan.{IsPut}
 use Rattle.ips_index.proofs.Facts.{are_of}
+use Rattle.ips_index.proofs.Listed.{ok_sorted}
 use Rattle.ips_index.proofs.index.Index.put.Goals as goal
 
 pub put_rows-requires-clause-list : goal.put_rows-requires-clause-list
@@ -16,3 +17,11 @@ returns-clause-put c =
 pub returns-clause-others : goal.returns-clause-others
 returns-clause-others c =
     subst (λ (old : List Row). (row : Row) → (row.stem ≡ c.args.stem.now → ⊥) → Contains c.put_rows.new.rows.keys row ↔ Contains old row) c.self.view_is c.put_rows.ensures.others
+
+pub returns-clause-only : goal.returns-clause-only
+returns-clause-only c =
+    subst (λ (rows : List Row). (row : Row) → Contains c.put_rows.new.rows.keys row → Contains c.args.self.now row ⊎ Contains rows row) c.in_ok-rows.ensures.rows
+    (subst (λ (old : List Row). (row : Row) → Contains c.put_rows.new.rows.keys row → Contains old row ⊎ Contains c.in_ok-rows.rows.items row) c.self.view_is c.put_rows.ensures.only)
+
+pub returns-clause-order : goal.returns-clause-order
+returns-clause-order c = ok_sorted c.put_rows.result c.put_rows.new.rows.keys c.put_rows.ensures.kept.ascend

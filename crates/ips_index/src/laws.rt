@@ -1,0 +1,14 @@
+//! The law of an index.
+
+ghost use Rattle.std.specs.Prelude.{List, ℕ, []};
+ghost use Rattle.std.specs.List.Sorted.{IsStrictlySortedBy};
+ghost use Rattle.ips_action.specs.Action.{Fields};
+ghost use Rattle.ips_index.specs.Rows.{Row, row_cmp, scanned};
+ghost use Rattle.ips_index.specs.Scan.{IsDropped, IsPut, IsScan, Scanned, with_stem, without};
+
+/// After any list of `put` and `drop_stem` an index is the scan of the packages that were put last and not dropped.
+pub fn index_is_scan()
+    ensures new { IsScan [] [] }
+    ensures put { (packages : List Scanned) (stem : List ℕ) (actions : List Fields) (old new : List Row) → IsScan packages old → IsPut stem (scanned stem actions) old new → IsStrictlySortedBy row_cmp new → IsScan (with_stem stem actions packages) new }
+    ensures dropped { (packages : List Scanned) (stem : List ℕ) (old new : List Row) → IsScan packages old → IsDropped stem old new → IsStrictlySortedBy row_cmp new → IsScan (without stem packages) new }
+{}
