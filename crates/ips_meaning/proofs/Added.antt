@@ -1,7 +1,8 @@
--- The wanted paths in a set.
+-- The wanted paths in a map.
 use Rattle.std.proofs.Common.{◌≡◌, ◌⊎◌, ◌&&◌, ◌||◌, ℕ, ◌+◌, ◌<◌, ◌≤◌, Bool, true, false, not, List, [], length, Some, None, sym, ap, subst, ◌∙◌, inl, inr, arith}
-use Rattle.std.specs.Prelude.{◌↔◌, slice_get, codes}
-use Rattle.std.specs.List.{list_any}
+use Rattle.std.specs.Prelude.{◌↔◌, is_some, slice_get, codes}
+use Rattle.std.specs.Map.{lookup}
+use Rattle.std.specs.Option.{unwrap_or}
 use Rattle.std.proofs.lemmas.Bool.{true≢false, or_cases, or_left, or_right, and_parts, and_from}
 use Rattle.std.proofs.lemmas.Option.{slice_get_within, none-some, same_Some}
 use Rattle.ips_text.specs.Path.{IsPath}
@@ -9,11 +10,10 @@ use Rattle.ips_text.specs.Ancestry.{same_path, covers, is_below}
 use Rattle.ips_action.specs.Attrs.{is_same}
 use Rattle.ips_conflict.specs.declared.placed.Placed.{Placed}
 use Rattle.ips_conflict.specs.Clash.{HasKey, path_key, has_legacy}
-use Rattle.ips_conflict.specs.Index.{HoldsAbove}
 use Rattle.ips_conflict.proofs.Marked.{below_covers}
 use Rattle.ips_conflict.proofs.Places.{one_there, below_or_last}
 use Rattle.ips_meaning.specs.Want.{is_needed}
-use Rattle.ips_meaning.specs.Places.{given_path, PathSet, has_path, AreWanted}
+use Rattle.ips_meaning.specs.Places.{given_path, PathMap, HoldsAbove, has_path, place_of, AreWanted}
 use Rattle.ips_meaning.proofs.Given.{given_is, given_from}
 use Rattle.ips_meaning.proofs.Fronts.{covered, covers_path, legacy_path}
 use Rattle.ips_text.proofs.Fronts.{records_path}
@@ -33,10 +33,13 @@ added path p old mid new above one = (
 
 -- ---- what the image itself needs
 
-nothing : (set : PathSet) (p : List ℕ) → set.keys ≡ [] → has_path set p ≡ true → ⊥
-nothing set p e h = true≢false (sym h ∙ ap (λ (ks : _). list_any (λ k. is_same p k.items) ks) e)
+nothing : (set : PathMap) (p : List ℕ) → set.entries ≡ [] → has_path set p ≡ true → ⊥
+nothing set p e h = true≢false (sym h ∙ ap (λ (es : _). is_some (lookup (λ k. is_same p k.items) es)) e)
 
-pub needed_plain : (kept : List Placed) (none set : PathSet) (p : List ℕ) → none.keys ≡ [] → has_legacy kept ≡ false → (has_path set p ≡ true) ↔ ((has_path none p ≡ true) ⊎ (covers p (codes "var/pkg") ≡ true)) → (has_path set p ≡ true) ↔ (is_needed kept p ≡ true)
+pub no_place : (map : PathMap) (p : List ℕ) → map.entries ≡ [] → place_of map p ≡ None
+no_place map p e = ap (λ (es : _). unwrap_or (lookup (λ k. is_same p k.items) es) None) e
+
+pub needed_plain : (kept : List Placed) (none set : PathMap) (p : List ℕ) → none.entries ≡ [] → has_legacy kept ≡ false → (has_path set p ≡ true) ↔ ((has_path none p ≡ true) ⊎ (covers p (codes "var/pkg") ≡ true)) → (has_path set p ≡ true) ↔ (is_needed kept p ≡ true)
 needed_plain kept none set p e plain adds = (
   λ h. elim (adds.0 h) [ inl had ↦ absurd (nothing none p e had) | inr cover ↦ or_left (covers p (codes "var/pkg")) (has_legacy kept && covers p (codes "var/sadm/pkg")) cover ],
   λ h. adds.1 (elim (or_cases (covers p (codes "var/pkg")) (has_legacy kept && covers p (codes "var/sadm/pkg")) h) [
@@ -45,7 +48,7 @@ needed_plain kept none set p e plain adds = (
   ]),
 )
 
-pub needed_legacy : (kept : List Placed) (none mid set : PathSet) (p : List ℕ) → none.keys ≡ [] → has_legacy kept ≡ true → (has_path mid p ≡ true) ↔ ((has_path none p ≡ true) ⊎ (covers p (codes "var/pkg") ≡ true))
+pub needed_legacy : (kept : List Placed) (none mid set : PathMap) (p : List ℕ) → none.entries ≡ [] → has_legacy kept ≡ true → (has_path mid p ≡ true) ↔ ((has_path none p ≡ true) ⊎ (covers p (codes "var/pkg") ≡ true))
     → (has_path set p ≡ true) ↔ ((has_path mid p ≡ true) ⊎ (covers p (codes "var/sadm/pkg") ≡ true)) → (has_path set p ≡ true) ↔ (is_needed kept p ≡ true)
 needed_legacy kept none mid set p e legacy first second =
     let own = covers p (codes "var/pkg") in
@@ -60,12 +63,12 @@ needed_legacy kept none mid set p e legacy first second =
       ]),
     )
 
--- ---- what stands above something in the set
+-- ---- what stands above something in the map
 
 above_cover : (p q below : List ℕ) → is_below p q ≡ true → covers q below ≡ true → covers p below ≡ true
 above_cover p q below upper cover = (and_parts (covers p below) (not (same_path p below)) (below_covers p q below upper cover)).0
 
-pub first_holds : (none set : PathSet) (path : List ℕ) → none.keys ≡ [] → ((p : List ℕ) → (has_path set p ≡ true) ↔ ((has_path none p ≡ true) ⊎ (covers p path ≡ true))) → HoldsAbove set
+pub first_holds : (none set : PathMap) (path : List ℕ) → none.entries ≡ [] → ((p : List ℕ) → (has_path set p ≡ true) ↔ ((has_path none p ≡ true) ⊎ (covers p path ≡ true))) → HoldsAbove set
 first_holds none set path e adds p q had upper = (adds p).1 (elim ((adds q).0 had) [ inl never ↦ absurd (nothing none q e never) | inr cover ↦ inr (above_cover p q path upper cover) ])
 
 -- what is needed is a path
@@ -80,17 +83,17 @@ needed_proper kept p h = elim (or_cases (covers p (codes "var/pkg")) (has_legacy
 abbrev pub IsGivenTo : List Placed → ℕ → List ℕ → Type 0
 IsGivenTo kept k path = (i : ℕ) × (q : Placed) × (i < k) × HasKey kept (path_key path) i q
 
-pub record WantedTo (kept : List Placed) (k : ℕ) (set : PathSet) : Type 0 where
+pub record WantedTo (kept : List Placed) (k : ℕ) (set : PathMap) : Type 0 where
   pub paths : (p : List ℕ) → (has_path set p ≡ true) ↔ ((is_needed kept p ≡ true) ⊎ ((below : List ℕ) × IsGivenTo kept k below × (covers p below ≡ true)))
   pub proper : (p : List ℕ) → has_path set p ≡ true → IsPath p
 
-pub wanted_none : (kept : List Placed) (set : PathSet) → ((p : List ℕ) → (has_path set p ≡ true) ↔ (is_needed kept p ≡ true)) → ((p : List ℕ) → has_path set p ≡ true → IsPath p) → WantedTo kept 0 set
+pub wanted_none : (kept : List Placed) (set : PathMap) → ((p : List ℕ) → (has_path set p ≡ true) ↔ (is_needed kept p ≡ true)) → ((p : List ℕ) → has_path set p ≡ true → IsPath p) → WantedTo kept 0 set
 wanted_none kept set needs proper = record {
   paths = λ p. (λ h. inl ((needs p).0 h), λ w. elim w [ inl h ↦ (needs p).1 h | inr given ↦ absurd (omega (arith, given.1.2)) ]);
   proper = proper;
 }
 
-pub wanted_holds : (kept : List Placed) (k : ℕ) (set : PathSet) → WantedTo kept k set → HoldsAbove set
+pub wanted_holds : (kept : List Placed) (k : ℕ) (set : PathMap) → WantedTo kept k set → HoldsAbove set
 wanted_holds kept k set all p q had upper = (all.paths p).1 (elim ((all.paths q).0 had) [
   | inl need ↦ inl (elim (or_cases (covers q (codes "var/pkg")) (has_legacy kept && covers q (codes "var/sadm/pkg")) need) [
     | inl cover ↦ or_left (covers p (codes "var/pkg")) (has_legacy kept && covers p (codes "var/sadm/pkg")) (above_cover p q (codes "var/pkg") upper cover)
@@ -101,7 +104,7 @@ wanted_holds kept k set all p q had upper = (all.paths p).1 (elim ((all.paths q)
   | inr given ↦ inr (given.0, given.1, above_cover p q given.0 upper given.2)
 ])
 
-pub wanted_more : (kept : List Placed) (k : ℕ) (q : Placed) (path : List ℕ) (old new : PathSet) → slice_get kept k ≡ Some q → given_path q ≡ Some path → IsPath path → WantedTo kept k old
+pub wanted_more : (kept : List Placed) (k : ℕ) (q : Placed) (path : List ℕ) (old new : PathMap) → slice_get kept k ≡ Some q → given_path q ≡ Some path → IsPath path → WantedTo kept k old
     → ((p : List ℕ) → (has_path new p ≡ true) ↔ ((has_path old p ≡ true) ⊎ (covers p path ≡ true))) → WantedTo kept (k + 1) new
 wanted_more kept k q path old new here gives proper so_far adds = record {
   paths = λ p. (
@@ -123,7 +126,7 @@ wanted_more kept k q path old new here gives proper so_far adds = record {
   proper = λ p h. elim ((adds p).0 h) [ inl had ↦ so_far.proper p had | inr cover ↦ covers_path p path proper cover ];
 }
 
-pub wanted_same : (kept : List Placed) (k : ℕ) (q : Placed) (set : PathSet) → slice_get kept k ≡ Some q → given_path q ≡ None → WantedTo kept k set → WantedTo kept (k + 1) set
+pub wanted_same : (kept : List Placed) (k : ℕ) (q : Placed) (set : PathMap) → slice_get kept k ≡ Some q → given_path q ≡ None → WantedTo kept k set → WantedTo kept (k + 1) set
 wanted_same kept k q set here gives so_far = record {
   paths = λ p. (
     λ h. elim ((so_far.paths p).0 h) [ inl need ↦ inl need | inr w ↦ inr (w.0, (w.1.0, w.1.1, omega (arith, w.1.2), w.1.3), w.2) ],
@@ -140,7 +143,7 @@ wanted_same kept k q set here gives so_far = record {
   proper = so_far.proper;
 }
 
-pub wanted_done : (kept : List Placed) (k : ℕ) (set : PathSet) → length kept ≤ k → WantedTo kept k set → AreWanted kept set
+pub wanted_done : (kept : List Placed) (k : ℕ) (set : PathMap) → length kept ≤ k → WantedTo kept k set → AreWanted kept set
 wanted_done kept k set le all = record {
   paths = λ p. (
     λ h. elim ((all.paths p).0 h) [ inl need ↦ inl need | inr w ↦ inr (w.0, (w.1.0, w.1.1, w.1.3), w.2) ],

@@ -1,8 +1,7 @@
 -- The action that counts at each path among those at the places below a number.
-use Rattle.std.proofs.Common.{◌≡◌, ◌≢◌, ℕ, ◌+◌, ◌<◌, ◌≤◌, Bool, true, false, cond, List, [], length, Option, Some, None, refl, sym, ap, subst, ◌∙◌, inl, inr, arith}
+use Rattle.std.proofs.Common.{◌≡◌, ◌≢◌, ℕ, ◌+◌, ◌<◌, ◌≤◌, Bool, true, false, cond, List, length, Option, Some, None, refl, sym, ap, subst, ◌∙◌, inl, inr, arith}
 use Rattle.std.specs.Prelude.{slice_get, MatchOption, IfSome}
 use Rattle.std.specs.Ordering.{is_lt}
-use Rattle.std.specs.Map.{lookup}
 use Rattle.std.specs.Cmp.{IsTotalOrder, then_total, on_total}
 use Rattle.std.specs.declared.cmp.Ordering.TheVariants.{Less, Greater}
 use Rattle.std.proofs.lemmas.Cmp.{nat_cmp_total}
@@ -16,7 +15,7 @@ use Rattle.ips_conflict.proofs.Places.{one_there, below_or_last}
 use Rattle.ips_conflict.proofs.Kept.{is_same_self}
 use Rattle.ips_conflict.proofs.Ordered.{le_trans, le_of_less, le_self, le_unless, place_total}
 use Rattle.ips_meaning.specs.Want.{IsGiven}
-use Rattle.ips_meaning.specs.Places.{given_path, rank_at, count_cmp, Leads, PlaceMap, place_of, AreLeading, first_of}
+use Rattle.ips_meaning.specs.Places.{given_path, rank_at, count_cmp, Leads, PathMap, place_of, AreLeading, first_of}
 use Rattle.ips_meaning.proofs.Given.{given_is, given_from}
 use Rattle.ips_text.proofs.Orders.{less_is}
 use Rattle.ips_action.proofs.KeyOrder.{same_true}
@@ -33,7 +32,7 @@ pub record LeadsTo (kept : List Placed) (k : ℕ) (path : List ℕ) (i : ℕ) : 
 abbrev pub PathTo : List Placed → ℕ → List ℕ → Option ℕ → Type 0
 PathTo kept k path found = MatchOption found ((i : ℕ) (p : Placed) → i < k → HasKey kept (path_key path) i p → ⊥) (λ i. LeadsTo kept k path i)
 
-abbrev pub PathsTo : List Placed → ℕ → PlaceMap → Type 0
+abbrev pub PathsTo : List Placed → ℕ → PathMap → Type 0
 PathsTo kept k map = (path : List ℕ) → PathTo kept k path (place_of map path)
 
 -- the last one doesn't give the path
@@ -98,29 +97,28 @@ counted_by kept k p at path before false same here gives h =
     let is : path ≡ at = same_Some path at (sym (given_from q path there.key_is) ∙ ap given_path one ∙ gives) in
     true≢false (sym (subst (λ (x : List ℕ). is_same path x ≡ true) is (is_same_self path)) ∙ same)) h
 
-pub paths_more : (kept : List Placed) (k : ℕ) (p : Placed) (at : List ℕ) (old new : PlaceMap) → slice_get kept k ≡ Some p → given_path p ≡ Some at → PathsTo kept k old
+pub paths_more : (kept : List Placed) (k : ℕ) (p : Placed) (at : List ℕ) (old new : PathMap) → slice_get kept k ≡ Some p → given_path p ≡ Some at → PathsTo kept k old
     → ((path : List ℕ) → place_of new path ≡ cond (is_same path at) (Some (first_of kept (place_of old path) k)) (place_of old path)) → PathsTo kept (k + 1) new
 paths_more kept k p at old new here gives so_far counts path =
     subst (λ (o : Option ℕ). PathTo kept (k + 1) path o) (sym (counts path)) (counted_by kept k p at path (place_of old path) (is_same path at) refl here gives (so_far path))
 
-pub paths_same : (kept : List Placed) (k : ℕ) (p : Placed) (map : PlaceMap) → slice_get kept k ≡ Some p → given_path p ≡ None → PathsTo kept k map → PathsTo kept (k + 1) map
+pub paths_same : (kept : List Placed) (k : ℕ) (p : Placed) (map : PathMap) → slice_get kept k ≡ Some p → given_path p ≡ None → PathsTo kept k map → PathsTo kept (k + 1) map
 paths_same kept k p map here gives so_far path =
     same_path kept k path (place_of map path) (λ q there.
     let one : q ≡ p = one_there kept k q p there.here here in
     none-some path (sym gives ∙ sym (ap given_path one) ∙ given_from q path there.key_is)) (so_far path)
 
-pub paths_none : (kept : List Placed) (map : PlaceMap) → map.entries ≡ [] → PathsTo kept 0 map
-paths_none kept map e path =
-    subst (λ (o : Option ℕ). PathTo kept 0 path o) (sym (ap (λ (es : _). lookup (λ k. is_same path k.items) es) e)) (λ i p lt at. omega (arith, lt))
+pub paths_none : (kept : List Placed) (map : PathMap) → ((path : List ℕ) → place_of map path ≡ None) → PathsTo kept 0 map
+paths_none kept map none path = subst (λ (o : Option ℕ). PathTo kept 0 path o) (sym (none path)) (λ i p lt at. omega (arith, lt))
 
-pub paths_within : (kept : List Placed) (k n : ℕ) (map : PlaceMap) (path : List ℕ) → k ≤ n → PathsTo kept k map → IfSome (place_of map path) (λ j. j < n)
+pub paths_within : (kept : List Placed) (k n : ℕ) (map : PathMap) (path : List ℕ) → k ≤ n → PathsTo kept k map → IfSome (place_of map path) (λ j. j < n)
 paths_within kept k n map path le all = go (place_of map path) (all path)
   where
     go : (o : Option ℕ) → PathTo kept k path o → IfSome o (λ j. j < n)
     go None h = tt
     go (Some i) h = omega (arith, h.within)
 
-pub paths_done : (kept : List Placed) (k : ℕ) (map : PlaceMap) → length kept ≤ k → PathsTo kept k map → AreLeading kept map
+pub paths_done : (kept : List Placed) (k : ℕ) (map : PathMap) → length kept ≤ k → PathsTo kept k map → AreLeading kept map
 paths_done kept k map le all path = go (place_of map path) (all path)
   where
     go : (o : Option ℕ) → PathTo kept k path o → MatchOption o (IsGiven kept path → ⊥) (λ i. Leads kept path i)
@@ -132,7 +130,7 @@ paths_done kept k map le all path = go (place_of map path) (all path)
     }
 
 -- what is found at a path once an action is counted
-pub counts_as : (kept : List Placed) (old : PlaceMap) (q path key : List ℕ) (i first : ℕ) → key ≡ path → first ≡ first_of kept (place_of old path) i
+pub counts_as : (kept : List Placed) (old : PathMap) (q path key : List ℕ) (i first : ℕ) → key ≡ path → first ≡ first_of kept (place_of old path) i
     → cond (is_same q key) (Some first) (place_of old q) ≡ cond (is_same q path) (Some (first_of kept (place_of old q) i)) (place_of old q)
 counts_as kept old q path key i first at is = ap (λ (p : List ℕ). cond (is_same q p) (Some first) (place_of old q)) at ∙ go (is_same q path) refl
   where

@@ -2,6 +2,7 @@ pub mod Left
 pub mod Given
 pub mod Least
 pub mod Offered
+pub mod PathMaps
 pub mod Counted
 pub mod Fronts
 pub mod Added

@@ -1,59 +1,55 @@
 //! The action that counts at each path.
 
-ghost use Rattle.std.specs.Prelude.{◌≡◌, ◌↔◌, ◌<◌, List, ℕ, Some, IfOk, IfSome, OnOk, IsTrue, length, slice_get, if◌then◌else◌};
+ghost use Rattle.std.specs.Prelude.{◌≡◌, ◌↔◌, ◌||◌, ◌<◌, List, ℕ, Some, IfOk, IfSome, OnOk, IsTrue, length, slice_get, if◌then◌else◌};
 ghost use Rattle.ips_action.specs.Attrs.{is_same};
 ghost use Rattle.ips_conflict.specs.Order.{place_cmp};
 ghost use Rattle.ips_meaning.specs.Places as places;
-ghost use Rattle.ips_meaning.specs.Places.{AreLeading, count_cmp, place_of, rank_of};
+ghost use Rattle.ips_meaning.specs.Places.{count_cmp, has_path, place_of, rank_of};
 
-use crate::attributes::{path_of, takes_place};
+use crate::attributes::takes_place;
 use ips_action::ActionKind;
 use ips_conflict::Placed;
 use std::alloc::{AllocError, Global};
 use std::cmp::Ordering;
 use std::collections::BTreeMap;
 
-/// The place of the action that counts at each path: of files the one that takes the place of others, and else the first by
-/// stem and line.
-pub fn leading(alloc: Global, kept: &[Placed<'_>]) -> Result<BTreeMap<Vec<u8>, usize>, AllocError>
-    ensures { IfOk result (λ found. AreLeading kept.now found) }
-{
-    let mut found = BTreeMap::new(alloc);
-    for (i, item) in kept.iter().enumerate() {
-        if let Some(path) = path_of(item) {
-            count(alloc, kept, &mut found, i, path.as_bytes())?;
-        }
-    }
-    Ok(found)
-}
-
-// Counts an action at its path, where none that was counted there comes before it.
-fn count(
+/// Counts an action at its path, where none that was counted there comes before it: of files the one that takes the place of
+/// others, and else the first by stem and line.
+pub fn count(
     alloc: Global,
     kept: &[Placed<'_>],
-    found: &mut BTreeMap<Vec<u8>, usize>,
+    paths: &mut BTreeMap<Vec<u8>, Option<usize>>,
     i: usize,
     path: &[u8],
 ) -> Result<(), AllocError>
     requires i { i < length kept.now }
-    requires counted { IfSome (place_of found.old path.now) (λ j. j < length kept.now) }
-    ensures { OnOk result ((q : List ℕ) → place_of found.new q ≡ (if is_same q path.now then Some (places.first_of kept.now (place_of found.old q) i) else place_of found.old q)) }
+    requires counted { IfSome (place_of paths.old path.now) (λ j. j < length kept.now) }
+    ensures places { OnOk result ((q : List ℕ) → place_of paths.new q ≡ (if is_same q path.now then Some (places.first_of kept.now (place_of paths.old q) i) else place_of paths.old q)) }
+    ensures paths { OnOk result ((q : List ℕ) → has_path paths.new q ≡ (is_same q path.now || has_path paths.old q)) }
 {
-    let key = Vec::from_slice(alloc, path)?;
-    let Some(j) = found.insert(key, i)? else {
+    let Some(j) = put(alloc, paths, path, i)? else {
         return Ok(());
     };
-    let first = first_of(kept, j, i);
-    let again = Vec::from_slice(alloc, path)?;
-    found.insert(again, first)?;
+    put(alloc, paths, path, first_of(kept, j, i))?;
     Ok(())
 }
 
-/// The place that is counted at a path, where one is.
-pub fn place_at(found: &BTreeMap<Vec<u8>, usize>, path: &[u8]) -> Option<usize>
-    ensures { result ≡ place_of found.now path.now }
+// Puts a place at a path, and gives the one that stood there.
+fn put(
+    alloc: Global,
+    paths: &mut BTreeMap<Vec<u8>, Option<usize>>,
+    path: &[u8],
+    place: usize,
+) -> Result<Option<usize>, AllocError>
+    ensures old { IfOk result (λ old. old ≡ place_of paths.old path.now) }
+    ensures places { OnOk result ((q : List ℕ) → place_of paths.new q ≡ (if is_same q path.now then Some place else place_of paths.old q)) }
+    ensures paths { OnOk result ((q : List ℕ) → has_path paths.new q ≡ (is_same q path.now || has_path paths.old q)) }
 {
-    found.get(path).copied()
+    let key = Vec::from_slice(alloc, path)?;
+    match paths.insert(key, Some(place))? {
+        Some(old) => Ok(old),
+        None => Ok(None),
+    }
 }
 
 // The place that counts of two at one path.

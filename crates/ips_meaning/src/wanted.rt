@@ -7,20 +7,18 @@ ghost use Rattle.std.specs.Ordering.{nat_cmp};
 ghost use Rattle.std.specs.Cmp.Lexicographic.{slice_cmp};
 ghost use Rattle.ips_conflict.specs.declared.placed.Placed as declared;
 ghost use Rattle.ips_text.specs.Path.{IsPath};
-ghost use Rattle.ips_meaning.specs.Places.{AreLeading, IsWantedPath, AreWanted};
+ghost use Rattle.ips_meaning.specs.Places.{AreLeading, AreWanted, IsLeading, IsWantedPath};
 ghost use Rattle.ips_meaning.specs.Want.{IsWanted, IsWantOf};
 ghost use Rattle.ips_meaning.specs.Together.{AreProper, HasProperParts};
 ghost use Rattle.ips_meaning.specs.View.{AreByPath, entries_of, paths_of};
 
 use crate::attributes::{entry_of, parsed};
 use crate::entry::Entry;
-use crate::leading::{leading, place_at};
 use crate::paths::paths;
 use ips_conflict::Placed;
 use ips_text::RelPath;
 use std::alloc::{AllocError, Global};
 use std::cmp::Ordering;
-use std::collections::BTreeMap;
 use std::marker::Model;
 
 /// What an image should hold: an entry for each wanted path. Contracts see it as the list of the paths' bytes and their
@@ -114,11 +112,10 @@ fn entries(alloc: Global, kept: &[Placed<'_>]) -> Result<Vec<Wanted>, AllocError
     ensures proper { IfOk result (λ entries. AreProper (entries_of entries.items)) }
     ensures in_order { IfOk result (λ entries. AreByPath entries.items) }
 {
-    let places = leading(alloc, kept)?;
     let paths = paths(alloc, kept)?;
     let mut entries = Vec::with_capacity(alloc, paths.len())?;
-    for path in paths.iter() {
-        entries.push(wanted_at(alloc, kept, &places, path)?)?;
+    for (path, place) in paths.iter() {
+        entries.push(wanted_at(alloc, kept, *place, path)?)?;
     }
     Ok(entries)
 }
@@ -127,17 +124,17 @@ fn entries(alloc: Global, kept: &[Placed<'_>]) -> Result<Vec<Wanted>, AllocError
 fn wanted_at(
     alloc: Global,
     kept: &[Placed<'_>],
-    places: &BTreeMap<Vec<u8>, usize>,
+    place: Option<usize>,
     path: &[u8],
 ) -> Result<Wanted, AllocError>
-    requires places { AreLeading kept.now places.now }
+    requires place { IsLeading kept.now path.now place }
     requires wanted { IsWantedPath kept.now path.now }
     requires proper { IsPath path.now }
     ensures path { IfOk result (λ wanted. wanted.path.bytes ≡ path.now) }
     ensures entry { IfOk result (λ wanted. IsWanted kept.now path.now wanted.entry) }
     ensures proper { IfOk result (λ wanted. IsPath wanted.path.bytes × HasProperParts wanted.entry) }
 {
-    let entry = entry_at(alloc, kept, places, path)?;
+    let entry = entry_at(alloc, kept, place, path)?;
     let path = parsed(alloc, path)?;
     Ok(Wanted { path, entry })
 }
@@ -145,15 +142,15 @@ fn wanted_at(
 fn entry_at(
     alloc: Global,
     kept: &[Placed<'_>],
-    places: &BTreeMap<Vec<u8>, usize>,
+    place: Option<usize>,
     path: &[u8],
 ) -> Result<Entry, AllocError>
-    requires places { AreLeading kept.now places.now }
+    requires place { IsLeading kept.now path.now place }
     requires wanted { IsWantedPath kept.now path.now }
     ensures entry { IfOk result (λ entry. IsWanted kept.now path.now entry) }
     ensures proper { IfOk result (λ entry. HasProperParts entry) }
 {
-    match place_at(places, path) {
+    match place {
         Some(i) => Ok(entry_of(alloc, kept[i].action())?),
         None => Ok(Entry::Dir { mode: None }),
     }
