@@ -102,7 +102,8 @@ fn has_earlier(earlier: &[Nogood], number: u32, set: &[Pair], more: Pair) -> boo
     number < earlier.len() && is_within(&earlier[number].set, set, more)
 }
 
-fn explains<P: Puzzle>(
+/// Whether the set with the pair `more` breaks the test, or contains the set of the earlier nogood.
+pub fn explains<P: Puzzle>(
     puzzle: &P,
     earlier: &[Nogood],
     set: &[Pair],
@@ -144,7 +145,8 @@ fn explains_each<P: Puzzle>(
     true
 }
 
-fn is_nogood<P: Puzzle>(puzzle: &P, earlier: &[Nogood], nogood: &Nogood) -> bool
+/// Whether the nogood follows from the puzzle and from these nogoods.
+pub fn is_nogood<P: Puzzle>(puzzle: &P, earlier: &[Nogood], nogood: &Nogood) -> bool
     ensures { IsTrue result ↔ IsNogood (P.meaning puzzle.now) earlier.now nogood.now }
 {
     are_offered(puzzle, &nogood.set)
