@@ -1,6 +1,6 @@
 //! The checker of refutations.
 
-ghost use Rattle.std.specs.Prelude.{◌≡◌, ℕ, ◌+◌, ◌<◌, ◌≤◌, ◌≢◌, ◌↔◌, ◌∷◌, All, Contains, IfNone, IfSome, IsTrue, length};
+ghost use Rattle.std.specs.Prelude.{◌≡◌, ℕ, ◌+◌, ◌<◌, ◌≤◌, ◌≢◌, ◌↔◌, ◌∷◌, All, Contains, IfNone, IfSome, IsTrue, length, true};
 ghost use Rattle.ips_refute.specs.Meaning.{Meaning, Within, OnePerStem, IsOffered, HasNoChoice};
 ghost use Rattle.ips_refute.specs.Refuting.{ContainsEarlier, Explains, ExplainsEach, IsNogood, AreNogoods, EndsEmpty, IsRefutation};
 
@@ -118,6 +118,20 @@ pub fn explains<P: Puzzle>(
         Reason::Test(test) => test < puzzle.tests() && puzzle.broken(test, set, more),
         Reason::Earlier(number) => has_earlier(earlier, number, set, more),
     }
+}
+
+/// Whether the set with the pair `more` breaks the test. It may be any set: one that isn't of pairs of the puzzle, one per stem,
+/// breaks none.
+pub fn is_broken<P: Puzzle>(puzzle: &P, test: u32, set: &[Pair], more: Pair) -> bool
+    ensures { IsTrue result → (test < (P.meaning puzzle.now).tests) × ((P.meaning puzzle.now).breaks test (more ∷ set.now) ≡ true) }
+{
+    test < puzzle.tests()
+        && more.stem < puzzle.stems()
+        && more.candidate < puzzle.candidates(more.stem)
+        && are_offered(puzzle, set)
+        && is_free(set, more.stem)
+        && has_one_per_stem(set)
+        && puzzle.broken(test, set, more)
 }
 
 fn explains_each<P: Puzzle>(

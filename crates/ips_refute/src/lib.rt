@@ -17,7 +17,7 @@ mod runs;
 mod table;
 
 pub use ascending::ascend;
-pub use checking::{check, explains, is_nogood, refutes};
+pub use checking::{check, explains, is_broken, is_nogood, refutes};
 pub use nogoods::{Nogood, Pair, Reason, Refutation, refutations_read_back};
 pub use puzzle::{Hint, Puzzle};
 pub use reading::BadLine;
