@@ -7,12 +7,19 @@ ghost use Rattle.ips_search.specs.Searching.{IsSearching, IsCounted, IsGuide};
 ghost use Rattle.ips_search.specs.Answer.{IsAnswer};
 
 use crate::advice::{Advice, Adviser};
+use crate::ahead::Ahead;
 use crate::chains::{Chains, index_tests};
 use crate::pruning::prune;
 use crate::state::{Found, Guide, Level, State};
 use crate::steps::{advance, proceed};
 use ips_refute::{Pair, Puzzle, Refutation};
 use std::alloc::{AllocError, Global};
+
+// How many candidates a search tries before an engine looks ahead of it.
+const SMALL: u32 = 64;
+
+// How many beginnings of the limit stand for a conflict of the engine.
+const PER_CONFLICT: u64 = 8;
 
 // Who says nothing.
 #[derive(Drop)]
@@ -86,12 +93,8 @@ fn into_refutation(alloc: Global, state: State) -> Result<Refutation, AllocError
 pub fn solve<P: Puzzle>(alloc: Global, puzzle: &P, limit: u64) -> Result<Found, AllocError>
     ensures { IfOk result (λ found. IsAnswer (P.meaning puzzle.now) limit found) }
 {
-    let guide = Guide {
-        learns: true,
-        tests: index_tests(alloc, puzzle)?,
-    };
-    let learned = Chains::new(alloc, puzzle.stems())?;
-    search(alloc, puzzle, &mut Silent, &guide, learned, limit)
+    let mut ahead = Ahead::new(puzzle, SMALL, limit / PER_CONFLICT);
+    solve_advised(alloc, puzzle, &mut ahead, limit)
 }
 
 /// The same with an adviser, of whom nothing is asked.
