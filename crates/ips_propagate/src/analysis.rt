@@ -77,18 +77,19 @@ fn explain(known: &Known, set: &mut Gathered, literal: u32) -> Result<Reason, Al
     let board = &known.board;
     let tables = &known.tables;
     match board.why(literal) {
-        Why::Test(test) => {
-            let own = at(&tables.own, test);
+        Why::Test(place) => {
+            let own = tables.own_at(place);
             if own == literal {
-                add(board, set, board.value(at(&tables.other, test)))?;
+                add(board, set, tables.bad_at(place))?;
             } else {
                 add(board, set, own)?;
             }
-            Ok(Reason::Test(at(&tables.number, test)))
+            Ok(Reason::Test(tables.number_at(place)))
         }
         Why::Support(test) => {
-            add(board, set, board.value(at(&tables.other, test)))?;
-            Ok(Reason::Test(at(&tables.number, test)))
+            let value = board.value(at(&tables.other, test));
+            add(board, set, value)?;
+            Ok(Reason::Test(tables.number_at(tables.bad_place(test, value))))
         }
         Why::Wide(wide) => {
             add_values(board, set, tables.stems(wide), board.stem(literal))?;
@@ -121,9 +122,8 @@ fn unsupported(known: &Known, literal: u32) -> Option<u32> {
 fn unsupported_below(known: &Known, literal: u32) -> Option<u32> {
     let test = unsupported(known, literal)?;
     let other = at(&known.tables.other, test);
-    let bads = known.tables.bads(test);
     for good in known.board.first(other)..known.board.end(other) {
-        if unsupported(known, good).is_some() && !bads.contains(&good) {
+        if unsupported(known, good).is_some() && known.tables.bad_place(test, good) == NONE {
             return Some(good);
         }
     }
@@ -141,10 +141,11 @@ fn support_line(
     add(&known.board, inner, literal)?;
     let other = at(&known.tables.other, test);
     for good in known.board.first(other)..known.board.end(other) {
-        let reason = if known.tables.bads(test).contains(&good) {
-            Reason::Test(at(&known.tables.number, test))
-        } else {
+        let place = known.tables.bad_place(test, good);
+        let reason = if place == NONE {
             explain(known, inner, good)?
+        } else {
+            Reason::Test(known.tables.number_at(place))
         };
         known.lines.add_reason(reason)?;
     }

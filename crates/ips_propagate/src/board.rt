@@ -12,7 +12,8 @@ pub enum Why {
     Left,
     /// Another candidate of its stem was decided on.
     Decided,
-    /// It and a chosen pair break this test of two stems.
+    /// It and a chosen pair break a test of two stems: it is the test's own and that is the bad literal at this place, or the other
+    /// way round.
     Test(u32),
     /// It is the test's own, and no candidate is left that the test takes.
     Support(u32),

@@ -18,9 +18,8 @@ pub struct Watches {
 // A literal of the test's other stem that is left and that it takes.
 fn good_left(board: &Board, tables: &Tables, test: u32) -> u32 {
     let other = at(&tables.other, test);
-    let bads = tables.bads(test);
     for literal in board.first(other)..board.end(other) {
-        if board.is_left(literal) && !bads.contains(&literal) {
+        if board.is_left(literal) && tables.bad_place(test, literal) == NONE {
             return literal;
         }
     }
@@ -29,9 +28,9 @@ fn good_left(board: &Board, tables: &Tables, test: u32) -> u32 {
 
 // The bad literals of a test whose own literal became true go.
 fn strike_bads(known: &mut Known, test: u32) -> Option<Clash> {
-    let why = Why::Test(test);
-    for literal in known.tables.bads(test) {
-        let literal = *literal;
+    for place in known.tables.start(test)..known.tables.start(test.saturating_add(1)) {
+        let literal = known.tables.bad_at(place);
+        let why = Why::Test(place);
         if !known.board.remove(literal, why) {
             return Some(Clash { literal, why });
         }
@@ -62,9 +61,8 @@ fn spread_bad(known: &mut Known, literal: u32) -> Option<Clash> {
         if place == NONE {
             break;
         }
-        let test = known.tables.test_at(place);
-        let why = Why::Test(test);
-        let literal = at(&known.tables.own, test);
+        let why = Why::Test(place);
+        let literal = known.tables.own_at(place);
         if !known.board.remove(literal, why) {
             return Some(Clash { literal, why });
         }

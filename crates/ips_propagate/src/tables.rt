@@ -1,22 +1,22 @@
 //! What the tests take, asked once.
 
 use crate::board::Board;
-use crate::numbers::{Chains, NONE, at, counted};
+use crate::numbers::{Chains, NONE, at, counted, put};
 use ips_refute::{Hint, Pair, Puzzle, is_broken};
 use std::alloc::{AllocError, Global};
 
 /// The tests. Those of two stems are broken by a literal of their own and the bad literals of the other stem; the others are wide.
 #[derive(Drop)]
 pub struct Tables {
-    /// By test of two stems: its own literal, the other stem, its number in the puzzle, and where its bad literals begin (with one
-    /// more at the end).
+    /// By test of two stems: its own literal, the other stem, and where its bad literals begin (with one more at the end). Tests of
+    /// the puzzle that stand in a row and have both in common are one.
     pub own: Vec<u32>,
     pub other: Vec<u32>,
-    pub number: Vec<u32>,
     starts: Vec<u32>,
     bads: Vec<u32>,
-    // By place in `bads`, the test.
+    // By place in `bads`, the test, and its number in the puzzle.
     bad_tests: Vec<u32>,
+    bad_numbers: Vec<u32>,
     by_own: Chains,
     by_bad: Chains,
     /// By wide test: its number in the puzzle, its own literal where it has one, and where its stems begin.
@@ -57,10 +57,10 @@ impl Tables {
         let mut tables = Tables {
             own: Vec::new(alloc),
             other: Vec::new(alloc),
-            number: Vec::new(alloc),
             starts: Vec::new(alloc),
             bads: Vec::new(alloc),
             bad_tests: Vec::new(alloc),
+            bad_numbers: Vec::new(alloc),
             by_own: Chains::new(alloc, literals)?,
             by_bad: Chains::new(alloc, literals)?,
             wide_number: Vec::new(alloc),
@@ -121,27 +121,45 @@ impl Tables {
         own: Pair,
         other: u32,
     ) -> Result<(), AllocError> {
-        let narrow = counted(self.own.len())?;
+        let literal = board.literal(own);
+        let narrow = self.narrow_of(literal, other)?;
         let before = self.bads.len();
-        for literal in board.first(other)..board.end(other) {
-            if is_broken(puzzle, test, &[own], board.pair(literal)) {
-                let place = counted(self.bads.len())?;
-                self.bads.push(literal)?;
-                self.bad_tests.push(narrow)?;
-                self.by_bad.grow()?;
-                self.by_bad.put(literal, place);
+        for bad in board.first(other)..board.end(other) {
+            if is_broken(puzzle, test, &[own], board.pair(bad))
+                && self.bad_place(narrow, bad) == NONE
+            {
+                self.add_bad(narrow, bad, test)?;
             }
         }
-        if self.bads.len() == before {
-            return Ok(());
+        let end = counted(self.bads.len())?;
+        if self.bads.len() > before && narrow as usize == self.own.len() {
+            self.own.push(literal)?;
+            self.other.push(other)?;
+            self.starts.push(end)?;
+            self.by_own.grow()?;
+            self.by_own.put(literal, narrow);
         }
-        let literal = board.literal(own);
-        self.own.push(literal)?;
-        self.other.push(other)?;
-        self.number.push(test)?;
-        self.starts.push(counted(self.bads.len())?)?;
-        self.by_own.grow()?;
-        self.by_own.put(literal, narrow);
+        put(&mut self.starts, narrow.saturating_add(1), end);
+        Ok(())
+    }
+
+    // The last test, where it has these in common, or the number of the next one.
+    fn narrow_of(&self, literal: u32, other: u32) -> Result<u32, AllocError> {
+        let next = counted(self.own.len())?;
+        let last = next.wrapping_sub(1);
+        if at(&self.own, last) == literal && at(&self.other, last) == other {
+            return Ok(last);
+        }
+        Ok(next)
+    }
+
+    fn add_bad(&mut self, narrow: u32, bad: u32, test: u32) -> Result<(), AllocError> {
+        let place = counted(self.bads.len())?;
+        self.bads.push(bad)?;
+        self.bad_tests.push(narrow)?;
+        self.bad_numbers.push(test)?;
+        self.by_bad.grow()?;
+        self.by_bad.put(bad, place);
         Ok(())
     }
 
@@ -174,14 +192,34 @@ impl Tables {
         self.by_bad.after(place)
     }
 
-    /// The test at a place of the bad literals.
-    pub fn test_at(&self, place: u32) -> u32 {
-        at(&self.bad_tests, place)
+    /// The own literal of the test at a place of the bad literals.
+    pub fn own_at(&self, place: u32) -> u32 {
+        at(&self.own, at(&self.bad_tests, place))
     }
 
-    /// The bad literals of a test of two stems.
-    pub fn bads(&self, test: u32) -> &[u32] {
-        between(&self.bads, &self.starts, test)
+    /// The literal at a place of the bad ones.
+    pub fn bad_at(&self, place: u32) -> u32 {
+        at(&self.bads, place)
+    }
+
+    /// The number in the puzzle of the test at a place of the bad literals.
+    pub fn number_at(&self, place: u32) -> u32 {
+        at(&self.bad_numbers, place)
+    }
+
+    /// Where the bad literals of a test of two stems begin.
+    pub fn start(&self, test: u32) -> u32 {
+        at(&self.starts, test)
+    }
+
+    /// The place of a literal among the bad ones of a test; `NONE` where the test takes it.
+    pub fn bad_place(&self, test: u32, literal: u32) -> u32 {
+        for place in self.start(test)..self.start(test.saturating_add(1)) {
+            if at(&self.bads, place) == literal {
+                return place;
+            }
+        }
+        NONE
     }
 
     /// The stems of a wide test, ascending.
