@@ -214,10 +214,12 @@ impl Tables {
 
     /// The place of a literal among the bad ones of a test; `NONE` where the test takes it.
     pub fn bad_place(&self, test: u32, literal: u32) -> u32 {
-        for place in self.start(test)..self.start(test.saturating_add(1)) {
-            if at(&self.bads, place) == literal {
+        let mut place = self.start(test);
+        for bad in between(&self.bads, &self.starts, test) {
+            if *bad == literal {
                 return place;
             }
+            place = place.saturating_add(1);
         }
         NONE
     }
