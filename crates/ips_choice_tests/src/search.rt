@@ -1,8 +1,8 @@
 use crate::puzzle::{Case, case_of, table_of};
 use crate::table::{Ask, columns, holds};
-use ips_refute::{Table, check};
-use ips_search::{Found, backtrack, solve};
-use std::alloc::Global;
+use ips_refute::{Nogood, Pair, Reason, Table, check};
+use ips_search::{Advice, Adviser, Ahead, Failure, Found, backtrack, solve, solve_advised};
+use std::alloc::{AllocError, Global};
 use std::process::Abort;
 
 // What is found, as a text: the candidates, the refutation where `check` accepts it, or that the limit was spent.
@@ -75,6 +75,82 @@ fn both_searches_find_the_best_choice_or_a_refutation(rt: HostRuntime) {
         2 2 0 | 2 -> refutation 2¶- | 2 | -¶ / spent
     ";
     holds(&rt, rt.alloc(), &mut Searches {}, 11, table)
+}
+
+// Who says of one candidate of the first stem that it leaves the third stem none, by test 0.
+#[derive(Drop)]
+struct One {
+    candidate: u32,
+}
+
+impl Adviser for One {
+    fn advise(
+        &mut self,
+        alloc: Global,
+        choice: &[u32],
+        more: Pair,
+        known: usize,
+    ) -> Result<Advice, AllocError> {
+        let mut lines = Vec::new(alloc);
+        if !choice.is_empty() || more.candidate != self.candidate || known > u32::MAX as usize {
+            return Ok(Advice {
+                lines,
+                failure: None,
+            });
+        }
+        let mut set = Vec::new(alloc);
+        set.push(more)?;
+        let mut reasons = Vec::new(alloc);
+        reasons.push(Reason::Test(0))?;
+        lines.push(Nogood {
+            set,
+            stem: 2,
+            reasons,
+        })?;
+        let failure = Failure {
+            reason: Reason::Earlier(known as u32),
+            core: Vec::new(alloc),
+        };
+        Ok(Advice {
+            lines,
+            failure: Some(failure),
+        })
+    }
+}
+
+// What is found with advice on each of two candidates: one that is so, and one that isn't.
+#[derive(Drop)]
+struct Advised {}
+
+impl Ask for Advised {
+    fn answer(&mut self, rt: &impl Abort, alloc: Global, question: &str) -> String {
+        let (puzzle, limit) = columns(question);
+        let puzzle = table_of(rt, alloc, &case_of(rt, alloc, puzzle));
+        let limit = limit.parse::<u64>().ok().expect(rt, "a number or a path");
+        let mut first = One { candidate: 0 };
+        let told = solve_advised(alloc, &puzzle, &mut first, limit)
+            .ok()
+            .expect(rt, "an answer");
+        let told = shown(rt, alloc, &puzzle, told);
+        let mut second = One { candidate: 1 };
+        let misled = solve_advised(alloc, &puzzle, &mut second, limit)
+            .ok()
+            .expect(rt, "an answer");
+        let misled = shown(rt, alloc, &puzzle, misled);
+        format!(in alloc; "{told} / {misled}").expect(rt, "memory")
+    }
+}
+
+#[test]
+fn good_advice_saves_beginnings_and_bad_advice_changes_nothing(rt: HostRuntime) {
+    let table = "
+        # `x` at 2 excludes `z`; between them `y` has nine versions. Unadvised it takes a limit of 5.
+        2 9 1; 0.0 2.0 | 2 -> spent / spent
+        2 9 1; 0.0 2.0 | 3 -> chosen 1 0 0 / spent
+        2 9 1; 0.0 2.0 | 4 -> chosen 1 0 0 / spent
+        2 9 1; 0.0 2.0 | 5 -> chosen 1 0 0 / chosen 1 0 0
+    ";
+    holds(&rt, rt.alloc(), &mut Advised {}, 4, table)
 }
 
 // Numbers that look like chance (xorshift).
@@ -218,6 +294,20 @@ fn both_searches_agree_with_an_enumeration(rt: HostRuntime) {
         assert!(rt;
             plain.as_str() == wanted.as_str(),
             "{round}: {plain} for {wanted}"
+        );
+        // An engine that looks ahead from the first candidate on.
+        let mut ahead = Ahead::new(&puzzle, 0, 1_000);
+        let ahead = told(
+            &rt,
+            alloc,
+            &puzzle,
+            solve_advised(alloc, &puzzle, &mut ahead, 1_000)
+                .ok()
+                .expect(&rt, "an answer"),
+        );
+        assert!(rt;
+            ahead.as_str() == wanted.as_str(),
+            "{round}: {ahead} for {wanted}"
         );
         // Under a small limit the answer is the same, or none.
         let early = told(

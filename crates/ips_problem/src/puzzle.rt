@@ -12,7 +12,7 @@ use crate::picked::{Picked, candidate, decides_all};
 use crate::problem::Problem;
 use crate::rows::{Numbered, Row};
 use indexmap::IndexSet;
-use ips_refute::{Pair, Puzzle};
+use ips_refute::{Hint, Pair, Puzzle};
 
 impl Puzzle for Problem {
     ghost meaning = { λ p. meaning_of (posed_of p) };
@@ -44,6 +44,17 @@ impl Puzzle for Problem {
             return false;
         }
         fails(&self.stems, &self.rows, numbered, set, more)
+    }
+
+    fn hint(&self, test: u32, place: u32) -> Option<Hint> {
+        let numbers = self.numbers.get(test as usize)?;
+        let stem = *numbers.stems.get(place as usize)?;
+        let numbered = self.tests.get(test as usize)?;
+        let own = place == 0 && stem == numbered.stem;
+        Some(Hint {
+            stem,
+            candidate: if own { Some(numbered.candidate) } else { None },
+        })
     }
 }
 

@@ -1,6 +1,6 @@
 //! The checker of refutations.
 
-ghost use Rattle.std.specs.Prelude.{◌≡◌, ℕ, ◌+◌, ◌<◌, ◌≤◌, ◌≢◌, ◌↔◌, ◌∷◌, All, Contains, IfNone, IfSome, IsTrue, length};
+ghost use Rattle.std.specs.Prelude.{◌≡◌, ℕ, ◌+◌, ◌<◌, ◌≤◌, ◌≢◌, ◌↔◌, ◌∷◌, All, Contains, IfNone, IfSome, IsTrue, length, true};
 ghost use Rattle.ips_refute.specs.Meaning.{Meaning, Within, OnePerStem, IsOffered, HasNoChoice};
 ghost use Rattle.ips_refute.specs.Refuting.{ContainsEarlier, Explains, ExplainsEach, IsNogood, AreNogoods, EndsEmpty, IsRefutation};
 
@@ -102,7 +102,8 @@ fn has_earlier(earlier: &[Nogood], number: u32, set: &[Pair], more: Pair) -> boo
     number < earlier.len() && is_within(&earlier[number].set, set, more)
 }
 
-fn explains<P: Puzzle>(
+/// Whether the set with the pair `more` breaks the test, or contains the set of the earlier nogood.
+pub fn explains<P: Puzzle>(
     puzzle: &P,
     earlier: &[Nogood],
     set: &[Pair],
@@ -117,6 +118,20 @@ fn explains<P: Puzzle>(
         Reason::Test(test) => test < puzzle.tests() && puzzle.broken(test, set, more),
         Reason::Earlier(number) => has_earlier(earlier, number, set, more),
     }
+}
+
+/// Whether the set with the pair `more` breaks the test. It may be any set: one that isn't of pairs of the puzzle, one per stem,
+/// breaks none.
+pub fn is_broken<P: Puzzle>(puzzle: &P, test: u32, set: &[Pair], more: Pair) -> bool
+    ensures { IsTrue result → (test < (P.meaning puzzle.now).tests) × ((P.meaning puzzle.now).breaks test (more ∷ set.now) ≡ true) }
+{
+    test < puzzle.tests()
+        && more.stem < puzzle.stems()
+        && more.candidate < puzzle.candidates(more.stem)
+        && are_offered(puzzle, set)
+        && is_free(set, more.stem)
+        && has_one_per_stem(set)
+        && puzzle.broken(test, set, more)
 }
 
 fn explains_each<P: Puzzle>(
@@ -144,7 +159,8 @@ fn explains_each<P: Puzzle>(
     true
 }
 
-fn is_nogood<P: Puzzle>(puzzle: &P, earlier: &[Nogood], nogood: &Nogood) -> bool
+/// Whether the nogood follows from the puzzle and from these nogoods.
+pub fn is_nogood<P: Puzzle>(puzzle: &P, earlier: &[Nogood], nogood: &Nogood) -> bool
     ensures { IsTrue result ↔ IsNogood (P.meaning puzzle.now) earlier.now nogood.now }
 {
     are_offered(puzzle, &nogood.set)

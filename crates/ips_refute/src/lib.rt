@@ -16,8 +16,9 @@ mod reading;
 mod runs;
 mod table;
 
-pub use checking::{check, refutes};
+pub use ascending::ascend;
+pub use checking::{check, explains, is_broken, is_nogood, refutes};
 pub use nogoods::{Nogood, Pair, Reason, Refutation, refutations_read_back};
-pub use puzzle::Puzzle;
+pub use puzzle::{Hint, Puzzle};
 pub use reading::BadLine;
 pub use table::{Rule, Table};

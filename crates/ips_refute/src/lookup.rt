@@ -6,7 +6,7 @@ ghost use Rattle.ips_refute.specs.Table.{EndBelow, all_chosen, breaks_rule, chos
 ghost use Rattle.ips_refute.specs.Laws.{table_lawful};
 
 use crate::nogoods::Pair;
-use crate::puzzle::Puzzle;
+use crate::puzzle::{Hint, Puzzle};
 use crate::table::{Rule, Table};
 
 impl Table {
@@ -57,6 +57,18 @@ impl Puzzle for Table {
 
     fn broken(&self, test: u32, set: &[Pair], more: Pair) -> bool {
         breaks(&self.rules[test as usize], set, more)
+    }
+
+    fn hint(&self, test: u32, place: u32) -> Option<Hint> {
+        let rule = self.rules.get(test as usize)?;
+        let pair = match place.checked_sub(1) {
+            None => rule.last,
+            Some(other) => *rule.others.get(other as usize)?,
+        };
+        Some(Hint {
+            stem: pair.stem,
+            candidate: Some(pair.candidate),
+        })
     }
 }
 

@@ -5,6 +5,16 @@ ghost use Rattle.ips_refute.specs.Meaning.{Meaning, Lawful, OnePerStem, IsOffere
 
 use crate::nogoods::Pair;
 
+/// What a search may want to know of a test beforehand: one of its stems and, where the test is broken with one candidate of that
+/// stem alone, this candidate.
+#[derive(Clone, Copy)]
+pub struct Hint {
+    /// The number of the stem.
+    pub stem: u32,
+    /// The number of the only candidate, where there is one.
+    pub candidate: Option<u32>,
+}
+
 /// A puzzle: one candidate is sought for each stem such that no test is broken. Stems, the candidates of each stem and tests are
 /// named by numbers from 0. A test is a fact about the candidates of some stems.
 pub trait Puzzle {
@@ -36,6 +46,10 @@ pub trait Puzzle {
         requires offered { All (IsOffered (meaning self.now)) (more ∷ set.now) }
         requires one_per_stem { OnePerStem (more ∷ set.now) }
         ensures { result ≡ (meaning self.now).breaks test (more ∷ set.now) };
+
+    /// The stems of a test, one by its place from 0 on; None behind the last. It says where to look and is believed by nobody:
+    /// nothing is promised of it.
+    fn hint(&self, test: u32, place: u32) -> Option<Hint>;
 
     ghost lawful: { (it : Self) → Lawful (meaning it) };
 }

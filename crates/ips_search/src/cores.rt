@@ -42,7 +42,8 @@ fn is_with_choice(set: &[Pair], chosen: &[Pair], more: Pair) -> bool
     }
 }
 
-fn are_chosen(few: &[Pair], chosen: &[Pair]) -> bool
+/// Whether the choice has these pairs.
+pub fn are_chosen(few: &[Pair], chosen: &[Pair]) -> bool
     ensures { IsTrue result → Within few.now chosen.now }
 {
     for q in few {

@@ -6,12 +6,39 @@ ghost use Rattle.ips_refute.specs.Refuting.{IsTidyRefutation};
 ghost use Rattle.ips_search.specs.Searching.{IsSearching, IsCounted, IsGuide};
 ghost use Rattle.ips_search.specs.Answer.{IsAnswer};
 
+use crate::advice::{Advice, Adviser};
+use crate::ahead::Ahead;
 use crate::chains::{Chains, index_tests};
 use crate::pruning::prune;
 use crate::state::{Found, Guide, Level, State};
 use crate::steps::{advance, proceed};
-use ips_refute::{Puzzle, Refutation};
+use ips_refute::{Pair, Puzzle, Refutation};
 use std::alloc::{AllocError, Global};
+
+// How many candidates a search tries before an engine looks ahead of it.
+const SMALL: u32 = 64;
+
+// How many beginnings of the limit stand for a conflict of the engine.
+const PER_CONFLICT: u64 = 8;
+
+// Who says nothing.
+#[derive(Drop)]
+struct Silent;
+
+impl Adviser for Silent {
+    fn advise(
+        &mut self,
+        alloc: Global,
+        _choice: &[u32],
+        _more: Pair,
+        _known: usize,
+    ) -> Result<Advice, AllocError> {
+        Ok(Advice {
+            lines: Vec::new(alloc),
+            failure: None,
+        })
+    }
+}
 
 fn start<P: Puzzle>(alloc: Global, _puzzle: &P) -> State
     ensures searching { IsSearching (P.meaning _puzzle.now) result }
@@ -66,12 +93,25 @@ fn into_refutation(alloc: Global, state: State) -> Result<Refutation, AllocError
 pub fn solve<P: Puzzle>(alloc: Global, puzzle: &P, limit: u64) -> Result<Found, AllocError>
     ensures { IfOk result (λ found. IsAnswer (P.meaning puzzle.now) limit found) }
 {
+    let mut ahead = Ahead::new(puzzle, SMALL, limit / PER_CONFLICT);
+    solve_advised(alloc, puzzle, &mut ahead, limit)
+}
+
+/// The same with an adviser, of whom nothing is asked.
+pub fn solve_advised<P: Puzzle, A: Adviser>(
+    alloc: Global,
+    puzzle: &P,
+    adviser: &mut A,
+    limit: u64,
+) -> Result<Found, AllocError>
+    ensures { IfOk result (λ found. IsAnswer (P.meaning puzzle.now) limit found) }
+{
     let guide = Guide {
         learns: true,
         tests: index_tests(alloc, puzzle)?,
     };
     let learned = Chains::new(alloc, puzzle.stems())?;
-    search(alloc, puzzle, &guide, learned, limit)
+    search(alloc, puzzle, adviser, &guide, learned, limit)
 }
 
 /// The same by plain backtracking: all candidates are tried in order, and a stem without a candidate left leads back to the stem
@@ -84,12 +124,13 @@ pub fn backtrack<P: Puzzle>(alloc: Global, puzzle: &P, limit: u64) -> Result<Fou
         tests: Chains::new(alloc, 0)?,
     };
     let learned = Chains::new(alloc, 0)?;
-    search(alloc, puzzle, &guide, learned, limit)
+    search(alloc, puzzle, &mut Silent, &guide, learned, limit)
 }
 
-fn search<P: Puzzle>(
+fn search<P: Puzzle, A: Adviser>(
     alloc: Global,
     puzzle: &P,
+    adviser: &mut A,
     guide: &Guide,
     mut learned: Chains,
     limit: u64,
@@ -103,7 +144,7 @@ fn search<P: Puzzle>(
         if state.choice.len() == stems {
             return Ok(Found::Chosen(into_choice(state)));
         }
-        let found = proceed(alloc, puzzle, guide, &mut learned, &mut state)?;
+        let found = proceed(alloc, puzzle, adviser, guide, &mut learned, &mut state)?;
         if !found {
             let refutation = into_refutation(alloc, state)?;
             return Ok(Found::Refuted(refutation));
@@ -113,7 +154,7 @@ fn search<P: Puzzle>(
     if state.choice.len() == stems {
         return Ok(Found::Chosen(into_choice(state)));
     }
-    let found = proceed(alloc, puzzle, guide, &mut learned, &mut state)?;
+    let found = proceed(alloc, puzzle, adviser, guide, &mut learned, &mut state)?;
     if !found {
         let refutation = into_refutation(alloc, state)?;
         return Ok(Found::Refuted(refutation));

@@ -5,6 +5,7 @@ ghost use Rattle.ips_refute.specs.Meaning.{Ascends, IsBeginning, Within};
 ghost use Rattle.ips_search.specs.Searching.{IsSearching, IsGuide, IsCore, IsJudged, Rejected, Settled, Retreated, Restored, Moved, Advanced, place, next_pair, top_nogood};
 ghost use Rattle.ips_search.specs.Indexing.{IsIndexed};
 
+use crate::advice::{Adviser, consult, is_failure};
 use crate::chains::Chains;
 use crate::cores::{core, failing, failing_plainly, kept, kept_core};
 use crate::sets::union;
@@ -62,6 +63,31 @@ fn judge<P: Puzzle>(
     judge_by_tests(alloc, puzzle, &guide.tests, state, more)
 }
 
+// The same, where an adviser says why it may fail.
+fn judge_advised<P: Puzzle>(
+    alloc: Global,
+    puzzle: &P,
+    guide: &Guide,
+    learned: &Chains,
+    state: &State,
+    more: Pair,
+    proposed: Option<Failure>,
+) -> Result<Option<Failure>, AllocError>
+    requires guide { IsGuide (P.meaning puzzle.now) guide.now }
+    requires searching { IsSearching (P.meaning puzzle.now) state.now }
+    requires next { more ≡ next_pair state.now }
+    requires room { more.stem < (P.meaning puzzle.now).stems }
+    requires offered { more.candidate < (P.meaning puzzle.now).candidates more.stem }
+    ensures { IfOk result (λ judged. IsJudged (P.meaning puzzle.now) state.now judged) }
+{
+    if let Some(failure) = proposed {
+        if is_failure(puzzle, state, more, &failure) {
+            return Ok(Some(failure));
+        }
+    }
+    judge(alloc, puzzle, guide, learned, state, more)
+}
+
 // Whether a test that ends at the stem of the new pair is broken, and on which pairs that rests.
 fn judge_by_tests<P: Puzzle>(
     alloc: Global,
@@ -115,11 +141,12 @@ fn judge_plainly<P: Puzzle>(
 }
 
 // Tries the candidates of the stem that come next, up to one that breaks no test.
-fn settle<P: Puzzle>(
+fn settle<P: Puzzle, A: Adviser>(
     alloc: Global,
     puzzle: &P,
+    adviser: &mut A,
     guide: &Guide,
-    learned: &Chains,
+    learned: &mut Chains,
     state: &mut State,
 ) -> Result<bool, AllocError>
     requires guide { IsGuide (P.meaning puzzle.now) guide.now }
@@ -132,14 +159,9 @@ fn settle<P: Puzzle>(
     let count = puzzle.candidates(stem);
     let first = state.top.reasons.len() as u32;
     for candidate in first..count {
-        let judged = judge(
-            alloc,
-            puzzle,
-            guide,
-            learned,
-            state,
-            Pair { stem, candidate },
-        )?;
+        let more = Pair { stem, candidate };
+        let proposed = consult(alloc, puzzle, adviser, learned, state, more)?;
+        let judged = judge_advised(alloc, puzzle, guide, learned, state, more, proposed)?;
         match judged {
             None => return Ok(true),
             Some(Failure { reason, core }) => reject(alloc, puzzle, state, &core, reason)?,
@@ -258,9 +280,10 @@ fn retreat<P: Puzzle>(
 }
 
 // Goes to the next beginning; at none, false: refuted.
-pub fn proceed<P: Puzzle>(
+pub fn proceed<P: Puzzle, A: Adviser>(
     alloc: Global,
     puzzle: &P,
+    adviser: &mut A,
     guide: &Guide,
     learned: &mut Chains,
     state: &mut State,
@@ -271,7 +294,7 @@ pub fn proceed<P: Puzzle>(
     ensures { IfOk result (λ found. Moved (P.meaning puzzle.now) state.old state.new found) }
 {
     'hunt: loop {
-        let found = settle(alloc, puzzle, guide, learned, state)?;
+        let found = settle(alloc, puzzle, adviser, guide, learned, state)?;
         if found {
             return Ok(true);
         }
