@@ -1,0 +1,6 @@
+pub mod Table
+pub mod Values
+pub mod Reading
+pub mod Meaning
+pub mod History
+pub mod Command
