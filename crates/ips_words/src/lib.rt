@@ -6,6 +6,7 @@
 
 mod command;
 mod gather;
+mod helping;
 mod history;
 mod lines;
 mod making;
@@ -14,6 +15,7 @@ mod values;
 mod what;
 
 pub use command::{Command, roots};
+pub use helping::help;
 pub use history::history_reads_back;
 pub use table::{Form, Operands, Role, Verb, Why};
 pub use values::{FacetWord, Given, Value, VariantWord};
