@@ -83,9 +83,9 @@ pattern_of (Some (value.Pattern p)) = p
 pattern_of v = record { publisher = None; anchored = false; stem = []; version = None }
 
 -- A value's variant, or the empty one.
-abbrev pub variant_of : Option Value → VariantWord
-variant_of (Some (value.Variant v)) = v
-variant_of v = record { name = []; value = [] }
+abbrev pub variant_or_empty : Option Value → VariantWord
+variant_or_empty (Some (value.Variant v)) = v
+variant_or_empty v = record { name = []; value = [] }
 
 -- What an option says of stickiness.
 abbrev pub stickiness : Role → Option Bool
@@ -170,7 +170,7 @@ IsGiven given (what.Update patterns reject accept limit) = (patterns.items ≡ a
     × (accept ≡ stands Accept given) × (limit ≡ limit_of given)
 IsGiven given (what.Uninstall patterns limit) = (patterns.items ≡ all_of pattern_in Operand given) × (limit ≡ limit_of given)
 IsGiven given (what.ChangeFacet facets accept) = (facets.items ≡ all_of facet_in Operand given) × (accept ≡ stands Accept given)
-IsGiven given (what.ChangeVariant name value accept) = (name ≡ (variant_of (value_of Operand given)).name) × (value ≡ (variant_of (value_of Operand given)).value) × (accept ≡ stands Accept given)
+IsGiven given (what.ChangeVariant name value accept) = (name ≡ (variant_or_empty (value_of Operand given)).name) × (value ≡ (variant_or_empty (value_of Operand given)).value) × (accept ≡ stands Accept given)
 IsGiven given (what.SetMediator name version implementation) = (name ≡ name_of given) × (version ≡ version_of (value_of Version given)) × (implementation ≡ word_of (value_of Implementation given))
 IsGiven given (what.UnsetMediator name) = name ≡ name_of given
 IsGiven given (what.Avoid stems) = stems.items ≡ all_of word_in Operand given

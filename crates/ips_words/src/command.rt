@@ -61,8 +61,8 @@ fn command_of(
     ensures history { IfOk result (λ c. c.history ≡ history_of (from_command (map string_bytes words.now))) }
     ensures good { IfBad result (λ _. ⊥) }
 {
-    let what = what_of(alloc, line, given)?;
     let history = history_text(alloc, command_words(words))?;
+    let what = what_of(alloc, line, given)?;
     Ok(Command { what, history })
 }
 

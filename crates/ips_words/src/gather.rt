@@ -158,7 +158,7 @@ pub fn pattern(alloc: Global, role: Role, given: &[Given]) -> Result<Pattern, Al
 
 /// The first variant of a role.
 pub fn variant(alloc: Global, role: Role, given: &[Given]) -> Result<VariantWord, AllocError>
-    ensures { IfOk result (λ v. v ≡ meaning.variant_of (meaning.value_of role given.now)) }
+    ensures { IfOk result (λ v. v ≡ meaning.variant_or_empty (meaning.value_of role given.now)) }
 {
     match value_of(role, given) {
         Some(Value::Variant(variant)) => copy_variant(alloc, variant),
