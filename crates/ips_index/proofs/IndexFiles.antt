@@ -14,8 +14,8 @@ use Rattle.ips_text.specs.Reading.{Gives, IfBad}
 use Rattle.std.specs.Cmp.Lexicographic.{pointwise}
 use Rattle.std.proofs.lemmas.Bool.{true≢false}
 use Rattle.ips_action.proofs.KeyOrder.{same_true, same_self}
-use Rattle.ips_records.specs.Cut.{has}
-use Rattle.ips_records.specs.Lines.{ended, text_of, lines_of, Stops, IsFirstBadLine}
+use Rattle.ips_records.specs.Cut.{has_byte}
+use Rattle.ips_records.specs.Lines.{ended, lines_text, lines_in, StopsFile, IsFirstBadLine}
 use Rattle.ips_records.specs.Listed.{Chain, Sole, IsListed}
 use Rattle.ips_records.proofs.Texts.{text_is, text_lines}
 use Rattle.ips_records.proofs.Apart.{texts_apart}
@@ -85,13 +85,13 @@ bad_head lines none = record {
   stops = go lines none;
 }
   where
-    go : (l : List (List ℕ)) → ((others : List (List ℕ)) → l ≡ ended (codes "index 1") ∷ others → ⊥) → Stops IsIndexFile [] l
+    go : (l : List (List ℕ)) → ((others : List (List ℕ)) → l ≡ ended (codes "index 1") ∷ others → ⊥) → StopsFile IsIndexFile [] l
     go [] off = no_lines
     go (line ∷ rest) off = λ b. off rest (ap (λ (x : List ℕ). x ∷ rest) (to_listed line b.0 b.1).0)
 
 -- another first line
-pub other_head : (bytes line rest : List ℕ) → lines_of bytes ≡ ended line ∷ lines_of rest → (line ≡ codes "index 1" → ⊥) → (others : List (List ℕ)) → lines_of bytes ≡ ended (codes "index 1") ∷ others → ⊥
-other_head bytes line rest is differs others e = differs (append_cancel_right line (codes "index 1") (10 ∷ []) (first (ended line) (ended (codes "index 1")) (lines_of rest) others (sym is ∙ e)))
+pub other_head : (bytes line rest : List ℕ) → lines_in bytes ≡ ended line ∷ lines_in rest → (line ≡ codes "index 1" → ⊥) → (others : List (List ℕ)) → lines_in bytes ≡ ended (codes "index 1") ∷ others → ⊥
+other_head bytes line rest is differs others e = differs (append_cancel_right line (codes "index 1") (10 ∷ []) (first (ended line) (ended (codes "index 1")) (lines_in rest) others (sym is ∙ e)))
   where
     first : (a b : List ℕ) (xs ys : List (List ℕ)) → a ∷ xs ≡ b ∷ ys → a ≡ b
     first a b xs ys h = cc
@@ -114,7 +114,7 @@ bad_rows lines rows n e bad = record {
   stops = go bad.front bad.rest bad.stops;
 }
   where
-    go : (front rest : List (List ℕ)) → Stops (IsListed row_line IsRow StandsBefore) front rest → Stops IsIndexFile (ended (codes "index 1") ∷ front) rest
+    go : (front rest : List (List ℕ)) → StopsFile (IsListed row_line IsRow StandsBefore) front rest → StopsFile IsIndexFile (ended (codes "index 1") ∷ front) rest
     go front [] stop = λ h. stop (to_listed (ended (codes "index 1")) front h).1
     go front (line ∷ rest) stop = λ b. stop (b.0, (to_listed (ended (codes "index 1")) ((front ++ line ∷ []) ++ b.0) b.1).1)
 
@@ -122,12 +122,12 @@ bad_rows lines rows n e bad = record {
 pub not_bad : (IsFile : List (List ℕ) → Type 0) (lines : List (List ℕ)) (n : ℕ) → IsFile lines → IsFirstBadLine IsFile lines n → ⊥
 not_bad IsFile lines n file bad = go bad.front bad.rest bad.cut bad.stops
   where
-    go : (front rest : List (List ℕ)) → lines ≡ front ++ rest → Stops IsFile front rest → ⊥
+    go : (front rest : List (List ℕ)) → lines ≡ front ++ rest → StopsFile IsFile front rest → ⊥
     go front [] e stop = stop (subst IsFile (e ∙ append-nil front) file)
     go front (line ∷ rest) e stop = stop (rest, subst IsFile (e ∙ sym (append_assoc front (line ∷ []) rest)) file)
 
 -- a text has no more lines than bytes
-pub few_lines : (bytes : List ℕ) → length (lines_of bytes) ≤ length bytes
+pub few_lines : (bytes : List ℕ) → length (lines_in bytes) ≤ length bytes
 few_lines [] = omega arith
 few_lines (b ∷ bytes) = go (eqb b 10) (few_lines bytes)
   where
@@ -138,29 +138,29 @@ few_lines (b ∷ bytes) = go (eqb b 10) (few_lines bytes)
     onto_some : (lines : List (List ℕ)) → length lines ≤ length bytes → length (onto_first b lines) ≤ suc (length bytes)
     onto_some lines le = let h = onto lines in omega (arith, h, le)
 
-    go : (here : Bool) → length (lines_of bytes) ≤ length bytes → length (cond here ((b ∷ []) ∷ lines_of bytes) (onto_first b (lines_of bytes))) ≤ suc (length bytes)
+    go : (here : Bool) → length (lines_in bytes) ≤ length bytes → length (cond here ((b ∷ []) ∷ lines_in bytes) (onto_first b (lines_in bytes))) ≤ suc (length bytes)
     go true le = omega (arith, le)
-    go false le = onto_some (lines_of bytes) le
+    go false le = onto_some (lines_in bytes) le
 
-pub low_number : (IsFile : List (List ℕ) → Type 0) (bytes : List ℕ) (n : ℕ) → IsFirstBadLine IsFile (lines_of bytes) n → n ≤ length bytes + 1
+pub low_number : (IsFile : List (List ℕ) → Type 0) (bytes : List ℕ) (n : ℕ) → IsFirstBadLine IsFile (lines_in bytes) n → n ≤ length bytes + 1
 low_number IsFile bytes n bad =
     let few = few_lines bytes in
-    let all : length (lines_of bytes) ≡ length bad.front + length bad.rest = ap length bad.cut ∙ length-append bad.front bad.rest in
+    let all : length (lines_in bytes) ≡ length bad.front + length bad.rest = ap length bad.cut ∙ length-append bad.front bad.rest in
     omega (arith, few, all, bad.place)
 
 -- ---- texts
 
-text_same : (rows : List Row) → text_of (index_lines rows) ≡ index_text rows
+text_same : (rows : List Row) → lines_text (index_lines rows) ≡ index_text rows
 text_same rows =
     flat_map-cons ended (codes "index 1") (map row_line rows) ∙ append_assoc (codes "index 1") (10 ∷ []) (flat_map ended (map row_line rows)) ∙ ap (λ (l : List ℕ). codes "index 1" ++ 10 ∷ l) (flat_map-map ended row_line rows)
 
-all_single : (rows : List Row) → AllByRecursion IsRow rows → AllByRecursion (λ (l : List ℕ). has 10 l ≡ false) (map row_line rows)
+all_single : (rows : List Row) → AllByRecursion IsRow rows → AllByRecursion (λ (l : List ℕ). has_byte 10 l ≡ false) (map row_line rows)
 all_single [] all = tt
 all_single (r ∷ rows) all = (row_single r all.0, all_single rows all.1)
 
 -- the text of an index has its lines
-pub text_file : (rows : List Row) (text : List ℕ) → IsIndexText rows text → IsIndexFile (lines_of text)
-text_file rows text is = (rows, is.0, ap lines_of (is.1 ∙ sym (text_same rows)) ∙ text_lines (index_lines rows) (refl, all_single rows (all_of IsRow rows is.0.each)))
+pub text_file : (rows : List Row) (text : List ℕ) → IsIndexText rows text → IsIndexFile (lines_in text)
+text_file rows text is = (rows, is.0, ap lines_in (is.1 ∙ sym (text_same rows)) ∙ text_lines (index_lines rows) (refl, all_single rows (all_of IsRow rows is.0.each)))
 
 -- no two lists of rows have one text
 pub rows_one : (a b : List Row) → AreRows a → AreRows b → index_text a ≡ index_text b → a ≡ b
@@ -173,7 +173,7 @@ rows_one a b ia ib e =
 -- ---- what was read
 
 -- rows that were read one a line, behind the first line, and put into a set
-pub read_rows : (bytes rest : List ℕ) (items : List Row) (set : BTreeSet Row) → lines_of bytes ≡ ended (codes "index 1") ∷ lines_of rest → AllByRecursion (Sole row_line IsRow) items → Chain StandsBefore items → lines_of rest ≡ map ended (map row_line items)
+pub read_rows : (bytes rest : List ℕ) (items : List Row) (set : BTreeSet Row) → lines_in bytes ≡ ended (codes "index 1") ∷ lines_in rest → AllByRecursion (Sole row_line IsRow) items → Chain StandsBefore items → lines_in rest ≡ map ended (map row_line items)
     → IsStrictlySortedBy row_cmp set.keys → ((row : Row) → Contains set.keys row ↔ Contains items row) → IsIndexText set.keys bytes
 read_rows bytes rest items set first sole chain lines ascend same =
     let are : AreRows items = are_rows items (all_fit items sole) chain in
@@ -181,8 +181,8 @@ read_rows bytes rest items set first sole chain lines ascend same =
     subst (λ (l : List Row). IsIndexText l bytes) (sym one) (are, text_is bytes (index_lines items) (first ∙ ap (λ (l : List (List ℕ)). ended (codes "index 1") ∷ l) lines) ∙ text_same items)
 
 -- a text of an index is read as it
-pub read_back : (bytes : List ℕ) (r : Result (List Row) (Or BadIndex)) → IfOk r (λ rows. IsIndexText rows bytes) → IfBad r (λ (fault : BadIndex). IsFirstBadLine IsIndexFile (lines_of bytes) fault.line) → (rows : List Row) → IsIndexText rows bytes
+pub read_back : (bytes : List ℕ) (r : Result (List Row) (Or BadIndex)) → IfOk r (λ rows. IsIndexText rows bytes) → IfBad r (λ (fault : BadIndex). IsFirstBadLine IsIndexFile (lines_in bytes) fault.line) → (rows : List Row) → IsIndexText rows bytes
     → (let read : Result (List Row) BadIndex = Ok rows in Gives (λ (x : List Row). x) r read)
 read_back bytes (Ok found) good bad rows is = ap (λ (l : List Row). Ok l) (rows_one rows found is.0 good.0 (sym is.1 ∙ good.1))
-read_back bytes (Err (Bad fault)) good bad rows is = absurd (not_bad IsIndexFile (lines_of bytes) fault.line (text_file rows bytes is) bad)
+read_back bytes (Err (Bad fault)) good bad rows is = absurd (not_bad IsIndexFile (lines_in bytes) fault.line (text_file rows bytes is) bad)
 read_back bytes (Err OutOfMemory) good bad rows is = tt

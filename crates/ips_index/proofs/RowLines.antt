@@ -10,7 +10,7 @@ use Rattle.ips_action.specs.Action.{naming_key}
 use Rattle.ips_action.proofs.One.{one_kind}
 use Rattle.std.specs.List.{list_all}
 use Rattle.std.specs.Str.{IsUtf8}
-use Rattle.ips_records.specs.Cut.{has, IsCut}
+use Rattle.ips_records.specs.Cut.{has_byte, IsCut}
 use Rattle.ips_records.specs.Listed.{Sole}
 use Rattle.ips_records.proofs.Bytes.{text_bytes}
 use Rattle.ips_records.proofs.Clear.{is_clear, clear_lacks, quoted_clear}
@@ -118,11 +118,11 @@ row_one a b ia ib e =
 pub row_sole : (r : Row) → IsRow r → Sole row_line IsRow r
 row_sole r is = record { fits = is; alone = λ other fits e. row_one other r fits is e }
 
-newline_in : (x y : List ℕ) → has 10 x ≡ false → has 10 y ≡ false → has 10 (x ++ 32 ∷ y) ≡ false
+newline_in : (x y : List ℕ) → has_byte 10 x ≡ false → has_byte 10 y ≡ false → has_byte 10 (x ++ 32 ∷ y) ≡ false
 newline_in x y ex ey = lacks_append 10 x (32 ∷ y) ex ey
 
 -- a row's line is one line
-pub row_single : (r : Row) → IsRow r → has 10 (row_line r) ≡ false
+pub row_single : (r : Row) → IsRow r → has_byte 10 (row_line r) ≡ false
 row_single r is =
     newline_in (quoted r.token) (r.index ++ 32 ∷ (kind_name r.kind ++ 32 ∷ (quoted r.value ++ 32 ∷ r.stem))) (clear_lacks 10 (quoted r.token) (omega arith) (quoted_clear r.token (text_bytes r.token is.token)))
     (newline_in r.index (kind_name r.kind ++ 32 ∷ (quoted r.value ++ 32 ∷ r.stem)) (clear_lacks 10 r.index (omega arith) (index_clear r.kind r.index is.index))
@@ -131,21 +131,21 @@ row_single r is =
 
 -- ---- lines that lack a word
 
-pub none_first : (line a b c d e : List ℕ) → has 32 line ≡ false → AreWords line a b c d e → ⊥
+pub none_first : (line a b c d e : List ℕ) → has_byte 32 line ≡ false → AreWords line a b c d e → ⊥
 none_first line a b c d e none words = not_cut 32 line a (b ++ 32 ∷ (c ++ 32 ∷ (d ++ 32 ∷ e))) none words.is
 
-pub none_second : (line token rest : List ℕ) → IsCut 32 line token rest → has 32 rest ≡ false → (a b c d e : List ℕ) → AreWords line a b c d e → ⊥
+pub none_second : (line token rest : List ℕ) → IsCut 32 line token rest → has_byte 32 rest ≡ false → (a b c d e : List ℕ) → AreWords line a b c d e → ⊥
 none_second line token rest one none a b c d e words =
     let at = cut_once 32 token rest a (b ++ 32 ∷ (c ++ 32 ∷ (d ++ 32 ∷ e))) one.first_lacks words.in_token (sym one.parts ∙ words.is) in
     not_cut 32 rest b (c ++ 32 ∷ (d ++ 32 ∷ e)) none at.1
 
-pub none_third : (line token first index rest : List ℕ) → IsCut 32 line token first → IsCut 32 first index rest → has 32 rest ≡ false → (a b c d e : List ℕ) → AreWords line a b c d e → ⊥
+pub none_third : (line token first index rest : List ℕ) → IsCut 32 line token first → IsCut 32 first index rest → has_byte 32 rest ≡ false → (a b c d e : List ℕ) → AreWords line a b c d e → ⊥
 none_third line token first index rest one two none a b c d e words =
     let at = cut_once 32 token first a (b ++ 32 ∷ (c ++ 32 ∷ (d ++ 32 ∷ e))) one.first_lacks words.in_token (sym one.parts ∙ words.is) in
     let behind = cut_once 32 index rest b (c ++ 32 ∷ (d ++ 32 ∷ e)) two.first_lacks words.in_index (sym two.parts ∙ at.1) in
     not_cut 32 rest c (d ++ 32 ∷ e) none behind.1
 
-pub none_fourth : (line token first index second kind rest : List ℕ) → IsCut 32 line token first → IsCut 32 first index second → IsCut 32 second kind rest → has 32 rest ≡ false → (a b c d e : List ℕ) → AreWords line a b c d e → ⊥
+pub none_fourth : (line token first index second kind rest : List ℕ) → IsCut 32 line token first → IsCut 32 first index second → IsCut 32 second kind rest → has_byte 32 rest ≡ false → (a b c d e : List ℕ) → AreWords line a b c d e → ⊥
 none_fourth line token first index second kind rest one two three none a b c d e words =
     let at = cut_once 32 token first a (b ++ 32 ∷ (c ++ 32 ∷ (d ++ 32 ∷ e))) one.first_lacks words.in_token (sym one.parts ∙ words.is) in
     let behind = cut_once 32 index second b (c ++ 32 ∷ (d ++ 32 ∷ e)) two.first_lacks words.in_index (sym two.parts ∙ at.1) in

@@ -11,7 +11,7 @@ use Rattle.ips_text.specs.Quote.{quoted}
 use Rattle.ips_action.specs.Kind.{kind_name}
 use Rattle.ips_action.specs.Action.{naming_key}
 use Rattle.ips_action.specs.Judging.{takes_payload}
-use Rattle.ips_records.specs.Cut.{has}
+use Rattle.ips_records.specs.Cut.{has_byte}
 use Rattle.ips_records.specs.Lines.{ended}
 use Rattle.ips_index.specs.Rows.{Row, row_cmp, row_line, tokens, index_text}
 
@@ -53,10 +53,10 @@ StandsBefore one other = row_cmp one other ≡ Less
 -- The line has these five words, a blank between each and the next.
 pub record AreWords (line token index kind value stem : List ℕ) : Type 0 where
   pub is : line ≡ join_with_byte 32 (token ∷ index ∷ kind ∷ value ∷ stem ∷ [])
-  pub in_token : has 32 token ≡ false
-  pub in_index : has 32 index ≡ false
-  pub in_kind : has 32 kind ≡ false
-  pub in_value : has 32 value ≡ false
+  pub in_token : has_byte 32 token ≡ false
+  pub in_index : has_byte 32 index ≡ false
+  pub in_kind : has_byte 32 kind ≡ false
+  pub in_value : has_byte 32 value ≡ false
 
 -- The words are those of the row.
 pub record Spell (first second third fourth fifth : List ℕ) (row : Row) : Type 0 where

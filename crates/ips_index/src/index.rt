@@ -2,7 +2,7 @@
 
 ghost use Rattle.std.specs.Prelude.{◌≡◌, List, [], false, Ok, IfOk, OnOk, OnErr, map};
 ghost use Rattle.ips_text.specs.Reading.{Gives, IfBad};
-ghost use Rattle.ips_records.specs.Lines.{lines_of, IsFirstBadLine};
+ghost use Rattle.ips_records.specs.Lines.{lines_in, IsFirstBadLine};
 ghost use Rattle.ips_fmri.specs.Name.{IsStem};
 ghost use Rattle.ips_index.specs.Rows.{Row, row_seen, scanned, index_text};
 ghost use Rattle.ips_index.specs.Text.{AreRows, IsIndexText, IsIndexFile};
@@ -101,7 +101,7 @@ impl Index {
     pub fn read(alloc: Global, bytes: &[u8]) -> Result<Index, Or<BadIndex>>
         ensures rows { IfOk result (λ index. IsIndexText index bytes.now) }
         ensures back { (rows : List Row) → IsIndexText rows bytes.now → Gives (λ index. index) result (Ok rows) }
-        ensures bad { IfBad result (λ fault. IsFirstBadLine IsIndexFile (lines_of bytes.now) fault.line) }
+        ensures bad { IfBad result (λ fault. IsFirstBadLine IsIndexFile (lines_in bytes.now) fault.line) }
     {
         let rows = reading::read(alloc, bytes)?;
         let stems = by_stem(alloc, &rows)?;

@@ -3,7 +3,7 @@
 ghost use Rattle.std.specs.Prelude.{◌≡◌, List, ℕ, []};
 ghost use Rattle.std.specs.List.Sorted.{IsStrictlySortedBy};
 ghost use Rattle.ips_action.specs.Action.{Fields};
-ghost use Rattle.ips_records.specs.Lines.{lines_of};
+ghost use Rattle.ips_records.specs.Lines.{lines_in};
 ghost use Rattle.ips_index.specs.Rows.{Row, row_cmp, scanned, index_text};
 ghost use Rattle.ips_index.specs.Text.{AreRows, IsIndexText, IsIndexFile};
 ghost use Rattle.ips_index.specs.Scan.{IsDropped, IsPut, IsScan, Scanned, with_stem, without};
@@ -17,6 +17,6 @@ pub fn index_is_scan()
 
 /// Printed indexes read back: the text of an index has the lines of one, and no two indexes have one text.
 pub fn indexes_read_back()
-    ensures file { (rows : List Row) (text : List ℕ) → IsIndexText rows text → IsIndexFile (lines_of text) }
+    ensures file { (rows : List Row) (text : List ℕ) → IsIndexText rows text → IsIndexFile (lines_in text) }
     ensures one { (a b : List Row) → AreRows a → AreRows b → index_text a ≡ index_text b → a ≡ b }
 {}

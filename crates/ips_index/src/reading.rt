@@ -2,7 +2,7 @@
 
 ghost use Rattle.std.specs.Prelude.{◌≡◌, ◌+◌, ◌∷◌, ℕ, List, IfOk, IfNone, IfSome, length, codes};
 ghost use Rattle.ips_text.specs.Reading.{IfBad};
-ghost use Rattle.ips_records.specs.Lines.{ended, lines_of, IsFirstBadLine};
+ghost use Rattle.ips_records.specs.Lines.{ended, lines_in, IsFirstBadLine};
 ghost use Rattle.ips_index.specs.Rows.{Row};
 ghost use Rattle.ips_index.specs.Text.{IsRow, IsIndexText, IsIndexFile, Spell};
 
@@ -73,7 +73,7 @@ fn read_row(alloc: Global, words: Words) -> Result<Option<Entry>, AllocError>
 /// The rows of an index.
 pub(crate) fn read(alloc: Global, bytes: &[u8]) -> Result<BTreeSet<Entry>, Or<BadIndex>>
     ensures rows { IfOk result (λ rows. IsIndexText rows.keys bytes.now) }
-    ensures bad { IfBad result (λ fault. IsFirstBadLine IsIndexFile (lines_of bytes.now) fault.line) }
+    ensures bad { IfBad result (λ fault. IsFirstBadLine IsIndexFile (lines_in bytes.now) fault.line) }
 {
     let Some(rest) = behind_head(bytes) else {
         return Err(Or::Bad(BadIndex { line: 1 }));
@@ -91,9 +91,9 @@ pub(crate) fn read(alloc: Global, bytes: &[u8]) -> Result<BTreeSet<Entry>, Or<Ba
 
 // What stands behind the line that tells the form of an index.
 fn behind_head(bytes: &[u8]) -> Option<&[u8]>
-    ensures some { IfSome result (λ rest. lines_of bytes.now ≡ ended (codes "index 1") ∷ lines_of rest.now) }
+    ensures some { IfSome result (λ rest. lines_in bytes.now ≡ ended (codes "index 1") ∷ lines_in rest.now) }
     ensures shorter { IfSome result (λ rest. length rest.now + 8 ≡ length bytes.now) }
-    ensures none { IfNone result ((others : List (List ℕ)) → lines_of bytes.now ≡ ended (codes "index 1") ∷ others → ⊥) }
+    ensures none { IfNone result ((others : List (List ℕ)) → lines_in bytes.now ≡ ended (codes "index 1") ∷ others → ⊥) }
 {
     let Some((line, rest)) = cut(b'\n', bytes) else {
         return None;

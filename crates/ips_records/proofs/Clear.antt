@@ -12,7 +12,7 @@ use Rattle.std.proofs.lemmas.List.Concat.{flat_map-cons}
 use Rattle.std.proofs.lemmas.List.Folds.{list_all-append}
 use Rattle.ips_text.specs.Quote.{quoted, quoted_byte, AreBytes}
 use Rattle.ips_fmri.specs.Version.{Parts, numerals, part_text, stamp_text, stamp_part_text, version_text, AreNumbers, IfNumbers, IsVersion, IfVersion}
-use Rattle.ips_records.specs.Cut.{has}
+use Rattle.ips_records.specs.Cut.{has_byte}
 use Rattle.ips_records.proofs.Bytes.{text_bytes}
 use Rattle.ips_records.specs.Form.{IsWord, IfMarked}
 use Rattle.ips_records.specs.Field.{version_field, word_field}
@@ -32,7 +32,7 @@ clear_apart : (c b : ℕ) → c ≤ 32 → is_clear_byte b ≡ true → eqb b c 
 clear_apart c b le e = grind (arith, nat_tests)
 
 -- neither a blank nor a newline stands there
-pub clear_lacks : (c : ℕ) (bytes : List ℕ) → c ≤ 32 → is_clear bytes ≡ true → has c bytes ≡ false
+pub clear_lacks : (c : ℕ) (bytes : List ℕ) → c ≤ 32 → is_clear bytes ≡ true → has_byte c bytes ≡ false
 clear_lacks c [] le e = refl
 clear_lacks c (b ∷ bytes) le e = let h = and_parts (is_clear_byte b) (is_clear bytes) e in rw (clear_apart c b le h.0, clear_lacks c bytes le h.1) refl
 

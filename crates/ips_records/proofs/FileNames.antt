@@ -169,7 +169,7 @@ low_part mark (n ∷ ns) lt h = rw (lt_low mark lt, low_numerals (n ∷ ns) h) r
 low_two : (n : ℕ) → (is_low (48 + n % 100 / 10) ≡ true) × (is_low (48 + n % 100 % 10) ≡ true)
 low_two n = (lt_low (48 + n % 100 / 10) (omega arith), lt_low (48 + n % 100 % 10) (omega arith))
 
-low_stamp : (n : ℕ) → list_all is_low (stamp_text n) ≡ true
+pub low_stamp : (n : ℕ) → list_all is_low (stamp_text n) ≡ true
 low_stamp n =
     let a = low_two (n / 10 ^ 12) in
     let b = low_two (n / 10 ^ 10) in

@@ -3,34 +3,34 @@ use denote.Ref.{Bor}
 use Rattle.std.proofs.Common.{◌≡◌, ℕ, ◌<◌, Bool, true, false, IsFalse, cond, ◌||◌, eqb, List, [], ◌∷◌, ◌++◌, length, Option, Some, None, IfSome, refl, sym, ◌∙◌, ap, arith}
 use Rattle.std.proofs.lemmas.Bool.{true≢false}
 use Rattle.std.specs.List.{onto_first}
-use Rattle.ips_records.specs.Cut.{has, IsCut}
-use Rattle.ips_records.specs.Lines.{ended, lines_of}
+use Rattle.ips_records.specs.Cut.{has_byte, IsCut}
+use Rattle.ips_records.specs.Lines.{ended, lines_in}
 use Rattle.ips_records.proofs.Cuts.{not_cut}
 
 -- a line without newlines ends at the newline behind it
-pub line_ends : (line rest : List ℕ) → has 10 line ≡ false → lines_of (line ++ 10 ∷ rest) ≡ ended line ∷ lines_of rest
+pub line_ends : (line rest : List ℕ) → has_byte 10 line ≡ false → lines_in (line ++ 10 ∷ rest) ≡ ended line ∷ lines_in rest
 line_ends [] rest none = refl
 line_ends (b ∷ line) rest none = go (eqb b 10) none (line_ends line rest)
   where
-    go : (here : Bool) → (here || has 10 line) ≡ false → (has 10 line ≡ false → lines_of (line ++ 10 ∷ rest) ≡ ended line ∷ lines_of rest)
-        → cond here ((b ∷ []) ∷ lines_of (line ++ 10 ∷ rest)) (onto_first b (lines_of (line ++ 10 ∷ rest))) ≡ ended (b ∷ line) ∷ lines_of rest
+    go : (here : Bool) → (here || has_byte 10 line) ≡ false → (has_byte 10 line ≡ false → lines_in (line ++ 10 ∷ rest) ≡ ended line ∷ lines_in rest)
+        → cond here ((b ∷ []) ∷ lines_in (line ++ 10 ∷ rest)) (onto_first b (lines_in (line ++ 10 ∷ rest))) ≡ ended (b ∷ line) ∷ lines_in rest
     go true none later = absurd (true≢false none)
     go false none later = ap (onto_first b) (later none)
 
 -- the lines of bytes that are cut at a newline
-pub cut_ends : (bytes line rest : List ℕ) → IsCut 10 bytes line rest → lines_of bytes ≡ ended line ∷ lines_of rest
-cut_ends bytes line rest c = ap lines_of c.parts ∙ line_ends line rest c.first_lacks
+pub cut_ends : (bytes line rest : List ℕ) → IsCut 10 bytes line rest → lines_in bytes ≡ ended line ∷ lines_in rest
+cut_ends bytes line rest c = ap lines_in c.parts ∙ line_ends line rest c.first_lacks
 
-pub first_some : (bytes : List ℕ) (found : Option (Bor (List ℕ) × Bor (List ℕ))) → IfSome found (λ x. IsCut 10 bytes x.0.now x.1.now) → IfSome found (λ x. lines_of bytes ≡ ended x.0.now ∷ lines_of x.1.now)
+pub first_some : (bytes : List ℕ) (found : Option (Bor (List ℕ) × Bor (List ℕ))) → IfSome found (λ x. IsCut 10 bytes x.0.now x.1.now) → IfSome found (λ x. lines_in bytes ≡ ended x.0.now ∷ lines_in x.1.now)
 first_some bytes None c = tt
 first_some bytes (Some x) c = cut_ends bytes x.0.now x.1.now c
 
-pub first_clear : (bytes : List ℕ) (found : Option (Bor (List ℕ) × Bor (List ℕ))) → IfSome found (λ x. IsCut 10 bytes x.0.now x.1.now) → IfSome found (λ x. IsFalse (has 10 x.0.now))
+pub first_clear : (bytes : List ℕ) (found : Option (Bor (List ℕ) × Bor (List ℕ))) → IfSome found (λ x. IsCut 10 bytes x.0.now x.1.now) → IfSome found (λ x. IsFalse (has_byte 10 x.0.now))
 first_clear bytes None c = tt
 first_clear bytes (Some x) c = c.first_lacks
 
 -- bytes without a newline are one line, which isn't ended
-unended : (b : ℕ) (bytes : List ℕ) → has 10 (b ∷ bytes) ≡ false → lines_of (b ∷ bytes) ≡ (b ∷ bytes) ∷ []
+unended : (b : ℕ) (bytes : List ℕ) → has_byte 10 (b ∷ bytes) ≡ false → lines_in (b ∷ bytes) ≡ (b ∷ bytes) ∷ []
 unended b [] none = go (eqb b 10)
   where
     go : (here : Bool) → cond here ((b ∷ []) ∷ []) ((b ∷ []) ∷ []) ≡ (b ∷ []) ∷ []
@@ -38,8 +38,8 @@ unended b [] none = go (eqb b 10)
     go false = refl
 unended b (c ∷ bytes) none = go (eqb b 10) none (unended c bytes)
   where
-    go : (here : Bool) → (here || has 10 (c ∷ bytes)) ≡ false → (has 10 (c ∷ bytes) ≡ false → lines_of (c ∷ bytes) ≡ (c ∷ bytes) ∷ [])
-        → cond here ((b ∷ []) ∷ lines_of (c ∷ bytes)) (onto_first b (lines_of (c ∷ bytes))) ≡ (b ∷ c ∷ bytes) ∷ []
+    go : (here : Bool) → (here || has_byte 10 (c ∷ bytes)) ≡ false → (has_byte 10 (c ∷ bytes) ≡ false → lines_in (c ∷ bytes) ≡ (c ∷ bytes) ∷ [])
+        → cond here ((b ∷ []) ∷ lines_in (c ∷ bytes)) (onto_first b (lines_in (c ∷ bytes))) ≡ (b ∷ c ∷ bytes) ∷ []
     go true none later = absurd (true≢false none)
     go false none later = ap (onto_first b) (later none)
 
@@ -47,7 +47,7 @@ first_line : (one line : List ℕ) (ones others : List (List ℕ)) → one ∷ o
 first_line one line ones others e = cc
 
 -- so no ended line stands first in them
-pub none_ended : (bytes line : List ℕ) (others : List (List ℕ)) → has 10 bytes ≡ false → lines_of bytes ≡ ended line ∷ others → ⊥
+pub none_ended : (bytes line : List ℕ) (others : List (List ℕ)) → has_byte 10 bytes ≡ false → lines_in bytes ≡ ended line ∷ others → ⊥
 none_ended [] line others none e = cc
 none_ended (b ∷ bytes) line others none e = not_cut 10 (b ∷ bytes) line [] none (first_line (b ∷ bytes) (ended line) [] others (sym (unended b bytes none) ∙ e))
 
@@ -57,6 +57,6 @@ some_lines b false [] e = cc
 some_lines b false (line ∷ lines) e = cc
 
 -- a text has a line, where it isn't empty
-pub lines_some : (bytes : List ℕ) → 0 < length bytes → lines_of bytes ≡ [] → ⊥
+pub lines_some : (bytes : List ℕ) → 0 < length bytes → lines_in bytes ≡ [] → ⊥
 lines_some [] some e = absurd (omega arith)
-lines_some (b ∷ bytes) some e = some_lines b (eqb b 10) (lines_of bytes) e
+lines_some (b ∷ bytes) some e = some_lines b (eqb b 10) (lines_in bytes) e

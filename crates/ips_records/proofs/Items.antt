@@ -2,7 +2,7 @@
 use Rattle.std.proofs.Common.{◌≡◌, ℕ, suc, ◌+◌, List, [], ◌∷◌, ◌++◌, length, map, refl, sym, ◌∙◌, ap, ap₂, subst, append_assoc}
 use Rattle.std.proofs.lemmas.List.{append_cancel_right, append-nil}
 use Rattle.std.specs.List.{AllByRecursion, IsLastAndRest}
-use Rattle.ips_records.specs.Lines.{ended, Begins, Stops, IsFirstBadLine}
+use Rattle.ips_records.specs.Lines.{ended, BeginsFile, StopsFile, IsFirstBadLine}
 use Rattle.ips_records.specs.Listed.{Chain, MayEnd, Sole, IsListed, NoneNext}
 
 -- behind the last of these is behind these
@@ -69,7 +69,7 @@ module _ {A : Type 0} (line : A → List ℕ) (Fits : A → Type 0) (Follows : A
       let h = begin_alike items all next more sole.1 others.1 behind in
       (h.0, h.1, ap₂ (λ (a : A) (l : List A). a ∷ l) (same_item y x sole.0 others.0 first) h.2, h.3, h.4)
 
-  stops : (items : List A) (lines : List (List ℕ)) → AllByRecursion (Sole line Fits) items → (lines ≡ [] → ⊥) → NoneNext line Fits Follows items lines → Stops (IsListed line Fits Follows) (lines_from items) lines
+  stops : (items : List A) (lines : List (List ℕ)) → AllByRecursion (Sole line Fits) items → (lines ≡ [] → ⊥) → NoneNext line Fits Follows items lines → StopsFile (IsListed line Fits Follows) (lines_from items) lines
   stops items [] sole some none = absurd (some refl)
   stops items (next ∷ lines) sole some none = λ begins.
       let h = begin_alike items begins.1.0 next begins.0 sole begins.1.1 begins.1.3 in

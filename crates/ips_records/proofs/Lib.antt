@@ -13,3 +13,4 @@ pub mod WordForms
 pub mod Clear
 pub mod Fields
 pub mod ClearNames
+pub mod RequestForms

@@ -5,7 +5,7 @@ use Rattle.std.proofs.lemmas.Bool.{and_parts, true≢false}
 use Rattle.std.proofs.lemmas.List.{append-nil}
 use Rattle.std.proofs.lemmas.List.Folds.{list_all-append}
 use Rattle.ips_text.proofs.Truths.{not_true}
-use Rattle.ips_records.specs.Lines.{Begins, Stops, IsFirstBadLine}
+use Rattle.ips_records.specs.Lines.{BeginsFile, StopsFile, IsFirstBadLine}
 use Rattle.ips_records.specs.Sections.{IsBoth, StartsOther}
 
 module _ (mine : List ℕ → Bool) where
@@ -80,7 +80,7 @@ module _ (mine : List ℕ → Bool) where
         stops = stops_first bad.front bad.rest s bad.cut ns bad.stops;
       }
         where
-          stops_first : (front rest after : List (List ℕ)) → r ≡ front ++ rest → StartsOther mine after → Stops First front rest → Stops (IsBoth First Second) front (rest ++ after)
+          stops_first : (front rest after : List (List ℕ)) → r ≡ front ++ rest → StartsOther mine after → StopsFile First front rest → StopsFile (IsBoth First Second) front (rest ++ after)
           stops_first front [] [] is other stop = λ h. stop (both_split front front [] (mine_append front [] (subst AllMine is mr)) tt (sym (append-nil front)) h).0
           stops_first front [] (l ∷ after) is other stop = λ h.
               stop (both_split ((front ++ l ∷ []) ++ h.0) front (l ∷ h.0) (mine_append front [] (subst AllMine is mr)) other (append_assoc front (l ∷ []) h.0) h.1).0
@@ -100,7 +100,7 @@ module _ (mine : List ℕ → Bool) where
         stops = stops_second bad.front bad.rest bad.cut bad.stops;
       }
         where
-          stops_second : (front rest : List (List ℕ)) → s ≡ front ++ rest → Stops (Second r) front rest → Stops (IsBoth First Second) (r ++ front) rest
+          stops_second : (front rest : List (List ℕ)) → s ≡ front ++ rest → StopsFile (Second r) front rest → StopsFile (IsBoth First Second) (r ++ front) rest
           stops_second front [] is stop = λ h. stop (both_split (r ++ front) r front mr (subst (StartsOther mine) (is ∙ append-nil front) ns) refl h).1
           stops_second front (l ∷ rest) is stop = λ h.
               let other = starts_alike front l rest h.0 (subst (StartsOther mine) is ns) in

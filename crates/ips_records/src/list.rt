@@ -3,7 +3,7 @@
 ghost use Rattle.std.specs.Prelude.{◌≡◌, ◌<◌, ◌≤◌, ◌+◌, ◌↔◌, ◌∷◌, ◌++◌, ℕ, List, IsTrue, IfOk, IfNone, IfSome, length, map};
 ghost use Rattle.std.specs.List.{AllByRecursion};
 ghost use Rattle.ips_text.specs.Reading.{IfBad};
-ghost use Rattle.ips_records.specs.Lines.{lines_of, ended, IsFirstBadLine};
+ghost use Rattle.ips_records.specs.Lines.{lines_in, ended, IsFirstBadLine};
 ghost use Rattle.ips_records.specs.Listed.{Chain, Sole, IsListed, MayEnd, NoneNext};
 
 use crate::splitting::next_line;
@@ -39,8 +39,8 @@ pub trait Listing {
 pub fn read_list<L: Listing>(alloc: Global, bytes: &[u8]) -> Result<Vec<L::Item>, Or<u64>>
     ensures sole { IfOk result (λ items. AllByRecursion (Sole L.line L.fits) items.items) }
     ensures chain { IfOk result (λ items. Chain L.follows items.items) }
-    ensures lines { IfOk result (λ items. lines_of bytes.now ≡ map ended (map L.line items.items)) }
-    ensures bad { IfBad result (λ number. IsFirstBadLine (IsListed L.line L.fits L.follows) (lines_of bytes.now) number) }
+    ensures lines { IfOk result (λ items. lines_in bytes.now ≡ map ended (map L.line items.items)) }
+    ensures bad { IfBad result (λ number. IsFirstBadLine (IsListed L.line L.fits L.follows) (lines_in bytes.now) number) }
 {
     let (items, rest) = read_front::<L>(alloc, bytes)?;
     if rest.is_empty() {
@@ -58,9 +58,9 @@ pub fn read_front<L: Listing>(
 ) -> Result<(Vec<L::Item>, &[u8]), AllocError>
     ensures sole { IfOk result (λ x. AllByRecursion (Sole L.line L.fits) x.0.items) }
     ensures chain { IfOk result (λ x. Chain L.follows x.0.items) }
-    ensures lines { IfOk result (λ x. lines_of bytes.now ≡ map ended (map L.line x.0.items) ++ lines_of x.1.now) }
+    ensures lines { IfOk result (λ x. lines_in bytes.now ≡ map ended (map L.line x.0.items) ++ lines_in x.1.now) }
     ensures room { IfOk result (λ x. length x.0.items + length x.1.now ≤ length bytes.now) }
-    ensures ends { IfOk result (λ x. 0 < length x.1.now → NoneNext L.line L.fits L.follows x.0.items (lines_of x.1.now)) }
+    ensures ends { IfOk result (λ x. 0 < length x.1.now → NoneNext L.line L.fits L.follows x.0.items (lines_in x.1.now)) }
 {
     let mut items: Vec<L::Item> = Vec::new(alloc);
     let mut rest = bytes;
@@ -83,9 +83,9 @@ fn next_item<'a, L: Listing>(
     requires { 0 < length rest.now }
     ensures sole { IfOk result (λ found. IfSome found (λ x. Sole L.line L.fits x.0)) }
     ensures follows { IfOk result (λ found. IfSome found (λ x. MayEnd L.follows items.now x.0)) }
-    ensures lines { IfOk result (λ found. IfSome found (λ x. lines_of rest.now ≡ ended (L.line x.0) ∷ lines_of x.1.now)) }
+    ensures lines { IfOk result (λ found. IfSome found (λ x. lines_in rest.now ≡ ended (L.line x.0) ∷ lines_in x.1.now)) }
     ensures shorter { IfOk result (λ found. IfSome found (λ x. length x.1.now < length rest.now)) }
-    ensures none { IfOk result (λ found. IfNone found (NoneNext L.line L.fits L.follows items.now (lines_of rest.now))) }
+    ensures none { IfOk result (λ found. IfNone found (NoneNext L.line L.fits L.follows items.now (lines_in rest.now))) }
 {
     let Some((line, behind)) = next_line(rest) else {
         return Ok(None);

@@ -2,12 +2,12 @@
 
 ghost use Rattle.std.specs.Prelude.{◌≡◌, ◌<◌, ◌==◌, ◌∷◌, IsFalse, length, IfNone, IfSome};
 ghost use Rattle.std.specs.List.{position};
-ghost use Rattle.ips_records.specs.Cut.{has, IsCut};
-ghost use Rattle.ips_records.specs.Lines.{ended, lines_of};
+ghost use Rattle.ips_records.specs.Cut.{has_byte, IsCut};
+ghost use Rattle.ips_records.specs.Lines.{ended, lines_in};
 
 /// What stands before the first such byte, and what stands behind it. None exactly where there is no such byte.
 pub fn cut(byte: u8, bytes: &[u8]) -> Option<(&[u8], &[u8])>
-    ensures none { IfNone result (IsFalse (has byte bytes.now)) }
+    ensures none { IfNone result (IsFalse (has_byte byte bytes.now)) }
     ensures some { IfSome result (λ x. IsCut byte bytes.now x.0.now x.1.now) }
     ensures shorter { IfSome result (λ x. length x.1.now < length bytes.now) }
 {
@@ -26,9 +26,9 @@ fn first_place(byte: u8, bytes: &[u8]) -> Option<usize>
 
 /// The first line of the text, without its newline, and what stands behind it. None exactly where the text has no newline.
 pub fn next_line(bytes: &[u8]) -> Option<(&[u8], &[u8])>
-    ensures none { IfNone result (IsFalse (has 10 bytes.now)) }
-    ensures some { IfSome result (λ x. lines_of bytes.now ≡ ended x.0.now ∷ lines_of x.1.now) }
-    ensures clear { IfSome result (λ x. IsFalse (has 10 x.0.now)) }
+    ensures none { IfNone result (IsFalse (has_byte 10 bytes.now)) }
+    ensures some { IfSome result (λ x. lines_in bytes.now ≡ ended x.0.now ∷ lines_in x.1.now) }
+    ensures clear { IfSome result (λ x. IsFalse (has_byte 10 x.0.now)) }
     ensures shorter { IfSome result (λ x. length x.1.now < length bytes.now) }
 {
     cut(b'\n', bytes)

@@ -1,5 +1,5 @@
 use Rattle.std.proofs.Common.{◌≡◌, ◌∙◌, ◌∷◌, ◌++◌, List, ℕ, length, sym, ap, codes, arith, rules}
-use Rattle.ips_records.specs.Lines.{ended, lines_of}
+use Rattle.ips_records.specs.Lines.{ended, lines_in}
 use Rattle.ips_records.proofs.First.{cut_ends, none_ended}
 use Rattle.ips_index.proofs.IndexFiles.{other_head, same_line, other_line}
 use Rattle.ips_index.proofs.reading.behind_head.Goals as goal
@@ -11,7 +11,7 @@ pub returns-then-eq-clause-some : goal.returns-then-eq-clause-some
 returns-then-eq-clause-some c =
     let head : c.as_slice.result.now ≡ codes "index 1" = search rules in
     let same : c.in-Some.line.now ≡ codes "index 1" = same_line c.eq.result c.in-Some.line.now c.as_slice.result.now c.eq.ensures c.if-eq.true ∙ head in
-    cut_ends c.args.bytes.now c.in-Some.line.now c.in-Some.rest.now c.in-Some.ensures.some ∙ ap (λ (l : List ℕ). ended l ∷ lines_of c.in-Some.rest.now) same
+    cut_ends c.args.bytes.now c.in-Some.line.now c.in-Some.rest.now c.in-Some.ensures.some ∙ ap (λ (l : List ℕ). ended l ∷ lines_in c.in-Some.rest.now) same
 
 pub returns-then-eq-clause-shorter : goal.returns-then-eq-clause-shorter
 returns-then-eq-clause-shorter c =

@@ -1,6 +1,6 @@
 use Rattle.std.proofs.Common.{◌<◌, ◌^◌, length, subst, List, inl, inr, arith, rules}
 use Rattle.std.specs.Prelude.{Contains}
-use Rattle.ips_records.specs.Lines.{lines_of}
+use Rattle.ips_records.specs.Lines.{lines_in}
 use Rattle.ips_records.specs.Listed.{IsListed}
 use Rattle.ips_index.specs.Rows.{Row, row_line}
 use Rattle.ips_index.specs.Text.{IsRow, StandsBefore}
@@ -9,7 +9,7 @@ use Rattle.ips_index.proofs.IndexFiles.{bad_head, bad_rows, low_number, read_row
 use Rattle.ips_index.proofs.reading.read.Goals as goal
 
 pub returns-in_default-clause-bad : goal.returns-in_default-clause-bad
-returns-in_default-clause-bad c = bad_head (lines_of c.args.bytes.now) c.in_default.ensures.none
+returns-in_default-clause-bad c = bad_head (lines_in c.args.bytes.now) c.in_default.ensures.none
 
 pub overflow_add-result : goal.overflow_add-result
 overflow_add-result c =
@@ -27,4 +27,4 @@ returns-in_ok-insert_all-in-Ok-clause-rows c =
 
 pub returns-in-Err-Bad-clause-bad : goal.returns-in-Err-Bad-clause-bad
 returns-in-Err-Bad-clause-bad c =
-    rw c.in-Err-Bad.field-0-is (bad_rows (lines_of c.args.bytes.now) (lines_of c.in-Some.rest.now) c.in-Err-Bad.line c.in-Some.ensures.some (rw c.in-Err-Bad.field-0-is at c.in-Err-Bad.ensures.bad))
+    rw c.in-Err-Bad.field-0-is (bad_rows (lines_in c.args.bytes.now) (lines_in c.in-Some.rest.now) c.in-Err-Bad.line c.in-Some.ensures.some (rw c.in-Err-Bad.field-0-is at c.in-Err-Bad.ensures.bad))

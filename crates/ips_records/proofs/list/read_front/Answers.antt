@@ -1,6 +1,6 @@
 use Rattle.std.proofs.Common.{◌≡◌, ◌<◌, ◌+◌, ◌∷◌, [], ℕ, length, List, arith, subst, ap, ◌∙◌, length-append}
 use Rattle.ips_text.proofs.Lists.{all_append}
-use Rattle.ips_records.specs.Lines.{lines_of}
+use Rattle.ips_records.specs.Lines.{lines_in}
 use Rattle.ips_records.specs.Listed.{NoneNext, MayEnd, Sole}
 use Rattle.ips_records.proofs.Items.{chain_more, lines_step}
 use Rattle.ips_records.proofs.list.read_front.Goals as goal
@@ -8,7 +8,7 @@ use Rattle.ips_records.proofs.list.read_front.Goals as goal
 pub returns-in_default-clause-ends : goal.returns-in_default-clause-ends
 returns-in_default-clause-ends g c = λ some.
     let items = c.loop-alloc.items.items in
-    let rest = lines_of c.loop-alloc.rest.now in
+    let rest = lines_in c.loop-alloc.rest.now in
     let none = rw c.in_default.is at c.in_ok-item.ensures.none in
     subst (λ (l : List g.row.L-Item.Denot). NoneNext g.L.Listing.line g.L.Listing.fits g.L.Listing.follows l rest) c.deref.ensures.value none
 
@@ -23,6 +23,6 @@ loop-alloc-preserved g c =
     record {
       sole = rw pushed (all_append (Sole g.L.Listing.line g.L.Listing.fits) items (item ∷ []) c.loop-alloc.invariant.sole (rw c.in-Some.is at c.in_ok-item.ensures.sole, tt));
       chain = rw pushed (chain_more g.L.Listing.follows items item c.loop-alloc.invariant.chain may);
-      lines = rw pushed (lines_step g.L.Listing.line g.L.Listing.fits g.L.Listing.follows (lines_of c.args.bytes.now) items item (lines_of c.loop-alloc.rest.now) (lines_of c.in-Some.behind.now) c.loop-alloc.invariant.lines (rw c.in-Some.is at c.in_ok-item.ensures.lines));
+      lines = rw pushed (lines_step g.L.Listing.line g.L.Listing.fits g.L.Listing.follows (lines_in c.args.bytes.now) items item (lines_in c.loop-alloc.rest.now) (lines_in c.in-Some.behind.now) c.loop-alloc.invariant.lines (rw c.in-Some.is at c.in_ok-item.ensures.lines));
       room = omega (arith, more, shorter, c.loop-alloc.invariant.room);
     }

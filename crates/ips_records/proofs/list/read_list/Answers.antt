@@ -1,5 +1,5 @@
 use Rattle.std.proofs.Common.{◌≡◌, ◌<◌, ◌+◌, ℕ, length, arith, rules, subst}
-use Rattle.ips_records.specs.Lines.{lines_of, IsFirstBadLine}
+use Rattle.ips_records.specs.Lines.{lines_in, IsFirstBadLine}
 use Rattle.ips_records.specs.Listed.{IsListed}
 use Rattle.ips_records.proofs.First.{lines_some}
 use Rattle.ips_records.proofs.Items.{bad_next}
@@ -10,6 +10,6 @@ returns-else-is_empty-clause-bad g c =
     let items = c.in_ok-items.items.items in
     let rest = c.in_ok-items.rest.now in
     let some : 0 < length rest = search rules in
-    let bad = bad_next g.L.Listing.line g.L.Listing.fits g.L.Listing.follows (lines_of c.args.bytes.now) items (lines_of rest) c.in_ok-items.ensures.sole c.in_ok-items.ensures.chain c.in_ok-items.ensures.lines (lines_some rest some) (c.in_ok-items.ensures.ends some) in
+    let bad = bad_next g.L.Listing.line g.L.Listing.fits g.L.Listing.follows (lines_in c.args.bytes.now) items (lines_in rest) c.in_ok-items.ensures.sole c.in_ok-items.ensures.chain c.in_ok-items.ensures.lines (lines_some rest some) (c.in_ok-items.ensures.ends some) in
     let count : length items ≡ c.len.result = omega (arith, c.len.ensures, c.in_ok-items.items.ok) in
-    subst (λ (n : ℕ). IsFirstBadLine (IsListed g.L.Listing.line g.L.Listing.fits g.L.Listing.follows) (lines_of c.args.bytes.now) (n + 1)) count bad
+    subst (λ (n : ℕ). IsFirstBadLine (IsListed g.L.Listing.line g.L.Listing.fits g.L.Listing.follows) (lines_in c.args.bytes.now) (n + 1)) count bad
