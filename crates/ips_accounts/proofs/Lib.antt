@@ -14,3 +14,4 @@ pub mod GroupNames
 pub mod Holding
 pub mod Steps
 pub mod NewUsers
+pub mod NewGroups

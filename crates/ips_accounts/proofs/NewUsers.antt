@@ -5,7 +5,7 @@ use Rattle.std.specs.List.{list_any, find, AllByRecursion}
 use Rattle.std.proofs.lemmas.Bool.{or_parts, and_parts, true≢false}
 use Rattle.std.proofs.lemmas.List.Folds.{list_any-append}
 use Rattle.ips_text.specs.Reading.{◌>>=◌}
-use Rattle.ips_text.proofs.Truths.{or_true, not_true}
+use Rattle.ips_text.proofs.Truths.{or_true}
 use Rattle.ips_action.proofs.KeyOrder.{same_true, same_self}
 use Rattle.ips_action.specs.Attrs.{is_same, values_of}
 use Rattle.ips_action.specs.Check.{IsAccount, IsField}
@@ -13,8 +13,8 @@ use Rattle.ips_action.specs.Action.{Fields}
 use Rattle.ips_accounts.specs.declared.fault.AccountFault.{AccountFault}
 use Rattle.ips_accounts.specs.declared.fault.AccountFault.TheVariants.{IdTaken}
 use Rattle.ips_accounts.specs.Lines.{Line, ended, last_ended}
-use Rattle.ips_accounts.specs.Accounts.{is_kept, is_of, field, line_at, Accounts}
-use Rattle.ips_accounts.specs.Editing.{at_first, rewritten, added, put, user_name, users_in, name_cmp, is_fresh, fresh_groups, fresh_users, after_gone, edited_books, if_known, with_group, with_user, with_shadow, in_groups, is_taken, number_for, number_given, gid_of, passwd_text, shadow_text, each, is_named_in}
+use Rattle.ips_accounts.specs.Accounts.{is_kept, is_of, field, Accounts}
+use Rattle.ips_accounts.specs.Editing.{at_first, rewritten, added, put, user_name, users_in, name_cmp, is_fresh, fresh_groups, fresh_users, after_gone, edited_books, if_known, with_group, with_user, with_shadow, in_groups, is_taken, number_for, number_given, gid_of, passwd_text, shadow_text, each}
 use Rattle.ips_accounts.specs.Laws.{NamedOnce, text_at, UserStands}
 use Rattle.ips_accounts.proofs.Lacking.{Lacks, bind_ok, err_no, ok_value, written_name, not_of, all_ordered, all_filtered, NamesOther, name_others}
 use Rattle.ips_accounts.proofs.Others.{each_keeps, not_kept, known_keeps}
@@ -22,18 +22,18 @@ use Rattle.ips_accounts.proofs.Others.{each_keeps, not_kept, known_keeps}
 -- ---- a line that is written
 
 -- it speaks of its name
-own_line : (name text behind : List ℕ) (e : Bool) → IsAccount name → text ≡ name ++ 58 ∷ behind → is_of name (record { text = text; ended = e }) ≡ true
+pub own_line : (name text behind : List ℕ) (e : Bool) → IsAccount name → text ≡ name ++ 58 ∷ behind → is_of name (record { text = text; ended = e }) ≡ true
 own_line name text behind e account is =
     ap (λ (t : Bool). not t && is_same name (field 0 (record { text = text; ended = e }))) (ap (λ (x : List ℕ). is_kept (record { text = x; ended = e })) is ∙ not_kept name behind e account)
     ∙ ap (λ (f : List ℕ). is_same name f) (written_name name text behind e account.field is) ∙ same_self name name refl
 
 -- it speaks of no other
-other_line : (name other text behind : List ℕ) (e : Bool) → IsField other → is_same name other ≡ false → text ≡ other ++ 58 ∷ behind → is_of name (record { text = text; ended = e }) ≡ false
+pub other_line : (name other text behind : List ℕ) (e : Bool) → IsField other → is_same name other ≡ false → text ≡ other ++ 58 ∷ behind → is_of name (record { text = text; ended = e }) ≡ false
 other_line name other text behind e plain apart is = not_of name (record { text = text; ended = e }) other (written_name other text behind e plain is) apart
 
 -- ---- lists of lines
 
-lacks_none : (name : List ℕ) (lines : List Line) → list_any (is_of name) lines ≡ false → Lacks name lines
+pub lacks_none : (name : List ℕ) (lines : List Line) → list_any (is_of name) lines ≡ false → Lacks name lines
 lacks_none name [] e = tt
 lacks_none name (line ∷ lines) e = let parts = or_parts (is_of name line) (list_any (is_of name) lines) e in (parts.0, lacks_none name lines parts.1)
 
@@ -71,7 +71,7 @@ first_written name text (x ∷ lines) own there = go (is_of name x) refl there (
     go false e any later = ap (λ (t : Bool). option_map (λ (l : Line). l.text) (cond t (Some x) (find (is_of name) (at_first (is_of name) (rewritten text) lines)))) e ∙ later any
 
 -- a line that speaks of a name speaks of no other
-apart_line : (name other : List ℕ) (line : Line) → is_same name other ≡ false → is_of other line ≡ true → is_of name line ≡ false
+pub apart_line : (name other : List ℕ) (line : Line) → is_same name other ≡ false → is_of other line ≡ true → is_of name line ≡ false
 apart_line name other line apart of =
     let parts = and_parts (not (is_kept line)) (is_same other (field 0 line)) of in
     not_of name line other (sym (same_true other (field 0 line) parts.1)) apart
@@ -94,14 +94,14 @@ other_written name other text (x ∷ lines) apart away = go (is_of other x) refl
 
 -- ---- put
 
-put_own : (name text : List ℕ) (lines : List Line) → ((e : Bool) → is_of name (record { text = text; ended = e }) ≡ true) → text_at (put name text lines) name ≡ Some text
+pub put_own : (name text : List ℕ) (lines : List Line) → ((e : Bool) → is_of name (record { text = text; ended = e }) ≡ true) → text_at (put name text lines) name ≡ Some text
 put_own name text lines own = go (list_any (is_of name) lines) refl
   where
     go : (t : Bool) → list_any (is_of name) lines ≡ t → text_at (cond t (at_first (is_of name) (rewritten text) lines) (added text lines)) name ≡ Some text
     go true e = first_written name text lines own e
     go false e = found_behind name lines (record { text = text; ended = true }) (lacks_none name lines e) (own true)
 
-put_other : (name other text : List ℕ) (lines : List Line) → is_same name other ≡ false → ((e : Bool) → is_of name (record { text = text; ended = e }) ≡ false) → text_at (put other text lines) name ≡ text_at lines name
+pub put_other : (name other text : List ℕ) (lines : List Line) → is_same name other ≡ false → ((e : Bool) → is_of name (record { text = text; ended = e }) ≡ false) → text_at (put other text lines) name ≡ text_at lines name
 put_other name other text lines apart away = go (list_any (is_of other) lines)
   where
     go : (t : Bool) → text_at (cond t (at_first (is_of other) (rewritten text) lines) (added text lines)) name ≡ text_at lines name
@@ -139,7 +139,7 @@ shadow_kept name b lines there = go (list_any (is_of (user_name b)) lines)
 
 -- ---- a user
 
-given_is : (lines : List Line) (name : List ℕ) (id : Option ℕ) (uid : ℕ) → number_for lines name id ≡ Ok uid → IfSome id (λ x. uid ≡ x)
+pub given_is : (lines : List Line) (name : List ℕ) (id : Option ℕ) (uid : ℕ) → number_for lines name id ≡ Ok uid → IfSome id (λ x. uid ≡ x)
 given_is lines name None uid e = tt
 given_is lines name (Some x) uid e = go (is_taken lines name x) e
   where

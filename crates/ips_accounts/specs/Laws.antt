@@ -5,7 +5,7 @@ use Rattle.ips_action.specs.Attrs.{is_same}
 use Rattle.ips_action.specs.Action.{Fields}
 use Rattle.ips_accounts.specs.Lines.{Line}
 use Rattle.ips_accounts.specs.Accounts.{is_kept, is_of, field, members_of, line_at, Accounts}
-use Rattle.ips_accounts.specs.Editing.{users_in, groups_in, user_name, group_name, number_given, passwd_text, is_named_in, is_gone, fresh_users}
+use Rattle.ips_accounts.specs.Editing.{users_in, groups_in, user_name, group_name, number_given, passwd_text, group_text, is_named_in, is_gone, fresh_users}
 
 -- ---- names that go
 
@@ -39,6 +39,13 @@ pub record UserStands (after : Accounts) (a : Fields) : Type 0 where
   pub line : text_at after.passwd (user_name a) ≡ Some (passwd_text a uid gid)
   pub given : IfSome (number_given (codes "uid") a) (λ id. uid ≡ id)
   pub password : list_any (is_of (user_name a)) after.shadow ≡ true
+
+-- The group stands as the action says: its line has its name, the number that the action gives, where it gives one, and some members.
+pub record GroupStands (after : Accounts) (a : Fields) : Type 0 where
+  pub gid : ℕ
+  pub members : List ℕ
+  pub line : text_at after.group (group_name a) ≡ Some (group_text (group_name a) gid members)
+  pub given : IfSome (number_given (codes "gid") a) (λ id. gid ≡ id)
 
 -- ---- lines that the edit isn't about
 
