@@ -47,7 +47,7 @@ pub with_apart : (name : List ℕ) (members : List (List ℕ)) (line : Line) →
 with_apart name members line kept apart =
     not_of name (with_members members line) (field 0 line) (written_name (field 0 line) (with_members members line).text _ line.ended (name_plain line) refl) (apart_of (is_kept line) (is_same name (field 0 line)) kept apart)
 
-joined_apart : (name user : List ℕ) (line : Line) → is_kept line ≡ false → is_of name line ≡ false → is_of name (joined_by user line) ≡ false
+pub joined_apart : (name user : List ℕ) (line : Line) → is_kept line ≡ false → is_of name line ≡ false → is_of name (joined_by user line) ≡ false
 joined_apart name user line kept apart = go (list_any (λ member. is_same member user) (members_of line)) (with_apart name (members_of line ++ user ∷ []) line kept apart)
   where
     go : (t : Bool) → is_of name (with_members (members_of line ++ user ∷ []) line) ≡ false → is_of name (cond t line (with_members (members_of line ++ user ∷ []) line)) ≡ false

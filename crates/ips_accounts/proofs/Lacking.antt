@@ -66,7 +66,7 @@ pub none_at : (name : List ℕ) (lines : List Line) → Lacks name lines → lin
 none_at name [] lacks = refl
 none_at name (line ∷ lines) lacks = ap (λ (t : Bool). cond t (Some line) (find (is_of name) lines)) lacks.0 ∙ none_at name lines lacks.1
 
-split_at : (front behind : List ℕ) → IsField front → slice_split (λ b. eqb b 58) (front ++ 58 ∷ behind) ≡ front ∷ slice_split (λ b. eqb b 58) behind
+pub split_at : (front behind : List ℕ) → IsField front → slice_split (λ b. eqb b 58) (front ++ 58 ∷ behind) ≡ front ∷ slice_split (λ b. eqb b 58) behind
 split_at [] behind e = refl
 split_at (b ∷ front) behind e =
     let parts = or_parts (eqb b 58) (list_any (λ b. eqb b 58) front) e in

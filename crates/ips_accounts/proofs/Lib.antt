@@ -13,3 +13,5 @@ pub mod Read
 pub mod GroupNames
 pub mod Holding
 pub mod Steps
+pub mod NewUsers
+pub mod NewGroups

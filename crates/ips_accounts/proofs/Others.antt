@@ -78,7 +78,7 @@ pub record Writes (users : List Fields) (a : Fields) : Type 0 where
   pub account : IsAccount (user_name a)
   pub named : is_named_in user_name users (user_name a) ≡ true
 
-not_kept : (name behind : List ℕ) (e : Bool) → IsAccount name → is_kept (record { text = name ++ 58 ∷ behind; ended = e }) ≡ false
+pub not_kept : (name behind : List ℕ) (e : Bool) → IsAccount name → is_kept (record { text = name ++ 58 ∷ behind; ended = e }) ≡ false
 not_kept [] behind e account = absurd (none account.some)
   where
     none : 0 < 0 → ⊥

@@ -83,33 +83,6 @@ pub record Accounts : Type 0 where
   pub shadow : List Line
   pub group : List Line
 
--- ---- who is who
-
--- A user, as passwd tells of one.
-pub record UserEntry : Type 0 where
-  pub uid : Option ℕ
-  pub gid : Option ℕ
-  pub gcos : List ℕ
-  pub home : List ℕ
-  pub shell : List ℕ
-
--- The user of a name.
-abbrev pub user_at : List Line → List ℕ → Option UserEntry
-user_at passwd name = option_map (λ line. record { uid = number_of line; gid = number_in (field 3 line); gcos = field 4 line; home = field 5 line; shell = field 6 line }) (line_at passwd name)
-
--- The password of a user, as shadow keeps it.
-abbrev pub password_at : List Line → List ℕ → Option (List ℕ)
-password_at shadow name = option_map (field 1) (line_at shadow name)
-
--- A group, as group tells of one.
-pub record GroupEntry : Type 0 where
-  pub gid : Option ℕ
-  pub members : List (List ℕ)
-
--- The group of a name.
-abbrev pub group_at : List Line → List ℕ → Option GroupEntry
-group_at group name = option_map (λ line. record { gid = number_of line; members = members_of line }) (line_at group name)
-
 -- ---- numbers of owners
 
 -- The users that are known without a line.

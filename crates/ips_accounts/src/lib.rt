@@ -31,6 +31,6 @@ pub use editing::edit;
 pub use fault::{AccountFault, Unknown};
 pub use laws::{
     gone_groups_have_no_line, gone_users_are_no_members, gone_users_have_no_line,
-    lines_are_the_text, other_lines_stay,
+    lines_are_the_text, new_groups_stand, new_users_stand, other_lines_stay,
 };
 pub use resolving::resolve;

@@ -1,35 +1,74 @@
--- What holds of every row of a stem's actions.
+-- What holds of every row of a stem's actions, and of every row of an index.
 use Rattle.std.proofs.Common.{◌≡◌, inl, inr, ℕ, Bool, true, false, cond, ◌&&◌, List, [], ◌∷◌, ◌++◌, map, refl, sym, subst, Option, Some, None, codes, arith}
 use Rattle.std.specs.Prelude.{◌≢◌, Contains}
 use Rattle.std.specs.List.{AllByRecursion}
-use Rattle.std.specs.Option.{option_to_list}
+use Rattle.std.specs.Option.{option_to_list, unwrap_or}
 use Rattle.std.specs.Str.{IsUtf8}
 use Rattle.ips_text.specs.Path.{parts}
 use Rattle.ips_text.proofs.Lists.{all_append}
+use Rattle.ips_fmri.specs.Name.{IsStem}
+use Rattle.ips_digest.specs.declared.name.PayloadName.{PayloadName}
 use Rattle.ips_action.specs.declared.kind.ActionKind.{ActionKind}
 use Rattle.ips_action.specs.declared.kind.ActionKind.TheVariants.{Set, Depend, Dir, File, Link, Hardlink, User, Group, Driver, License, Legacy, Signature}
 use Rattle.ips_action.specs.Attrs.{is_same, values_of}
 use Rattle.ips_action.specs.Check.{last_of}
-use Rattle.ips_action.specs.Action.{Fields, naming_key, payload_word}
+use Rattle.ips_action.specs.Action.{Fields, naming_key, payload_word, IfTaken}
+use Rattle.ips_index.specs.declared.entry.Field.TheVariants.{Key}
 use Rattle.ips_index.specs.Rows.{Row, has_slash, rows_at, rows_in, key_rows, values_said, rows_of, scanned}
-use Rattle.ips_index.specs.Entries.{AreTexts, AreOf}
-use Rattle.ips_index.proofs.Picked.{one_or_rest}
+use Rattle.ips_index.specs.Text.{HasIndex, IsRow, AreRows}
+use Rattle.ips_index.specs.Entries.{AreFit, AreNamed, AreOf, index_name}
+use Rattle.ips_index.proofs.Picked.{one_or_rest, head_in, tail_in}
 
--- the row is of the stem, and has an index
+-- the row is of the stem
 Is : List ℕ → Row → Type 0
-Is stem row = (row.stem ≡ stem) × (row.index ≢ [])
+Is stem row = row.stem ≡ stem
 
-at_is : (stem : List ℕ) (kind : ActionKind) (index value : List ℕ) → index ≢ [] → AllByRecursion (Is stem) (rows_at stem kind index value)
+at_is : (stem : List ℕ) (kind : ActionKind) (index value : List ℕ) → AllByRecursion (Is stem) (rows_at stem kind index value)
 unfolding Is
-at_is stem kind index value some = ((refl, some), go (is_same index (codes "path") && has_slash value))
+at_is stem kind index value = (refl, go (is_same index (codes "path") && has_slash value))
   where
     go : (t : Bool) → AllByRecursion (Is stem) (map (λ token. record { token = token; index = index; kind = kind; value = value; stem = stem }) (cond t (last_of (parts value) ∷ []) []))
-    go true = ((refl, some), tt)
+    go true = (refl, tt)
     go false = tt
 
-in_is : (stem : List ℕ) (kind : ActionKind) (index : List ℕ) (values : List (List ℕ)) → index ≢ [] → AllByRecursion (Is stem) (rows_in stem kind index values)
-in_is stem kind index [] some = tt
-in_is stem kind index (v ∷ values) some = all_append (Is stem) (rows_at stem kind index v) (rows_in stem kind index values) (at_is stem kind index v some) (in_is stem kind index values some)
+in_is : (stem : List ℕ) (kind : ActionKind) (index : List ℕ) (values : List (List ℕ)) → AllByRecursion (Is stem) (rows_in stem kind index values)
+in_is stem kind index [] = tt
+in_is stem kind index (v ∷ values) = all_append (Is stem) (rows_at stem kind index v) (rows_in stem kind index values) (at_is stem kind index v) (in_is stem kind index values)
+
+key_rows_are : (stem : List ℕ) (a : Fields) (key : Option (List ℕ)) → AllByRecursion (Is stem) (key_rows stem a key)
+key_rows_are stem a None = tt
+key_rows_are stem a (Some key) = in_is stem a.kind key (values_of key a.attrs)
+
+of_is : (stem : List ℕ) (a : Fields) → AllByRecursion (Is stem) (rows_of stem a)
+of_is stem a =
+    all_append (Is stem) (key_rows stem a (naming_key a.kind) ++ rows_in stem a.kind (codes "value") (values_said a a.kind)) (rows_in stem a.kind (codes "payload") (option_to_list (payload_word a.payload)))
+    (all_append (Is stem) (key_rows stem a (naming_key a.kind)) (rows_in stem a.kind (codes "value") (values_said a a.kind)) (key_rows_are stem a (naming_key a.kind)) (in_is stem a.kind (codes "value") (values_said a a.kind)))
+    (in_is stem a.kind (codes "payload") (option_to_list (payload_word a.payload)))
+
+scanned_is : (stem : List ℕ) (actions : List Fields) → AllByRecursion (Is stem) (scanned stem actions)
+scanned_is stem [] = tt
+scanned_is stem (a ∷ actions) = all_append (Is stem) (rows_of stem a) (scanned stem actions) (of_is stem a) (scanned_is stem actions)
+
+-- what holds of all rows of a list
+pub each_of : (P : Row → Type 0) (rows : List Row) → AllByRecursion P rows → (row : Row) → Contains rows row → P row
+each_of P [] all row h = absurd (omega (arith, h.1))
+each_of P (r ∷ rows) all row h = elim (one_or_rest r row rows h) [ inl one ↦ subst P one all.0 | inr later ↦ each_of P rows all.1 row later ]
+
+pub all_of : (P : Row → Type 0) (rows : List Row) → ((row : Row) → Contains rows row → P row) → AllByRecursion P rows
+all_of P [] each = tt
+all_of P (r ∷ rows) each = (each r (head_in r rows), all_of P rows (λ row h. each row (tail_in r row rows h)))
+
+pub of_stem : (stem : List ℕ) (actions : List Fields) (row : Row) → Contains (scanned stem actions) row → row.stem ≡ stem
+unfolding Is
+of_stem stem actions row h = each_of (Is stem) (scanned stem actions) (scanned_is stem actions) row h
+
+pub are_of : (stem : List ℕ) (actions : List Fields) (rows : List Row) → rows ≡ scanned stem actions → AreFit rows → AreOf stem rows
+are_of stem actions rows e fit = record {
+  of_stem = λ row h. of_stem stem actions row (subst (λ (l : List Row). Contains l row) e h);
+  each = each_of IsRow rows fit;
+}
+
+-- ---- indexes
 
 IfKey : Option (List ℕ) → Type 0
 IfKey None = Unit {0}
@@ -50,35 +89,59 @@ key_is License = λ e. cc
 key_is Legacy = λ e. cc
 key_is Signature = tt
 
-key_rows_are : (stem : List ℕ) (a : Fields) (key : Option (List ℕ)) → IfKey key → AllByRecursion (Is stem) (key_rows stem a key)
+some_index : (kind : ActionKind) (index : List ℕ) → HasIndex kind index → index ≢ []
 unfolding IfKey
-key_rows_are stem a None h = tt
-key_rows_are stem a (Some key) h = in_is stem a.kind key (values_of key a.attrs) h
+some_index kind index h = elim h [
+  | inl key ↦ subst IfKey key (key_is kind)
+  | inr w ↦ elim w [
+    | inl value ↦ λ e. absurd (no_value (sym value.1) e)
+    | inr payload ↦ λ e. absurd (no_payload (sym payload.1) e)
+  ]
+]
+  where
+    no_value : codes "value" ≡ index → index ≡ [] → ⊥
+    no_value e n = cc
 
-of_is : (stem : List ℕ) (a : Fields) → AllByRecursion (Is stem) (rows_of stem a)
-of_is stem a =
-    all_append (Is stem) (key_rows stem a (naming_key a.kind) ++ rows_in stem a.kind (codes "value") (values_said a a.kind)) (rows_in stem a.kind (codes "payload") (option_to_list (payload_word a.payload)))
-    (all_append (Is stem) (key_rows stem a (naming_key a.kind)) (rows_in stem a.kind (codes "value") (values_said a a.kind)) (key_rows_are stem a (naming_key a.kind) (key_is a.kind))
-    (in_is stem a.kind (codes "value") (values_said a a.kind) (λ e. cc)))
-    (in_is stem a.kind (codes "payload") (option_to_list (payload_word a.payload)) (λ e. cc))
+    no_payload : codes "payload" ≡ index → index ≡ [] → ⊥
+    no_payload e n = cc
 
-scanned_is : (stem : List ℕ) (actions : List Fields) → AllByRecursion (Is stem) (scanned stem actions)
-scanned_is stem [] = tt
-scanned_is stem (a ∷ actions) = all_append (Is stem) (rows_of stem a) (scanned stem actions) (of_is stem a) (scanned_is stem actions)
+-- each row of an index is found by a text
+pub are_named : (rows : List Row) → AreRows rows → AreNamed rows
+are_named rows are row h = let is = are.each row h in (some_index row.kind row.index is.index, is.token)
 
-member : (P : Row → Type 0) (rows : List Row) (row : Row) → AllByRecursion P rows → Contains rows row → P row
-member P [] row all h = absurd (omega (arith, h.1))
-member P (r ∷ rows) row all h = elim (one_or_rest r row rows h) [ inl one ↦ subst P one all.0 | inr later ↦ member P rows row all.1 later ]
+-- the index of the attribute that names an action
+pub key_index : (kind : ActionKind) (key : List ℕ) → naming_key kind ≡ Some key → HasIndex kind (index_name kind Key)
+key_index kind key e = inl (go (naming_key kind) e)
+  where
+    go : (o : Option (List ℕ)) → o ≡ Some key → o ≡ Some (unwrap_or o [])
+    go None h = cc
+    go (Some k) h = refl
 
-pub are_of : (stem : List ℕ) (actions : List Fields) (rows : List Row) → rows ≡ scanned stem actions → AreTexts rows → AreOf stem rows
-unfolding Is
-are_of stem actions rows e texts =
-    let all = subst (λ (l : List Row). AllByRecursion (Is stem) l) (sym e) (scanned_is stem actions) in
-    record {
-      of_stem = λ row h. (member (Is stem) rows row all h).0;
-      named = λ row h. ((member (Is stem) rows row all h).1, member (λ (r : Row). IsUtf8 r.token) rows row texts h);
-    }
+-- the index of payloads, at an action that has one
+pub payload_index : (kind : ActionKind) (payload : Option PayloadName) (name : PayloadName) → IfTaken kind payload → payload ≡ Some name → HasIndex kind (codes "payload")
+payload_index kind payload name taken e = inr (inr (subst (IfTaken kind) e taken, refl))
 
-pub of_stem : (stem : List ℕ) (actions : List Fields) (row : Row) → Contains (scanned stem actions) row → row.stem ≡ stem
-unfolding Is
-of_stem stem actions row h = (member (Is stem) (scanned stem actions) row (scanned_is stem actions) h).0
+-- ---- rows of one value
+
+pub whole_row : (stem : List ℕ) (kind : ActionKind) (index value : List ℕ) → IsStem false stem → HasIndex kind index → IsUtf8 value → IsRow (record { token = value; index = index; kind = kind; value = value; stem = stem })
+whole_row stem kind index value of_stem has text = record {
+  index = has;
+  value = text;
+  token = text;
+  found = (0, omega arith, refl);
+  stem = of_stem;
+}
+
+pub last_row : (stem : List ℕ) (kind : ActionKind) (index value last : List ℕ) → IsStem false stem → HasIndex kind index → IsUtf8 value → IsUtf8 last → (is_same index (codes "path") && has_slash value) ≡ true → last ≡ last_of (parts value)
+    → IsRow (record { token = last; index = index; kind = kind; value = value; stem = stem })
+last_row stem kind index value last of_stem has text of_last slash e = record {
+  index = has;
+  value = text;
+  token = of_last;
+  found = go (is_same index (codes "path") && has_slash value) slash;
+  stem = of_stem;
+}
+  where
+    go : (t : Bool) → t ≡ true → Contains (value ∷ cond t (last_of (parts value) ∷ []) []) last
+    go true h = (1, omega arith, sym e)
+    go false h = cc

@@ -1,8 +1,8 @@
 -- Sets that grow and shrink by lists of rows.
-use Rattle.std.proofs.Common.{◌⊎◌, inl, inr, ℕ, List, [], ◌∷◌, ◌++◌, ◌≤◌, length, take, true, false, sym, subst, arith}
+use Rattle.std.proofs.Common.{◌⊎◌, inl, inr, ℕ, List, [], ◌∷◌, ◌++◌, ◌≤◌, length, take, drop, true, false, sym, subst, arith}
 use Rattle.std.specs.Prelude.{◌↔◌, ◌≡◌, Contains}
 use Rattle.std.specs.BTreeSet.{BTreeSet, Updates}
-use Rattle.std.proofs.lemmas.List.{take_all}
+use Rattle.std.proofs.lemmas.List.{take_all, take-append-drop}
 use Rattle.std.proofs.lemmas.List.Elements.{Contains-append_left, Contains-push, Contains-push_cases}
 use Rattle.ips_index.specs.Rows.{Row, row_cmp}
 use Rattle.ips_index.proofs.InSets.{row_put, row_taken}
@@ -93,3 +93,20 @@ grown_whole rows all set e grown row = (
   λ h. subst (λ (l : List Row). Contains l row) e (elim ((grown row).0 h) [ inl none ↦ absurd (none_there row none) | inr there ↦ there ]),
   λ h. (grown row).1 (inr (subst (λ (l : List Row). Contains l row) (sym e) h)),
 )
+
+-- ---- what stands in a set that grew by the front of a list
+
+pub grown_kept : (first front : List Row) (set : BTreeSet Row) → Grown first front set → (row : Row) → Contains first row → Contains set.keys row
+unfolding Grown
+grown_kept first front set grown row h = (grown row).1 (inl h)
+
+pub grown_only : (first rows : List Row) (i : ℕ) (set : BTreeSet Row) → Grown first (take i rows) set → (row : Row) → Contains set.keys row → Contains first row ⊎ Contains rows row
+unfolding Grown
+grown_only first rows i set grown row h = elim ((grown row).0 h) [ inl had ↦ inl had | inr in_front ↦ inr (taken_in rows i row in_front) ]
+  where
+    taken_in : (l : List Row) (n : ℕ) (r : Row) → Contains (take n l) r → Contains l r
+    taken_in l n r there = subst (λ (x : List Row). Contains x r) (take-append-drop n l) (Contains-append_left (take n l) (drop n l) r there)
+
+pub grown_all : (first rows : List Row) (i : ℕ) (set : BTreeSet Row) → length rows ≤ i → Grown first (take i rows) set → (row : Row) → Contains rows row → Contains set.keys row
+unfolding Grown
+grown_all first rows i set past grown row h = (grown row).1 (inr (subst (λ (l : List Row). Contains l row) (sym (take_all i rows past)) h))

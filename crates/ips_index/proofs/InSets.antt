@@ -1,5 +1,5 @@
 -- Rows put into a set, and taken out of it.
-use Rattle.std.proofs.Common.{◌≡◌, ◌⊎◌, inl, inr, Bool, true, false, cond, refl, sym, ◌∙◌, subst}
+use Rattle.std.proofs.Common.{◌≡◌, ◌⊎◌, inl, inr, Bool, true, false, cond, List, [], ◌∷◌, refl, sym, ◌∙◌, subst, arith}
 use Rattle.std.specs.Prelude.{◌↔◌, Contains}
 use Rattle.std.specs.declared.cmp.Ordering.{Ordering}
 use Rattle.std.specs.declared.cmp.Ordering.TheVariants.{Less, Equal, Greater}
@@ -13,9 +13,17 @@ use Rattle.std.proofs.lemmas.Map.Lookups.{btree_set_from_contains}
 use Rattle.std.proofs.lemmas.Map.Views.{btree_set_contains_iff}
 use Rattle.ips_index.specs.Rows.{Row, row_cmp, row_total}
 use Rattle.ips_index.proofs.Order.{exact_rows}
+use Rattle.ips_index.proofs.Picked.{head_in, tail_in, one_or_rest}
 
 has : (set : BTreeSet Row) (row : Row) → (contains row_cmp set row ≡ true) ↔ Contains set.keys row
 has set row = btree_set_contains_iff row_total exact_rows set row
+
+-- what the test for a row tells
+pub told_in : (set : BTreeSet Row) (row : Row) (t : Bool) → t ≡ contains row_cmp set row → t ≡ true → Contains set.keys row
+told_in set row t is e = (has set row).0 (sym is ∙ e)
+
+pub told_out : (set : BTreeSet Row) (row : Row) (t : Bool) → t ≡ contains row_cmp set row → t ≡ false → Contains set.keys row → ⊥
+told_out set row t is e h = true≢false (sym ((has set row).1 h) ∙ sym is ∙ e)
 
 -- the row is the other, or not at its place
 apart_or_one : (row other : Row) → (row ≡ other) ⊎ (is_eq (row_cmp row other) ≡ false)
@@ -25,6 +33,20 @@ apart_or_one row other = go (row_cmp row other) refl
     go Less e = inr refl
     go Equal e = inl (exact_rows row other e)
     go Greater e = inr refl
+
+-- a row stands in a list, or it doesn't
+pub in_or_not : (rows : List Row) (row : Row) → Contains rows row ⊎ (Contains rows row → ⊥)
+in_or_not [] row = inr (λ h. absurd (omega (arith, h.1)))
+in_or_not (r ∷ rows) row = elim (apart_or_one r row) [
+  | inl one ↦ inl (subst (λ (x : Row). Contains (r ∷ rows) x) one (head_in r rows))
+  | inr apart ↦ elim (in_or_not rows row) [
+    | inl later ↦ inl (tail_in r row rows later)
+    | inr none ↦ inr (λ h. elim (one_or_rest r row rows h) [ inl one ↦ absurd (true≢false (sym (tied one) ∙ apart)) | inr later ↦ none later ])
+  ]
+]
+  where
+    tied : r ≡ row → is_eq (row_cmp r row) ≡ true
+    tied one = subst (λ (x : Row). is_eq (row_cmp r x) ≡ true) one (rw (tied_itself row_total r) refl)
 
 pub row_put : (old new : BTreeSet Row) (row : Row) → Updates row_cmp old new row true → (other : Row) → Contains new.keys other ↔ (Contains old.keys other ⊎ (row ≡ other))
 row_put old new row updates other = (

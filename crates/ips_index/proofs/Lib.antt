@@ -1,11 +1,13 @@
+pub mod Picked
 pub mod Order
 pub mod InSets
 pub mod LastPart
 pub mod Growing
-pub mod Picked
 pub mod Scanned
-pub mod Listed
 pub mod Facts
+pub mod Listed
 pub mod Scans
 pub mod Found
 pub mod Plain
+pub mod RowLines
+pub mod IndexFiles

@@ -1,6 +1,6 @@
 -- Rows by their stems, and sets of rows in which they stand.
-use Rattle.std.proofs.Common.{◌≡◌, ◌⊎◌, inl, inr, ℕ, Bool, true, false, cond, List, [], ◌∷◌, ◌++◌, refl, sym, ◌∙◌, ap, subst, arith, Some, None}
-use Rattle.std.specs.Prelude.{◌≢◌, ◌↔◌, Contains, Result, Ok, Err, OnOk}
+use Rattle.std.proofs.Common.{◌≡◌, ◌⊎◌, inl, inr, ℕ, Bool, true, false, cond, List, [], ◌∷◌, ◌++◌, refl, sym, ◌∙◌, ap, subst, Some, None}
+use Rattle.std.specs.Prelude.{◌↔◌, Contains, Result, Ok, Err, IfOk}
 use Rattle.std.specs.Option.{option_map_or}
 use Rattle.std.specs.declared.vec.Vec.{Vec}
 use Rattle.std.specs.declared.alloc.Global.{Global}
@@ -14,7 +14,9 @@ use Rattle.std.specs.List.Sorted.{IsStrictlySortedBy}
 use Rattle.ips_index.specs.Rows.{Row, row_cmp}
 use Rattle.ips_index.specs.Scan.{IsDropped, IsPut}
 use Rattle.ips_index.proofs.Growing.{none_there}
-use Rattle.ips_index.specs.Entries.{Stems, listed_at, IsKept, AreNamed, AreOf}
+use Rattle.ips_index.specs.Text.{AreRows}
+use Rattle.ips_index.specs.Entries.{Stems, listed_at, IsKept, AreOf}
+use Rattle.ips_index.proofs.InSets.{same_rows, in_or_not}
 
 -- at each stem are those of the rows that are of it
 pub AreListed : List Row → Stems → Type 0
@@ -55,12 +57,11 @@ unfolding AreListed
 listed_whole rows all stems e h = subst (λ (l : List Row). (stem : List ℕ) (row : Row) → Contains (listed_at stems stem) row ↔ (Contains l row × (row.stem ≡ stem))) e h
 
 -- a set whose rows are listed so is kept
-pub kept_listed : (rows : BTreeSet Row) (stems : Stems) → AreNamed rows.keys → IsStrictlySortedBy row_cmp rows.keys → ((stem : List ℕ) (row : Row) → Contains (listed_at stems stem) row ↔ (Contains rows.keys row × (row.stem ≡ stem))) → IsKept rows stems
-kept_listed rows stems named ascend listed = record {
+pub kept_listed : (rows : BTreeSet Row) (stems : Stems) → AreRows rows.keys → ((stem : List ℕ) (row : Row) → Contains (listed_at stems stem) row ↔ (Contains rows.keys row × (row.stem ≡ stem))) → IsKept rows stems
+kept_listed rows stems are listed = record {
   listed = λ row h. (listed row.stem row).1 (h, refl);
   own = λ stem row h. ((listed stem row).0 h).1;
-  named = named;
-  ascend = ascend;
+  lawful = are;
 }
 
 -- the rows of a stem are taken away
@@ -89,43 +90,55 @@ kept_dropped rows left old new stem kept dropped gone others ascend = record {
     | inl same ↦ absurd (none_there row (subst (λ (l : List Row). Contains l row) (ap (listed_at new) (sym (same_true stem q same)) ∙ gone) h))
     | inr not_same ↦ kept.own q row (subst (λ (l : List Row). Contains l row) (others q not_same) h)
   ];
-  named = λ row h. kept.named row ((dropped row).0 h).0;
-  ascend = ascend;
+  lawful = record { each = λ row h. kept.lawful.each row ((dropped row).0 h).0; ascend = ascend };
 }
 
 -- ---- rows put in
 
--- the stem's rows are listed, and some of them stand in the set
-pub kept_put : (rows more : BTreeSet Row) (old new : Stems) (stem : List ℕ) (list : List Row) → IsKept rows old → ((row : Row) → Contains rows.keys row → row.stem ≢ stem) → AreOf stem list → listed_at new stem ≡ list
-    → ((q : List ℕ) → is_same stem q ≡ false → listed_at new q ≡ listed_at old q) → ((row : Row) → Contains more.keys row → Contains rows.keys row ⊎ Contains list row) → IsStrictlySortedBy row_cmp more.keys → IsKept more new
-kept_put rows more old new stem list kept none are put others only ascend = record {
-  listed = λ row h. elim (only row h) [
-    | inl had ↦ subst (λ (l : List Row). Contains l row) (sym (others row.stem (apart_from stem row.stem (λ e. none row had (sym e))))) (kept.listed row had)
-    | inr one ↦ subst (λ (l : List Row). Contains l row) (sym (ap (listed_at new) (are.of_stem row one) ∙ put)) one
-  ];
-  own = λ q row h. elim (same_or_apart stem q) [
-    | inl same ↦ are.of_stem row (subst (λ (l : List Row). Contains l row) (ap (listed_at new) (sym (same_true stem q same)) ∙ put) h) ∙ same_true stem q same
-    | inr apart ↦ kept.own q row (subst (λ (l : List Row). Contains l row) (others q apart) h)
-  ];
-  named = λ row h. elim (only row h) [ inl had ↦ kept.named row had | inr one ↦ are.named row one ];
-  ascend = ascend;
-}
+-- a stem whose rows are replaced: the fresh ones come, and then those go that it has no more
+module _ (rows more left : BTreeSet Row) (old new : Stems) (stem : List ℕ) (list fresh gone : List Row) (kept : IsKept rows old)
+    (fresh_is : (row : Row) → Contains fresh row ↔ (Contains list row × (Contains rows.keys row → ⊥)))
+    (stay : (row : Row) → Contains rows.keys row → Contains more.keys row)
+    (only : (row : Row) → Contains more.keys row → Contains rows.keys row ⊎ Contains fresh row) where
+  module _ (gone_is : (row : Row) → Contains gone row ↔ (Contains (listed_at old stem) row × (Contains list row → ⊥))) (come : (row : Row) → Contains fresh row → Contains more.keys row)
+      (removed : (row : Row) → Contains left.keys row ↔ (Contains more.keys row × (Contains gone row → ⊥))) where
+    pub stem_put : IsPut stem list rows.keys left.keys
+    stem_put row = (
+      λ h. let w = (removed row).0 h in
+          elim (only row w.0) [
+            | inl had ↦ elim (in_or_not list row) [
+              | inl in_list ↦ inl in_list
+              | inr lacks ↦ inr (had, λ same. w.1 ((gone_is row).1 (subst (λ (s : List ℕ). Contains (listed_at old s) row) same (kept.listed row had), lacks)))
+            ]
+            | inr one ↦ inl ((fresh_is row).0 one).0
+          ],
+      λ w. elim w [
+        | inl in_list ↦ (removed row).1
+            (elim (in_or_not rows.keys row) [ inl had ↦ stay row had | inr lacks ↦ come row ((fresh_is row).1 (in_list, lacks)) ], λ g. ((gone_is row).0 g).1 in_list)
+        | inr had ↦ (removed row).1 (stay row had.0, λ g. had.1 (kept.own stem row ((gone_is row).0 g).0))
+      ],
+    )
 
--- the stem's rows are replaced
-pub stem_put : (first rows more : List Row) (stem : List ℕ) (list : List Row) → IsDropped stem first rows → ((row : Row) → Contains list row → Contains more row) → ((row : Row) → Contains rows row → Contains more row)
-    → ((row : Row) → Contains more row → Contains rows row ⊎ Contains list row) → IsPut stem list first more
-stem_put first rows more stem list dropped all old only row = (
-  λ h. elim (only row h) [ inl had ↦ inr ((dropped row).0 had) | inr one ↦ inl one ],
-  λ w. elim w [ inl one ↦ all row one | inr had ↦ old row ((dropped row).1 had) ],
-)
+    pub kept_put : AreOf stem list → listed_at new stem ≡ list → ((q : List ℕ) → is_same stem q ≡ false → listed_at new q ≡ listed_at old q) → IsStrictlySortedBy row_cmp left.keys → IsKept left new
+    kept_put are put others ascend = record {
+      listed = λ row h. elim ((stem_put row).0 h) [
+        | inl one ↦ subst (λ (l : List Row). Contains l row) (sym (ap (listed_at new) (are.of_stem row one) ∙ put)) one
+        | inr had ↦ subst (λ (l : List Row). Contains l row) (sym (others row.stem (apart_from stem row.stem (λ e. had.1 (sym e))))) (kept.listed row had.0)
+      ];
+      own = λ q row h. elim (same_or_apart stem q) [
+        | inl same ↦ are.of_stem row (subst (λ (l : List Row). Contains l row) (ap (listed_at new) (sym (same_true stem q same)) ∙ put) h) ∙ same_true stem q same
+        | inr apart ↦ kept.own q row (subst (λ (l : List Row). Contains l row) (others q apart) h)
+      ];
+      lawful = record { each = λ row h. elim ((stem_put row).0 h) [ inl one ↦ are.each row one | inr had ↦ kept.lawful.each row had.0 ]; ascend = ascend };
+    }
 
--- the rows of other stems stay
-pub others_stay : (first rows more : List Row) (stem : List ℕ) (list : List Row) → IsDropped stem first rows → ((row : Row) → Contains list row → row.stem ≡ stem) → ((row : Row) → Contains rows row → Contains more row)
-    → ((row : Row) → Contains more row → Contains rows row ⊎ Contains list row) → (row : Row) → (row.stem ≡ stem → ⊥) → Contains more row ↔ Contains first row
-others_stay first rows more stem list dropped of_stem old only row differs = (
-  λ h. elim (only row h) [ inl had ↦ ((dropped row).0 had).0 | inr one ↦ absurd (differs (of_stem row one)) ],
-  λ h. old row ((dropped row).1 (h, differs)),
-)
+  -- where the fresh ones are taken away again, all is as before
+  pub undone : ((row : Row) → Contains left.keys row ↔ (Contains more.keys row × (Contains fresh row → ⊥))) → IsStrictlySortedBy row_cmp left.keys → left.keys ≡ rows.keys
+  undone removed ascend = same_rows left rows ascend kept.lawful.ascend
+      (λ row. (
+        λ h. let w = (removed row).0 h in elim (only row w.0) [ inl had ↦ had | inr one ↦ absurd (w.1 one) ],
+        λ had. (removed row).1 (stay row had, λ one. ((fresh_is row).0 one).1 had),
+      ))
 
 -- ---- what a map has once a stem is taken out of it, or put into it
 
@@ -145,24 +158,36 @@ put_at old new stem v updates = (
 pub nothing_taken : (keys : List Row) (row : Row) → Contains keys row ↔ (Contains keys row × (Contains [] row → ⊥))
 nothing_taken keys row = (λ h. (h, none_there row), λ w. w.0)
 
--- the same where nothing failed
-pub stem_put_ok : {E : Type 0} (first rows more : List Row) (stem : List ℕ) (list : List Row) (r : Result (Unit {0}) E) → IsDropped stem first rows → OnOk r ((row : Row) → Contains list row → Contains more row) → ((row : Row) → Contains rows row → Contains more row)
-    → ((row : Row) → Contains more row → Contains rows row ⊎ Contains list row) → OnOk r (IsPut stem list first more)
-stem_put_ok first rows more stem list (Ok x) dropped all old only = stem_put first rows more stem list dropped all old only
-stem_put_ok first rows more stem list (Err e) dropped all old only = tt
-
-listed_same : (old new : Stems) → new.entries ≡ old.entries → (stem : List ℕ) → listed_at new stem ≡ listed_at old stem
-listed_same old new e stem = rw e refl
-
-pub kept_same : (rows : BTreeSet Row) (old new : Stems) → new.entries ≡ old.entries → IsKept rows old → IsKept rows new
-kept_same rows old new e kept = record {
-  listed = λ row h. subst (λ (l : List Row). Contains l row) (sym (listed_same old new e row.stem)) (kept.listed row h);
-  own = λ stem row h. kept.own stem row (subst (λ (l : List Row). Contains l row) (listed_same old new e stem) h);
-  named = kept.named;
-  ascend = kept.ascend;
+-- a set of the same rows, which are listed alike
+pub kept_same : (rows left : BTreeSet Row) (old new : Stems) → left.keys ≡ rows.keys → ((q : List ℕ) → listed_at new q ≡ listed_at old q) → IsKept rows old → IsKept left new
+kept_same rows left old new same alike kept = record {
+  listed = λ row h. subst (λ (l : List Row). Contains l row) (sym (alike row.stem)) (kept.listed row (subst (λ (l : List Row). Contains l row) same h));
+  own = λ stem row h. kept.own stem row (subst (λ (l : List Row). Contains l row) (alike stem) h);
+  lawful = subst AreRows (sym same) kept.lawful;
 }
 
--- what holds however a call ends
-pub ok_sorted : {E : Type 0} (r : Result (Unit {0}) E) (rows : List Row) → IsStrictlySortedBy row_cmp rows → OnOk r (IsStrictlySortedBy row_cmp rows)
-ok_sorted (Ok x) rows h = h
-ok_sorted (Err e) rows h = tt
+pub listed_same : (old new : Stems) → new.entries ≡ old.entries → (stem : List ℕ) → listed_at new stem ≡ listed_at old stem
+listed_same old new e stem = rw e refl
+
+-- rows of a stem that aren't among others, told by a set of these
+pub gone_found : {E : Type 0} (r : Result (Vec Row Global) E) (seen listed keys list : List Row) → seen ≡ listed → ((row : Row) → Contains keys row → Contains list row) → ((row : Row) → Contains list row → Contains keys row)
+    → IfOk r (λ found. (row : Row) → Contains found.items row ↔ (Contains seen row × (Contains keys row → ⊥))) → IfOk r (λ found. (row : Row) → Contains found.items row ↔ (Contains listed row × (Contains list row → ⊥)))
+gone_found (Ok found) seen listed keys list is only all h = λ row. (
+  λ g. let w = (h row).0 g in (subst (λ (l : List Row). Contains l row) is w.0, λ there. w.1 (all row there)),
+  λ w. (h row).1 (subst (λ (l : List Row). Contains l row) (sym is) w.0, λ there. w.1 (only row there)),
+)
+gone_found (Err e) seen listed keys list is only all h = tt
+
+-- ---- the same said of a list that was lent
+
+pub among : (keys found seen list : List Row) → seen ≡ list → ((row : Row) → Contains found row ↔ (Contains seen row × (Contains keys row → ⊥))) → (row : Row) → Contains found row ↔ (Contains list row × (Contains keys row → ⊥))
+among keys found seen list e h = subst (λ (l : List Row). (row : Row) → Contains found row ↔ (Contains l row × (Contains keys row → ⊥))) e h
+
+pub but_not : (keys found seen list : List Row) → seen ≡ list → ((row : Row) → Contains found row ↔ (Contains keys row × (Contains seen row → ⊥))) → (row : Row) → Contains found row ↔ (Contains keys row × (Contains list row → ⊥))
+but_not keys found seen list e h = subst (λ (l : List Row). (row : Row) → Contains found row ↔ (Contains keys row × (Contains l row → ⊥))) e h
+
+pub only_among : (keys more seen list : List Row) → seen ≡ list → ((row : Row) → Contains more row → Contains keys row ⊎ Contains seen row) → (row : Row) → Contains more row → Contains keys row ⊎ Contains list row
+only_among keys more seen list e h = subst (λ (l : List Row). (row : Row) → Contains more row → Contains keys row ⊎ Contains l row) e h
+
+pub all_in : (more seen list : List Row) → seen ≡ list → ((row : Row) → Contains seen row → Contains more row) → (row : Row) → Contains list row → Contains more row
+all_in more seen list e h = subst (λ (l : List Row). (row : Row) → Contains l row → Contains more row) e h

@@ -1,5 +1,5 @@
 -- Rows that stand at one place of their order are one.
-use Rattle.std.proofs.Common.{◌≡◌, ℕ, List, refl, sym, ◌∙◌, ap}
+use Rattle.std.proofs.Common.{◌≡◌, ℕ, List, refl, ◌∙◌, ap}
 use Rattle.std.specs.declared.cmp.Ordering.{Ordering}
 use Rattle.std.specs.declared.cmp.Ordering.TheVariants.{Less, Equal, Greater}
 use Rattle.std.specs.Ordering.{nat_cmp, on, ordering_then, then_cmp}
@@ -22,7 +22,7 @@ both_equal R S a b e = go (R a b) (S a b) e
 row : List ℕ → List ℕ → ActionKind → List ℕ → List ℕ → Row
 row token index kind value stem = record { token = token; index = index; kind = kind; value = value; stem = stem }
 
-same : (a b : Row) → a.token ≡ b.token → a.index ≡ b.index → a.kind ≡ b.kind → a.value ≡ b.value → a.stem ≡ b.stem → a ≡ b
+pub same : (a b : Row) → a.token ≡ b.token → a.index ≡ b.index → a.kind ≡ b.kind → a.value ≡ b.value → a.stem ≡ b.stem → a ≡ b
 unfolding row
 same a b token index kind value stem =
     ap (λ t. row t a.index a.kind a.value a.stem) token ∙ ap (λ i. row b.token i a.kind a.value a.stem) index ∙ ap (λ k. row b.token b.index k a.value a.stem) kind ∙ ap (λ v. row b.token b.index b.kind v a.stem) value

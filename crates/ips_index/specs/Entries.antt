@@ -7,14 +7,14 @@ use Rattle.std.specs.declared.string.String.{String}
 use Rattle.std.specs.BTreeMap.{BTreeMap, get_by_text}
 use Rattle.std.specs.BTreeSet.{BTreeSet}
 use Rattle.std.specs.List.{AllByRecursion}
-use Rattle.std.specs.List.Sorted.{IsStrictlySortedBy}
 use Rattle.std.specs.Str.{chars, IsUtf8}
 use Rattle.ips_fmri.specs.Matching.{HasNone}
 use Rattle.ips_action.specs.declared.kind.ActionKind.{ActionKind}
 use Rattle.ips_action.specs.Action.{naming_key}
 use Rattle.ips_index.specs.declared.entry.Field.{Field}
 use Rattle.ips_index.specs.declared.entry.Field.TheVariants.{Start, Key, Value, Payload}
-use Rattle.ips_index.specs.Rows.{Row, row_cmp}
+use Rattle.ips_index.specs.Rows.{Row}
+use Rattle.ips_index.specs.Text.{IsRow, AreRows}
 
 -- the name of the index of a field
 abbrev pub index_name : ActionKind → Field → List ℕ
@@ -27,9 +27,9 @@ index_name kind Payload = codes "payload"
 abbrev pub row_at : ActionKind → Field → Option (List ℕ) → List ℕ → List ℕ → Row
 row_at kind field last value stem = record { token = unwrap_or last value; index = index_name kind field; kind = kind; value = value; stem = stem }
 
--- each row is found by a text
-abbrev pub AreTexts : List Row → Type 0
-AreTexts rows = AllByRecursion (λ (row : Row). IsUtf8 row.token) rows
+-- Each of the rows is one that an index may hold.
+abbrev pub AreFit : List Row → Type 0
+AreFit rows = AllByRecursion IsRow rows
 
 -- Each row is found by a text, in an index.
 abbrev pub AreNamed : List Row → Type 0
@@ -47,14 +47,13 @@ Stems = BTreeMap (String Global) (Vec Row Global)
 abbrev pub listed_at : Stems → List ℕ → List Row
 listed_at stems stem = option_map_or (λ rows. rows.items) (get_by_text stems stem) []
 
--- Each row is listed at its stem, each listed row is of its stem, each is found by a text, in an index, and they ascend.
+-- The rows are those of an index, each is listed at its stem, and each listed row is of its stem.
 pub record IsKept (rows : BTreeSet Row) (stems : Stems) : Type 0 where
   pub listed : (row : Row) → Contains rows.keys row → Contains (listed_at stems row.stem) row
   pub own : (stem : List ℕ) (row : Row) → Contains (listed_at stems stem) row → row.stem ≡ stem
-  pub named : AreNamed rows.keys
-  pub ascend : IsStrictlySortedBy row_cmp rows.keys
+  pub lawful : AreRows rows.keys
 
--- The rows are all of the stem, and each is found by a text, in an index.
+-- The rows are all of the stem, and each is one that an index may hold.
 pub record AreOf (stem : List ℕ) (rows : List Row) : Type 0 where
   pub of_stem : (row : Row) → Contains rows row → row.stem ≡ stem
-  pub named : AreNamed rows
+  pub each : (row : Row) → Contains rows row → IsRow row

@@ -1,3 +1,4 @@
 pub mod Rows
 pub mod Scan
+pub mod Text
 pub mod Entries

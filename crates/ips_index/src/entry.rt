@@ -5,6 +5,7 @@ ghost use Rattle.std.specs.Ordering.{as_partial_cmp, eq_by_cmp};
 ghost use Rattle.std.specs.Cmp.{eq_by_cmp_equiv, partial_equiv_from_equiv, partial_order_from_total};
 ghost use Rattle.std.specs.Cmp.Rules.{comparing};
 ghost use Rattle.std.specs.Option.{option_map};
+ghost use Rattle.std.specs.Str.{IsUtf8};
 ghost use Rattle.std.proofs.Common.{rules};
 ghost use Rattle.ips_text.specs.Path.{parts};
 ghost use Rattle.ips_action.specs.Check.{last_of};
@@ -135,7 +136,8 @@ pub(crate) fn key_name(kind: ActionKind) -> Option<&'static str>
 
 /// The last part of a path.
 pub(crate) fn last_part(path: &str) -> &str
-    ensures { result.now ≡ last_of (parts path.now) }
+    ensures last { result.now ≡ last_of (parts path.now) }
+    ensures text { IsUtf8 result.now }
 {
     let mut left = path;
     while let Some((_, rest)) = left.split_once('/') {

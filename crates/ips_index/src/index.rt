@@ -1,17 +1,22 @@
 //! The index of an image.
 
-ghost use Rattle.std.specs.Prelude.{◌≡◌, ◌⊎◌, ◌↔◌, [], IfOk, OnOk, Contains, map};
-ghost use Rattle.std.specs.List.Sorted.{IsStrictlySortedBy};
-ghost use Rattle.ips_index.specs.Rows.{Row, row_cmp, row_seen, scanned, index_text};
+ghost use Rattle.std.specs.Prelude.{◌≡◌, List, [], false, Ok, IfOk, OnOk, OnErr, map};
+ghost use Rattle.ips_text.specs.Reading.{Gives, IfBad};
+ghost use Rattle.ips_records.specs.Lines.{lines_in, IsFirstBadLine};
+ghost use Rattle.ips_fmri.specs.Name.{IsStem};
+ghost use Rattle.ips_index.specs.Rows.{Row, row_seen, scanned, index_text};
+ghost use Rattle.ips_index.specs.Text.{AreRows, IsIndexText, IsIndexFile};
 ghost use Rattle.ips_index.specs.Scan.{IsDropped, IsPut, AreFound};
 
 use crate::entry::Entry;
+use crate::fault::BadIndex;
 use crate::keeping::{drop_rows, put_rows};
 use crate::row::IndexRow;
 use crate::scanning::scan;
 use crate::sets::{Stems, by_stem, copied_set};
-use crate::{finding, printing};
+use crate::{finding, printing, reading};
 use ips_action::Action;
+use ips_text::Or;
 use std::alloc::{AllocError, Global};
 use std::collections::{BTreeMap, BTreeSet};
 use std::marker::Model;
@@ -46,13 +51,12 @@ impl Index {
         }
     }
 
-    /// Replaces the rows of the stem by those of these actions. Where memory runs out, rows of the stem may be missing, also some
-    /// that stood before; those of other stems are as before.
+    /// Replaces the rows of the stem by those of these actions. Where memory runs out, the index is as before.
     pub fn put(&mut self, alloc: Global, stem: &str, actions: &[Action]) -> Result<(), AllocError>
+        requires { IsStem false stem.now }
         ensures put { OnOk result (IsPut stem.now (scanned stem.now actions.now) self.old self.new) }
-        ensures others { (row : Row) → (row.stem ≡ stem.now → ⊥) → Contains self.new row ↔ Contains self.old row }
-        ensures only { (row : Row) → Contains self.new row → Contains self.old row ⊎ Contains (scanned stem.now actions.now) row }
-        ensures order { OnOk result (IsStrictlySortedBy row_cmp self.new) }
+        ensures same { OnErr result (self.new ≡ self.old) }
+        ensures rows { OnOk result (AreRows self.new) }
     {
         let rows = scan(alloc, stem, actions)?;
         put_rows(alloc, &mut self.rows, &mut self.stems, stem, rows)
@@ -61,7 +65,7 @@ impl Index {
     /// Takes the rows of the stem away.
     pub fn drop_stem(&mut self, stem: &str)
         ensures dropped { IsDropped stem.now self.old self.new }
-        ensures order { IsStrictlySortedBy row_cmp self.new }
+        ensures rows { AreRows self.new }
     {
         drop_rows(&mut self.rows, &mut self.stems, stem);
     }
@@ -77,7 +81,7 @@ impl Index {
     /// An index of the same rows.
     pub fn copy(&self, alloc: Global) -> Result<Index, AllocError>
         ensures same { IfOk result (λ index. index ≡ self.now) }
-        ensures order { IsStrictlySortedBy row_cmp self.now }
+        ensures rows { AreRows self.now }
     {
         let rows = copied_set(alloc, &self.rows)?;
         let stems = by_stem(alloc, &rows)?;
@@ -87,8 +91,20 @@ impl Index {
     /// The record of the index, `var/pkg/index`: a line that tells its form, and a line for each row.
     pub fn print(&self, alloc: Global) -> Result<Vec<u8>, AllocError>
         ensures text { IfOk result (λ bytes. bytes.items ≡ index_text self.now) }
-        ensures order { IsStrictlySortedBy row_cmp self.now }
+        ensures rows { AreRows self.now }
     {
         printing::print(alloc, &self.rows)
+    }
+
+    /// The index of a text that `print` writes. `BadIndex` tells the first line that no index goes on with: a line that can't stand
+    /// there, or the one that is missing at the end. A line that no newline ends is none.
+    pub fn read(alloc: Global, bytes: &[u8]) -> Result<Index, Or<BadIndex>>
+        ensures rows { IfOk result (λ index. IsIndexText index bytes.now) }
+        ensures back { (rows : List Row) → IsIndexText rows bytes.now → Gives (λ index. index) result (Ok rows) }
+        ensures bad { IfBad result (λ fault. IsFirstBadLine IsIndexFile (lines_in bytes.now) fault.line) }
+    {
+        let rows = reading::read(alloc, bytes)?;
+        let stems = by_stem(alloc, &rows)?;
+        Ok(Index { rows, stems })
     }
 }

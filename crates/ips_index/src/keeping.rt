@@ -1,12 +1,14 @@
 //! The rows of an index, and the same by their stems.
 
-ghost use Rattle.std.specs.Prelude.{◌≡◌, ◌⊎◌, ◌↔◌, OnOk, Contains};
-ghost use Rattle.ips_index.specs.Rows.{Row};
+ghost use Rattle.std.specs.Prelude.{◌≡◌, ◌⊎◌, ◌↔◌, List, ℕ, false, IfOk, OnOk, OnErr, Contains};
+ghost use Rattle.std.specs.List.Sorted.{IsStrictlySortedBy};
+ghost use Rattle.ips_action.specs.Attrs.{is_same};
+ghost use Rattle.ips_index.specs.Rows.{Row, row_cmp};
 ghost use Rattle.ips_index.specs.Scan.{IsDropped, IsPut};
-ghost use Rattle.ips_index.specs.Entries.{IsKept, AreOf};
+ghost use Rattle.ips_index.specs.Entries.{IsKept, AreOf, listed_at};
 
 use crate::entry::Entry;
-use crate::sets::{Stems, copied, insert_all, remove_all};
+use crate::sets::{Stems, absent, add_all, remove_all};
 use std::alloc::{AllocError, Global};
 use std::collections::BTreeSet;
 
@@ -21,7 +23,7 @@ pub(crate) fn drop_rows(rows: &mut BTreeSet<Entry>, stems: &mut Stems, stem: &st
     }
 }
 
-/// Replaces the rows of the stem by these. Where memory runs out, some of them are missing.
+/// Replaces the rows of the stem by these. Where memory runs out, all is as before.
 pub(crate) fn put_rows(
     alloc: Global,
     rows: &mut BTreeSet<Entry>,
@@ -33,12 +35,58 @@ pub(crate) fn put_rows(
     requires list { AreOf stem.now list.items }
     ensures kept { IsKept rows.new stems.new }
     ensures put { OnOk result (IsPut stem.now list.items rows.old.keys rows.new.keys) }
-    ensures others { (row : Row) → (row.stem ≡ stem.now → ⊥) → Contains rows.new.keys row ↔ Contains rows.old.keys row }
-    ensures only { (row : Row) → Contains rows.new.keys row → Contains rows.old.keys row ⊎ Contains list.items row }
+    ensures same { OnErr result (rows.new.keys ≡ rows.old.keys) }
 {
-    let copies = copied(alloc, &list)?;
+    let fresh = absent(alloc, rows, &list)?;
+    let gone = gone_rows(alloc, stems, stem, &list)?;
+    match enter(alloc, rows, stems, stem, &fresh, list) {
+        Ok(()) => {
+            remove_all(rows, &gone);
+            Ok(())
+        }
+        Err(refused) => {
+            remove_all(rows, &fresh);
+            Err(refused)
+        }
+    }
+}
+
+// The rows of the stem that aren't among these.
+fn gone_rows(
+    alloc: Global,
+    stems: &Stems,
+    stem: &str,
+    list: &[Entry],
+) -> Result<Vec<Entry>, AllocError>
+    ensures { IfOk result (λ gone. (row : Row) → Contains gone.items row ↔ (Contains (listed_at stems.now stem.now) row × (Contains list.now row → ⊥))) }
+{
+    let Some(old) = stems.get(stem) else {
+        return Ok(Vec::new(alloc));
+    };
+    let mut staying = BTreeSet::new(alloc);
+    add_all(alloc, &mut staying, list)?;
+    absent(alloc, &staying, old)
+}
+
+// Adds the fresh rows, and lists those of the stem. Where memory runs out, some fresh rows stand, and nothing else changed.
+fn enter(
+    alloc: Global,
+    rows: &mut BTreeSet<Entry>,
+    stems: &mut Stems,
+    stem: &str,
+    fresh: &[Entry],
+    list: Vec<Entry>,
+) -> Result<(), AllocError>
+    ensures all { OnOk result ((row : Row) → Contains fresh.now row → Contains rows.new.keys row) }
+    ensures old { (row : Row) → Contains rows.old.keys row → Contains rows.new.keys row }
+    ensures only { (row : Row) → Contains rows.new.keys row → Contains rows.old.keys row ⊎ Contains fresh.now row }
+    ensures order { IsStrictlySortedBy row_cmp rows.old.keys → IsStrictlySortedBy row_cmp rows.new.keys }
+    ensures listed { OnOk result (listed_at stems.new stem.now ≡ list.items) }
+    ensures others { (q : List ℕ) → is_same stem.now q ≡ false → listed_at stems.new q ≡ listed_at stems.old q }
+    ensures same { OnErr result ((q : List ℕ) → listed_at stems.new q ≡ listed_at stems.old q) }
+{
     let key = String::from_str(alloc, stem)?;
-    drop_rows(rows, stems, stem);
-    stems.insert(key, copies)?;
-    insert_all(rows, list)
+    add_all(alloc, rows, fresh)?;
+    stems.insert(key, list)?;
+    Ok(())
 }

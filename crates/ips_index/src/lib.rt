@@ -2,15 +2,19 @@
 #![tactic(auto)]
 
 mod entry;
+mod fault;
 mod finding;
 mod index;
 mod keeping;
 mod laws;
 mod printing;
+mod reading;
 mod row;
 mod scanning;
 mod sets;
+mod words;
 
+pub use fault::BadIndex;
 pub use index::Index;
-pub use laws::index_is_scan;
+pub use laws::{index_is_scan, indexes_read_back};
 pub use row::IndexRow;

@@ -1,13 +1,15 @@
 //! The rows of actions.
 
-ghost use Rattle.std.specs.Prelude.{◌≡◌, ◌++◌, ◌∷◌, [], ◌&&◌, codes, IfOk, OnOk, Some, None};
+ghost use Rattle.std.specs.Prelude.{◌≡◌, ◌++◌, ◌∷◌, [], ◌&&◌, false, codes, IfOk, OnOk, Some, None};
 ghost use Rattle.std.specs.Option.{option_to_list};
 ghost use Rattle.ips_action.specs.Attrs.{values_of, is_same};
 ghost use Rattle.ips_action.specs.Action.{payload_word};
 ghost use Rattle.ips_index.specs.Rows as rows;
 ghost use Rattle.ips_index.specs.Rows.{rows_at, rows_in, rows_of, scanned};
 ghost use Rattle.ips_index.specs.Entries as spec;
-ghost use Rattle.ips_index.specs.Entries.{AreTexts};
+ghost use Rattle.ips_fmri.specs.Name.{IsStem};
+ghost use Rattle.ips_index.specs.Text.{HasIndex, IsRow};
+ghost use Rattle.ips_index.specs.Entries.{AreFit};
 
 use crate::entry::{Entry, Field, index_name, key_name, last_part};
 use ips_action::{Action, ActionKind};
@@ -16,8 +18,9 @@ use std::alloc::{AllocError, Global};
 
 /// The rows of a stem's actions.
 pub(crate) fn scan(alloc: Global, stem: &str, actions: &[Action]) -> Result<Vec<Entry>, AllocError>
+    requires stem { IsStem false stem.now }
     ensures rows { IfOk result (λ entries. entries.items ≡ scanned stem.now actions.now) }
-    ensures texts { IfOk result (λ entries. AreTexts entries.items) }
+    ensures fit { IfOk result (λ entries. AreFit entries.items) }
 {
     let mut entries = Vec::new(alloc);
     for action in actions {
@@ -32,8 +35,9 @@ fn push_action(
     stem: &str,
     action: &Action,
 ) -> Result<(), AllocError>
+    requires stem { IsStem false stem.now }
     ensures rows { OnOk result (entries.new.items ≡ entries.old.items ++ rows_of stem.now action.now) }
-    ensures texts { AreTexts entries.old.items → OnOk result (AreTexts entries.new.items) }
+    ensures fit { AreFit entries.old.items → OnOk result (AreFit entries.new.items) }
 {
     if let Some(key) = key_name(action.kind) {
         push_values(alloc, entries, stem, action, key, Field::Key)?;
@@ -53,8 +57,10 @@ fn push_values(
     key: &str,
     field: Field,
 ) -> Result<(), AllocError>
+    requires stem { IsStem false stem.now }
+    requires index { HasIndex action.now.kind (spec.index_name action.now.kind field) }
     ensures rows { OnOk result (entries.new.items ≡ entries.old.items ++ rows_in stem.now action.now.kind (spec.index_name action.now.kind field) (values_of key.now action.now.attrs)) }
-    ensures texts { AreTexts entries.old.items → OnOk result (AreTexts entries.new.items) }
+    ensures fit { AreFit entries.old.items → OnOk result (AreFit entries.new.items) }
 {
     for i in 0..action.count(key) {
         if let Some(value) = action.nth(key, i) {
@@ -71,8 +77,9 @@ fn push_payload(
     stem: &str,
     action: &Action,
 ) -> Result<(), AllocError>
+    requires stem { IsStem false stem.now }
     ensures rows { OnOk result (entries.new.items ≡ entries.old.items ++ rows_in stem.now action.now.kind (codes "payload") (option_to_list (payload_word action.now.payload))) }
-    ensures texts { AreTexts entries.old.items → OnOk result (AreTexts entries.new.items) }
+    ensures fit { AreFit entries.old.items → OnOk result (AreFit entries.new.items) }
 {
     let Some(name) = &action.payload else {
         return Ok(());
@@ -94,8 +101,10 @@ fn push_value(
     field: Field,
     value: &str,
 ) -> Result<(), AllocError>
+    requires stem { IsStem false stem.now }
+    requires index { HasIndex kind (spec.index_name kind field) }
     ensures rows { OnOk result (entries.new.items ≡ entries.old.items ++ rows_at stem.now kind (spec.index_name kind field) value.now) }
-    ensures texts { AreTexts entries.old.items → OnOk result (AreTexts entries.new.items) }
+    ensures fit { AreFit entries.old.items → OnOk result (AreFit entries.new.items) }
 {
     push_whole(alloc, entries, stem, kind, field, value)?;
     if has_last(kind, field, value) {
@@ -104,8 +113,8 @@ fn push_value(
     Ok(())
 }
 
-// Whether the value is also found by its last part.
-fn has_last(kind: ActionKind, field: Field, value: &str) -> bool
+/// Whether the value is also found by its last part.
+pub(crate) fn has_last(kind: ActionKind, field: Field, value: &str) -> bool
     ensures { result ≡ (is_same (spec.index_name kind field) (codes "path") && rows.has_slash value.now) }
 {
     index_name(kind, field) == "path" && has_slash(value)
@@ -127,7 +136,7 @@ fn push_whole(
     value: &str,
 ) -> Result<(), AllocError>
     ensures rows { OnOk result (entries.new.items ≡ entries.old.items ++ (spec.row_at kind field None value.now stem.now ∷ [])) }
-    ensures texts { AreTexts entries.old.items → OnOk result (AreTexts entries.new.items) }
+    ensures fit { IsRow (spec.row_at kind field None value.now stem.now) → AreFit entries.old.items → OnOk result (AreFit entries.new.items) }
 {
     let value = Text::new(alloc, value)?;
     let stem = Text::new(alloc, stem)?;
@@ -152,7 +161,7 @@ fn push_last(
     value: &str,
 ) -> Result<(), AllocError>
     ensures rows { OnOk result (entries.new.items ≡ entries.old.items ++ (spec.row_at kind field (Some last.now) value.now stem.now ∷ [])) }
-    ensures texts { AreTexts entries.old.items → OnOk result (AreTexts entries.new.items) }
+    ensures fit { IsRow (spec.row_at kind field (Some last.now) value.now stem.now) → AreFit entries.old.items → OnOk result (AreFit entries.new.items) }
 {
     let last = Some(Text::new(alloc, last)?);
     let value = Text::new(alloc, value)?;

@@ -13,15 +13,38 @@ use std::collections::{BTreeMap, BTreeSet};
 /// The rows of each stem.
 pub(crate) type Stems = BTreeMap<String, Vec<Entry>>;
 
-/// Copies of the rows.
-pub(crate) fn copied(alloc: Global, rows: &[Entry]) -> Result<Vec<Entry>, AllocError>
-    ensures { IfOk result (λ copies. copies.items ≡ rows.now) }
+/// Copies of the rows that don't stand in the set.
+pub(crate) fn absent(
+    alloc: Global,
+    set: &BTreeSet<Entry>,
+    rows: &[Entry],
+) -> Result<Vec<Entry>, AllocError>
+    ensures { IfOk result (λ found. (row : Row) → Contains found.items row ↔ (Contains rows.now row × (Contains set.now.keys row → ⊥))) }
 {
-    let mut copies = Vec::with_capacity(alloc, rows.len())?;
+    let mut found = Vec::new(alloc);
     for row in rows {
-        copies.push(row.copy(alloc)?)?;
+        if !set.contains(row) {
+            found.push(row.copy(alloc)?)?;
+        }
     }
-    Ok(copies)
+    Ok(found)
+}
+
+/// Adds copies of the rows. Where memory runs out, some of them.
+pub(crate) fn add_all(
+    alloc: Global,
+    set: &mut BTreeSet<Entry>,
+    rows: &[Entry],
+) -> Result<(), AllocError>
+    ensures all { OnOk result ((row : Row) → Contains rows.now row → Contains set.new.keys row) }
+    ensures old { (row : Row) → Contains set.old.keys row → Contains set.new.keys row }
+    ensures only { (row : Row) → Contains set.new.keys row → Contains set.old.keys row ⊎ Contains rows.now row }
+    ensures order { IsStrictlySortedBy row_cmp set.old.keys → IsStrictlySortedBy row_cmp set.new.keys }
+{
+    for row in rows {
+        set.insert(row.copy(alloc)?)?;
+    }
+    Ok(())
 }
 
 /// Adds rows. Where memory runs out, some of them.

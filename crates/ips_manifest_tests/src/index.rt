@@ -1,6 +1,8 @@
 use crate::records::actions;
-use crate::table::{Ask, holds, word};
+use crate::table::{Ask, holds, spelled, word};
 use ips_index::Index;
+use ips_records::stem;
+use ips_text::Or;
 use std::alloc::Global;
 use std::process::Abort;
 
@@ -27,9 +29,13 @@ impl Ask for Held {
 }
 
 fn put(rt: &impl Abort, alloc: Global, index: &mut Index, words: &str) {
-    let (stem, lines) = words.split_once(' ').unwrap_or((words, ""));
+    let (name, lines) = words.split_once(' ').unwrap_or((words, ""));
+    let found = stem(alloc, name.as_bytes()).expect(rt, "memory");
+    let stem = found.expect(rt, "a stem");
     let actions = actions(rt, alloc, lines.trim());
-    index.put(alloc, stem, &actions).expect(rt, "memory");
+    index
+        .put(alloc, stem.as_str(), &actions)
+        .expect(rt, "memory");
 }
 
 // The rows found, each as the line of a search.
@@ -49,12 +55,40 @@ fn push_found(rt: &impl Abort, alloc: Global, out: &mut String, index: &Index, p
     }
 }
 
-// The text of a copy, which is that of the index.
+// The text of a copy, which is that of the index, as it is read and printed again.
 fn push_text(rt: &impl Abort, alloc: Global, out: &mut String, index: &Index) {
     let copy = index.copy(alloc).expect(rt, "memory");
     let bytes = copy.print(alloc).expect(rt, "memory");
+    let text = read(rt, alloc, &bytes);
+    out.push_str(text.as_str()).expect(rt, "memory");
+}
+
+// The text of the index that was read, or its first bad line.
+fn read(rt: &impl Abort, alloc: Global, bytes: &[u8]) -> String {
+    match Index::read(alloc, bytes) {
+        Ok(index) => printed(rt, alloc, &index),
+        Err(Or::Bad(fault)) => {
+            let line = fault.line;
+            format!(in alloc; "bad {line}").expect(rt, "memory")
+        }
+        Err(Or::OutOfMemory) => panic!(rt; "memory"),
+    }
+}
+
+fn printed(rt: &impl Abort, alloc: Global, index: &Index) -> String {
+    let bytes = index.print(alloc).expect(rt, "memory");
     let text = str::from_utf8(bytes.as_slice()).ok().expect(rt, "a text");
-    out.push_str(text).expect(rt, "memory");
+    String::from_str(alloc, text).expect(rt, "memory")
+}
+
+// The text of an index as it is printed again, or its first bad line.
+#[derive(Drop)]
+struct Reread;
+
+impl Ask for Reread {
+    fn answer(&mut self, rt: &impl Abort, alloc: Global, question: &str) -> String {
+        read(rt, alloc, &spelled(rt, alloc, question))
+    }
 }
 
 const ROWS_ARE_HELD: &str = "
@@ -82,6 +116,61 @@ put a driver name=xa; driver name=xb; driver name=x; driver name=y | find *x* ->
 put a driver name=xa | find XA -> 
 put a driver name=x | put b dir path=x mode=0755 owner=o group=g | find x -> name driver a x ;path dir b x ;
 ";
+
+const TEXTS_ARE_READ: &str = "
+# What was printed is read.
+index 1¶ -> index 1¶
+index 1¶usr path dir usr hello¶ -> index 1¶usr path dir usr hello¶
+index 1¶a%2Fb path link a%2Fb s¶b path link a%2Fb s¶ -> index 1¶a%2Fb path link a%2Fb s¶b path link a%2Fb s¶
+index 1¶a%20b value set a%20b s¶c value set c s¶n name set n s¶ -> index 1¶a%20b value set a%20b s¶c value set c s¶n name set n s¶
+index 1¶0123456789012345678901234567890123456789 payload license 0123456789012345678901234567890123456789 s¶lic license license lic s¶ -> index 1¶0123456789012345678901234567890123456789 payload license 0123456789012345678901234567890123456789 s¶lic license license lic s¶
+index 1¶x name driver x b¶x name set x b¶x path dir x b¶x path link x a¶x path link x b¶ -> index 1¶x name driver x b¶x name set x b¶x path dir x b¶x path link x a¶x path link x b¶
+# A text may be empty, between two blanks.
+index 1¶{blank}name set {blank}s¶ -> index 1¶{blank}name set {blank}s¶
+index 1¶{blank}value set {blank}s¶a%2F path dir a%2F s¶ -> index 1¶{blank}value set {blank}s¶a%2F path dir a%2F s¶
+# The first line tells the form, and a line that no newline ends is none.
+ -> bad 1
+index 1 -> bad 1
+index 2¶ -> bad 1
+index 1{blank}¶ -> bad 1
+usr path dir usr hello¶ -> bad 1
+index 1¶usr path dir usr hello -> bad 2
+index 1¶usr path dir usr hello¶x path -> bad 3
+# A row has five words.
+index 1¶¶ -> bad 2
+index 1¶usr path dir usr¶ -> bad 2
+index 1¶usr path dir usr hello more¶ -> bad 2
+index 1¶usr path dir  usr hello¶ -> bad 2
+# The kind has the index.
+index 1¶usr path dirs usr hello¶ -> bad 2
+index 1¶usr name dir usr hello¶ -> bad 2
+index 1¶usr value dir usr hello¶ -> bad 2
+index 1¶usr payload dir usr hello¶ -> bad 2
+index 1¶usr  signature usr hello¶ -> bad 2
+# Token and value are quoted in the one way, and are texts; the token is the value, or the last part of a path.
+index 1¶%75sr path dir %75sr hello¶ -> bad 2
+index 1¶a%2fb path dir a%2fb hello¶ -> bad 2
+index 1¶%FF name set %FF s¶ -> bad 2
+index 1¶b path dir usr hello¶ -> bad 2
+index 1¶b name driver a%2Fb hello¶ -> bad 2
+index 1¶a path dir a%2Fb hello¶ -> bad 2
+# The stem is one.
+index 1¶usr path dir usr¶ -> bad 2
+index 1¶usr path dir usr {blank}¶ -> bad 2
+index 1¶usr path dir usr -a¶ -> bad 2
+index 1¶usr path dir usr a@1¶ -> bad 2
+index 1¶usr path dir usr a%2Fb¶ -> bad 2
+# Rows ascend, each once.
+index 1¶usr path dir usr hello¶usr path dir usr hello¶ -> bad 3
+index 1¶usr path dir usr hello¶bin path dir bin hello¶ -> bad 3
+index 1¶bin path dir bin hello¶usr path dir usr hello¶bin path dir bin hello¶ -> bad 4
+";
+
+#[test]
+fn index_is_read(rt: HostRuntime) {
+    let alloc = rt.alloc();
+    holds(&rt, alloc, &mut Reread, 38, TEXTS_ARE_READ);
+}
 
 #[test]
 fn index_holds_what_was_put(rt: HostRuntime) {

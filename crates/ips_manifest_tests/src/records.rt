@@ -1,9 +1,12 @@
+ghost use Rattle.std.specs.Prelude.{IsTrue};
+ghost use Rattle.ips_metafiles.specs.Records.{IsQuotedName};
+
 use crate::table::{Ask, columns, holds};
 use ips_action::{Action, Preserve, parse_line};
 use ips_actuate::{Words, words};
-use ips_metafiles::{drivers, pkginfo};
+use ips_metafiles::{OwnerRow, drivers, license_path, owners, pkginfo};
 use ips_preserve::{Case, Event, Keep, Standing, decide};
-use ips_text::Text;
+use ips_text::{RelPath, Text, fits_name, quote, show_path};
 use std::alloc::Global;
 use std::process::Abort;
 
@@ -24,6 +27,10 @@ pub fn actions(rt: &impl Abort, alloc: Global, lines: &str) -> Vec<Action> {
 enum Asked {
     // What the actuator is run with before and behind a change from actions to others.
     Runs,
+    // The record of owners: `uid gid owner group path; ..`.
+    Owners,
+    // Where the text of a license is recorded: `stem | name`.
+    License,
     // The record of the drivers among the actions.
     Drivers,
     // The record of a legacy package.
@@ -37,6 +44,8 @@ impl Ask for Asked {
     fn answer(&mut self, rt: &impl Abort, alloc: Global, question: &str) -> String {
         match self {
             Asked::Runs => runs(rt, alloc, question),
+            Asked::Owners => owned(rt, alloc, question),
+            Asked::License => licensed(rt, alloc, question),
             Asked::Drivers => {
                 let actions = actions(rt, alloc, question);
                 text(rt, alloc, &drivers(alloc, &actions).expect(rt, "memory"))
@@ -78,6 +87,51 @@ fn push_runs(rt: &impl Abort, out: &mut String, list: &[Words]) {
         }
         out.push_str(" )").expect(rt, "memory");
     }
+}
+
+fn owned(rt: &impl Abort, alloc: Global, question: &str) -> String {
+    let mut rows = Vec::new(alloc);
+    for row in question.split(';') {
+        rows.push(owner_row(rt, alloc, row.trim()))
+            .expect(rt, "memory");
+    }
+    text(rt, alloc, &owners(alloc, &rows).expect(rt, "memory"))
+}
+
+fn owner_row(rt: &impl Abort, alloc: Global, row: &str) -> OwnerRow {
+    let (uid, rest) = row.split_once(' ').expect(rt, "a number");
+    let (gid, rest) = rest.split_once(' ').expect(rt, "a number");
+    let (owner, rest) = rest.split_once(' ').expect(rt, "an owner");
+    let (group, path) = rest.split_once(' ').expect(rt, "a group");
+    OwnerRow {
+        path: RelPath::parse(alloc, path.as_bytes())
+            .ok()
+            .expect(rt, "a path"),
+        owner: Text::new(alloc, owner).expect(rt, "memory"),
+        group: Text::new(alloc, group).expect(rt, "memory"),
+        uid: uid.parse::<u32>().ok().expect(rt, "a number"),
+        gid: gid.parse::<u32>().ok().expect(rt, "a number"),
+    }
+}
+
+fn licensed(rt: &impl Abort, alloc: Global, question: &str) -> String {
+    let (stem, name) = columns(question);
+    assert!(rt;
+        can_be_named(rt, alloc, stem) && can_be_named(rt, alloc, name),
+        "no name of a file"
+    );
+    let path = license_path(alloc, stem, name).expect(rt, "memory");
+    let shown = show_path(alloc, &path).expect(rt, "memory");
+    text(rt, alloc, shown.as_str().as_bytes())
+}
+
+// Whether a file can have the quoted form as its name.
+fn can_be_named(rt: &impl Abort, alloc: Global, name: &str) -> bool
+    ensures { IsTrue result → IsQuotedName name.now }
+{
+    let form = quote(alloc, name.as_bytes()).expect(rt, "memory");
+    let form = form.as_str();
+    fits_name(name.as_bytes()) && !form.is_empty() && form != "." && form != ".."
 }
 
 fn keeps(rt: &impl Abort, alloc: Global, question: &str) -> String {
@@ -169,6 +223,17 @@ driver name=b; driver name=a; set name=n value=v; driver name=b -> driver name=a
 set name=n value=v ->
 ";
 
+const OWNERS_ARE_RECORDED: &str = "
+0 3 root sys usr/share; 70 71 svc grp a b -> 0 3 root sys usr/share¶70 71 svc grp a%20b¶
+4294967295 0 nobody root x -> 4294967295 0 nobody root x¶
+";
+
+const LICENSES_HAVE_PATHS: &str = "
+hello | lic -> var/pkg/license/hello/lic
+# Stem and name are quoted, and so are the signs of the shown path.
+a/b+c | GPL v2 -> var/pkg/license/a%252Fb%252Bc/GPL%2520v2
+";
+
 const LEGACY_PACKAGES_ARE_RECORDED: &str = "
 legacy pkg=SUNWa vendor=V name=A version=1 -> PKG=SUNWa¶NAME=A¶VERSION=1¶VENDOR=V¶
 legacy pkg=SUNWa -> PKG=SUNWa¶
@@ -230,6 +295,8 @@ fn records_and_runs_actuators(rt: HostRuntime) {
     let alloc = rt.alloc();
     holds(&rt, alloc, &mut Asked::Runs, 11, THE_ACTUATOR_IS_RUN);
     holds(&rt, alloc, &mut Asked::Drivers, 2, DRIVERS_ARE_RECORDED);
+    holds(&rt, alloc, &mut Asked::Owners, 2, OWNERS_ARE_RECORDED);
+    holds(&rt, alloc, &mut Asked::License, 2, LICENSES_HAVE_PATHS);
     holds(
         &rt,
         alloc,

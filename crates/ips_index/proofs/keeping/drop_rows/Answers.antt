@@ -16,7 +16,7 @@ returns-in-Some-clause-kept c =
     let gone = gone_at c.args.stems.now c.remove.new.self c.args.stem.now (btree_map_updates_text c.args.stem.now c.args.stems.now c.remove.new.self None c.remove.ensures.updates) in
     kept_dropped c.args.rows.now c.remove_all.new.set c.args.stems.now c.remove.new.self c.args.stem.now c.requires.kept
     (stem_dropped c.args.rows.now c.remove_all.new.set c.args.stems.now c.remove.new.self c.args.stem.now c.in-Some.list.items c.requires.kept (ap (λ (o : _). option_map_or (λ rows. rows.items) o []) c.in-Some.ensures.value)
-    (subst (λ (l : List Row). (row : Row) → Contains c.remove_all.new.set.keys row ↔ (Contains c.args.rows.now.keys row × (Contains l row → ⊥))) c.deref.ensures.value c.remove_all.ensures.rows)) gone.0 gone.1 (c.remove_all.ensures.order c.requires.kept.ascend)
+    (subst (λ (l : List Row). (row : Row) → Contains c.remove_all.new.set.keys row ↔ (Contains c.args.rows.now.keys row × (Contains l row → ⊥))) c.deref.ensures.value c.remove_all.ensures.rows)) gone.0 gone.1 (c.remove_all.ensures.order c.requires.kept.lawful.ascend)
 
 pub returns-in_default-clause-dropped : goal.returns-in_default-clause-dropped
 returns-in_default-clause-dropped c =
@@ -26,4 +26,4 @@ pub returns-in_default-clause-kept : goal.returns-in_default-clause-kept
 returns-in_default-clause-kept c =
     let gone = gone_at c.args.stems.now c.remove.new.self c.args.stem.now (btree_map_updates_text c.args.stem.now c.args.stems.now c.remove.new.self None c.remove.ensures.updates) in
     kept_dropped c.args.rows.now c.args.rows.now c.args.stems.now c.remove.new.self c.args.stem.now c.requires.kept
-    (stem_dropped c.args.rows.now c.args.rows.now c.args.stems.now c.remove.new.self c.args.stem.now [] c.requires.kept (ap (λ (o : _). option_map_or (λ rows. rows.items) o []) c.in_default.ensures.value) (nothing_taken c.args.rows.now.keys)) gone.0 gone.1 c.requires.kept.ascend
+    (stem_dropped c.args.rows.now c.args.rows.now c.args.stems.now c.remove.new.self c.args.stem.now [] c.requires.kept (ap (λ (o : _). option_map_or (λ rows. rows.items) o []) c.in_default.ensures.value) (nothing_taken c.args.rows.now.keys)) gone.0 gone.1 c.requires.kept.lawful.ascend

@@ -6,5 +6,5 @@ use Rattle.ips_index.proofs.index.Index.drop_stem.Goals as goal
 pub returns : goal.returns
 returns c = record {
   dropped = subst (λ (old : List Row). IsDropped c.args.stem.now old c.drop_rows.new.rows.keys) c.self.view_is c.drop_rows.ensures.dropped;
-  order = c.drop_rows.ensures.kept.ascend;
+  rows = c.drop_rows.ensures.kept.lawful;
 }
