@@ -1,6 +1,5 @@
 pub mod Answer
 pub mod Places
-pub mod Files
 pub mod Payload
 pub mod Start
 pub mod Mark

@@ -1,0 +1,16 @@
+pub mod Cuts
+pub mod Bytes
+pub mod First
+pub mod Texts
+pub mod Items
+pub mod Sections
+pub mod Apart
+pub mod Found
+pub mod Joined
+pub mod FileNames
+pub mod NameForms
+pub mod WordForms
+pub mod Clear
+pub mod Fields
+pub mod ClearNames
+pub mod RequestForms

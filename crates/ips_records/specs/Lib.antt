@@ -1,0 +1,6 @@
+pub mod Cut
+pub mod Lines
+pub mod Listed
+pub mod Sections
+pub mod Form
+pub mod Field
