@@ -16,7 +16,7 @@ use Rattle.ips_steps.specs.Private.{is_private}
 use Rattle.ips_steps.proofs.Lists.{clash}
 use Rattle.ips_steps.proofs.Numbered.{contents_apart}
 use Rattle.ips_digest.specs.declared.name.PayloadName.{PayloadName}
-use Rattle.ips_files.specs.Files.{file_at}
+use Rattle.ips_repo.specs.Files.{file_at}
 use Rattle.ips_repo.specs.Places.{payload_place}
 use Rattle.ips_journal.specs.declared.staged.Staged.{Staged}
 use Rattle.ips_journal.specs.declared.staged.Staged.TheVariants.{Payload, Bytes, Standing}

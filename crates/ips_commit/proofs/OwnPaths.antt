@@ -12,7 +12,7 @@ use Rattle.std.proofs.lemmas.Slice.{take-put_mid}
 use Rattle.ips_text.specs.Path.{IsPath, is_dots}
 use Rattle.ips_steps.specs.Steps.{stage_name, stage_path}
 use Rattle.ips_steps.specs.Private.{mark_front, mark_name}
-use Rattle.ips_records.proofs.Joined.{is_name_byte, IsFileName, joined_path, pkg_name}
+use Rattle.ips_repo.proofs.Joined.{is_name_byte, IsFileName, joined_path, pkg_name}
 use Rattle.ips_journal.proofs.FieldForms.{number_long}
 
 var : IsFileName (codes "var")

@@ -4,7 +4,7 @@ use Rattle.ips_text.specs.Ancestry.{covers}
 use Rattle.ips_text.specs.declared.limits.Which.TheVariants.{PayloadBytes}
 use Rattle.ips_outside.specs.Image.{Image, File, is_file, file_bytes}
 use Rattle.ips_digest.specs.declared.name.PayloadName.{PayloadName}
-use Rattle.ips_files.specs.Files.{file_at, HasSize}
+use Rattle.ips_repo.specs.Files.{file_at, HasSize}
 use Rattle.ips_repo.specs.Places.{payload_place}
 use Rattle.ips_repo.specs.Payload.{payload_limit, digest_by, IsDamage}
 use Rattle.ips_repo.specs.declared.fault.RepoFault.{RepoFault}

@@ -9,7 +9,7 @@ ghost use Rattle.ips_outside.specs.State.{nowhere};
 ghost use Rattle.ips_outside.specs.Outside.{HasCause, Reads};
 ghost use Rattle.ips_folder.specs.Calls.{CanMake, Keeps};
 ghost use Rattle.ips_steps.specs.Steps.{stage_name, stage_of};
-ghost use Rattle.ips_files.specs.Files.{file_at};
+ghost use Rattle.ips_repo.specs.Files.{file_at};
 ghost use Rattle.ips_repo.specs.Places.{payload_place};
 ghost use Rattle.ips_repo.specs.Payload.{IsOpened, IsFrontOf};
 ghost use Rattle.ips_commit.specs.Contents.{IsContent, AreContents, IsStanding, AreStanding, IsApart, AreSeen, IsIntact, IsIntactContent, AreIntact, IsPayload, SaysOfPayload, SaysOfContent, SaysOfStage, HoldsAlone};

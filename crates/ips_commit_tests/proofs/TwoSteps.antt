@@ -7,7 +7,7 @@ use Rattle.ips_folder.specs.Calls.{CanMake}
 use Rattle.ips_steps.specs.Steps.{Step, Put, Hard, Stage, possible, stage_name}
 use Rattle.ips_steps.specs.Private.{records_name, journal_name, gate_name, mark_front}
 use Rattle.ips_steps.specs.Journal.{IsJournal}
-use Rattle.ips_records.proofs.Joined.{IsFileName, joined_path}
+use Rattle.ips_repo.proofs.Joined.{IsFileName, joined_path}
 use Rattle.ips_journal.specs.declared.staged.Staged.{Staged}
 use Rattle.ips_journal.specs.declared.staged.Staged.TheVariants.{Payload, Bytes, Standing}
 use Rattle.ips_commit.specs.Contents.{IsStanding, IsSeen, AreSeen, AreStanding}

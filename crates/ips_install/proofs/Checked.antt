@@ -6,7 +6,7 @@ use Rattle.ips_text.specs.declared.limits.Which.{Which}
 use Rattle.ips_text.specs.declared.limits.Which.TheVariants.{PayloadBytes}
 use Rattle.ips_outside.specs.Image.{Image}
 use Rattle.ips_digest.specs.declared.name.PayloadName.{PayloadName}
-use Rattle.ips_files.specs.Files.{file_at, HasSize}
+use Rattle.ips_repo.specs.Files.{file_at, HasSize}
 use Rattle.ips_repo.specs.Places.{payload_place}
 use Rattle.ips_repo.specs.Payload.{Reading, payload_limit, IsOpened, payload_in, payload_opening, from_start, IsFrontOf, digest_by, IsOpenFault, IsDamage, HasIntact, AreIntact}
 use Rattle.ips_repo.specs.declared.fault.RepoFault.{RepoFault}

@@ -7,7 +7,7 @@ use Rattle.ips_outside.specs.Image.{Entry, Dir, File, Link, Image, IsImage, is_d
 use Rattle.ips_outside.specs.Change.{placed, names}
 use Rattle.ips_folder.specs.Calls.{CanMake}
 use Rattle.ips_digest.specs.declared.name.PayloadName.{PayloadName}
-use Rattle.ips_files.specs.Files.{file_at}
+use Rattle.ips_repo.specs.Files.{file_at}
 use Rattle.ips_repo.specs.Payload.{Reading, IsPayload}
 use Rattle.ips_steps.specs.Steps.{Step, Gone, Fresh, Mode, Put, Symlink, Hard, Stage, path_of, bytes_of, laid, all_laid, can_lay, frees, freed, named, distinct}
 use Rattle.ips_steps.specs.Journal.{IsProper, AllProper}

@@ -2,7 +2,7 @@
 use Rattle.std.specs.Prelude.{◌≡◌, ◌<◌, ℕ, Bool, true, false, not, List, slice_get, Option, Some, None}
 use Rattle.ips_outside.specs.Image.{Image}
 use Rattle.ips_digest.specs.declared.name.PayloadName.{PayloadName}
-use Rattle.ips_files.specs.Files.{file_at, HasSize}
+use Rattle.ips_repo.specs.Files.{file_at, HasSize}
 use Rattle.ips_repo.specs.Places.{payload_place}
 use Rattle.ips_repo.specs.Payload.{payload_limit, digest_by, is_gzip, HasIntact, AreIntact}
 use Rattle.ips_install.specs.declared.fault.PayloadFault.{PayloadFault}

@@ -4,7 +4,7 @@ use Rattle.ips_outside.specs.Image.{Image, Dir, File, Link, is_dir, is_file}
 use Rattle.ips_outside.specs.Change.{placed, joined, moded}
 use Rattle.ips_folder.specs.Calls.{CanMake}
 use Rattle.ips_steps.specs.Steps.{Step, Gone, Fresh, Mode, Put, Symlink, Hard}
-use Rattle.ips_files.specs.Files.{file_at}
+use Rattle.ips_repo.specs.Files.{file_at}
 use Rattle.ips_repo.specs.Payload.{Reading, digest_by}
 use Rattle.ips_install.specs.declared.fault.InstallFault.{InstallFault}
 use Rattle.ips_install.specs.declared.fault.InstallFault.TheVariants as fault

@@ -175,6 +175,6 @@ IsRestFault true t f = IsFileFault (IsBadText IsNamesFile) t installed_path f
 IsRestFault false t f = IsFolderFault t f
     ⊎ (((children : List (List ℕ)) × AreChildren t packages_path children × AllByRecursion (IsPackageChild t) children) × IsListFault t f)
 
--- Why the records can't be loaded: the fault of the first file that has one.
+-- Why the records but for the index can't be loaded: the fault of the first file that has one.
 abbrev pub IsLoadFault : Image → StateFault → Type 0
 IsLoadFault t f = IsHeadFault t f ⊎ ((h : Head) × IsHead h × Stands t image_path (lines_text (head_lines h)) × IsRestFault (h.format == 1) t f)

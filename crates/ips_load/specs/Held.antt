@@ -6,11 +6,12 @@ use Rattle.ips_outside.specs.Image.{Image, is_dir}
 use Rattle.ips_outside.specs.Children.{is_child, is_foreign}
 use Rattle.ips_manifest.specs.Manifest.{IsManifestOf}
 use Rattle.ips_files.specs.Files.{file_at}
+use Rattle.ips_index.specs.Rows.{Row, index_text}
 use Rattle.ips_state.specs.State.{Installed, Recorded, head_of}
 use Rattle.ips_records.specs.Lines.{lines_text}
 use Rattle.ips_state.specs.Text.{head_lines, versioned_stem, name_lines, mediator_line, package_head}
 use Rattle.ips_state.specs.Lawful.{IsLawful}
-use Rattle.ips_state.specs.Records.{image_path, installed_path, avoid_path, freeze_path, mediators_path, history_path, packages_path, manifest_path, package_path}
+use Rattle.ips_state.specs.Records.{image_path, installed_path, avoid_path, freeze_path, mediators_path, history_path, index_path, packages_path, manifest_path, package_path}
 
 -- The most bytes that a record may have: 64 MiB.
 abbrev pub record_limit : ℕ
@@ -52,6 +53,11 @@ abbrev pub HoldsPackages : Bool → Image → List Installed → Type 0
 HoldsPackages true t packages = HoldsListed t packages
 HoldsPackages false t packages = HoldsFolder t packages
 
+-- The record of an index stands in its place; where there is none, nothing stands there.
+abbrev pub HoldsIndex : Image → Option (List Row) → Type 0
+HoldsIndex t None = t.look index_path ≡ None
+HoldsIndex t (Some rows) = Stands t index_path (index_text rows)
+
 -- The image records just this.
 pub record Holds (t : Image) (r : Recorded) : Type 0 where
   pub lawful : IsLawful r
@@ -61,3 +67,4 @@ pub record Holds (t : Image) (r : Recorded) : Type 0 where
   pub freeze : Stands t freeze_path (lines_text (name_lines r.freeze))
   pub mediators : Stands t mediators_path (lines_text (map mediator_line r.mediators))
   pub history : Stands t history_path (lines_text r.history)
+  pub index : HoldsIndex t r.index

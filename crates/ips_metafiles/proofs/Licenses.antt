@@ -9,7 +9,7 @@ use Rattle.std.proofs.lemmas.List.Elements.{recursion_from_All, All-from_get_or}
 use Rattle.std.proofs.lemmas.List.Folds.{list_all-append}
 use Rattle.ips_text.specs.Path.{IsPath}
 use Rattle.ips_text.specs.Quote.{quoted, quoted_byte, AreBytes}
-use Rattle.ips_records.proofs.Joined.{is_name_byte, IsFileName, joined_path, pkg_name}
+use Rattle.ips_repo.proofs.Joined.{is_name_byte, IsFileName, joined_path, pkg_name}
 use Rattle.ips_metafiles.specs.Records.{IsQuotedName, license_path}
 
 abbrev IsByte : ℕ → Type 0

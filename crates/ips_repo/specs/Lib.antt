@@ -1,5 +1,6 @@
 pub mod Answer
 pub mod Places
+pub mod Files
 pub mod Payload
 pub mod Start
 pub mod Mark

@@ -7,7 +7,7 @@ use Rattle.std.specs.List.{flat_map}
 use Rattle.std.proofs.lemmas.Fmt.{decimal_digit}
 use Rattle.std.proofs.lemmas.List.Concat.{flat_map-cons}
 use Rattle.std.proofs.lemmas.List.Folds.{flat_map-map}
-use Rattle.ips_filter.specs.View.{named, switched}
+
 use Rattle.ips_records.specs.Lines.{ended, lines_text}
 use Rattle.ips_state.specs.State.{Head}
 use Rattle.ips_state.specs.Text.{format_line, publisher_line, origin_line, actuator_lines, variant_line, facet_line, head_lines}
@@ -18,13 +18,13 @@ first_format n is = rw is (sym (ap (λ (d : List ℕ). ended (codes "image " ++ 
 pub second_format : (n : ℕ) → n ≡ 2 → codes "image 2\n" ≡ ended (format_line n)
 second_format n is = rw is (sym (ap (λ (d : List ℕ). ended (codes "image " ++ d)) (decimal_digit 2 (omega arith))))
 
-pub variants_text : (all : List (Bor (List ℕ) × Bor (List ℕ))) (variants : List (List ℕ × List ℕ)) → named all ≡ variants
+pub variants_text : (all : List (Bor (List ℕ) × Bor (List ℕ))) (variants : List (List ℕ × List ℕ)) → map (λ (x : Bor (List ℕ) × Bor (List ℕ)). (x.0.now, x.1.now)) all ≡ variants
     → flat_map (λ (v : Bor (List ℕ) × Bor (List ℕ)). ended (variant_line (v.0.now, v.1.now))) all ≡ lines_text (map variant_line variants)
 variants_text all variants is =
     sym (flat_map-map (λ (v : List ℕ × List ℕ). ended (variant_line v)) (λ (x : Bor (List ℕ) × Bor (List ℕ)). (x.0.now, x.1.now)) all)
     ∙ ap (flat_map (λ (v : List ℕ × List ℕ). ended (variant_line v))) is ∙ sym (flat_map-map ended variant_line variants)
 
-pub facets_text : (all : List (Bor (List ℕ) × Bool)) (facets : List (List ℕ × Bool)) → switched all ≡ facets
+pub facets_text : (all : List (Bor (List ℕ) × Bool)) (facets : List (List ℕ × Bool)) → map (λ (x : Bor (List ℕ) × Bool). (x.0.now, x.1)) all ≡ facets
     → flat_map (λ (f : Bor (List ℕ) × Bool). ended (facet_line (f.0.now, f.1))) all ≡ lines_text (map facet_line facets)
 facets_text all facets is =
     sym (flat_map-map (λ (f : List ℕ × Bool). ended (facet_line f)) (λ (x : Bor (List ℕ) × Bool). (x.0.now, x.1)) all)

@@ -104,9 +104,9 @@ fn fault_told(rt: &impl Abort, alloc: Global, fault: Or<StateFault>) -> String {
 fn count_told<T: Drop>(
     rt: &impl Abort,
     alloc: Global,
-    result: Result<Vec<T>, Or<StateFault>>,
+    loaded: Result<Vec<T>, Or<StateFault>>,
 ) -> String {
-    match result {
+    match loaded {
         Ok(items) => format!(in alloc; "{}", items.len()).expect(rt, "memory"),
         Err(fault) => fault_told(rt, alloc, fault),
     }

@@ -4,7 +4,7 @@ use Rattle.ips_outside.specs.State.{State}
 use Rattle.ips_folder.specs.Calls.{IsSole}
 use Rattle.ips_folder.proofs.Runs.{keeps_then}
 use Rattle.ips_digest.specs.declared.name.PayloadName.{PayloadName}
-use Rattle.ips_files.specs.Files.{file_at}
+use Rattle.ips_repo.specs.Files.{file_at}
 use Rattle.ips_repo.specs.Payload.{digest_by}
 use Rattle.ips_install.proofs.Keeping.{path_written, mode_written}
 use Rattle.ips_install.proofs.Filled.{filled_mode, filled_sole, filled_moded}
