@@ -3,7 +3,7 @@
 ghost use Rattle.std.specs.Prelude.{◌≡◌, IfOk, IsTrue, is_some, map};
 ghost use Rattle.std.specs.List.{AllByRecursion};
 ghost use Rattle.ips_fmri.specs.declared.fmri.Fmri as declared;
-ghost use Rattle.ips_state.specs.State.{Ascend, IsLawful, recorded};
+ghost use Rattle.ips_state.specs.State.{Ascend, IsOrdered, recorded};
 ghost use Rattle.ips_request.specs.Request.{looks_at_repository};
 
 use crate::rows::{bytes_of, column};
@@ -134,7 +134,7 @@ fn image(
     freeze: &str,
     avoid: &str,
 ) -> Result<State, AllocError>
-    ensures { IfOk result (λ s. IsLawful (recorded s)) }
+    ensures { IfOk result (λ s. IsOrdered (recorded s)) }
 {
     if !first.stem.cmp(&second.stem).is_lt() {
         return Err(AllocError);
@@ -145,7 +145,9 @@ fn image(
     installed.push(first)?;
     installed.push(second)?;
     Ok(State {
+        format: 2,
         publisher: Text::new(alloc, "test")?,
+        origins: Vec::new(alloc),
         actuator: None,
         settings: Settings::new(alloc),
         installed,
@@ -153,6 +155,7 @@ fn image(
         freeze,
         mediators: Vec::new(alloc),
         history: Vec::new(alloc),
+        index: None,
     })
 }
 
@@ -231,7 +234,7 @@ fn answer(
     fails: u64,
     shows_choice: bool,
 ) -> String
-    requires { IsLawful (recorded state.now) }
+    requires { IsOrdered (recorded state.now) }
 {
     let mut source = MemSource::new(tree, vec![in alloc; fails].expect(rt, "memory"));
     let repo = Repo::open(alloc, &mut source, "test")
@@ -269,7 +272,7 @@ fn with_a_and_b(
     manifest: &str,
     freeze: &str,
 ) -> State
-    ensures { IsLawful (recorded result) }
+    ensures { IsOrdered (recorded result) }
 {
     let first = package(rt, alloc, "a", version, manifest);
     let second = package(rt, alloc, "b", version, "");

@@ -37,7 +37,9 @@ fn copies_have_as_many_records(rt: HostRuntime) {
         implementation: None,
     };
     let state = State {
+        format: 2,
         publisher: Text::new(alloc, "test").expect(&rt, "memory"),
+        origins: Vec::new(alloc),
         actuator: None,
         settings: Settings::new(alloc),
         installed: one(&rt, alloc, package),
@@ -55,6 +57,7 @@ fn copies_have_as_many_records(rt: HostRuntime) {
             alloc,
             Text::new(alloc, "20240102T030405Z install a").expect(&rt, "memory"),
         ),
+        index: None,
     };
     let copy = state.copy(alloc).expect(&rt, "memory");
     assert!(rt; copy.publisher == state.publisher);

@@ -4,7 +4,7 @@ ghost use Rattle.std.specs.Prelude.{◌≡◌, Err, IsTrue, IfOk, is_some, optio
 ghost use Rattle.ips_text.specs.Reading.{IfBad};
 ghost use Rattle.ips_text.specs.declared.refusal.Or.TheVariants.{Bad};
 ghost use Rattle.ips_outside.specs.Outside.{Reads};
-ghost use Rattle.ips_state.specs.State.{IsLawful, recorded};
+ghost use Rattle.ips_state.specs.State.{IsOrdered, recorded};
 ghost use Rattle.ips_request.specs.Request.{looks_at_repository};
 ghost use Rattle.ips_request.specs.declared.fault.ProblemFault.TheVariants as fault;
 ghost use Rattle.ips_problem.specs.Asked.{IsAsked, IsProblemFault};
@@ -33,7 +33,7 @@ impl Problem {
         repo: Option<&Repo>,
         source: &mut S,
     ) -> Result<Problem, Or<ProblemFault>>
-        requires lawful { IsLawful (recorded state.now) }
+        requires lawful { IsOrdered (recorded state.now) }
         requires repository { is_some repo ≡ looks_at_repository request.now }
         ensures asked { IsTrue (S.outside.tells source.old) → IfOk result (λ p. IsAsked request.now (recorded state.now) (option_map (λ r. r.now) repo.entry) (S.outside.state source.old).held (posed_of p)) }
         ensures bad { IsTrue (S.outside.tells source.old) → IfBad result (IsProblemFault request.now (recorded state.now) (option_map (λ r. r.now) repo.entry) (S.outside.state source.old).held) }

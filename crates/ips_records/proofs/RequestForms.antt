@@ -128,7 +128,7 @@ byte_most : (b : ℕ) (plain : Bool) → is_plain b ≡ plain → length (quoted
 byte_most b true e = rw e (omega arith)
 byte_most b false e = rw e (omega arith)
 
-quoted_most : (bytes : List ℕ) → length (quoted bytes) ≤ 3 * length bytes
+pub quoted_most : (bytes : List ℕ) → length (quoted bytes) ≤ 3 * length bytes
 unfolding quoted
 quoted_most [] = omega arith
 quoted_most (b ∷ bytes) = omega (arith, ap length (flat_map-cons quoted_byte b bytes), length-append (quoted_byte b) (quoted bytes), byte_most b (is_plain b) refl, quoted_most bytes)

@@ -1,7 +1,5 @@
-pub mod Parts
 pub mod Scans
-pub mod Found
 pub mod Pieces
 pub mod Joined
-pub mod FileNames
+pub mod Digits
 pub mod Manifests

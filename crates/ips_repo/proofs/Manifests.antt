@@ -7,7 +7,7 @@ use Rattle.ips_text.specs.declared.refusal.Or.{Or}
 use Rattle.ips_text.specs.declared.refusal.Or.TheVariants.{Bad, OutOfMemory}
 use Rattle.ips_text.specs.Reading.{Gives, IfBad}
 use Rattle.ips_manifest.specs.declared.line.Line.{Line}
-use Rattle.ips_repo.specs.Files.{HasSize}
+use Rattle.ips_files.specs.Files.{HasSize}
 use Rattle.ips_repo.specs.Answer.{IsMeantFault, Answers}
 use Rattle.ips_repo.specs.Manifest.{manifest_limit, manifest_in, HoldsManifest, IsManifestRefusal, IsManifestFault, IsBytesFault, IsTextFault}
 use Rattle.ips_repo.specs.declared.fault.RepoFault.{RepoFault}

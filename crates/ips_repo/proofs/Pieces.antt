@@ -5,7 +5,7 @@ use Rattle.std.proofs.lemmas.List.{drop-take, take-take}
 use Rattle.ips_outside.specs.Image.{Image}
 use Rattle.ips_outside.specs.Outside.{readable, IsRead}
 use Rattle.ips_repo.specs.Payload.{Reading, from_start, given, IsFrontOf}
-use Rattle.ips_repo.proofs.Parts.{part_more, part_end}
+use Rattle.ips_files.proofs.Parts.{part_more, part_end}
 
 -- a file cut at a size, behind a place before it
 cut_behind : (file : List ℕ) (at size : ℕ) → at ≤ size → drop at (take size file) ≡ take (size - at) (drop at file)

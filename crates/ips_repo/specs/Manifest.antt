@@ -7,10 +7,10 @@ use Rattle.ips_outside.specs.Image.{Image}
 use Rattle.ips_manifest.specs.Manifest.{IsManifestOf, IsFaultOf}
 use Rattle.ips_manifest.specs.declared.line.Line.{Line}
 use Rattle.ips_manifest.specs.declared.fault.ManifestFault.{ManifestFault}
-use Rattle.ips_repo.specs.Files.{file_at, HasSize}
+use Rattle.ips_files.specs.Files.{file_at, HasSize}
 use Rattle.ips_repo.specs.Places.{manifest_place}
-use Rattle.ips_repo.specs.declared.reading.FileFault.{FileFault}
-use Rattle.ips_repo.specs.declared.reading.FileFault.TheVariants as file
+use Rattle.ips_files.specs.declared.reading.FileFault.{FileFault}
+use Rattle.ips_files.specs.declared.reading.FileFault.TheVariants as file
 use Rattle.ips_repo.specs.declared.fault.RepoFault.{RepoFault}
 use Rattle.ips_repo.specs.declared.fault.RepoFault.TheVariants as fault
 

@@ -7,11 +7,11 @@ use Rattle.ips_catalog.specs.Listed.{Listed, IsInOrder, count_of}
 use Rattle.ips_catalog.specs.Reading.{read_catalog}
 use Rattle.ips_catalog.specs.declared.fault.CatalogFault.{CatalogFault}
 use Rattle.ips_catalog.specs.declared.fault.CatalogFault.TheVariants.{NotJson}
-use Rattle.ips_repo.specs.Files.{file_at}
+use Rattle.ips_files.specs.Files.{file_at}
 use Rattle.ips_repo.specs.Places.{catalog_place}
 use Rattle.ips_repo.specs.Mark.{is_repository}
-use Rattle.ips_repo.specs.declared.reading.FileFault.{FileFault}
-use Rattle.ips_repo.specs.declared.reading.FileFault.TheVariants as file
+use Rattle.ips_files.specs.declared.reading.FileFault.{FileFault}
+use Rattle.ips_files.specs.declared.reading.FileFault.TheVariants as file
 use Rattle.ips_repo.specs.declared.fault.RepoFault.{RepoFault}
 use Rattle.ips_repo.specs.declared.fault.RepoFault.TheVariants as fault
 

@@ -4,10 +4,10 @@ use Rattle.ips_text.specs.declared.limits.Which.TheVariants.{PayloadBytes}
 use Rattle.ips_outside.specs.Image.{Image}
 use Rattle.ips_digest.specs.Digest.{algorithm_of, digest_of}
 use Rattle.ips_digest.specs.declared.name.PayloadName.{PayloadName}
-use Rattle.ips_repo.specs.Files.{file_at}
+use Rattle.ips_files.specs.Files.{file_at}
 use Rattle.ips_repo.specs.Places.{payload_place}
-use Rattle.ips_repo.specs.declared.reading.FileFault.{FileFault}
-use Rattle.ips_repo.specs.declared.reading.FileFault.TheVariants as file
+use Rattle.ips_files.specs.declared.reading.FileFault.{FileFault}
+use Rattle.ips_files.specs.declared.reading.FileFault.TheVariants as file
 use Rattle.ips_repo.specs.declared.fault.RepoFault.{RepoFault}
 use Rattle.ips_repo.specs.declared.fault.RepoFault.TheVariants as fault
 

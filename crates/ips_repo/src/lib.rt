@@ -10,12 +10,11 @@ mod manifest;
 mod mark;
 mod payload;
 mod places;
-mod reading;
 mod repository;
 mod start;
 
 pub use fault::RepoFault;
+pub use ips_files::{FileFault, read_whole};
 pub use payload::Payload;
 pub use places::places_are_paths;
-pub use reading::{FileFault, read_whole};
 pub use repository::Repo;

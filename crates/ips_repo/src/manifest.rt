@@ -12,7 +12,7 @@ ghost use Rattle.ips_repo.specs.declared.fault.RepoFault.TheVariants as fault;
 
 use crate::fault::RepoFault;
 use crate::places::manifest_place;
-use crate::reading::{FileFault, read_whole};
+use ips_files::{FileFault, read_whole};
 use ips_fmri::Version;
 use ips_manifest::Manifest;
 use ips_outside::Source;

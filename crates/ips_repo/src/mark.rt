@@ -7,14 +7,14 @@ ghost use Rattle.ips_outside.specs.Outside.{Reads, readable};
 ghost use Rattle.ips_repo.specs.Answer.{Answers};
 ghost use Rattle.ips_repo.specs.Mark.{marking, IsMarkFault};
 ghost use Rattle.ips_repo.specs.Mark as marked;
-ghost use Rattle.ips_repo.specs.Files.{file_at};
+ghost use Rattle.ips_files.specs.Files.{file_at};
 ghost use Rattle.ips_repo.specs.Scan.{unscanned, stepped};
 ghost use Rattle.ips_repo.specs.Scan as scanning;
 ghost use Rattle.ips_repo.specs.declared.fault.RepoFault.TheVariants as fault;
 
 use crate::fault::RepoFault;
 use crate::places::mark_place;
-use crate::reading::{CHUNK, find_file, read_part};
+use ips_files::{CHUNK, find_file, read_part};
 use ips_outside::{Failed, Source};
 use ips_text::{Or, RelPath};
 use std::alloc::Global;

@@ -12,9 +12,9 @@ ghost use Rattle.ips_repo.specs.declared.fault.RepoFault.TheVariants as fault;
 
 use crate::fault::RepoFault;
 use crate::places::payload_place;
-use crate::reading::{FileFault, read_part, size_of_file};
 use crate::start::Start;
 use ips_digest::{Hasher, PayloadName};
+use ips_files::{FileFault, read_part, size_of_file};
 use ips_outside::{Failed, Source};
 use ips_text::{Or, RelPath, Which};
 use std::alloc::{AllocError, Global};

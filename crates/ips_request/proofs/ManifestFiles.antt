@@ -4,7 +4,7 @@ use Rattle.ips_text.specs.Reading.{IfBad}
 use Rattle.ips_text.specs.declared.limits.Which.{Which}
 use Rattle.ips_text.specs.declared.refusal.Or.{Or}
 use Rattle.ips_text.specs.declared.refusal.Or.TheVariants.{Bad, OutOfMemory}
-use Rattle.ips_repo.specs.Files.{HasSize}
+use Rattle.ips_files.specs.Files.{HasSize}
 use Rattle.ips_repo.specs.Manifest as held
 use Rattle.ips_repo.specs.Answer.{Answers}
 use Rattle.ips_repo.specs.Manifest.{IsBytesFault, IsManifestRefusal, manifest_in, manifest_limit}

@@ -4,7 +4,7 @@ use Rattle.std.specs.Option.{option_map}
 use Rattle.ips_fmri.specs.Version.{Parts}
 use Rattle.ips_outside.specs.Image.{Image}
 use Rattle.ips_catalog.specs.Listed.{Listed}
-use Rattle.ips_repo.specs.Files.{file_at}
+use Rattle.ips_files.specs.Files.{file_at}
 use Rattle.ips_repo.specs.Places.{manifest_place}
 use Rattle.ips_repo.specs.Opening.{Opened}
 use Rattle.ips_state.specs.State.{installed}

@@ -4,7 +4,7 @@ ghost use Rattle.std.specs.Prelude.{◌≡◌, ℕ, Err, IfOk, List, map, option
 ghost use Rattle.std.specs.List.{flat_map};
 ghost use Rattle.ips_text.specs.Reading.{IfBad};
 ghost use Rattle.ips_fmri.specs.declared.fmri.Fmri as declared;
-ghost use Rattle.ips_state.specs.State.{IsLawful, Ascend, Installed, installed, recorded};
+ghost use Rattle.ips_state.specs.State.{IsOrdered, Ascend, Installed, installed, recorded};
 ghost use Rattle.ips_request.specs.Request as asked;
 ghost use Rattle.ips_request.specs.Request.{IsPatternFault, IsSubjectOf};
 ghost use Rattle.ips_request.specs.Listing.{listing_of};
@@ -40,7 +40,7 @@ pub fn subject_of<'a>(
     request: &Request,
     repo: Option<&'a Repo>,
 ) -> Result<Subject<'a>, Or<ProblemFault>>
-    requires { IsLawful (recorded state.now) }
+    requires { IsOrdered (recorded state.now) }
     ensures subject { IfOk result (λ s. IsSubjectOf request.now (recorded state.now) (option_map (λ r. r.now) repo.entry) s) }
     ensures bad { IfBad result (λ why. IsPatternFault request.now (recorded state.now) (catalog_of (option_map (λ r. r.now) repo.entry)) why × (why ≡ fault.SourceFault → ⊥)) }
 {
@@ -68,7 +68,7 @@ fn made<'a>(
     state: &'a State,
     repo: Option<&'a Repo>,
 ) -> Result<Subject<'a>, AllocError>
-    requires { IsLawful (recorded state.now) }
+    requires { IsOrdered (recorded state.now) }
     ensures kind { IfOk result (λ s. s.kind ≡ kind) }
     ensures named { IfOk result (λ s. s.named ≡ named) }
     ensures rejected { IfOk result (λ s. s.rejected ≡ rejected) }

@@ -5,7 +5,7 @@ ghost use Rattle.ips_text.specs.Reading.{IfBad};
 ghost use Rattle.ips_text.specs.declared.refusal.Or.TheVariants.{Bad};
 ghost use Rattle.ips_outside.specs.Outside.{Reads};
 ghost use Rattle.ips_depend.specs.Asking.{LinesAsk};
-ghost use Rattle.ips_repo.specs.Files.{file_at};
+ghost use Rattle.ips_files.specs.Files.{file_at};
 ghost use Rattle.ips_repo.specs.Places.{manifest_place};
 ghost use Rattle.ips_repo.specs.Manifest as repo_manifest;
 ghost use Rattle.ips_request.specs.Manifests.{IsFetched, IsFetchFault, IsMissing, IsOwnFault, IsUnread, IsThere, all_manifests_limit, name_of};

@@ -1,1 +1,5 @@
 pub mod State
+pub mod Form
+pub mod Text
+pub mod Lawful
+pub mod Records

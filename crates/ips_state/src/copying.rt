@@ -3,7 +3,9 @@
 ghost use Rattle.std.specs.Prelude.{◌≡◌, IfOk, map};
 ghost use Rattle.ips_state.specs.State.{installed};
 
+use crate::state::Origin;
 use ips_fmri::Fmri;
+use ips_index::Index;
 use ips_manifest::Package;
 use ips_mediate::SetMediator;
 use ips_text::Text;
@@ -72,4 +74,29 @@ fn copy_package(alloc: Global, original: &Package) -> Result<Package, AllocError
     ensures { IfOk result (λ copy. installed copy ≡ installed original.now) }
 {
     original.copy(alloc)
+}
+
+/// The same origins.
+pub fn copy_origins(alloc: Global, origins: &[Origin]) -> Result<Vec<Origin>, AllocError>
+    ensures { IfOk result (λ copies. copies.items ≡ origins.now) }
+{
+    let mut copies = Vec::with_capacity(alloc, origins.len())?;
+    for origin in origins {
+        let name = origin.name.copy(alloc)?;
+        copies.push(Origin {
+            name,
+            sticky: origin.sticky,
+        })?;
+    }
+    Ok(copies)
+}
+
+/// The same index, where there is one.
+pub fn copy_index(alloc: Global, index: &Option<Index>) -> Result<Option<Index>, AllocError>
+    ensures { IfOk result (λ copy. copy ≡ index.now) }
+{
+    match index {
+        Some(index) => Ok(Some(index.copy(alloc)?)),
+        None => Ok(None),
+    }
 }

@@ -3,7 +3,7 @@ use Rattle.std.proofs.Common.{ℕ, List, [], Some, inr, refl}
 use Rattle.ips_outside.specs.Image.{Image}
 use Rattle.ips_outside.proofs.Children.{sorted_none}
 use Rattle.ips_repo.specs.Opening.{Opened}
-use Rattle.ips_state.specs.State.{Ascend, IsLawful}
+use Rattle.ips_state.specs.State.{Ascend, IsOrdered}
 use Rattle.ips_request.specs.declared.request.Request.{Request}
 use Rattle.ips_request.specs.Case.{Reading, IsReading}
 use Rattle.ips_request.specs.Subject.{files_of}
@@ -19,8 +19,8 @@ none_ascends : Ascend []
 none_ascends = sorted_none
 
 -- an image of which nothing is recorded is in order
-pub nothing_lawful : IsLawful nothing_recorded
-nothing_lawful = record { installed = none_ascends; avoid = none_ascends; freeze = none_ascends; frozen = tt }
+pub nothing_ordered : IsOrdered nothing_recorded
+nothing_ordered = record { installed = none_ascends; avoid = none_ascends; freeze = none_ascends; frozen = tt }
 
 -- the words ask for the puzzle of the request
 pub asks_posed : (words : List (List ℕ)) (t : Image) (r : Reading) (limit : ℕ) (request : Request) (repo : Opened) (p : Posed)

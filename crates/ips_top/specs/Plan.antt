@@ -44,7 +44,9 @@ nothing_set = record { variants = []; facets = [] }
 -- an image that records its publisher and nothing else, so that no package is installed
 abbrev pub nothing_recorded : Recorded
 nothing_recorded = record {
+  format = 2;
   publisher = publisher;
+  origins = [];
   actuator = None;
   settings = nothing_set;
   installed = [];
@@ -52,6 +54,7 @@ nothing_recorded = record {
   freeze = [];
   mediators = [];
   history = [];
+  index = None;
 }
 
 -- The request is to install what these patterns name, and rejects nothing.

@@ -121,7 +121,9 @@ fn bare_state(alloc: Global) -> Result<State, AllocError>
     ensures { IfOk result (λ state. recorded state ≡ nothing_recorded) }
 {
     Ok(State {
+        format: 2,
         publisher: Text::new(alloc, PUBLISHER)?,
+        origins: Vec::new(alloc),
         actuator: None,
         settings: Settings::new(alloc),
         installed: Vec::new(alloc),
@@ -129,6 +131,7 @@ fn bare_state(alloc: Global) -> Result<State, AllocError>
         freeze: Vec::new(alloc),
         mediators: Vec::new(alloc),
         history: Vec::new(alloc),
+        index: None,
     })
 }
 

@@ -1,6 +1,6 @@
 use Rattle.std.proofs.Common.{◌≡◌, ℕ, List, Bool, true, false, cond, Result, Ok, Err, IsErr, refl, sym, ◌∙◌, ap}
 use Rattle.ips_outside.specs.Image.{Image}
-use Rattle.ips_repo.specs.Files.{file_at}
+use Rattle.ips_files.specs.Files.{file_at}
 use Rattle.ips_repo.specs.Mark.{is_mark_file, marking}
 use Rattle.ips_repo.specs.Places.{mark_place}
 use Rattle.ips_repo.specs.declared.fault.RepoFault.{RepoFault}

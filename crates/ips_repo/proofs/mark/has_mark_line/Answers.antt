@@ -5,7 +5,7 @@ use Rattle.ips_outside.specs.Outside.{readable}
 use Rattle.ips_repo.specs.Mark.{has_mark_line}
 use Rattle.ips_repo.specs.Scan.{Scanned, stepped, unscanned, scanned, finds}
 use Rattle.ips_outside.proofs.Reading.{answered, reads_then}
-use Rattle.ips_repo.proofs.Parts.{part_more, part_end}
+use Rattle.ips_files.proofs.Parts.{part_more, part_end}
 use Rattle.ips_repo.proofs.Scans.{finds_mark}
 use Rattle.ips_repo.proofs.mark.has_mark_line.Goals as goal
 use Rattle.ips_repo.proofs.mark.has_mark_line.Goals.{else-loop-at-test, then-loop-at-test+in_ok-count+then-count-eq0}

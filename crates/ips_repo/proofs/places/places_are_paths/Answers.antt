@@ -6,8 +6,9 @@ use Rattle.ips_text.specs.Quote.{quoted}
 use Rattle.ips_fmri.specs.Version.{version_text}
 use Rattle.ips_digest.specs.Name.{spelling}
 use Rattle.ips_repo.specs.Places as place
-use Rattle.ips_repo.proofs.Joined.{IsFileName, joined_path, pkg_name}
-use Rattle.ips_repo.proofs.FileNames.{stem_name, publisher_name, version_name, payload_digits}
+use Rattle.ips_records.proofs.Joined.{IsFileName, joined_path, pkg_name}
+use Rattle.ips_records.proofs.FileNames.{stem_name, publisher_name, version_name}
+use Rattle.ips_repo.proofs.Digits.{payload_digits}
 use Rattle.ips_repo.proofs.places.places_are_paths.Goals as goal
 
 word_publisher : IsFileName (codes "publisher")

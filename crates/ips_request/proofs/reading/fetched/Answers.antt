@@ -1,7 +1,7 @@
 use Rattle.std.proofs.Common.{◌≡◌, ◌∙◌, ℕ, List, Some, Err, Vec, Global, ap, refl, subst, sym}
 use Rattle.ips_text.specs.declared.refusal.Or.TheVariants.{Bad}
 use Rattle.ips_manifest.specs.declared.manifest.Manifest.{Manifest}
-use Rattle.ips_repo.specs.Files.{file_at}
+use Rattle.ips_files.specs.Files.{file_at}
 use Rattle.ips_repo.specs.Places.{manifest_place}
 use Rattle.ips_repo.specs.declared.fault.RepoFault.TheVariants as repo
 use Rattle.ips_outside.proofs.Reading.{no_fault, reads_as}

@@ -1,13 +1,13 @@
 use Rattle.std.proofs.Common.{Some, refl, sym, subst}
-use Rattle.ips_state.specs.State.{IsLawful, Recorded}
+use Rattle.ips_state.specs.State.{IsOrdered, Recorded}
 use Rattle.ips_request.specs.declared.request.Request.TheVariants as request
 use Rattle.ips_problem.specs.Asked.{IsAsked, IsProblemFault}
 use Rattle.ips_problem.specs.Held.{posed_of}
-use Rattle.ips_top.proofs.Asking.{asks_posed, nothing_lawful, unposed_plans}
+use Rattle.ips_top.proofs.Asking.{asks_posed, nothing_ordered, unposed_plans}
 use Rattle.ips_top.proofs.choosing.pose.Goals as goal
 
 pub build-requires-clause-lawful : goal.build-requires-clause-lawful
-build-requires-clause-lawful g c = subst IsLawful (sym c.in_ok-state.ensures) nothing_lawful
+build-requires-clause-lawful g c = subst IsOrdered (sym c.in_ok-state.ensures) nothing_ordered
 
 pub returns-in-Ok-clause-posed : goal.returns-in-Ok-clause-posed
 returns-in-Ok-clause-posed g c = λ told r reading words limit asks opened.

@@ -2,8 +2,8 @@ use Rattle.std.proofs.Common.{◌+◌, IsErr, take, drop, take-add, sym, ◌∙�
 use Rattle.ips_outside.specs.State.{State}
 use Rattle.ips_outside.specs.Outside.{readable}
 use Rattle.ips_outside.proofs.Reading.{answered, reads_then}
-use Rattle.ips_repo.proofs.Parts.{part_more}
-use Rattle.ips_repo.proofs.reading.fill.Goals as goal
+use Rattle.ips_files.proofs.Parts.{part_more}
+use Rattle.ips_files.proofs.reading.fill.Goals as goal
 
 pub loop-at-preserved : goal.loop-at-preserved
 loop-at-preserved g c = record {

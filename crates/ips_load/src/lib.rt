@@ -1,0 +1,21 @@
+//! The records of an image, read back from the files that it stands in.
+//!
+//! What an image holds is told by its files (`specs/Held`), and so is why its records can't be read (`specs/Fault`): the first
+//! file that isn't of its grammar, and its first bad line. In reading order: why records can't be loaded (`fault`), files
+//! (`files`), lists of one item a line (`listings`, `mediators`, `lists`), manifests (`manifests`), laws (`laws`).
+#![tactic(auto)]
+
+mod fault;
+mod files;
+mod laws;
+mod listings;
+mod lists;
+mod manifests;
+mod mediators;
+
+pub use fault::StateFault;
+pub use files::{bad_line, load_bytes, load_list, path_of};
+pub use laws::lists_are_one;
+pub use listings::{Mediators, Names, Requests, Stems};
+pub use lists::{load_history, load_mediators, load_names, load_stems};
+pub use manifests::{load_manifest, manifest_path};
