@@ -14,7 +14,7 @@ use Rattle.ips_text.specs.Reading.{Gives, IfBad}
 use Rattle.std.specs.Cmp.Lexicographic.{pointwise}
 use Rattle.std.proofs.lemmas.Bool.{true≢false}
 use Rattle.ips_action.proofs.KeyOrder.{same_true, same_self}
-use Rattle.ips_records.specs.Cut.{has_byte}
+use Rattle.ips_text.specs.Cut.{has_byte}
 use Rattle.ips_records.specs.Lines.{ended, lines_text, lines_in, StopsFile, IsFirstBadLine}
 use Rattle.ips_records.specs.Listed.{Chain, Sole, IsListed}
 use Rattle.ips_records.proofs.Texts.{text_is, text_lines}

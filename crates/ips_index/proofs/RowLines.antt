@@ -10,12 +10,12 @@ use Rattle.ips_action.specs.Action.{naming_key}
 use Rattle.ips_action.proofs.One.{one_kind}
 use Rattle.std.specs.List.{list_all}
 use Rattle.std.specs.Str.{IsUtf8}
-use Rattle.ips_records.specs.Cut.{has_byte, IsCut}
+use Rattle.ips_text.specs.Cut.{has_byte, IsCut}
 use Rattle.ips_records.specs.Listed.{Sole}
-use Rattle.ips_records.proofs.Bytes.{text_bytes}
+use Rattle.ips_text.proofs.Bytes.{text_bytes}
 use Rattle.ips_records.proofs.Clear.{is_clear, clear_lacks, quoted_clear}
 use Rattle.ips_records.proofs.ClearNames.{stem_clear}
-use Rattle.ips_records.proofs.Cuts.{cut_once, lacks_append, not_cut}
+use Rattle.ips_text.proofs.Cuts.{cut_once, not_cut, newline_in}
 use Rattle.ips_records.proofs.FileNames.{is_low, low_text}
 use Rattle.ips_index.specs.Rows.{Row, row_line, tokens}
 use Rattle.ips_index.specs.Text.{HasIndex, IsRow, AreWords, Spell}
@@ -117,9 +117,6 @@ row_one a b ia ib e =
 
 pub row_sole : (r : Row) → IsRow r → Sole row_line IsRow r
 row_sole r is = record { fits = is; alone = λ other fits e. row_one other r fits is e }
-
-newline_in : (x y : List ℕ) → has_byte 10 x ≡ false → has_byte 10 y ≡ false → has_byte 10 (x ++ 32 ∷ y) ≡ false
-newline_in x y ex ey = lacks_append 10 x (32 ∷ y) ex ey
 
 -- a row's line is one line
 pub row_single : (r : Row) → IsRow r → has_byte 10 (row_line r) ≡ false

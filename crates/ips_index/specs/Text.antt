@@ -11,7 +11,7 @@ use Rattle.ips_text.specs.Quote.{quoted}
 use Rattle.ips_action.specs.Kind.{kind_name}
 use Rattle.ips_action.specs.Action.{naming_key}
 use Rattle.ips_action.specs.Judging.{takes_payload}
-use Rattle.ips_records.specs.Cut.{has_byte}
+use Rattle.ips_text.specs.Cut.{has_byte}
 use Rattle.ips_records.specs.Lines.{ended}
 use Rattle.ips_index.specs.Rows.{Row, row_cmp, row_line, tokens, index_text}
 

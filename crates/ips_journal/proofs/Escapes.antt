@@ -8,7 +8,7 @@ use Rattle.std.proofs.lemmas.List.Concat.{flat_map-cons}
 use Rattle.ips_text.specs.Path.{parts}
 use Rattle.ips_text.specs.Quote.{is_plain, quoted_byte, quoted, shown, AreBytes}
 use Rattle.ips_journal.specs.Escape.{is_kept, escaped_byte, escaped}
-use Rattle.ips_journal.proofs.Cuts.{IsClear, clear_append}
+use Rattle.ips_text.proofs.Cuts.{IsClear, clear_append}
 use Rattle.ips_text.proofs.Fronts.{some_part}
 use Rattle.ips_text.proofs.Shown.{behind_byte}
 

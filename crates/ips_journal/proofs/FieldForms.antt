@@ -8,8 +8,8 @@ use Rattle.ips_text.specs.Mode.{IsOctal}
 use Rattle.ips_text.specs.Path.{IsPath}
 use Rattle.ips_text.specs.Quote.{quoted, shown, AreBytes}
 use Rattle.ips_journal.specs.Text.{mode_text}
-use Rattle.ips_journal.proofs.Bytes.{path_bytes}
-use Rattle.ips_journal.proofs.Cuts.{IsClear}
+use Rattle.ips_text.proofs.Bytes.{path_bytes}
+use Rattle.ips_text.proofs.Cuts.{IsClear}
 use Rattle.ips_journal.proofs.Escapes.{escaped_clear, escaped_long, escaped_apart, escaped_quoted, escaped_shown}
 
 -- ---- modes
@@ -94,6 +94,3 @@ shown_long p = omega (arith, escaped_long true p, ap length (escaped_shown p))
 
 pub target_clear : (t : List ℕ) → AreBytes t → IsClear (quoted t)
 target_clear t h = subst IsClear (escaped_quoted t) (escaped_clear false t h)
-
-pub quoted_long : (t : List ℕ) → length (quoted t) ≤ 3 * length t
-quoted_long t = omega (arith, escaped_long false t, ap length (escaped_quoted t))

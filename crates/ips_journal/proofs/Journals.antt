@@ -5,10 +5,10 @@ use Rattle.std.proofs.lemmas.Bool.{and_parts, eqb-true, true≢false}
 use Rattle.ips_steps.specs.Steps.{Step, Gone, Fresh, Mode, Put, Symlink, Hard}
 use Rattle.ips_steps.specs.Journal.{IsJournal, IsProper, AllProper, allowed, step_allowed, numbered}
 use Rattle.ips_journal.specs.Text.{head_line, line, step_line, step_lines, end_line, headed}
-use Rattle.ips_journal.specs.Line.{has}
+use Rattle.ips_text.specs.Cut.{has_byte}
 use Rattle.ips_journal.specs.Reading.{puts_in}
 use Rattle.ips_journal.specs.Holding.{IsNumberSmall, IsSafe, IsStepLine}
-use Rattle.ips_journal.proofs.Cuts.{cut_once}
+use Rattle.ips_text.proofs.Cuts.{cut_once}
 use Rattle.ips_journal.proofs.StepLines.{line_apart, not_end, step_one_line, end_one_line}
 use Rattle.ips_text.proofs.Truths.{both_true}
 use Rattle.ips_steps.proofs.Lists.{proper_more}
@@ -130,7 +130,7 @@ last_told front s h =
 -- ---- one line after another
 
 -- two lines at the front of one text are one
-lines_once : (x y : List ℕ) (a b : List ℕ) → line x a ≡ line y b → has 10 x ≡ false → has 10 y ≡ false → (x ≡ y) × (a ≡ b)
+lines_once : (x y : List ℕ) (a b : List ℕ) → line x a ≡ line y b → has_byte 10 x ≡ false → has_byte 10 y ≡ false → (x ≡ y) × (a ≡ b)
 lines_once x y a b e hx hy = cut_once 10 x a y b hx hy e
 
 step_once : (s t : Step) (a b : List ℕ) → IsTold s → IsTold t → line (step_line s) a ≡ line (step_line t) b → (s ≡ t) × (a ≡ b)

@@ -1,5 +1,3 @@
-pub mod Cuts
-pub mod Bytes
 pub mod Escapes
 pub mod FieldForms
 pub mod StepLines

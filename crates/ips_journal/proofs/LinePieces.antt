@@ -5,13 +5,14 @@ use Rattle.std.proofs.lemmas.Bool.{cases_lt}
 use Rattle.std.proofs.lemmas.List.{take-take, take-append-drop, drop-drop, drop-take}
 use Rattle.ips_outside.specs.Outside.{IsRead}
 use Rattle.ips_journal.specs.Text.{line}
-use Rattle.ips_journal.specs.Line.{has, IsCut, ComeFirst, BeginsLine, IsLineFound}
-use Rattle.ips_journal.proofs.Cuts.{lacks_append}
+use Rattle.ips_text.specs.Cut.{has_byte, IsCut}
+use Rattle.ips_journal.specs.Line.{ComeFirst, BeginsLine, IsLineFound}
+use Rattle.ips_text.proofs.Cuts.{lacks_append}
 
 -- The buffer has so many bytes of what lies ahead, none of them a newline.
 pub record IsFilled (ahead buffer : List ℕ) (filled : ℕ) : Type 0 where
   pub same : take filled buffer ≡ take filled ahead
-  pub lacks : has 10 (take filled buffer) ≡ false
+  pub lacks : has_byte 10 (take filled buffer) ≡ false
 
 -- a read from a file, seen from a place of it
 pub read_ahead : (file buffer : List ℕ) (place filled count : ℕ) → IsRead file (place + filled) buffer count → IsRead (drop place file) filled buffer count
@@ -33,19 +34,19 @@ module _ (ahead old new : List ℕ) (filled : ℕ) (is : IsFilled ahead old fill
       ∙ ap (λ (l : List ℕ). take filled ahead ++ l) read.bytes
       ∙ sym (take-add filled count ahead)
 
-  pub more_filled : (count : ℕ) → IsRead ahead filled (drop filled new) count → has 10 (take count (drop filled new)) ≡ false → IsFilled ahead new (filled + count)
+  pub more_filled : (count : ℕ) → IsRead ahead filled (drop filled new) count → has_byte 10 (take count (drop filled new)) ≡ false → IsFilled ahead new (filled + count)
   more_filled count read off = record {
     same = piece_more count read;
-    lacks = ap (has 10) (take-add filled count new) ∙ lacks_append 10 (take filled new) (take count (drop filled new)) (ap (has 10) kept ∙ is.lacks) off;
+    lacks = ap (has_byte 10) (take-add filled count new) ∙ lacks_append 10 (take filled new) (take count (drop filled new)) (ap (has_byte 10) kept ∙ is.lacks) off;
   }
 
   -- nothing more comes
-  pub at_end : IsRead ahead filled (drop filled new) 0 → filled < length new → has 10 (take (length new) ahead) ≡ false
+  pub at_end : IsRead ahead filled (drop filled new) 0 → filled < length new → has_byte 10 (take (length new) ahead) ≡ false
   at_end read room = elim (cases_lt filled (length ahead)) [
     | inl more ↦ absurd (let some = read.some (omega (arith, length-drop filled new)) more in omega arith)
     | inr short ↦
         let whole : take (length new) ahead ≡ take filled old = take_all (length new) ahead (omega (arith, short, room)) ∙ sym (take_all filled ahead short) ∙ sym is.same in
-        ap (has 10) whole ∙ is.lacks
+        ap (has_byte 10) whole ∙ is.lacks
   ]
 
   -- a newline stands in the new piece
@@ -63,17 +64,17 @@ module _ (ahead old new : List ℕ) (filled : ℕ) (is : IsFilled ahead old fill
       ∙ append_assoc (take (filled + end) new) (10 ∷ drop (end + 1) piece) (drop (filled + count) ahead) in
       record {
         parts = whole ∙ ap (λ (l : List ℕ). take (filled + end) new ++ 10 ∷ l) (sym (tail_is (take (filled + end) new) behind ahead whole) ∙ ap (λ (n : ℕ). drop (n + 1) ahead) long);
-        one_line = ap (has 10) front ∙ lacks_append 10 (take filled new) (take end piece) (ap (has 10) kept ∙ is.lacks) cut.first_lacks;
+        one_line = ap (has_byte 10) front ∙ lacks_append 10 (take filled new) (take end piece) (ap (has_byte 10) kept ∙ is.lacks) cut.first_lacks;
       }
 
 pub nothing_filled : (ahead buffer : List ℕ) → IsFilled ahead buffer 0
 nothing_filled ahead buffer = record { same = refl; lacks = refl }
 
 -- the buffer is full
-pub all_filled : (ahead buffer : List ℕ) (filled : ℕ) → IsFilled ahead buffer filled → filled ≤ length buffer → length buffer ≤ filled → has 10 (take (length buffer) ahead) ≡ false
+pub all_filled : (ahead buffer : List ℕ) (filled : ℕ) → IsFilled ahead buffer filled → filled ≤ length buffer → length buffer ≤ filled → has_byte 10 (take (length buffer) ahead) ≡ false
 all_filled ahead buffer filled is le ge =
     let same : length buffer ≡ filled = omega arith in
-    ap (λ (n : ℕ). has 10 (take n ahead)) same ∙ ap (has 10) (sym is.same) ∙ is.lacks
+    ap (λ (n : ℕ). has_byte 10 (take n ahead)) same ∙ ap (has_byte 10) (sym is.same) ∙ is.lacks
 
 -- a part of a file that was read isn't longer than the file
 pub filled_within : (file buffer : List ℕ) (place filled : ℕ) → IsFilled (drop place file) buffer filled → filled ≤ length buffer → place ≤ length file → place + filled ≤ length file
@@ -98,7 +99,7 @@ first_behind ahead held count le first =
 pub line_among : (ahead buffer : List ℕ) (count filled : ℕ) → count ≤ filled → BeginsLine ahead buffer count → BeginsLine ahead (take filled buffer) count
 line_among ahead buffer count filled le h =
     let same : take count (take filled buffer) ≡ take count buffer = take-take count filled buffer le in
-    record { parts = h.parts ∙ ap (λ (l : List ℕ). line l (drop (count + 1) ahead)) (sym same); one_line = ap (has 10) same ∙ h.one_line }
+    record { parts = h.parts ∙ ap (λ (l : List ℕ). line l (drop (count + 1) ahead)) (sym same); one_line = ap (has_byte 10) same ∙ h.one_line }
 
 -- a line that is held whole
 pub line_held : (ahead held : List ℕ) (count : ℕ) → ComeFirst held ahead → (count < length held) × IsCut 10 held (take count held) (drop (count + 1) held) → BeginsLine ahead held count

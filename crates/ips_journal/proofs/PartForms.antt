@@ -8,8 +8,8 @@ use Rattle.ips_text.specs.Quote.{AreBytes, quoted, shown}
 use Rattle.ips_steps.specs.Targets.{IsTarget}
 use Rattle.ips_journal.specs.Text.{mode_text}
 use Rattle.ips_journal.specs.Escape.{escaped}
-use Rattle.ips_journal.specs.Line.{has, IsCut}
-use Rattle.ips_journal.proofs.Bytes.{path_bytes}
+use Rattle.ips_text.specs.Cut.{has_byte, IsCut}
+use Rattle.ips_text.proofs.Bytes.{path_bytes}
 use Rattle.ips_journal.proofs.Escapes.{escaped_apart, escaped_quoted, escaped_shown}
 use Rattle.ips_journal.proofs.StepLines.{two_fields, mode_whole, path_whole, number_whole, target_short}
 use Rattle.ips_outside.proofs.Rooms.{path_fits}
@@ -43,7 +43,7 @@ no_target bytes room le none t h ht e = none t ht (omega (arith, target_short t 
 
 -- ---- the fields of a cut
 
-cut_fields : (fields first second x a : List ℕ) → IsCut 32 fields first second → has 32 x ≡ false → fields ≡ x ++ 32 ∷ a → (first ≡ x) × (second ≡ a)
+cut_fields : (fields first second x a : List ℕ) → IsCut 32 fields first second → has_byte 32 x ≡ false → fields ≡ x ++ 32 ∷ a → (first ≡ x) × (second ≡ a)
 cut_fields fields first second x a cut hx e = two_fields first second x a cut.first_lacks hx (sym cut.parts ∙ e)
 
 module _ (fields first second : List ℕ) (cut : IsCut 32 fields first second) where

@@ -6,7 +6,8 @@ use Rattle.ips_steps.specs.Steps.{Step}
 use Rattle.ips_steps.specs.Journal.{IsJournal, numbered}
 use Rattle.ips_journal.specs.Text.{head_line, line, step_line, step_lines, end_line, headed, journal_text}
 use Rattle.ips_journal.specs.Bad.{GoesOn, IsBadLine}
-use Rattle.ips_journal.specs.Line.{has, ComeFirst, BeginsLine}
+use Rattle.ips_text.specs.Cut.{has_byte}
+use Rattle.ips_journal.specs.Line.{ComeFirst, BeginsLine}
 use Rattle.ips_journal.specs.Reading.{Reading, Stands, Means, IsFaultOf, IsNextLine, TellsLine, puts_in, text_from}
 use Rattle.ips_journal.specs.Holding.{IsHeaded, IsNextFault, IsStepLine, ReadMeans, TellsMore, clipped, found_step, seen, step_by}
 use Rattle.ips_journal.specs.declared.cursor.Cursor.{Cursor}
@@ -16,7 +17,7 @@ use Rattle.std.specs.Result.{IsErrAnd}
 use Rattle.std.specs.Prelude.{is_some}
 use Rattle.ips_journal.specs.declared.fault.StepFault.{StepFault}
 use Rattle.ips_journal.specs.declared.fault.StepFault.TheVariants.{BadJournal, FolderFault}
-use Rattle.ips_journal.proofs.Cuts.{cut_once, not_cut}
+use Rattle.ips_text.proofs.Cuts.{cut_once, not_cut}
 use Rattle.ips_journal.proofs.LinePieces.{first_behind}
 use Rattle.ips_journal.proofs.StepLines.{step_one_line, end_one_line, step_short, end_short}
 use Rattle.ips_journal.proofs.Journals.{journal_more, journal_last, last_told, puts_few, puts_more, lines_more, headed_long}
@@ -36,14 +37,14 @@ line_written text start new rest steps more s so_far e m =
 -- ---- lines
 
 -- where no newline stands within the room, no shorter line does
-pub no_line : (x more ahead : List ℕ) (room : ℕ) → length x < room → has 10 (take room ahead) ≡ false → ahead ≡ x ++ 10 ∷ more → ⊥
+pub no_line : (x more ahead : List ℕ) (room : ℕ) → length x < room → has_byte 10 (take room ahead) ≡ false → ahead ≡ x ++ 10 ∷ more → ⊥
 no_line x more ahead room lt off e =
     let rest : room ≡ length x + suc (room - length x - 1) = omega arith in
     let front : take room ahead ≡ x ++ 10 ∷ take (room - length x - 1) more = ap (λ (n : ℕ). take n ahead) rest ∙ ap (take (length x + suc (room - length x - 1))) e ∙ take-append-add x (10 ∷ more) (suc (room - length x - 1)) in
     not_cut 10 (take room ahead) x (take (room - length x - 1) more) off front
 
 -- the first line of a text that begins so is no other
-head_once : (bytes a b : List ℕ) → has 10 bytes ≡ false → line bytes a ≡ line head_line b → bytes ≡ head_line
+head_once : (bytes a b : List ℕ) → has_byte 10 bytes ≡ false → line bytes a ≡ line head_line b → bytes ≡ head_line
 head_once bytes a b off e = (cut_once 10 bytes a head_line b off refl e).0
 
 -- ---- the first line
@@ -57,7 +58,7 @@ head_read text held count first begins within is small =
 pub no_head : (text buffer : List ℕ) (count : ℕ) → BeginsLine text buffer count → (take count buffer ≡ head_line → ⊥) → IsBadLine text 1
 no_head text buffer count begins off = λ rest e. off (head_once (take count buffer) (drop (count + 1) text) rest begins.one_line (sym begins.parts ∙ e))
 
-pub no_first : (text : List ℕ) → has 10 (take 16384 text) ≡ false → IsBadLine text 1
+pub no_first : (text : List ℕ) → has_byte 10 (take 16384 text) ≡ false → IsBadLine text 1
 no_first text off = λ rest e. no_line head_line rest text 16384 (omega arith) off e
 
 module _ (text : List ℕ) (front : List Step) where
@@ -114,12 +115,12 @@ module _ (text : List ℕ) (front : List Step) (r : Reading) (h : Stands (headed
       )
 
   -- no line ends within the room
-  pub none_ends : (number : ℕ) → number ≡ clipped r.steps 2 → has 10 (take 16384 (drop r.place text)) ≡ false → IsBadLine text number × IsNextLine text front number
+  pub none_ends : (number : ℕ) → number ≡ clipped r.steps 2 → has_byte 10 (take 16384 (drop r.place text)) ≡ false → IsBadLine text number × IsNextLine text front number
   none_ends number is off = bad_line number is
       (λ s more j e. let told = last_told front s j in no_line (step_line s) more (drop r.place text) 16384 (omega (arith, step_short s told.0 told.1)) off e)
       (λ more e. no_line (end_line (length front)) more (drop r.place text) 16384 (omega (arith, end_short (length front) h.listed.count)) off e)
 
-  module _ (bytes : List ℕ) (count : ℕ) (parts : drop r.place text ≡ line bytes (drop (count + 1) (drop r.place text))) (one_line : has 10 bytes ≡ false) (sized : length bytes ≡ count) where
+  module _ (bytes : List ℕ) (count : ℕ) (parts : drop r.place text ≡ line bytes (drop (count + 1) (drop r.place text))) (one_line : has_byte 10 bytes ≡ false) (sized : length bytes ≡ count) where
     behind : drop (count + 1) (drop r.place text) ≡ drop (r.place + (count + 1)) text
     behind = drop-drop (count + 1) r.place text
 

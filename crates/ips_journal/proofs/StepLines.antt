@@ -14,11 +14,12 @@ use Rattle.ips_steps.specs.View.{sort_of}
 use Rattle.ips_steps.specs.declared.step.Sort.{Sort}
 use Rattle.ips_steps.specs.declared.step.Sort.TheVariants as sort
 use Rattle.ips_journal.specs.Text.{mode_text, word, fields_of, step_line, end_line}
-use Rattle.ips_journal.specs.Line.{has}
+use Rattle.ips_text.specs.Cut.{has_byte}
 use Rattle.ips_journal.specs.Holding.{IsNumberSmall, step_by}
 use Rattle.ips_journal.specs.declared.parts.Parts.{Parts}
-use Rattle.ips_journal.proofs.Cuts.{cut_once, clear_lacks, lacks_append}
-use Rattle.ips_journal.proofs.FieldForms.{mode_apart, mode_clear, number_clear, number_long, path_clear, path_apart, shown_long, target_clear, quoted_long}
+use Rattle.ips_text.proofs.Cuts.{cut_once, clear_lacks, lacks_append, newline_in}
+use Rattle.ips_text.proofs.Quotes.{quoted_most}
+use Rattle.ips_journal.proofs.FieldForms.{mode_apart, mode_clear, number_clear, number_long, path_clear, path_apart, shown_long, target_clear}
 use Rattle.ips_text.proofs.Quotes.{quoted_apart}
 use Rattle.ips_outside.proofs.Rooms.{path_fits}
 
@@ -87,17 +88,17 @@ not_end s n e = letter_end (sort_of s) (sym (word_letter (sort_of s) (fields_of 
 -- ---- fields
 
 -- two fields with a blank between them are told by what they make
-pub two_fields : (x a y b : List ℕ) → has 32 x ≡ false → has 32 y ≡ false → x ++ 32 ∷ a ≡ y ++ 32 ∷ b → (x ≡ y) × (a ≡ b)
+pub two_fields : (x a y b : List ℕ) → has_byte 32 x ≡ false → has_byte 32 y ≡ false → x ++ 32 ∷ a ≡ y ++ 32 ∷ b → (x ≡ y) × (a ≡ b)
 two_fields x a y b hx hy e = cut_once 32 x a y b hx hy e
 
 -- a field has no blank
-pub mode_whole : (m : ℕ) → has 32 (mode_text m) ≡ false
+pub mode_whole : (m : ℕ) → has_byte 32 (mode_text m) ≡ false
 mode_whole m = clear_lacks 32 (mode_text m) (omega arith) (mode_clear m)
 
-pub path_whole : (p : List ℕ) → IsPath p → has 32 (shown p) ≡ false
+pub path_whole : (p : List ℕ) → IsPath p → has_byte 32 (shown p) ≡ false
 path_whole p h = clear_lacks 32 (shown p) (omega arith) (path_clear p h)
 
-pub number_whole : (n : ℕ) → n < 2 ^ 64 → has 32 (decimal n) ≡ false
+pub number_whole : (n : ℕ) → n < 2 ^ 64 → has_byte 32 (decimal n) ≡ false
 number_whole n lt = clear_lacks 32 (decimal n) (omega arith) (number_clear n lt)
 
 moded_apart : (m k : ℕ) (p q : List ℕ) → m < 4096 → k < 4096 → IsPath p → IsPath q → mode_text m ++ 32 ∷ shown p ≡ mode_text k ++ 32 ∷ shown q → (m ≡ k) × (p ≡ q)
@@ -135,7 +136,7 @@ line_apart s t hs ht ns nt e =
 
 -- ---- a line has no newline, and isn't long
 
-word_line : (s : Sort) → has 10 (word s) ≡ false
+word_line : (s : Sort) → has_byte 10 (word s) ≡ false
 word_line sort.Gone = refl
 word_line sort.Fresh = refl
 word_line sort.Mode = refl
@@ -143,29 +144,26 @@ word_line sort.Put = refl
 word_line sort.Link = refl
 word_line sort.Hard = refl
 
-blank_between : (x y : List ℕ) → has 10 x ≡ false → has 10 y ≡ false → has 10 (x ++ 32 ∷ y) ≡ false
-blank_between x y hx hy = lacks_append 10 x (32 ∷ y) hx hy
-
-mode_line : (m : ℕ) → has 10 (mode_text m) ≡ false
+mode_line : (m : ℕ) → has_byte 10 (mode_text m) ≡ false
 mode_line m = clear_lacks 10 (mode_text m) (omega arith) (mode_clear m)
 
-path_line : (p : List ℕ) → IsPath p → has 10 (shown p) ≡ false
+path_line : (p : List ℕ) → IsPath p → has_byte 10 (shown p) ≡ false
 path_line p h = clear_lacks 10 (shown p) (omega arith) (path_clear p h)
 
-fields_line : (s : Step) → IsProper s → IsNumberSmall s → has 10 (fields_of s) ≡ false
+fields_line : (s : Step) → IsProper s → IsNumberSmall s → has_byte 10 (fields_of s) ≡ false
 fields_line (Gone p) h n = path_line p h
-fields_line (Fresh m p) h n = blank_between (mode_text m) (shown p) (mode_line m) (path_line p h.0)
-fields_line (Mode m p) h n = blank_between (mode_text m) (shown p) (mode_line m) (path_line p h.0)
+fields_line (Fresh m p) h n = newline_in (mode_text m) (shown p) (mode_line m) (path_line p h.0)
+fields_line (Mode m p) h n = newline_in (mode_text m) (shown p) (mode_line m) (path_line p h.0)
 fields_line (Put i m p) h n =
-    blank_between (decimal i) (mode_text m ++ 32 ∷ shown p) (clear_lacks 10 (decimal i) (omega arith) (number_clear i n))
-    (blank_between (mode_text m) (shown p) (mode_line m) (path_line p h.0))
-fields_line (Symlink p x) h n = blank_between (shown p) (quoted x) (path_line p h.0) (clear_lacks 10 (quoted x) (omega arith) (target_clear x h.2))
-fields_line (Hard p x) h n = blank_between (shown p) (shown x) (path_line p h.0) (path_line x h.1)
+    newline_in (decimal i) (mode_text m ++ 32 ∷ shown p) (clear_lacks 10 (decimal i) (omega arith) (number_clear i n))
+    (newline_in (mode_text m) (shown p) (mode_line m) (path_line p h.0))
+fields_line (Symlink p x) h n = newline_in (shown p) (quoted x) (path_line p h.0) (clear_lacks 10 (quoted x) (omega arith) (target_clear x h.2))
+fields_line (Hard p x) h n = newline_in (shown p) (shown x) (path_line p h.0) (path_line x h.1)
 
-pub step_one_line : (s : Step) → IsProper s → IsNumberSmall s → has 10 (step_line s) ≡ false
+pub step_one_line : (s : Step) → IsProper s → IsNumberSmall s → has_byte 10 (step_line s) ≡ false
 step_one_line s h n = lacks_append 10 (word (sort_of s)) (fields_of s) (word_line (sort_of s)) (fields_line s h n)
 
-pub end_one_line : (n : ℕ) → n < 2 ^ 64 → has 10 (end_line n) ≡ false
+pub end_one_line : (n : ℕ) → n < 2 ^ 64 → has_byte 10 (end_line n) ≡ false
 end_one_line n lt = clear_lacks 10 (decimal n) (omega arith) (number_clear n lt)
 
 pub target_short : (t : List ℕ) → IsTarget t → length t ≤ 4095
@@ -184,7 +182,7 @@ fields_short (Gone p) h n = omega (arith, shown_long p, path_fits p h)
 fields_short (Fresh m p) h n = omega (arith, shown_long p, path_fits p h.0)
 fields_short (Mode m p) h n = omega (arith, shown_long p, path_fits p h.0)
 fields_short (Put i m p) h n = omega (arith, shown_long p, path_fits p h.0, number_long i n, length-append (decimal i) (32 ∷ (mode_text m ++ 32 ∷ shown p)))
-fields_short (Symlink p x) h n = omega (arith, shown_long p, path_fits p h.0, quoted_long x, target_short x h.1, length-append (shown p) (32 ∷ quoted x))
+fields_short (Symlink p x) h n = omega (arith, shown_long p, path_fits p h.0, quoted_most x, target_short x h.1, length-append (shown p) (32 ∷ quoted x))
 fields_short (Hard p x) h n = omega (arith, shown_long p, path_fits p h.0, shown_long x, path_fits x h.1, length-append (shown p) (32 ∷ shown x))
 
 -- with its newline it fits the buffer

@@ -1,16 +1,7 @@
 -- Lines and fields, cut at a byte.
-use Rattle.std.specs.Prelude.{◌≡◌, ℕ, ◌+◌, Bool, ◌==◌, IsFalse, List, ◌∷◌, ◌++◌, length, take, drop, Option, Some, None}
-use Rattle.std.specs.List.{list_any}
+use Rattle.std.specs.Prelude.{◌≡◌, ℕ, ◌+◌, IsFalse, List, length, take, drop, Option, Some, None}
+use Rattle.ips_text.specs.Cut.{has_byte}
 use Rattle.ips_journal.specs.Text.{line}
-
--- the byte stands in the list
-abbrev pub has : ℕ → List ℕ → Bool
-has b bytes = list_any (λ c. c == b) bytes
-
--- The bytes are two fields with the byte between them, which doesn't stand in the first.
-pub record IsCut (b : ℕ) (bytes first second : List ℕ) : Type 0 where
-  pub parts : bytes ≡ first ++ b ∷ second
-  pub first_lacks : IsFalse (has b first)
 
 -- These bytes come first in what lies ahead.
 abbrev pub ComeFirst : List ℕ → List ℕ → Type 0
@@ -19,9 +10,9 @@ ComeFirst bytes ahead = take (length bytes) ahead ≡ bytes
 -- What lies ahead begins with a line of so many bytes, which stands at the front of these.
 pub record BeginsLine (ahead bytes : List ℕ) (count : ℕ) : Type 0 where
   pub parts : ahead ≡ line (take count bytes) (drop (count + 1) ahead)
-  pub one_line : IsFalse (has 10 (take count bytes))
+  pub one_line : IsFalse (has_byte 10 (take count bytes))
 
 -- The line that was looked for in so many bytes of what lies ahead is the first of these bytes, or none ends there.
 abbrev pub IsLineFound : ℕ → List ℕ → List ℕ → Option ℕ → Type 0
 IsLineFound room ahead bytes (Some count) = BeginsLine ahead bytes count
-IsLineFound room ahead bytes None = IsFalse (has 10 (take room ahead))
+IsLineFound room ahead bytes None = IsFalse (has_byte 10 (take room ahead))

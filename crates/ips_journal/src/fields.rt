@@ -5,7 +5,7 @@ ghost use Rattle.std.specs.List.{position};
 ghost use Rattle.std.specs.Fmt.{digit_glyph};
 ghost use Rattle.ips_text.specs.Quote.{AreBytes, is_plain as is_plain_byte};
 ghost use Rattle.ips_journal.specs.Text.{mode_text};
-ghost use Rattle.ips_journal.specs.Line.{has, IsCut};
+ghost use Rattle.ips_text.specs.Cut.{has_byte, IsCut};
 ghost use Rattle.ips_journal.specs.Escape.{escaped, escaped_byte};
 ghost use Rattle.ips_journal.specs.Escape as escape;
 
@@ -13,7 +13,7 @@ use ips_text::octal;
 
 /// The field before the first blank, and what stands behind it.
 pub fn cut(bytes: &[u8]) -> Option<(&[u8], &[u8])>
-    ensures none { IfNone result (IsFalse (has 32 bytes.now)) }
+    ensures none { IfNone result (IsFalse (has_byte 32 bytes.now)) }
     ensures some { IfSome result (λ x. IsCut 32 bytes.now x.0.now x.1.now) }
 {
     match first_place(b' ', bytes) {

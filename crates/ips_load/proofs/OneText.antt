@@ -4,9 +4,9 @@ use Rattle.ips_text.specs.Quote.{quoted}
 use Rattle.ips_fmri.specs.Fmri.{fmri_text}
 use Rattle.ips_fmri.specs.Name.{IsStem}
 use Rattle.ips_fmri.specs.declared.fmri.Fmri.{Fmri}
-use Rattle.ips_records.specs.Cut.{has_byte}
+use Rattle.ips_text.specs.Cut.{has_byte}
 use Rattle.ips_records.specs.Lines.{lines_text}
-use Rattle.ips_records.proofs.Cuts.{lacks_append}
+use Rattle.ips_text.proofs.Cuts.{lacks_append}
 use Rattle.ips_records.proofs.Apart.{texts_apart}
 use Rattle.ips_records.specs.Form.{IsNamed}
 use Rattle.ips_records.specs.Field.{version_field, word_field}

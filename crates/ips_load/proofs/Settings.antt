@@ -2,9 +2,9 @@
 use Rattle.std.proofs.Common.{◌≡◌, ℕ, false, List, ◌∷◌, ◌++◌, Option, refl, sym, ◌∙◌, ap, arith}
 use Rattle.ips_text.specs.Quote.{quoted}
 use Rattle.ips_fmri.specs.Version.{Parts, IfVersion}
-use Rattle.ips_records.specs.Cut.{has_byte, IsCut}
+use Rattle.ips_text.specs.Cut.{has_byte, IsCut}
 use Rattle.ips_records.specs.Listed.{Sole}
-use Rattle.ips_records.proofs.Cuts.{cut_once, not_cut}
+use Rattle.ips_text.proofs.Cuts.{cut_once, not_cut}
 use Rattle.ips_records.specs.Form.{IsWord, IfMarked}
 use Rattle.ips_records.specs.Field.{version_field, word_field}
 use Rattle.ips_records.proofs.WordForms.{word_one}

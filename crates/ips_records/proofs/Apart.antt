@@ -2,7 +2,7 @@
 use Rattle.std.proofs.Common.{◌≡◌, ℕ, false, List, [], ◌∷◌, ◌++◌, map, refl, sym, ◌∙◌, ap, ap₂}
 use Rattle.std.specs.List.{AllByRecursion}
 use Rattle.std.proofs.lemmas.List.{append_cancel_right}
-use Rattle.ips_records.specs.Cut.{has_byte}
+use Rattle.ips_text.specs.Cut.{has_byte}
 use Rattle.ips_records.specs.Lines.{ended, lines_text, lines_in}
 use Rattle.ips_records.proofs.Texts.{text_lines}
 

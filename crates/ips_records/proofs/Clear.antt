@@ -12,8 +12,8 @@ use Rattle.std.proofs.lemmas.List.Concat.{flat_map-cons}
 use Rattle.std.proofs.lemmas.List.Folds.{list_all-append}
 use Rattle.ips_text.specs.Quote.{quoted, quoted_byte, AreBytes}
 use Rattle.ips_fmri.specs.Version.{Parts, numerals, part_text, stamp_text, stamp_part_text, version_text, AreNumbers, IfNumbers, IsVersion, IfVersion}
-use Rattle.ips_records.specs.Cut.{has_byte}
-use Rattle.ips_records.proofs.Bytes.{text_bytes}
+use Rattle.ips_text.specs.Cut.{has_byte}
+use Rattle.ips_text.proofs.Bytes.{text_bytes}
 use Rattle.ips_records.specs.Form.{IsWord, IfMarked}
 use Rattle.ips_records.specs.Field.{version_field, word_field}
 

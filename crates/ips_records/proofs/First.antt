@@ -3,9 +3,9 @@ use denote.Ref.{Bor}
 use Rattle.std.proofs.Common.{◌≡◌, ℕ, ◌<◌, Bool, true, false, IsFalse, cond, ◌||◌, eqb, List, [], ◌∷◌, ◌++◌, length, Option, Some, None, IfSome, refl, sym, ◌∙◌, ap, arith}
 use Rattle.std.proofs.lemmas.Bool.{true≢false}
 use Rattle.std.specs.List.{onto_first}
-use Rattle.ips_records.specs.Cut.{has_byte, IsCut}
+use Rattle.ips_text.specs.Cut.{has_byte, IsCut}
 use Rattle.ips_records.specs.Lines.{ended, lines_in}
-use Rattle.ips_records.proofs.Cuts.{not_cut}
+use Rattle.ips_text.proofs.Cuts.{not_cut}
 
 -- a line without newlines ends at the newline behind it
 pub line_ends : (line rest : List ℕ) → has_byte 10 line ≡ false → lines_in (line ++ 10 ∷ rest) ≡ ended line ∷ lines_in rest

@@ -1,5 +1,3 @@
-pub mod Cuts
-pub mod Bytes
 pub mod First
 pub mod Texts
 pub mod Items

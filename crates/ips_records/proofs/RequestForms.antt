@@ -9,14 +9,15 @@ use Rattle.std.proofs.lemmas.Bool.Decides.{nat_tests}
 use Rattle.std.proofs.lemmas.Fmt.{decimal_digit}
 use Rattle.std.proofs.lemmas.List.{append-nil}
 use Rattle.std.proofs.lemmas.List.Concat.{flat_map-cons}
-use Rattle.ips_text.specs.Quote.{quoted, quoted_byte, is_plain, fits_name, AreBytes}
+use Rattle.ips_text.specs.Quote.{quoted, quoted_byte, fits_name, AreBytes}
 use Rattle.ips_fmri.specs.Version.{Parts, numerals, part_text, stamp_text, stamp_part_text, version_text, IsStamp, IfStamp, IsVersion}
-use Rattle.ips_records.specs.Cut.{has_byte, IsCut}
+use Rattle.ips_text.specs.Cut.{has_byte, IsCut}
 use Rattle.ips_records.specs.Form.{IsWord, words_text, IsRequestLine, IsMoment, AreWords, IsQuotedWord, HasStamp}
-use Rattle.ips_records.proofs.Cuts.{cut_once, not_cut}
+use Rattle.ips_text.proofs.Cuts.{cut_once, not_cut}
 use Rattle.ips_records.proofs.Clear.{clear_lacks, word_clear, stamp_clear}
 use Rattle.ips_records.specs.Listed.{Sole}
-use Rattle.ips_records.proofs.Bytes.{text_bytes}
+use Rattle.ips_text.proofs.Bytes.{text_bytes}
+use Rattle.ips_text.proofs.Quotes.{quoted_most}
 use Rattle.ips_records.proofs.FileNames.{is_low, low_append, low_stamp, low_version, low_text}
 
 -- ---- words
@@ -123,15 +124,6 @@ same_end [] [] a b e long = e
 same_end [] (q ∷ y) a b e long = absurd (omega (arith, ap length e, length-append y b, long))
 same_end (p ∷ x) [] a b e long = absurd (omega (arith, ap length e, length-append x a, long))
 same_end (p ∷ x) (q ∷ y) a b e long = let rest : x ++ a ≡ y ++ b = cc in same_end x y a b rest long
-
-byte_most : (b : ℕ) (plain : Bool) → is_plain b ≡ plain → length (quoted_byte b) ≤ 3
-byte_most b true e = rw e (omega arith)
-byte_most b false e = rw e (omega arith)
-
-pub quoted_most : (bytes : List ℕ) → length (quoted bytes) ≤ 3 * length bytes
-unfolding quoted
-quoted_most [] = omega arith
-quoted_most (b ∷ bytes) = omega (arith, ap length (flat_map-cons quoted_byte b bytes), length-append (quoted_byte b) (quoted bytes), byte_most b (is_plain b) refl, quoted_most bytes)
 
 fits : (n : ℕ) → n ≤ 255 → nat_le n 255 ≡ true
 fits n le = grind (arith, nat_tests)

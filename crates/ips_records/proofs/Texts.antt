@@ -4,7 +4,7 @@ use Rattle.std.specs.List.{AllByRecursion, flat_map, onto_first}
 use Rattle.std.proofs.lemmas.List.{append_cancel_right}
 use Rattle.std.proofs.lemmas.List.Concat.{flat_map-cons}
 use Rattle.std.proofs.lemmas.List.Folds.{flat_map-map}
-use Rattle.ips_records.specs.Cut.{has_byte}
+use Rattle.ips_text.specs.Cut.{has_byte}
 use Rattle.ips_records.specs.Lines.{ended, lines_text, lines_in}
 use Rattle.ips_records.proofs.First.{line_ends}
 

@@ -3,7 +3,7 @@ use Rattle.std.proofs.Common.{◌≡◌, ℕ, List}
 use Rattle.ips_text.specs.Quote.{quoted}
 use Rattle.ips_text.proofs.Quotes.{quoted_apart}
 use Rattle.ips_records.specs.Listed.{Sole}
-use Rattle.ips_records.proofs.Bytes.{text_bytes}
+use Rattle.ips_text.proofs.Bytes.{text_bytes}
 use Rattle.ips_records.specs.Form.{IsWord}
 
 -- no two words have one quoted form

@@ -1,4 +1,3 @@
-pub mod Cut
 pub mod Lines
 pub mod Listed
 pub mod Sections

@@ -2,7 +2,7 @@
 
 ghost use Rattle.std.specs.Prelude.{◌≡◌, ◌<◌, ◌==◌, ◌∷◌, IsFalse, length, IfNone, IfSome};
 ghost use Rattle.std.specs.List.{position};
-ghost use Rattle.ips_records.specs.Cut.{has_byte, IsCut};
+ghost use Rattle.ips_text.specs.Cut.{has_byte, IsCut};
 ghost use Rattle.ips_records.specs.Lines.{ended, lines_in};
 
 /// What stands before the first such byte, and what stands behind it. None exactly where there is no such byte.

@@ -2,7 +2,7 @@ use Rattle.std.proofs.Common.{◌≡◌, ℕ, List, sym, subst, ◌∙◌}
 use Rattle.std.specs.Str.{IsUtf8}
 use Rattle.ips_text.specs.Quote.{quoted}
 use Rattle.ips_text.specs.declared.quoting.BadQuote.{BadQuote}
-use Rattle.ips_records.proofs.Bytes.{text_bytes}
+use Rattle.ips_text.proofs.Bytes.{text_bytes}
 use Rattle.ips_records.proofs.Found.{found_none, gives_same}
 use Rattle.ips_index.proofs.words.text.Goals as goal
 

@@ -1,6 +1,6 @@
 use Rattle.std.proofs.Common.{sym, ◌∙◌}
 use Rattle.std.proofs.lemmas.List.{take_rest}
-use Rattle.ips_journal.proofs.Cuts.{found_cuts, none_lacks}
+use Rattle.ips_text.proofs.Cuts.{found_cuts, none_lacks}
 use Rattle.ips_journal.proofs.fields.cut.Goals as goal
 
 pub returns-in-Some-clause-some : goal.returns-in-Some-clause-some

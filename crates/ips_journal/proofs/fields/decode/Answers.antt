@@ -1,7 +1,7 @@
 use Rattle.std.proofs.Common.{[], ◌∷◌, take, sym, ◌∙◌, arith, length-take-le, length-set}
 use Rattle.std.proofs.lemmas.List.{take_more_set}
-use Rattle.ips_journal.proofs.Bytes.{bytes_append}
-use Rattle.ips_journal.proofs.Cuts.{some_there}
+use Rattle.ips_text.proofs.Bytes.{bytes_append}
+use Rattle.ips_text.proofs.Cuts.{some_there}
 use Rattle.ips_journal.proofs.Escapes.{none_told, too_long, told_more}
 use Rattle.ips_journal.proofs.fields.decode.Goals as goal
 

@@ -1,9 +1,9 @@
 use Rattle.std.proofs.Common.{◌≡◌, ◌+◌, ◌-◌, ◌<◌, ◌≤◌, List, ℕ, false, IsErr, length, length-take, take, drop, refl, sym, ◌∙◌, ap, subst, arith}
 use Rattle.ips_outside.specs.State.{State}
 use Rattle.ips_outside.specs.Outside.{readable, IsRead}
-use Rattle.ips_journal.specs.Line.{has, IsCut}
+use Rattle.ips_text.specs.Cut.{has_byte, IsCut}
 use Rattle.ips_outside.proofs.Reading.{answered, reads_then}
-use Rattle.ips_journal.proofs.Cuts.{found_cuts, none_lacks}
+use Rattle.ips_text.proofs.Cuts.{found_cuts, none_lacks}
 use Rattle.ips_journal.proofs.LinePieces.{filled_within, piece_read, piece_more, more_filled, at_end, all_filled, line_at, line_among, filled_first}
 use Rattle.ips_journal.proofs.lines.read_line.Goals as goal
 
@@ -75,7 +75,7 @@ returns-then-count-eq0-clause-found g c = λ told within small.
     let none : IsRead ahead c.loop-filled.filled (drop c.loop-filled.filled new) 0 = subst (IsRead ahead c.loop-filled.filled (drop c.loop-filled.filled new)) c.if-count-eq0.true read in
     let sized : length new ≡ length c.args.buffer.now = c.read_piece.auto.buffer ∙ c.loop-filled.invariant.size in (
       filled_first ahead new c.loop-filled.filled (omega (arith, sized, c.loop-filled.invariant.size, c.loop-filled.invariant.within)) (c.in_ok-count.ensures.before ∙ filled.same),
-      subst (λ (n : ℕ). has 10 (take n ahead) ≡ false) sized (at_end ahead c.loop-filled.buffer new c.loop-filled.filled filled c.in_ok-count.ensures.before none (omega (arith, c.loop-filled-test.true, c.read_piece.auto.buffer))),
+      subst (λ (n : ℕ). has_byte 10 (take n ahead) ≡ false) sized (at_end ahead c.loop-filled.buffer new c.loop-filled.filled filled c.in_ok-count.ensures.before none (omega (arith, c.loop-filled-test.true, c.read_piece.auto.buffer))),
     )
 
 pub returns-clause-found : goal.returns-clause-found
@@ -84,7 +84,7 @@ returns-clause-found g c = λ told within small.
     let ahead = drop c.args.place file in
     let filled = c.loop-filled.invariant.found told within small in (
       filled_first ahead c.loop-filled.buffer c.loop-filled.filled c.loop-filled.invariant.within filled.same,
-      subst (λ (n : ℕ). has 10 (take n ahead) ≡ false) c.loop-filled.invariant.size (all_filled ahead c.loop-filled.buffer c.loop-filled.filled filled c.loop-filled.invariant.within (omega (arith, c.loop-filled-test.false))),
+      subst (λ (n : ℕ). has_byte 10 (take n ahead) ≡ false) c.loop-filled.invariant.size (all_filled ahead c.loop-filled.buffer c.loop-filled.filled filled c.loop-filled.invariant.within (omega (arith, c.loop-filled-test.false))),
     )
 
 pub loop-filled-preserved : goal.loop-filled-preserved
@@ -100,5 +100,5 @@ loop-filled-preserved g c = record {
       (c.in_ok-count.ensures.found (c.loop-filled.invariant.reads.call.same_kind ∙ told) (omega (arith, filled_within file c.loop-filled.buffer c.args.place c.loop-filled.filled filled c.loop-filled.invariant.within within, small))) in
       let count_same : c.loop-filled.filled + c.in_ok-count.count - c.loop-filled.filled ≡ c.in_ok-count.count = omega arith in
       more_filled (drop c.args.place file) c.loop-filled.buffer c.read_piece.new.buffer c.loop-filled.filled filled c.in_ok-count.ensures.before c.in_ok-count.count read
-      (ap (λ (n : ℕ). has 10 (take n (drop c.loop-filled.filled c.read_piece.new.buffer))) (sym count_same) ∙ none_lacks 10 (take (c.loop-filled.filled + c.in_ok-count.count - c.loop-filled.filled) (drop c.loop-filled.filled c.read_piece.new.buffer)) (sym c.in_default.is ∙ c.first_place.ensures));
+      (ap (λ (n : ℕ). has_byte 10 (take n (drop c.loop-filled.filled c.read_piece.new.buffer))) (sym count_same) ∙ none_lacks 10 (take (c.loop-filled.filled + c.in_ok-count.count - c.loop-filled.filled) (drop c.loop-filled.filled c.read_piece.new.buffer)) (sym c.in_default.is ∙ c.first_place.ensures));
 }

@@ -2,7 +2,7 @@ use Rattle.std.proofs.Common.{◌≡◌, ℕ, List, ap, sym, subst, ◌∙◌}
 use Rattle.ips_text.specs.Quote.{quoted, AreBytes}
 use Rattle.ips_text.specs.declared.quoting.BadQuote.{BadQuote}
 use Rattle.ips_records.specs.Listed.{Sole}
-use Rattle.ips_records.proofs.Bytes.{text_bytes}
+use Rattle.ips_text.proofs.Bytes.{text_bytes}
 use Rattle.ips_records.specs.Form.{IsWord}
 use Rattle.ips_records.proofs.Found.{found_some, found_none, gives_same}
 use Rattle.ips_records.proofs.WordForms.{word_sole}

@@ -1,6 +1,6 @@
 use Rattle.std.proofs.Common.{◌≡◌, ◌-◌, ◌<◌, ◌≤◌, ◌==◌, List, ℕ, Option, IfSome, Some, length, length-take-le, take, drop, sym, ap, ◌∙◌, subst, arith}
 use Rattle.std.specs.List.{position}
-use Rattle.ips_journal.proofs.Cuts.{found_cuts}
+use Rattle.ips_text.proofs.Cuts.{found_cuts}
 use Rattle.ips_outside.specs.Outside.{readable}
 use Rattle.ips_journal.specs.Line.{ComeFirst, IsLineFound}
 use Rattle.ips_journal.proofs.LinePieces.{line_held, front_read}

@@ -4,7 +4,7 @@ use Rattle.std.specs.List.{position_or_len, position, AllByRecursion}
 use Rattle.std.proofs.Math.Numerals.{one-add, add-one}
 use Rattle.std.proofs.lemmas.Bool.{or_parts, eqb-true, eqb-false, ltb-true, ltb-false, true≢false}
 use Rattle.std.proofs.lemmas.List.Folds.{list_any-append}
-use Rattle.ips_records.specs.Cut.{has_byte, IsCut}
+use Rattle.ips_text.specs.Cut.{has_byte, IsCut}
 
 -- at most one place cuts a list
 pub cut_once : (b : ℕ) (x a y c : List ℕ) → has_byte b x ≡ false → has_byte b y ≡ false → x ++ b ∷ a ≡ y ++ b ∷ c → (x ≡ y) × (a ≡ c)
@@ -78,6 +78,10 @@ not_cut b (d ∷ bytes) (c ∷ x) a h e = not_cut b bytes x a (or_parts (eqb d b
 -- both parts lack the byte
 pub lacks_append : (b : ℕ) (x y : List ℕ) → has_byte b x ≡ false → has_byte b y ≡ false → has_byte b (x ++ y) ≡ false
 lacks_append b x y hx hy = list_any-append (λ c. eqb c b) x y ∙ rw (hx, hy) refl
+
+-- so do two parts with a blank between them
+pub newline_in : (x y : List ℕ) → has_byte 10 x ≡ false → has_byte 10 y ≡ false → has_byte 10 (x ++ 32 ∷ y) ≡ false
+newline_in x y hx hy = lacks_append 10 x (32 ∷ y) hx hy
 
 -- ---- fields: bytes behind the blank
 
