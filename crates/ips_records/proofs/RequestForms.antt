@@ -46,8 +46,12 @@ module _ (bytes first behind : List ℕ) (c : IsCut 32 bytes first behind) where
 
   -- a word and words behind it are words
   pub words_join : IsQuotedWord first → AreWords behind → AreWords bytes
-  words_join h t = (h.0 ∷ t.0, omega arith, (h.1, t.2),
-      ap (λ (l : List ℕ). 32 ∷ l) (c.parts ∙ ap (λ (l : List ℕ). first ++ l) t.3 ∙ ap (λ (l : List ℕ). l ++ words_text t.0) (sym h.2)) ∙ sym (words_cons h.0 t.0))
+  words_join h t = (
+    h.0 ∷ t.0,
+    omega arith,
+    (h.1, t.2),
+    ap (λ (l : List ℕ). 32 ∷ l) (c.parts ∙ ap (λ (l : List ℕ). first ++ l) t.3 ∙ ap (λ (l : List ℕ). l ++ words_text t.0) (sym h.2)) ∙ sym (words_cons h.0 t.0),
+  )
 
   -- a request is cut behind its moment
   pub request_cut : IsRequestLine bytes → IsMoment first × AreWords behind

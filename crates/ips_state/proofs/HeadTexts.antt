@@ -7,7 +7,6 @@ use Rattle.std.specs.List.{flat_map}
 use Rattle.std.proofs.lemmas.Fmt.{decimal_digit}
 use Rattle.std.proofs.lemmas.List.Concat.{flat_map-cons}
 use Rattle.std.proofs.lemmas.List.Folds.{flat_map-map}
-
 use Rattle.ips_records.specs.Lines.{ended, lines_text}
 use Rattle.ips_state.specs.State.{Head}
 use Rattle.ips_state.specs.Text.{format_line, publisher_line, origin_line, actuator_lines, variant_line, facet_line, head_lines}

@@ -1,5 +1,4 @@
 use Rattle.std.proofs.Common.{◌≡◌, ◌++◌, take, map}
-
 use Rattle.ips_records.specs.Lines.{lines_text}
 use Rattle.ips_state.specs.Text.{origin_line}
 use Rattle.ips_state.proofs.head.push_origins.Given as goal
