@@ -1,0 +1,27 @@
+use ips_words::{Verb, help};
+use std::rt::HostRuntime;
+
+#[test]
+fn the_help_of_one_command(rt: HostRuntime) {
+    let alloc = rt.alloc();
+    let page = help(alloc, Some(Verb::ImageCreate))
+        .ok()
+        .expect(&rt, "memory");
+    let wanted = "usage: pkg -R <image> -s <repository> <command>
+       pkg --help | --version | <command> --help
+  image-create -p <publisher> [--variant variant.<name>=<value>].. [--facet facet.<name>=true|false].. [--actuator <name>]
+      make an image
+exit status: 0 done, 1 refused, 2 bad words, 4 nothing to do, 6 license needed, 99 out of memory
+";
+    assert!(rt; page.as_str() == wanted, "{}", page.as_str());
+}
+
+#[test]
+fn the_whole_help_has_each_command(rt: HostRuntime) {
+    let alloc = rt.alloc();
+    let page = help(alloc, None).ok().expect(&rt, "memory");
+    assert!(rt; page.as_str().lines().count() == 49, "{}", page.as_str());
+    for name in ["install", "set-mediator", "unset-publisher", "gen <number>"] {
+        assert!(rt; page.as_str().contains(name), "{name}");
+    }
+}
