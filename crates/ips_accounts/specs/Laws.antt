@@ -32,7 +32,7 @@ NamedOnce name_of (a ∷ actions) = (is_named_in name_of actions (name_of a) ≡
 abbrev pub text_at : List Line → List ℕ → Option (List ℕ)
 text_at lines name = option_map (λ (line : Line). line.text) (line_at lines name)
 
--- The user stands as the action says: its line in passwd is that of the action, with the number that it gives, where it gives one, and shadow has a line for it.
+-- The user stands as the action says: its line in passwd is that of the action, with the number that it gives, where it gives one, and some number of a group, and shadow has a line for it.
 pub record UserStands (after : Accounts) (a : Fields) : Type 0 where
   pub uid : ℕ
   pub gid : ℕ

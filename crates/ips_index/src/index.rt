@@ -71,7 +71,7 @@ impl Index {
     }
 
     /// The rows whose token the pattern matches, in order: `*` stands for any text and `?` for any one character (pkg(1), "search").
-    /// Where the pattern has neither, no other rows are looked at.
+    /// Where the pattern has neither, only these and the row behind them are looked at.
     pub fn find(&self, alloc: Global, pattern: &str) -> Result<Vec<IndexRow>, AllocError>
         ensures { IfOk result (λ found. AreFound pattern.now self.now (map row_seen found.items)) }
     {

@@ -1,5 +1,8 @@
 //! The records of an image, read back from the files that it stands in.
 //!
+//! Loaded today are lists, the history and manifests, a file at a time; the file `image`, the packages of format 2, the index and the
+//! whole aren't yet.
+//!
 //! What an image holds is told by its files (`specs/Held`), and so is why its records can't be read (`specs/Fault`): the first
 //! file that isn't of its grammar, and its first bad line. In reading order: why records can't be loaded (`fault`), files
 //! (`files`), lists of one item a line (`listings`, `mediators`, `lists`), manifests (`manifests`), laws (`laws`).

@@ -99,6 +99,11 @@ impl Engine {
         }
     }
 
+    /// Whether it says nothing more.
+    pub fn is_silent(&self) -> bool {
+        matches!(self.stage, Stage::Silent)
+    }
+
     fn answer<P: Puzzle>(
         &mut self,
         alloc: Global,

@@ -6,7 +6,7 @@ use std::alloc::{AllocError, Global};
 pub const NONE: u32 = u32::MAX;
 
 // The most numbers of one list.
-const MOST: usize = 1 << 26;
+const MOST: usize = 1 << 23;
 
 /// The number at a place, `NONE` past the end.
 pub fn at(list: &[u32], place: u32) -> u32 {

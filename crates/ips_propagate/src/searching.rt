@@ -99,7 +99,8 @@ impl Search {
                     None => return Ok(None),
                 },
             };
-            if self.conflicts >= most {
+            // A clash without a decision is the last one: the puzzle has no solution.
+            if self.conflicts >= most && self.known.board.level > 0 {
                 return Ok(Some(End::Tired));
             }
             self.conflicts = self.conflicts.saturating_add(1);

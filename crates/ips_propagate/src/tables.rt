@@ -5,6 +5,9 @@ use crate::numbers::{Chains, NONE, at, counted, put};
 use ips_refute::{Hint, Pair, Puzzle, is_broken};
 use std::alloc::{AllocError, Global};
 
+// So many hints of a test are asked for at most.
+const MOST_HINTS: u32 = 1 << 16;
+
 /// The tests. Those of two stems are broken by a literal of their own and the bad literals of the other stem; the others are wide.
 #[derive(Drop)]
 pub struct Tables {
@@ -36,7 +39,7 @@ fn hints_of<P: Puzzle>(
 ) -> Result<Option<Hint>, AllocError> {
     stems.clear();
     let first = puzzle.hint(test, 0);
-    for place in 0..u32::MAX {
+    for place in 0..MOST_HINTS {
         let Some(hint) = puzzle.hint(test, place) else {
             break;
         };

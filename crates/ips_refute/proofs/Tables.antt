@@ -1,6 +1,6 @@
 -- Looking for a pair.
-use Rattle.std.proofs.Common.{◌≡◌, ℕ, suc, ◌<◌, ◌↔◌, inl, inr, ◌&&◌, Bool, true, false, IsTrue, List, ◌∷◌, length, get_or, Contains, refl, sym, ap, ◌∙◌, arith, eqb, eqb-true, eq-eqb}
-use Rattle.std.proofs.lemmas.Bool.{both_ways, and_from, cases_lt}
+use Rattle.std.proofs.Common.{◌≡◌, ℕ, suc, ◌<◌, ◌↔◌, inl, inr, Bool, true, false, IsTrue, List, ◌∷◌, length, get_or, Contains, refl, sym, ap, ◌∙◌, arith, eqb, eqb-true, eq-eqb}
+use Rattle.std.proofs.lemmas.Bool.{cases_lt}
 use Rattle.std.proofs.lemmas.List.{get_or_default}
 use Rattle.ips_refute.specs.declared.nogoods.Pair.{Pair}
 use Rattle.ips_refute.specs.Meaning.{OnePerStem}
@@ -35,11 +35,24 @@ same_bool true t f g = sym (f refl)
 same_bool false true f g = g refl
 same_bool false false f g = refl
 
-pub chosen_rest : (r b : Bool) (set : List Pair) (p more : Pair) → b ≡ (eqb p.stem more.stem && eqb p.candidate more.candidate) → b ≡ false → (IsTrue r ↔ Contains set p) → r ≡ chosen (more ∷ set) p
-chosen_rest r b set p more e f (to, from) =
+-- a pair of the stem of `more` is chosen where it is `more`
+pub chosen_of_stem : (r : Bool) (set : List Pair) (p more : Pair) → OnePerStem (more ∷ set) → p.stem ≡ more.stem → (IsTrue r ↔ (p.candidate ≡ more.candidate)) → r ≡ chosen (more ∷ set) p
+chosen_of_stem r set p more one stem (to, from) =
+    same_bool r (chosen (more ∷ set) p)
+    (λ t. contains_chosen (more ∷ set) p (0, omega arith, same_pair more p (sym stem) (sym (to t))))
+    (λ t. elim (contains_more p more set (chosen_contains (more ∷ set) p t)) [
+      | inl same ↦ from (ap (λ (q : Pair). q.candidate) (sym same))
+      | inr h ↦
+          let (k, l, e) = h in
+          absurd (one 0 (suc k) p (omega arith) (omega arith) (sym stem ∙ sym (ap (λ (q : Pair). q.stem) e)))
+    ])
+
+-- a pair of another stem is chosen where it is in the set
+pub chosen_of_others : (r : Bool) (set : List Pair) (p more : Pair) → (p.stem ≡ more.stem → ⊥) → (IsTrue r ↔ Contains set p) → r ≡ chosen (more ∷ set) p
+chosen_of_others r set p more other (to, from) =
     same_bool r (chosen (more ∷ set) p)
     (λ t. contains_chosen (more ∷ set) p (contains_rest p more set (to t)))
     (λ t. elim (contains_more p more set (chosen_contains (more ∷ set) p t)) [
-      | inl same ↦ absurd (both_ways b f (e ∙ and_from _ _ (eq-eqb p.stem more.stem (ap (λ (q : Pair). q.stem) (sym same))) (eq-eqb p.candidate more.candidate (ap (λ (q : Pair). q.candidate) (sym same)))))
+      | inl same ↦ absurd (other (ap (λ (q : Pair). q.stem) (sym same)))
       | inr h ↦ from h
     ])

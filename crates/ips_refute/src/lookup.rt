@@ -95,11 +95,18 @@ fn are_chosen(set: &[Pair], more: Pair, last: u32, others: &[Pair]) -> bool
     true
 }
 
+// No other pair of the set is of the stem of `more`, so a pair of that stem isn't looked for.
 fn is_chosen(set: &[Pair], more: Pair, pair: Pair) -> bool
     requires { OnePerStem (more ∷ set.now) }
     ensures { result ≡ chosen (more ∷ set.now) pair }
 {
-    pair == more || has(set, pair)
+    let stem = pair.stem;
+    let own = more.stem;
+    if stem == own {
+        pair.candidate == more.candidate
+    } else {
+        has(set, pair)
+    }
 }
 
 // In a choice, or a part of one, the pair of a stem stands at a place that its stem tells.

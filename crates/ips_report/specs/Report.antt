@@ -163,7 +163,7 @@ outcome_number o = 1
 abbrev pub status_number : Outcome → Bool → ℕ
 status_number o told = cond told (outcome_number o) 1
 
--- The outcome may come behind a first change, when no memory may be asked for any more.
+-- The outcome may come where no memory may be asked for any more: once a change is staged, or in a recovery behind its first change.
 abbrev pub IsLate : Outcome → Type 0
 IsLate (Done counts steps licenses) = Unit {0}
 IsLate (Recovered forward) = Unit {0}

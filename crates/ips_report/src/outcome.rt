@@ -165,7 +165,7 @@ pub enum Outcome {
     Shown {
         text: Text,
     },
-    /// Memory was refused, before the first change.
+    /// Memory was refused: before the gate opened, or in a recovery before its first change.
     OutOfMemory,
 }
 

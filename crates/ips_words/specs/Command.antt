@@ -19,7 +19,7 @@ pub record IsCommand (words : List (List ℕ)) (c : declared.Command) : Type 0 w
   pub means : Means line given c.what
   pub history : c.history ≡ history_of (from_command words)
 
--- The place of a stop, counted from the first word.
+-- The usage of a stop: its place, counted from 0, and what is wrong there.
 abbrev pub usage_of : List (List ℕ) → Stop Why → Usage
 usage_of words s = record { place = length words - s.left; why = s.kind }
 

@@ -1,4 +1,4 @@
--- The table of the commands: each with its word, its options and its operands (pkg(1), narrowed).
+-- The table of the commands: each with its word, its options and its operands (pkg(1), narrowed, and commands of this program alone).
 use Rattle.std.specs.Prelude.{ℕ, ◌^◌, ◌-◌, Bool, true, false, List, [], ◌∷◌, codes}
 use Rattle.ips_words.specs.declared.table.Verb.{Verb}
 use Rattle.ips_words.specs.declared.table.Verb.TheVariants.{ImageCreate, Install, Update, Uninstall, Fix, Verify, List as ListInstalled, Contents, History, Search, RebuildIndex, ChangeFacet, ChangeVariant, SetMediator, UnsetMediator, Avoid, Unavoid, Freeze, Unfreeze, SetPublisher, UnsetPublisher, UpdateFormat, Gen}

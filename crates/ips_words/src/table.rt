@@ -8,7 +8,8 @@ ghost use Rattle.ips_words.specs.Table as table;
 pub enum Why {
     /// A further word is needed.
     Missing,
-    /// The word is no command, or no option of the command; or it is an operand, and a required option is still missing.
+    /// The word is no command or leading word; or it begins with `-` where no such option may stand; or a required option is
+    /// still missing before it.
     Unknown,
     /// The word says again what may be said once.
     Repeated,
