@@ -4,13 +4,13 @@ use Rattle.ips_text.specs.Ancestry.{same_path, covers}
 use Rattle.ips_outside.specs.Image.{Image, IsImage}
 use Rattle.ips_after.specs.After.{change_after}
 use Rattle.ips_after.specs.Change.{Change, Changes, Given, Joined, Kept, Laid, Removed, cleared, replaces, target}
-use Rattle.ips_after.specs.Request.{IsRequest, Request, Wanted, wants_file}
+use Rattle.ips_after.specs.Request.{IsRequest, Request, Wanted, is_file_wanted}
 use Rattle.ips_after.proofs.Changed.{both_ways, reach_of, reached_from}
 use Rattle.ips_after.proofs.Fits.{Spares, below_of, dir_of_wanted, hard_at}
 use Rattle.ips_text.proofs.Ancestry.{same_path-true}
 
 -- where a file is wanted, something is
-pub file_of_wanted : (o : Option Wanted) → wants_file o ≡ true → is_some o ≡ true
+pub file_of_wanted : (o : Option Wanted) → is_file_wanted o ≡ true → is_some o ≡ true
 file_of_wanted (Some w) f = refl
 file_of_wanted None f = cc
 
