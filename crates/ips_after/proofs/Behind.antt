@@ -1,8 +1,8 @@
 -- Paths behind paths, and names with suffixes, are paths where they aren't too long.
-use Rattle.std.proofs.Common.{◌≡◌, ℕ, ◌+◌, ◌<◌, ◌≤◌, Bool, true, false, cond, not, ◌&&◌, ◌||◌, ◌==◌, eqb, ltb, List, [], ◌∷◌, ◌++◌, length, IsUtf8, inl, inr, ◌⊎◌, refl, sym, ap, ◌∙◌, subst, arith, length-append}
+use Rattle.std.proofs.Common.{◌≡◌, ℕ, ◌≤◌, Bool, true, false, cond, ◌==◌, eqb, ltb, List, [], ◌∷◌, ◌++◌, length, IsUtf8, inl, inr, ◌⊎◌, refl, sym, ap, ◌∙◌, subst, arith, length-append}
 use Rattle.std.specs.Prelude.{nat_lt}
 use Rattle.std.specs.List.{list_any, list_all, onto_first}
-use Rattle.std.proofs.lemmas.Bool.{and_parts, or_parts, or_from, or_cases, false_from_ne_true, eqb-true, lt-ltb, false≢true}
+use Rattle.std.proofs.lemmas.Bool.{and_parts, or_parts, or_from, false_from_ne_true, eqb-true, lt-ltb, false≢true}
 use Rattle.std.proofs.lemmas.List.Folds.{list_any-append}
 use Rattle.std.proofs.lemmas.Str.{IsUtf8-append}
 use Rattle.ips_text.specs.Ancestry.{covers}
@@ -10,7 +10,6 @@ use Rattle.ips_text.specs.Path.{IsPath, parts, is_dots, is_nothing, is_long, beg
 use Rattle.ips_text.specs.declared.path.PathFault.TheVariants.{Empty, Absolute, DotPart, EmptyPart, NulByte, NotText, TooLong}
 use Rattle.ips_text.proofs.Fronts.{ascii_text, front_path, parts_at, some_part}
 use Rattle.ips_after.specs.Salvage.{is_long_path}
-use Rattle.ips_steps.proofs.Lists.{clash}
 
 -- the bytes are a path but for their number
 pub record IsButLong (q : List ℕ) : Type 0 where
@@ -140,8 +139,8 @@ suffixed_path p s a b = record {
     root (x ∷ p) n r = r
 
 -- what is at or above a path is one
-pub above_path : (p q : List ℕ) → IsPath q → covers p q ≡ true → IsPath p
-above_path p q path over = elim (cases p q over) [ inl same ↦ subst IsPath (sym same) path | inr w ↦ front_path p w.0 (subst IsPath w.1 path) ]
+pub above_path : (q p : List ℕ) → IsPath q → covers p q ≡ true → IsPath p
+above_path q p path over = elim (cases p q over) [ inl same ↦ subst IsPath (sym same) path | inr w ↦ front_path p w.0 (subst IsPath w.1 path) ]
   where
     cases : (p q : List ℕ) → covers p q ≡ true → (p ≡ q) ⊎ ((r : List ℕ) × (q ≡ p ++ 47 ∷ r))
     cases [] [] h = inl refl

@@ -1,13 +1,11 @@
 -- What is saved stands at paths, and has proper parts.
-use Rattle.std.proofs.Common.{◌≡◌, ℕ, ◌<◌, ◌++◌, zero, suc, Bool, true, false, cond, not, ◌&&◌, ◌||◌, List, [], ◌∷◌, Option, Some, None, is_some, refl, sym, ◌∙◌, ap, subst, inl, inr, ◌⊎◌, arith, length}
+use Rattle.std.proofs.Common.{◌≡◌, ℕ, ◌<◌, ◌++◌, zero, suc, Bool, true, false, cond, not, ◌&&◌, ◌||◌, List, [], ◌∷◌, Option, Some, None, is_some, refl, sym, ◌∙◌, ap, subst, inl, inr, arith, length}
 use Rattle.std.proofs.lemmas.Bool.{and_parts, or_parts, ltb-true}
 use Rattle.ips_text.specs.Path.{IsPath}
-use Rattle.ips_text.specs.Ancestry.{is_below}
 use Rattle.ips_text.specs.Quote.{AreBytes}
 use Rattle.ips_outside.specs.Image.{Entry, Dir, File, Link, Other, Image, IsImage, has_small_mode, is_file}
-use Rattle.ips_steps.specs.declared.target.TargetFault.{TargetFault}
 use Rattle.ips_steps.specs.declared.target.TargetFault.TheVariants.{Empty, TooLong}
-use Rattle.ips_steps.specs.Targets.{HasFault, IsTarget}
+use Rattle.ips_steps.specs.Targets.{IsTarget}
 use Rattle.ips_preserve.specs.declared.keep.Keep.{Keep}
 use Rattle.ips_preserve.specs.declared.keep.Keep.TheVariants.{Lay, Stay, SalvageLay, SaveOld, LayNew, SaveLegacy, Drop, SalvageDrop}
 use Rattle.ips_after.specs.After.{answer_at, was_equal}
@@ -17,7 +15,6 @@ use Rattle.ips_after.specs.Salvage.{Aside, Beside, GoesTo, HasSalvagedBytes, IsA
 use Rattle.ips_after.proofs.Behind.{IsButLong, IsSuffix, above_path, behind_path, but_long, not_long, suffixed_path}
 use Rattle.ips_after.proofs.Fits.{below_covers}
 use Rattle.ips_after.proofs.Saved.{goes_or_way, none_unmovable}
-use Rattle.ips_steps.proofs.Lists.{clash}
 
 old_is : IsSuffix old_suffix
 old_is = record { part = refl; nul = refl; ascii = refl; long = omega arith }
@@ -137,7 +134,7 @@ module _ (r : Request) (t : Image) (a : Aside) (good : IsRequest r) (formed : Is
   pub saved_path : (q : List ℕ) → is_some (saved r t a q) ≡ true → IsPath q
   saved_path q h = elim (goes_or_way r t a good formed own is q h) [
     | inl goes ↦ goes_path q goes
-    | inr way ↦ let held = (is.ways_only q way).0 in above_path q held.at (goes_path held.at held.goes) (below_covers q held.at held.inside_it)
+    | inr way ↦ let held = (is.ways_only q way).0 in above_path held.at q (goes_path held.at held.goes) (below_covers q held.at held.inside_it)
   ]
 
   put_parts : (keys : List (List ℕ)) (q : List ℕ) (o : Option Entry) (x : Entry) → ((y : Entry) → o ≡ Some y → HasEntryParts y) → put_beside r t a keys q o ≡ Some x → HasEntryParts x
