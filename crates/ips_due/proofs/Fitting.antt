@@ -18,7 +18,7 @@ use Rattle.ips_after.proofs.Saved.{comparable}
 use Rattle.ips_due.specs.Due.{Due, DueFile, FitsAccounts, IsDue, IsOverOf, LeavesOwn, account_at, goes_with, is_due, is_own, record_at, said, said_by, said_gone, said_rest}
 
 -- what is said of a path, by cases: an account file, a record, a folder or nothing but what goes
-data Said (due : Due) (q : List ℕ) : Option (Option Entry) → Type 0 where
+pub data Said (due : Due) (q : List ℕ) : Option (Option Entry) → Type 0 where
   Account : (m : ℕ) (b : List ℕ) → account_at due.accounts q ≡ Some (File m b) → Said due q (Some (Some (File m b)))
   Record : (b : List ℕ) → is_some (record_at due.records q) ≡ true → Said due q (Some (Some (File 420 b)))
   Folder : (listed due.renewed q || listed due.folders q) ≡ true → Said due q (Some (Some (Dir 493 false)))
@@ -33,7 +33,7 @@ account_file (f ∷ files) q e h = go (same_path f.path q) (account_file files q
     go true rest h = (f.mode, f.bytes, cc)
     go false rest h = rest h
 
-said_is : (due : Due) (t : Image) (q : List ℕ) → Said due q (said due t q)
+pub said_is : (due : Due) (t : Image) (q : List ℕ) → Said due q (said due t q)
 said_is due t q = go (account_at due.accounts q) refl (record_at due.records q) refl
   where
     bottom : (g : Bool) → listed due.gone q ≡ g → (s : Bool) → Said due q (cond g (cond s (Some None) None) None)
@@ -74,13 +74,13 @@ own_of_folder due q h = or_right (is_some (record_at due.records q)) _ (elim (or
 own_of_gone : (due : Due) (q : List ℕ) → listed due.gone q ≡ true → (is_some (record_at due.records q) || (listed due.renewed q || (listed due.folders q || listed due.gone q))) ≡ true
 own_of_gone due q h = or_right (is_some (record_at due.records q)) _ (or_right (listed due.renewed q) _ (or_right (listed due.folders q) _ h))
 
-due_of_folder : (due : Due) (q : List ℕ) → (listed due.renewed q || listed due.folders q) ≡ true → is_due due q ≡ true
+pub due_of_folder : (due : Due) (q : List ℕ) → (listed due.renewed q || listed due.folders q) ≡ true → is_due due q ≡ true
 due_of_folder due q h = or_right (is_some (account_at due.accounts q)) _ (or_right (is_some (record_at due.records q)) _ h)
 
-due_of_record : (due : Due) (q : List ℕ) → is_some (record_at due.records q) ≡ true → is_due due q ≡ true
+pub due_of_record : (due : Due) (q : List ℕ) → is_some (record_at due.records q) ≡ true → is_due due q ≡ true
 due_of_record due q h = or_right (is_some (account_at due.accounts q)) _ (or_left _ _ h)
 
-due_of_account : (due : Due) (q : List ℕ) → is_some (account_at due.accounts q) ≡ true → is_due due q ≡ true
+pub due_of_account : (due : Due) (q : List ℕ) → is_some (account_at due.accounts q) ≡ true → is_due due q ≡ true
 due_of_account due q h = or_left _ _ h
 
 -- an account file isn't the image's own

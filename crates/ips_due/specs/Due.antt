@@ -1,9 +1,10 @@
 -- Which account files and records are due, and what a request says of them.
-use Rattle.std.specs.Prelude.{◌≡◌, ℕ, Bool, false, cond, not, ◌&&◌, ◌||◌, IsTrue, IsFalse, List, [], ◌∷◌, Option, Some, None, is_some, codes}
+use Rattle.std.specs.Prelude.{◌≡◌, ℕ, ◌<◌, Bool, false, cond, not, ◌&&◌, ◌||◌, IsTrue, IsFalse, List, [], ◌∷◌, Option, Some, None, is_some, codes}
 use Rattle.std.specs.List.{list_any}
 use Rattle.std.specs.List.Sorted.{IsStrictlySortedBy}
 use Rattle.std.specs.Ordering.{nat_cmp}
 use Rattle.std.specs.Cmp.Lexicographic.{slice_cmp}
+use Rattle.ips_text.specs.Path.{IsPath}
 use Rattle.ips_text.specs.Ancestry.{same_path, covers, is_below}
 use Rattle.ips_outside.specs.Image.{Entry, Dir, File, Link, Other, Image, is_dir}
 use Rattle.ips_steps.specs.Private.{records_name, is_private}
@@ -89,6 +90,11 @@ pub record IsDue (due : Due) : Type 0 where
   pub accounts : (q : List ℕ) → IsTrue (is_some (account_at due.accounts q)) → IsTrue (is_account_path q)
   pub own : (q : List ℕ) → IsTrue (is_some (record_at due.records q) || (listed due.renewed q || (listed due.folders q || listed due.gone q))) → IsTrue (is_own q) × IsFalse (is_private q)
   pub flat : (p q : List ℕ) → IsTrue (is_below p q) → IsTrue (is_due due q) → IsFalse (is_some (account_at due.accounts p) || (is_some (record_at due.records p) || listed due.gone p))
+
+-- What is due has proper parts: its paths are paths, and the modes of account files are permission bits.
+pub record HasProperDue (due : Due) : Type 0 where
+  pub paths : (q : List ℕ) → IsTrue (is_due due q || listed due.gone q) → IsPath q
+  pub modes : (q : List ℕ) (m : ℕ) (b : List ℕ) → account_at due.accounts q ≡ Some (File m b) → m < 4096
 
 -- This is what account files and records say where this is due: the keys are the paths of which they speak and those above, by their
 -- bytes.
