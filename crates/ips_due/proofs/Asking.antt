@@ -16,16 +16,12 @@ use Rattle.ips_after.specs.Planned.{HasEntryParts, IsNameable, IsProperRequest}
 use Rattle.ips_after.specs.Request.{IsRequest, Over, Request, Wanted}
 use Rattle.ips_after.proofs.Behind.{above_path}
 use Rattle.ips_after.proofs.Sorted.{sorted_once}
-use Rattle.ips_wanted.specs.Wanted.{want_of, wanted_at}
+use Rattle.ips_wanted.specs.Wanted.{want_of, wanted_among}
 use Rattle.ips_wanted.proofs.Apart.{legacy_wanted, nothing_below, nothing_legacy, own_wanted, wanted_named}
-use Rattle.ips_wanted.proofs.Found.{is_want, led_to_file, proper_at}
+use Rattle.ips_wanted.proofs.Found.{is_want, led_to_file, proper_at, some_there}
 use Rattle.ips_due.specs.Asked.{AreMeant, request_between}
 use Rattle.ips_due.specs.Due.{Due, FitsAccounts, HasProperDue, IsDue, IsOverOf, LeavesOwn, account_at, is_due, is_own, record_at, said}
 use Rattle.ips_due.proofs.Fitting.{Account, Folder, Gone, Record, Said, Silent, due_of_account, due_of_folder, due_of_record, over_fits, over_named, said_is}
-
-some_wanted : (o : Option Wanted) → is_some o ≡ true → (x : Wanted) × (o ≡ Some x)
-some_wanted (Some x) h = (x, refl)
-some_wanted None h = cc
 
 module _ (so sn : Set) (mo mn : List SetMediator) (po pn : List Package) (old new : List (List ℕ × meaning.Entry)) (was : AreMeant so mo po old) (is : AreMeant sn mn pn new)
     (due : Due) (t : Image) (o : Over) (fit : IsDue due) (of : IsOverOf due t o) (bytes : List ℕ → List ℕ) (holds : List ℕ → List ℕ → Bool) where
@@ -79,7 +75,7 @@ module _ (so sn : Set) (mo mn : List SetMediator) (po pn : List Package) (old ne
   pub is_proper : HasProperDue due → IsProperRequest r
   is_proper proper = record {
     news = λ q w at. proper_at new q w is.proper is.bytes at;
-    olds = λ q there. let w = some_wanted (wanted_at old q) there in (proper_at old q w.0 was.proper was.bytes w.1).0;
+    olds = λ q there. let w = some_there (wanted_among old q) there in (proper_at old q w.0 was.proper was.bytes w.1).0;
     keys = λ q there. let x = of.only q there in above_path x.0 q (path_of_said proper x.0 (o.at x.0) (of_said x.0) x.2) x.1;
     overs = λ q e at. parts_of_said proper q e (o.at q) (of_said q) at;
   }

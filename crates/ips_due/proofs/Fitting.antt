@@ -125,12 +125,12 @@ module _ (due : Due) (t : Image) (o : Over) (new : Want) (is : IsDue due) (of : 
   own_unwanted : (q : List ℕ) → is_own q ≡ true → is_some (new.at q) ≡ true → ⊥
   own_unwanted q own h = clash (is_some (new.at q)) h (ap is_some (left.none q own))
 
-  wanted_at : (q : List ℕ) (x : Option (Option Entry)) → Said due q x → is_some x ≡ true → is_some (new.at q) ≡ true → (is_file_wanted (new.at q) ≡ true) × (o.is_account q ≡ true) × (lays_file x ≡ true)
-  wanted_at q _ (Account m b at) h new = let acc = is.accounts q (ap is_some at) in (accounts.files q acc new, of.accounts q ∙ acc, refl)
-  wanted_at q _ (Record b at) h new = absurd (own_unwanted q (is.own q (own_of_record due q at)).0 new)
-  wanted_at q _ (Folder at) h new = absurd (own_unwanted q (is.own q (own_of_folder due q at)).0 new)
-  wanted_at q _ (Gone at) h new = absurd (own_unwanted q (is.own q (own_of_gone due q at)).0 new)
-  wanted_at q _ Silent h new = cc
+  wanted_among : (q : List ℕ) (x : Option (Option Entry)) → Said due q x → is_some x ≡ true → is_some (new.at q) ≡ true → (is_file_wanted (new.at q) ≡ true) × (o.is_account q ≡ true) × (lays_file x ≡ true)
+  wanted_among q _ (Account m b at) h new = let acc = is.accounts q (ap is_some at) in (accounts.files q acc new, of.accounts q ∙ acc, refl)
+  wanted_among q _ (Record b at) h new = absurd (own_unwanted q (is.own q (own_of_record due q at)).0 new)
+  wanted_among q _ (Folder at) h new = absurd (own_unwanted q (is.own q (own_of_folder due q at)).0 new)
+  wanted_among q _ (Gone at) h new = absurd (own_unwanted q (is.own q (own_of_gone due q at)).0 new)
+  wanted_among q _ Silent h new = cc
 
   -- what is wanted at or above a folder that is wanted as a directory is one
   dir_over : (p x : List ℕ) → is_dir_wanted (new.at x) ≡ true → covers p x ≡ true → is_dir_wanted (new.at p) ≡ true
@@ -182,7 +182,7 @@ module _ (due : Due) (t : Image) (o : Over) (new : Want) (is : IsDue due) (of : 
     closed = of.closed;
     by_bytes = of.by_bytes;
     entries = λ q e at. entry_plain q e (o.at q) (of_said q) at;
-    wanted = λ q h there. wanted_at q (o.at q) (of_said q) h there;
+    wanted = λ q h there. wanted_among q (o.at q) (of_said q) h there;
     above_wanted = λ p q up laid there. above_at p q up (o.at q) (of_said q) laid there;
     above_laid = λ p q up laid h. laid_above p q up (due_of_laid q (o.at q) (of_said q) laid) (o.at p) (of_said p) h;
   }

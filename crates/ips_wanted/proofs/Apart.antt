@@ -29,7 +29,7 @@ use Rattle.ips_after.specs.Request.{Wanted, is_dir_wanted}
 use Rattle.ips_after.proofs.Fits.{apart, below_trans}
 use Rattle.ips_after.proofs.Places.{may_of, private_own}
 use Rattle.ips_after.proofs.Sorted.{sorted_once}
-use Rattle.ips_wanted.specs.Wanted.{wanted_at, wanted_of}
+use Rattle.ips_wanted.specs.Wanted.{wanted_among, wanted_of}
 use Rattle.ips_wanted.proofs.Found.{found_at, in_either, only_at}
 
 contained : (xs : List Placed) (i : ℕ) (x : Placed) → slice_get xs i ≡ Some x → Contains xs x
@@ -84,10 +84,10 @@ module _ (settings : Set) (mediators : List SetMediator) (packages : List Packag
   ]
 
   -- nothing below the folder of the records is wanted
-  pub nothing_below : (q : List ℕ) → is_below records_name q ≡ true → wanted_at entries q ≡ None
-  nothing_below q below = go (wanted_at entries q) refl
+  pub nothing_below : (q : List ℕ) → is_below records_name q ≡ true → wanted_among entries q ≡ None
+  nothing_below q below = go (wanted_among entries q) refl
     where
-      go : (o : Option Wanted) → wanted_at entries q ≡ o → o ≡ None
+      go : (o : Option Wanted) → wanted_among entries q ≡ o → o ≡ None
       go None is = refl
       go (Some w) is = absurd (let e = only_at entries q w is in none_wanted q e.0 below (All-contains (λ (x : List ℕ × Entry). IsWanted kept x.0 x.1) entries (q, e.0) mean.want.each e.1))
 
@@ -104,10 +104,10 @@ module _ (settings : Set) (mediators : List SetMediator) (packages : List Packag
       ]
 
   -- nor is anything below the folder of legacy packages
-  pub nothing_legacy : (q : List ℕ) → is_below (codes "var/sadm/pkg") q ≡ true → wanted_at entries q ≡ None
-  nothing_legacy q below = go (wanted_at entries q) refl
+  pub nothing_legacy : (q : List ℕ) → is_below (codes "var/sadm/pkg") q ≡ true → wanted_among entries q ≡ None
+  nothing_legacy q below = go (wanted_among entries q) refl
     where
-      go : (o : Option Wanted) → wanted_at entries q ≡ o → o ≡ None
+      go : (o : Option Wanted) → wanted_among entries q ≡ o → o ≡ None
       go None is = refl
       go (Some w) is = absurd (let e = only_at entries q w is in none_legacy q e.0 below (All-contains (λ (x : List ℕ × Entry). IsWanted kept x.0 x.1) entries (q, e.0) mean.want.each e.1))
 
@@ -164,7 +164,7 @@ module _ (settings : Set) (mediators : List SetMediator) (packages : List Packag
       go (Hard to) h = absurd (other kind.Hardlink h.0 refl)
 
   -- something is wanted there then
-  folder_some : has_legacy kept ≡ true → wanted_at entries folder ≡ None → ⊥
+  folder_some : has_legacy kept ≡ true → wanted_among entries folder ≡ None → ⊥
   folder_some legacy none = missing (Dir None) (inr (record { not_given = not_given; needed = inl (or_right (covers folder (codes "var/pkg")) _ (need (has_legacy kept) legacy)) }, refl))
     where
       need : (l : Bool) → l ≡ true → (l && covers folder folder) ≡ true
@@ -187,10 +187,10 @@ module _ (settings : Set) (mediators : List SetMediator) (packages : List Packag
           no_file h = cc
 
   -- that folder is wanted as a directory where a legacy package has an entry
-  pub legacy_wanted : has_legacy kept ≡ true → is_dir_wanted (wanted_at entries folder) ≡ true
-  legacy_wanted legacy = go (wanted_at entries folder) refl
+  pub legacy_wanted : has_legacy kept ≡ true → is_dir_wanted (wanted_among entries folder) ≡ true
+  legacy_wanted legacy = go (wanted_among entries folder) refl
     where
-      go : (o : Option Wanted) → wanted_at entries folder ≡ o → is_dir_wanted o ≡ true
+      go : (o : Option Wanted) → wanted_among entries folder ≡ o → is_dir_wanted o ≡ true
       go None is = absurd (folder_some legacy is)
       go (Some w) is =
           let e = only_at entries folder w is in
@@ -204,16 +204,16 @@ module _ (settings : Set) (mediators : List SetMediator) (packages : List Packag
   own_entry entry (inr (implicit, is)) = is
 
   -- that folder is wanted as a directory
-  pub own_wanted : is_dir_wanted (wanted_at entries records_name) ≡ true
+  pub own_wanted : is_dir_wanted (wanted_among entries records_name) ≡ true
   own_wanted =
       let e = entry_there entries (codes "var/pkg") (mean.want.whole (codes "var/pkg") (Dir None) own_implicit) in
-      ap (λ (q : List ℕ). is_dir_wanted (wanted_at entries q)) (sym own_name)
+      ap (λ (q : List ℕ). is_dir_wanted (wanted_among entries q)) (sym own_name)
       ∙ ap is_dir_wanted (found_at entries (codes "var/pkg") e.0 (sorted_once (map (λ (e : List ℕ × Entry). e.0) entries) mean.want.in_order) e.1)
       ∙ ap (λ (x : Entry). is_dir_wanted (Some (wanted_of x))) (own_entry e.0 (All-contains (λ (x : List ℕ × Entry). IsWanted kept x.0 x.1) entries (codes "var/pkg", e.0) mean.want.each e.1))
 
   -- a journal can name what is wanted, but for that folder and what is above it
-  pub wanted_named : (q : List ℕ) → is_some (wanted_at entries q) ≡ true → (may_name q || covers q records_name) ≡ true
+  pub wanted_named : (q : List ℕ) → is_some (wanted_among entries q) ≡ true → (may_name q || covers q records_name) ≡ true
   wanted_named q there = elim (cases_Bool (covers q records_name)) [
     | inl up ↦ or_right _ _ up
-    | inr off ↦ or_left _ _ (may_of q (false_from_ne_true _ (λ h. clash (is_some (wanted_at entries q)) there (ap is_some (nothing_below q (private_own q h))))) off)
+    | inr off ↦ or_left _ _ (may_of q (false_from_ne_true _ (λ h. clash (is_some (wanted_among entries q)) there (ap is_some (nothing_below q (private_own q h))))) off)
   ]
