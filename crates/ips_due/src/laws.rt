@@ -14,6 +14,8 @@ ghost use Rattle.ips_wanted.specs.Wanted.{want_of};
 ghost use Rattle.ips_steps.specs.Journal.{may_name};
 ghost use Rattle.ips_after.specs.Lists.{listed};
 ghost use Rattle.ips_after.specs.Request.{IsRequest, IsWant, OverFits, Over, Want};
+ghost use Rattle.ips_state.specs.State.{Recorded};
+ghost use Rattle.ips_due.specs.State.{state_due};
 ghost use Rattle.ips_due.specs.Asked.{AreMeant, request_between};
 ghost use Rattle.ips_due.specs.Due.{account_at, Due, HasProperDue, is_due, FitsAccounts, goes_with, holds_bytes, IsDue, IsOverOf, LeavesOwn, record_at, said};
 
@@ -48,4 +50,9 @@ pub fn requests_are_lawful()
     ensures proper { (so sn : Set) (mo mn : List SetMediator) (po pn : List Package) (old new : List (List ℕ × Entry)) → AreMeant so mo po old → AreMeant sn mn pn new
         → (due : Due) (t : Image) (o : Over) → IsDue due → HasProperDue due → IsOverOf due t o
         → (bytes : List ℕ → List ℕ) (holds : List ℕ → List ℕ → Bool) → IsProperRequest (request_between old new bytes holds o) }
+{}
+
+/// What a change of an image's state makes due hangs together, in both formats of the records and from the older to the newer one.
+pub fn state_hangs_together()
+    ensures { (old new : Recorded) → IsDue (state_due old new) }
 {}
