@@ -1,0 +1,12 @@
+//! Histories of runs on one image folder: what is owed behind any number of runs, stopped at any of their moments.
+//!
+//! `specs/Course` says what one run does to what the folder owes, `specs/Run` what a run claims by its outcome, and
+//! `specs/History` what a list of runs is, of which each may be stopped. `restored` is the law over them: whatever was stopped,
+//! the image is the one before the last request, or the one that this means.
+#![tactic(auto)]
+
+mod laws;
+mod nature;
+
+pub use laws::{Requests, done_is_meant, restored};
+pub use nature::Nature;
