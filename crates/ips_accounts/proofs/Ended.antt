@@ -1,6 +1,6 @@
 -- The last line of a text gets its newline.
 use Rattle.std.proofs.Common.{◌≡◌, ℕ, zero, suc, ◌-◌, ◌<◌, List, [], ◌∷◌, length, get_or, set, ap, ◌∙◌, arith}
-use Rattle.ips_accounts.specs.Lines.{Line, ended, last_ended}
+use Rattle.ips_books.specs.Lines.{Line, ended, last_ended}
 
 ended_at : (lines : List Line) (line : Line) (n : ℕ) → suc n ≡ length lines → line ≡ get_or lines n line → set lines n (ended line) ≡ last_ended lines
 ended_at [] line n e is = absurd (omega (arith, e))

@@ -5,7 +5,7 @@ use Rattle.std.proofs.lemmas.Bool.Decides.{nat_tests}
 use Rattle.std.proofs.lemmas.List.Sums.{prefix_len-le-length}
 use Rattle.std.proofs.lemmas.List.Folds.{list_any-append}
 use Rattle.ips_text.proofs.Lists.{take_item}
-use Rattle.ips_accounts.specs.Lines.{Line}
+use Rattle.ips_books.specs.Lines.{Line}
 use Rattle.ips_accounts.specs.Editing.{has_number, is_used, free_from, free_number}
 
 -- Of each number from one on it is said whether it is used.

@@ -1,8 +1,8 @@
 -- Members that go.
 use Rattle.std.proofs.Common.{◌≡◌, ℕ, Bool, true, false, cond, not, ◌&&◌, ◌||◌, List, [], ◌∷◌, map, filter, refl, sym, ap, ◌∙◌}
 use Rattle.std.specs.List.{list_any}
-use Rattle.ips_accounts.specs.Lines.{Line}
-use Rattle.ips_accounts.specs.Accounts.{is_kept, members_of}
+use Rattle.ips_books.specs.Lines.{Line}
+use Rattle.ips_books.specs.Accounts.{is_kept, members_of}
 use Rattle.ips_accounts.specs.Editing.{left_by, with_members}
 
 -- what is seen of those that pass

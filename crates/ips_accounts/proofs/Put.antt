@@ -5,10 +5,10 @@ use Rattle.std.proofs.lemmas.List.{append_assoc, map-append, take-map, drop-map}
 use Rattle.std.proofs.lemmas.List.Folds.{list_any_at}
 use Rattle.std.proofs.lemmas.List.Quantifiers.{position-Some}
 use Rattle.ips_action.specs.Action.{Fields}
-use Rattle.ips_accounts.specs.Lines.{Line}
-use Rattle.ips_accounts.specs.Accounts.{is_of}
+use Rattle.ips_books.specs.Lines.{Line}
+use Rattle.ips_books.specs.Accounts.{is_of}
 use Rattle.ips_accounts.specs.Editing.{at_first, rewritten, put, added, user_name, with_shadow, shadow_text}
-use Rattle.ips_accounts.proofs.Read.{none_first}
+use Rattle.ips_books.proofs.Read.{none_first}
 
 -- ---- the first line that passes
 

@@ -11,12 +11,11 @@ use Rattle.ips_action.specs.Kind.{kind_name}
 use Rattle.ips_action.specs.Attrs.{is_same, values_of}
 use Rattle.ips_action.specs.Action.{Fields, line_text}
 use Rattle.ips_conflict.specs.Key.{first_value, value_of}
-use Rattle.ips_accounts.specs.declared.books.Book.{Book}
-use Rattle.ips_accounts.specs.declared.books.Book.TheVariants.{Passwd, Shadow, Group}
-use Rattle.ips_accounts.specs.declared.fault.AccountFault.{AccountFault}
-use Rattle.ips_accounts.specs.declared.fault.AccountFault.TheVariants.{BadAccountLine, IdTaken, UnknownGroup}
-use Rattle.ips_accounts.specs.Lines.{Line, lines_of, text_of, last_ended}
-use Rattle.ips_accounts.specs.Accounts.{is_kept, is_of, field, joined, number_in, number_of, members_of, bad_line, line_at, gid_at, Accounts}
+use Rattle.ips_books.specs.declared.fault.AccountFault.{AccountFault}
+use Rattle.ips_books.specs.declared.fault.AccountFault.TheVariants.{IdTaken, UnknownGroup}
+use Rattle.ips_books.specs.Lines.{Line, last_ended}
+use Rattle.ips_books.specs.Accounts.{is_kept, is_of, field, joined, number_in, number_of, members_of, line_at, gid_at, Accounts}
+use Rattle.ips_books.specs.Reading.{Texts, read_books, texts_of}
 
 -- ---- what actions say
 
@@ -234,30 +233,6 @@ each step [] books = Ok books
 each step (a ∷ actions) books = step a books >>= each step actions
 
 -- ---- the whole
-
--- The lines of a file, or the first that isn't one of it.
-abbrev pub read_book : Book → List ℕ → Result (List Line) AccountFault
-read_book book text =
-    let found = bad_line book (lines_of text) in
-    if is_some found then Err (BadAccountLine book (unwrap_or found 0 + 1)) else Ok (lines_of text)
-
--- The texts of the files.
-pub record Texts : Type 0 where
-  pub passwd : List ℕ
-  pub shadow : List ℕ
-  pub group : List ℕ
-
--- The three files, or the first bad line, passwd before shadow before group.
-abbrev pub read_books : Texts → Result Accounts AccountFault
-read_books texts = do
-  passwd ← read_book Passwd texts.passwd
-  shadow ← read_book Shadow texts.shadow
-  group ← read_book Group texts.group
-  Ok (record { passwd = passwd; shadow = shadow; group = group })
-
--- The texts of three files.
-abbrev pub texts_of : Accounts → Texts
-texts_of books = record { passwd = text_of books.passwd; shadow = text_of books.shadow; group = text_of books.group }
 
 -- The files, unless the group of a user has no number: the first such user is told.
 abbrev pub if_known : List Fields → Accounts → Result Accounts AccountFault

@@ -1,33 +1,13 @@
--- What the program holds, as the definitions see it.
-use Rattle.std.specs.Prelude.{ℕ, Bool, true, not, ◌&&◌, List}
+-- Sets of what actions say.
+use Rattle.std.specs.Prelude.{ℕ, Bool, not, ◌&&◌, List}
 use Rattle.std.specs.List.{list_any}
 use Rattle.std.specs.BTreeSet.{BTreeSet}
 use Rattle.std.specs.declared.alloc.Global.{Global}
 use Rattle.std.specs.declared.vec.Vec.{Vec}
 use Rattle.ips_action.specs.Attrs.{is_same}
 use Rattle.ips_action.specs.Action.{Fields, line_text}
-use Rattle.ips_accounts.specs.declared.books.Books.{Books}
-use Rattle.ips_accounts.specs.declared.files.Files.{Files}
 use Rattle.ips_accounts.specs.declared.gone.Gone.{Gone}
-use Rattle.ips_accounts.specs.Lines.{Line, lines_of}
-use Rattle.ips_accounts.specs.Accounts.{Accounts}
-use Rattle.ips_accounts.specs.Editing.{Texts, is_a}
-
--- The texts of the files.
-abbrev pub texts : Books → Texts
-texts books = record { passwd = books.passwd.items; shadow = books.shadow.items; group = books.group.items }
-
--- The files as lines.
-abbrev pub accounts : Books → Accounts
-accounts books = record { passwd = lines_of books.passwd.items; shadow = lines_of books.shadow.items; group = lines_of books.group.items }
-
--- The files that were read.
-abbrev pub files_seen : Files → Accounts
-files_seen files = record { passwd = files.passwd.items; shadow = files.shadow.items; group = files.group.items }
-
--- A line of this text.
-abbrev pub as_line : List ℕ → Line
-as_line text = record { text = text; ended = true }
+use Rattle.ips_accounts.specs.Editing.{is_a}
 
 -- The text is one of a set.
 abbrev pub is_in : BTreeSet (Vec ℕ Global) → List ℕ → Bool

@@ -2,12 +2,11 @@
 
 ghost use Rattle.std.specs.Prelude.{◌≡◌, option_map};
 ghost use Rattle.std.specs.List.{position};
-ghost use Rattle.ips_accounts.specs.Accounts as spec;
+ghost use Rattle.ips_books.specs.Accounts as spec;
 ghost use Rattle.ips_accounts.specs.Editing as editing_spec;
-ghost use Rattle.ips_accounts.specs.Seen.{as_line};
+ghost use Rattle.ips_books.specs.Seen.{as_line};
 
-use crate::line::{Line, is_kept, is_of, number_of};
-use crate::resolving::known_group;
+use ips_books::{Line, is_kept, is_of, known_group, number_of};
 
 /// The place of the first line of a name.
 pub fn place_of(lines: &[Line], name: &[u8]) -> Option<usize>

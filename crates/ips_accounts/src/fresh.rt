@@ -1,8 +1,7 @@
 //! Which new actions differ from every old one.
 
-ghost use Rattle.std.specs.Prelude.{◌≡◌, ◌≤◌, ◌||◌, ◌++◌, ◌∷◌, [], List, ℕ, length, map, filter, IfOk, OnOk};
-ghost use Rattle.std.specs.List.{insert, list_any};
-ghost use Rattle.std.specs.Ordering.{is_lt};
+ghost use Rattle.std.specs.Prelude.{◌≡◌, ◌||◌, ◌++◌, ◌∷◌, [], List, ℕ, map, filter, IfOk, OnOk};
+ghost use Rattle.std.specs.List.{list_any};
 ghost use Rattle.ips_action.specs.Attrs.{is_same};
 ghost use Rattle.ips_action.specs.Action.{line_text};
 ghost use Rattle.ips_conflict.specs.Key as key_spec;
@@ -14,11 +13,32 @@ use crate::sets;
 use crate::sets::has;
 use crate::values::{is_a, value_of};
 use ips_action::{Action, print_line};
+use ips_text::Text;
 use std::alloc::{AllocError, Global};
 use std::cmp::Ordering;
 use std::collections::BTreeSet;
+use std::marker::Model;
 
-/// The new actions of this kind whose line differs from every old one, by the bytes of their names.
+// An action, and its canonical line. Contracts see the action.
+#[derive(Drop)]
+struct Prepared<'a> {
+    line: Text,
+    action: &'a Action,
+}
+
+impl<'a> Model for Prepared<'a> {
+    ghost use Rattle.std.specs.Prelude.{◌≡◌};
+    ghost use Rattle.ips_action.specs.Action.{Fields, line_text};
+
+    ghost Value = { Fields };
+
+    ghost view = { λ p. p.action.now };
+
+    ghost invariant = { λ p. p.line ≡ line_text p.action.now };
+}
+
+/// The new actions of this kind whose line differs from every old one, by the bytes of their names, those of one name by their
+/// lines.
 pub fn fresh<'a>(
     alloc: Global,
     kind: &str,
@@ -29,8 +49,9 @@ pub fn fresh<'a>(
     ensures { IfOk result (λ found. map (λ a. a.now) found.items ≡ spec.ordered (spec.name_cmp (key_spec.value_of key.now)) (filter (spec.is_fresh (filter (spec.is_a kind.now) old.now)) (filter (spec.is_a kind.now) new.now))) }
 {
     let lines = lines(alloc, kind, old)?;
-    let found = unlike(alloc, kind, &lines, new)?;
-    in_order(alloc, key, &found)
+    let mut found = unlike(alloc, kind, &lines, new)?;
+    order(key, &mut found)?;
+    actions_of(alloc, &found)
 }
 
 // The canonical lines of the actions of this kind.
@@ -66,8 +87,8 @@ fn unlike<'a>(
     kind: &str,
     lines: &BTreeSet<Vec<u8>>,
     actions: &'a [Action],
-) -> Result<Vec<&'a Action>, AllocError>
-    ensures { IfOk result (λ found. map (λ a. a.now) found.items ≡ filter (seen.is_unlike kind.now lines.now) actions.now) }
+) -> Result<Vec<Prepared<'a>>, AllocError>
+    ensures { IfOk result (λ found. found.items ≡ filter (seen.is_unlike kind.now lines.now) actions.now) }
 {
     let mut found = Vec::new(alloc);
     for action in actions {
@@ -81,83 +102,44 @@ fn add_unlike<'a>(
     alloc: Global,
     kind: &str,
     lines: &BTreeSet<Vec<u8>>,
-    found: &mut Vec<&'a Action>,
+    found: &mut Vec<Prepared<'a>>,
     action: &'a Action,
 ) -> Result<(), AllocError>
-    ensures { OnOk result (map (λ a. a.now) found.new.items ≡ map (λ a. a.now) found.old.items ++ filter (seen.is_unlike kind.now lines.now) (action.now ∷ [])) }
+    ensures { OnOk result (found.new.items ≡ found.old.items ++ filter (seen.is_unlike kind.now lines.now) (action.now ∷ [])) }
 {
-    if is_unlike(alloc, kind, lines, action)? {
-        found.push(action)?;
+    if !is_a(action, kind) {
+        return Ok(());
     }
+    let line = print_line(alloc, action)?;
+    if has(lines, line.as_str().as_bytes()) {
+        return Ok(());
+    }
+    found.push(Prepared { line, action })?;
     Ok(())
 }
 
-// Whether the action is of this kind, and its line none of these.
-fn is_unlike(
-    alloc: Global,
-    kind: &str,
-    lines: &BTreeSet<Vec<u8>>,
-    action: &Action,
-) -> Result<bool, AllocError>
-    ensures { IfOk result (λ answer. answer ≡ seen.is_unlike kind.now lines.now action.now) }
+// Puts the actions in order: by the bytes of their names, those of one name by their lines.
+fn order(key: &str, actions: &mut Vec<Prepared>) -> Result<(), AllocError>
+    ensures { OnOk result (actions.new.items ≡ spec.ordered (spec.name_cmp (key_spec.value_of key.now)) actions.old.items) }
 {
-    if !is_a(action, kind) {
-        return Ok(false);
-    }
-    let line = print_line(alloc, action)?;
-    Ok(!has(lines, line.as_str().as_bytes()))
+    actions.sort_by(|one, other| compare(key, one, other))
 }
 
-// The actions by the bytes of their names, those of one name by their lines.
-fn in_order<'a>(
-    alloc: Global,
-    key: &str,
-    actions: &[&'a Action],
-) -> Result<Vec<&'a Action>, AllocError>
-    ensures { IfOk result (λ sorted. map (λ a. a.now) sorted.items ≡ spec.ordered (spec.name_cmp (key_spec.value_of key.now)) (map (λ a. a.now) actions.now)) }
+// How two actions stand to one another.
+fn compare(key: &str, one: &Prepared, other: &Prepared) -> Ordering
+    ensures { result ≡ spec.name_cmp (key_spec.value_of key.now) one.now other.now }
 {
-    let mut sorted = Vec::with_capacity(alloc, actions.len())?;
-    for action in actions {
-        let place = place_in(alloc, key, &sorted, action)?;
-        sorted.insert(place, *action)?;
-    }
-    Ok(sorted)
+    let by_name = value_of(one.action, key).cmp(value_of(other.action, key));
+    by_name.then(one.line.cmp(&other.line))
 }
 
-// The place of the first action that comes behind this one.
-fn place_in(
-    alloc: Global,
-    key: &str,
-    sorted: &[&Action],
-    action: &Action,
-) -> Result<usize, AllocError>
-    ensures within { IfOk result (λ place. place ≤ length sorted.now) }
-    ensures placed { IfOk result (λ place. spec.placed (spec.name_cmp (key_spec.value_of key.now)) action.now (map (λ a. a.now) sorted.now) ≡ insert (map (λ a. a.now) sorted.now) place action.now) }
+// The actions by themselves.
+fn actions_of<'a>(alloc: Global, prepared: &[Prepared<'a>]) -> Result<Vec<&'a Action>, AllocError>
+    ensures { IfOk result (λ actions. map (λ a. a.now) actions.items ≡ prepared.now) }
 {
-    for (place, other) in sorted.iter().enumerate() {
-        if comes_before(alloc, key, action, other)? {
-            return Ok(place);
-        }
+    let mut actions = Vec::with_capacity(alloc, prepared.len())?;
+    for one in prepared {
+        actions.push(one.action)?;
     }
-    Ok(sorted.len())
-}
-
-// Whether the action comes before the other: by the bytes of their names, then by those of their lines.
-fn comes_before(
-    alloc: Global,
-    key: &str,
-    action: &Action,
-    other: &Action,
-) -> Result<bool, AllocError>
-    ensures { IfOk result (λ answer. answer ≡ is_lt (spec.name_cmp (key_spec.value_of key.now) action.now other.now)) }
-{
-    match value_of(action, key).cmp(value_of(other, key)) {
-        Ordering::Less => Ok(true),
-        Ordering::Greater => Ok(false),
-        Ordering::Equal => {
-            let line = print_line(alloc, action)?;
-            let other = print_line(alloc, other)?;
-            Ok(line.cmp(&other) == Ordering::Less)
-        }
-    }
+    Ok(actions)
 }

@@ -4,14 +4,14 @@ ghost use Rattle.std.specs.Prelude.{◌≡◌, ◌||◌, ◌∷◌, [], not, Lis
 ghost use Rattle.std.specs.List.{list_any};
 ghost use Rattle.ips_conflict.specs.Key as key_spec;
 ghost use Rattle.ips_accounts.specs.Editing as spec;
-ghost use Rattle.ips_accounts.specs.Seen.{as_line, files_seen, has_gone, is_in};
+ghost use Rattle.ips_books.specs.Seen.{as_line, files_seen};
+ghost use Rattle.ips_accounts.specs.Seen.{has_gone, is_in};
 
-use crate::files::Files;
-use crate::line::{Line, field, is_kept};
 use crate::sets::{has, insert};
 use crate::values::{is_a, value_of};
 use crate::writing::{members_of, replace, with_members};
 use ips_action::Action;
+use ips_books::{Files, Line, field, is_kept};
 use std::alloc::{AllocError, Global};
 use std::collections::BTreeSet;
 

@@ -4,18 +4,16 @@ ghost use Rattle.std.specs.Prelude.{◌≡◌, map, unwrap_or, IfOk, OnOk};
 ghost use Rattle.std.specs.List.{list_any};
 ghost use Rattle.ips_text.specs.Reading.{Gives};
 ghost use Rattle.ips_action.specs.Attrs.{is_same};
-ghost use Rattle.ips_accounts.specs.Accounts as lines_spec;
+ghost use Rattle.ips_books.specs.Accounts as lines_spec;
 ghost use Rattle.ips_accounts.specs.Editing as spec;
-ghost use Rattle.ips_accounts.specs.Seen.{files_seen};
+ghost use Rattle.ips_books.specs.Seen.{files_seen};
 
-use crate::fault::AccountFault;
-use crate::files::Files;
 use crate::finding::{line_at, place_of};
-use crate::line::{Line, field};
 use crate::numbers::number_for;
 use crate::values::{number_given, value_of};
 use crate::writing::{join, members_of, put, replace, with_members};
 use ips_action::Action;
+use ips_books::{AccountFault, Files, Line, field};
 use ips_text::{Or, Text};
 use std::alloc::{AllocError, Global};
 

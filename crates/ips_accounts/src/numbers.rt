@@ -4,11 +4,10 @@ ghost use Rattle.std.specs.Prelude.{◌≡◌, ◌<◌, ◌+◌, ◌||◌, ℕ, 
 ghost use Rattle.std.specs.List.{position};
 ghost use Rattle.ips_text.specs.Reading.{Gives};
 ghost use Rattle.ips_accounts.specs.Editing as spec;
-ghost use Rattle.ips_accounts.specs.Seen.{as_line};
+ghost use Rattle.ips_books.specs.Seen.{as_line};
 
-use crate::fault::AccountFault;
 use crate::finding::{is_taken, line_at};
-use crate::line::{Line, is_kept, number_of};
+use ips_books::{AccountFault, Line, is_kept, number_of};
 use ips_text::Or;
 use std::alloc::{AllocError, Global};
 

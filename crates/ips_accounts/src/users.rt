@@ -3,17 +3,15 @@
 ghost use Rattle.std.specs.Prelude.{◌≡◌, map, Ok, IfOk, OnOk};
 ghost use Rattle.ips_text.specs.Reading.{Gives};
 ghost use Rattle.ips_accounts.specs.Editing as spec;
-ghost use Rattle.ips_accounts.specs.Seen.{files_seen};
+ghost use Rattle.ips_books.specs.Seen.{files_seen};
 
-use crate::fault::AccountFault;
-use crate::files::Files;
 use crate::finding::{gid_at, place_of};
 use crate::groups::join_groups;
-use crate::line::Line;
 use crate::numbers::number_for;
 use crate::values::{given_or, number_given, value_of};
 use crate::writing::{add, join, put};
 use ips_action::Action;
+use ips_books::{AccountFault, Files, Line};
 use ips_text::{Or, Text};
 use std::alloc::{AllocError, Global};
 

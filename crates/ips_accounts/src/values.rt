@@ -4,8 +4,8 @@ ghost use Rattle.std.specs.Prelude.{◌≡◌};
 ghost use Rattle.ips_conflict.specs.Key as key_spec;
 ghost use Rattle.ips_accounts.specs.Editing as spec;
 
-use crate::line::number_in;
 use ips_action::Action;
+use ips_books::number_in;
 
 /// The value of an attribute; an action that lacks it has the empty one.
 pub fn value_of<'a>(action: &'a Action, key: &str) -> &'a str

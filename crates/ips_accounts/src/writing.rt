@@ -2,14 +2,14 @@
 
 ghost use Rattle.std.specs.Prelude.{◌≡◌, ◌==◌, ◌<◌, ◌++◌, ◌∷◌, [], length, map, slice_index_or, slice_set, unwrap_or, if◌then◌else◌, IfOk, OnOk};
 ghost use Rattle.std.specs.List.{join_with_byte, slice_split};
-ghost use Rattle.ips_accounts.specs.Lines as lines_spec;
-ghost use Rattle.ips_accounts.specs.Lines.{last_ended};
-ghost use Rattle.ips_accounts.specs.Accounts as spec;
+ghost use Rattle.ips_books.specs.Lines as lines_spec;
+ghost use Rattle.ips_books.specs.Lines.{last_ended};
+ghost use Rattle.ips_books.specs.Accounts as spec;
 ghost use Rattle.ips_accounts.specs.Editing as editing_spec;
-ghost use Rattle.ips_accounts.specs.Seen.{as_line};
+ghost use Rattle.ips_books.specs.Seen.{as_line};
 
 use crate::finding::place_of;
-use crate::line::{Line, field};
+use ips_books::{Line, field};
 use std::alloc::{AllocError, Global};
 
 /// Writes the line of a name: its first line is rewritten at its place, or a line is added at the end.

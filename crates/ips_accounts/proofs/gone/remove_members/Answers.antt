@@ -1,6 +1,6 @@
 use Rattle.std.proofs.Common.{◌≡◌, get_or, set, ap, ◌∙◌}
 use Rattle.std.proofs.lemmas.List.Edits.{map_over_more}
-use Rattle.ips_accounts.specs.Lines.{Line}
+use Rattle.ips_books.specs.Lines.{Line}
 use Rattle.ips_accounts.specs.Seen.{has_gone}
 use Rattle.ips_accounts.specs.Editing.{left_by}
 use Rattle.ips_accounts.proofs.gone.remove_members.Goals as goal

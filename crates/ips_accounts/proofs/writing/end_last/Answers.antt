@@ -1,5 +1,5 @@
 use Rattle.std.proofs.Common.{sym, ap, ◌∙◌}
-use Rattle.ips_accounts.specs.Lines.{ended}
+use Rattle.ips_books.specs.Lines.{ended}
 use Rattle.ips_accounts.proofs.Ended.{ended_last}
 use Rattle.ips_accounts.proofs.writing.end_last.Goals as goal
 

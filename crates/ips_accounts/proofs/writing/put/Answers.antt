@@ -1,8 +1,8 @@
 use Rattle.std.proofs.Common.{Bool, sym, ap, set, ◌∙◌}
 use Rattle.std.specs.List.{position}
 use Rattle.std.proofs.lemmas.Result.{on_ok_weaker}
-use Rattle.ips_accounts.specs.Lines.{Line}
-use Rattle.ips_accounts.specs.Accounts.{is_of}
+use Rattle.ips_books.specs.Lines.{Line}
+use Rattle.ips_books.specs.Accounts.{is_of}
 use Rattle.ips_accounts.proofs.Put.{put_first, put_none}
 use Rattle.ips_accounts.proofs.writing.put.Goals as goal
 
