@@ -11,7 +11,8 @@ use Rattle.ips_books.specs.declared.fault.AccountFault.{AccountFault}
 use Rattle.ips_books.specs.declared.fault.AccountFault.TheVariants.{IdTaken}
 use Rattle.ips_books.specs.Lines.{Line, last_ended}
 use Rattle.ips_books.specs.Accounts.{is_kept, is_of, number_of}
-use Rattle.ips_accounts.specs.Editing.{at_first, rewritten, added, put, is_of_other, is_taken, number_for, wanted_number}
+use Rattle.ips_books.specs.Writing.{at_first, rewritten, added, put, is_of_other, is_taken}
+use Rattle.ips_accounts.specs.Editing.{number_for, wanted_number}
 use Rattle.ips_accounts.specs.Laws.{text_at}
 use Rattle.ips_accounts.proofs.Lacking.{and_false, apart_line}
 use Rattle.ips_accounts.proofs.Members.{turned_apart}

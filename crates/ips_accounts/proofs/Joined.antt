@@ -12,9 +12,10 @@ use Rattle.ips_action.specs.Check.{IsAccount, IsField, begins_with_mark}
 use Rattle.ips_action.proofs.KeyOrder.{same_self}
 use Rattle.ips_books.specs.Lines.{Line}
 use Rattle.ips_books.specs.Accounts.{is_kept, is_of, field, fields, number_in, number_of, number_by, members_in, members_of, line_at, gid_at, known, known_groups}
-use Rattle.ips_accounts.specs.Editing.{at_first, with_members, joined_by, in_groups, is_of_other, is_taken}
+use Rattle.ips_books.specs.Writing.{at_first, with_members, is_of_other, is_taken}
+use Rattle.ips_accounts.specs.Editing.{joined_by, in_groups}
 use Rattle.ips_accounts.specs.Laws.{IsMemberOf}
-use Rattle.ips_accounts.proofs.Put.{later}
+use Rattle.ips_books.proofs.Written.{later}
 use Rattle.ips_accounts.proofs.Lacking.{split_at}
 use Rattle.ips_accounts.proofs.GroupNames.{parts_plain}
 use Rattle.ips_accounts.proofs.Members.{pieces_back, cut_none, joined_lack, commas_of, colons_of}

@@ -16,7 +16,9 @@ use Rattle.ips_books.specs.declared.fault.AccountFault.{AccountFault}
 use Rattle.ips_books.specs.declared.fault.AccountFault.TheVariants.{IdTaken}
 use Rattle.ips_books.specs.Lines.{Line}
 use Rattle.ips_books.specs.Accounts.{field, number_in, number_of, line_at}
-use Rattle.ips_accounts.specs.Editing.{is_taken, free_number, standing_number, wanted_number, number_for, number_given}
+use Rattle.ips_books.specs.Writing.{is_taken}
+use Rattle.ips_turnover.specs.Turnover.{number_given}
+use Rattle.ips_accounts.specs.Editing.{free_number, standing_number, wanted_number, number_for}
 
 -- ---- numbers are small
 

@@ -24,7 +24,9 @@ use Rattle.ips_books.specs.declared.fault.AccountFault.{AccountFault}
 use Rattle.ips_books.specs.declared.fault.AccountFault.TheVariants.{IdTaken}
 use Rattle.ips_books.specs.Lines.{Line, last_ended}
 use Rattle.ips_books.specs.Accounts.{is_kept, is_of, field, fields, joined, number_in, number_of, line_at, members_in, members_of, Accounts}
-use Rattle.ips_accounts.specs.Editing.{at_first, rewritten, added, put, stays, with_members, joined_by, in_groups, left_by, user_name, group_name, users_in, groups_in, name_cmp, is_fresh, is_named_in, fresh_groups, fresh_users, after_gone, edited_books, number_for, number_given, free_number, free_from, wanted_number, is_taken, group_text, standing_members, with_group, with_user, each, if_known}
+use Rattle.ips_books.specs.Writing.{at_first, rewritten, added, put, with_members, is_taken}
+use Rattle.ips_turnover.specs.Turnover.{stays, left_by, user_name, group_name, users_in, groups_in, name_cmp, is_fresh, is_named_in, fresh_groups, fresh_users, after_gone, number_given}
+use Rattle.ips_accounts.specs.Editing.{joined_by, in_groups, edited_books, number_for, free_number, free_from, wanted_number, group_text, standing_members, with_group, with_user, each, if_known}
 use Rattle.ips_accounts.specs.Laws.{is_gone_user, is_gone_group, is_member}
 use Rattle.ips_accounts.proofs.Lacking.{and_false, all_ordered, all_filtered, ok_value, err_no, bind_ok, not_there}
 use Rattle.ips_accounts.proofs.Others.{each_keeps, known_keeps}

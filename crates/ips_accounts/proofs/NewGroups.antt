@@ -12,7 +12,9 @@ use Rattle.ips_action.specs.Action.{Fields}
 use Rattle.ips_books.specs.declared.fault.AccountFault.{AccountFault}
 use Rattle.ips_books.specs.Lines.{Line}
 use Rattle.ips_books.specs.Accounts.{is_kept, is_of, field, joined, number_in, number_of, members_of, Accounts}
-use Rattle.ips_accounts.specs.Editing.{at_first, put, with_members, joined_by, in_groups, group_name, groups_in, user_name, name_cmp, is_fresh, fresh_groups, fresh_users, after_gone, edited_books, if_known, with_group, with_user, is_taken, standing_members, number_for, number_given, group_text, each}
+use Rattle.ips_books.specs.Writing.{at_first, put, with_members, is_taken}
+use Rattle.ips_turnover.specs.Turnover.{group_name, groups_in, user_name, name_cmp, is_fresh, fresh_groups, fresh_users, after_gone, number_given}
+use Rattle.ips_accounts.specs.Editing.{joined_by, in_groups, edited_books, if_known, with_group, with_user, standing_members, number_for, group_text, each}
 use Rattle.ips_accounts.specs.Laws.{NamedOnce, text_at, GroupStands}
 use Rattle.ips_accounts.proofs.Lacking.{bind_ok, err_no, ok_value, split_at, all_ordered, all_filtered}
 use Rattle.ips_accounts.proofs.Others.{each_keeps, known_keeps, all_units}

@@ -16,7 +16,9 @@ use Rattle.ips_books.specs.declared.fault.AccountFault.TheVariants.{IdTaken, Unk
 use Rattle.ips_books.specs.Lines.{Line, ended, last_ended}
 use Rattle.ips_books.specs.Accounts.{is_kept, is_of, field, joined, number_in, number_of, Accounts}
 use Rattle.ips_books.proofs.Decimals.{number_small}
-use Rattle.ips_accounts.specs.Editing.{at_first, rewritten, added, put, stays, without, user_name, users_in, name_cmp, is_fresh, is_named_in, fresh_groups, fresh_users, after_gone, edited_books, if_known, with_group, with_user, with_shadow, in_groups, is_taken, number_for, number_given, gid_of, passwd_text, shadow_text, given_or, each}
+use Rattle.ips_books.specs.Writing.{at_first, rewritten, added, put, is_taken}
+use Rattle.ips_turnover.specs.Turnover.{stays, without, user_name, users_in, name_cmp, is_fresh, is_named_in, fresh_groups, fresh_users, after_gone, number_given, given_or}
+use Rattle.ips_accounts.specs.Editing.{edited_books, if_known, with_group, with_user, with_shadow, in_groups, number_for, gid_of, passwd_text, shadow_text, each}
 use Rattle.ips_accounts.specs.Laws.{NamedOnce, text_at, is_gone_user, IsMemberOf, UserStands}
 use Rattle.ips_accounts.proofs.Lacking.{Lacks, none_at, and_false, split_at, bind_ok, err_no, ok_value, written_name, not_of, apart_line, all_ordered, all_filtered}
 use Rattle.ips_accounts.proofs.Others.{each_keeps, not_kept, known_keeps, all_units, all_named, group_keeps}

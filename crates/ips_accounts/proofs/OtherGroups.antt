@@ -11,7 +11,9 @@ use Rattle.ips_action.specs.Check.{IsAccount}
 use Rattle.ips_action.specs.Action.{Fields}
 use Rattle.ips_books.specs.Lines.{Line}
 use Rattle.ips_books.specs.Accounts.{is_kept, is_of, field, Accounts}
-use Rattle.ips_accounts.specs.Editing.{at_first, put, joined_by, in_groups, left_by, user_name, group_name, users_in, groups_in, name_cmp, is_fresh, is_named_in, fresh_groups, fresh_users, after_gone, edited_books, group_text, standing_members, with_group, with_user, each, if_known}
+use Rattle.ips_books.specs.Writing.{at_first, put}
+use Rattle.ips_turnover.specs.Turnover.{left_by, user_name, group_name, users_in, groups_in, name_cmp, is_fresh, is_named_in, fresh_groups, fresh_users, after_gone}
+use Rattle.ips_accounts.specs.Editing.{joined_by, in_groups, edited_books, group_text, standing_members, with_group, with_user, each, if_known}
 use Rattle.ips_accounts.specs.Laws.{is_gone_user, is_gone_group, is_asked_for, is_other_group, bytes_of, OthersStay}
 use Rattle.ips_accounts.proofs.Lacking.{bind_ok, written_name, all_ordered, all_filtered}
 use Rattle.ips_accounts.proofs.Others.{each_keeps, known_keeps, not_kept, stay_changed, stay_put, stay_without, users_stay}

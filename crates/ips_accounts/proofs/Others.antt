@@ -16,10 +16,12 @@ use Rattle.ips_books.specs.declared.fault.AccountFault.{AccountFault}
 use Rattle.ips_books.specs.declared.fault.AccountFault.TheVariants.{UnknownGroup}
 use Rattle.ips_books.specs.Lines.{Line, ended}
 use Rattle.ips_books.specs.Accounts.{is_kept, is_of, field, joined, Accounts}
-use Rattle.ips_accounts.specs.Editing.{at_first, rewritten, added, put, without, user_name, group_name, users_in, name_cmp, is_fresh, fresh_groups, fresh_users, after_gone, edited_books, standing_members, if_known, with_group, with_user, with_shadow, in_groups, number_for, number_given, gid_of, passwd_text, shadow_text, each, is_named_in}
+use Rattle.ips_books.specs.Writing.{at_first, rewritten, added, put}
+use Rattle.ips_turnover.specs.Turnover.{without, user_name, group_name, users_in, name_cmp, is_fresh, fresh_groups, fresh_users, after_gone, number_given, is_named_in}
+use Rattle.ips_accounts.specs.Editing.{edited_books, standing_members, if_known, with_group, with_user, with_shadow, in_groups, number_for, gid_of, passwd_text, shadow_text, each}
 use Rattle.ips_accounts.specs.Laws.{is_gone_user, is_other_user, bytes_of}
 use Rattle.ips_accounts.proofs.Lacking.{bind_ok, err_no, ok_value, written_name, all_ordered, all_filtered}
-use Rattle.ips_accounts.proofs.Put.{later}
+use Rattle.ips_books.proofs.Written.{later}
 
 -- The bytes of a list with one more line in front, by whether that passes.
 in_front : (passes : Line → Bool) (line : Line) (one two : List Line) → bytes_of passes one ≡ bytes_of passes two → bytes_of passes (line ∷ one) ≡ bytes_of passes (line ∷ two)

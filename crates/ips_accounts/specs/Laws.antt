@@ -5,7 +5,9 @@ use Rattle.ips_action.specs.Attrs.{is_same, values_of}
 use Rattle.ips_action.specs.Action.{Fields}
 use Rattle.ips_books.specs.Lines.{Line}
 use Rattle.ips_books.specs.Accounts.{is_kept, field, members_of, line_at, Accounts}
-use Rattle.ips_accounts.specs.Editing.{users_in, groups_in, user_name, group_name, number_given, passwd_text, shadow_text, group_text, is_named_in, is_gone, is_taken, gid_of, left_by, fresh_users, fresh_groups}
+use Rattle.ips_books.specs.Writing.{is_taken}
+use Rattle.ips_turnover.specs.Turnover.{users_in, groups_in, user_name, group_name, number_given, is_named_in, is_gone, left_by, fresh_users, fresh_groups}
+use Rattle.ips_accounts.specs.Editing.{passwd_text, shadow_text, group_text, gid_of}
 
 -- ---- names that go
 

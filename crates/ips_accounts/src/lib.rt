@@ -3,22 +3,15 @@
 //!
 //! An edit is exact: the text of each file is the function of the standing texts and of the actions that the definitions state.
 //!
-//! The files as lines, and the numbers of owners, are those of `ips_books`. In reading order: look-ups (`finding`), lines that are
-//! written (`writing`), names that go (`gone`), which actions are fresh (`fresh`), numbers (`numbers`), groups (`groups`), users
-//! (`users`), the edit (`editing`), and what it leaves (`laws`).
+//! The files as lines are those of `ips_books`, and which names go and which actions are new is told by `ips_turnover`. In reading
+//! order: numbers (`numbers`), groups (`groups`), users (`users`), the edit (`editing`), and what it leaves (`laws`).
 #![tactic(auto)]
 
 mod editing;
-mod finding;
-mod fresh;
-mod gone;
 mod groups;
 mod laws;
 mod numbers;
-mod sets;
 mod users;
-mod values;
-mod writing;
 
 pub use editing::edit;
 pub use ips_books::{AccountFault, Book, Books, Unknown, resolve};

@@ -6,7 +6,8 @@ use Rattle.ips_action.specs.Attrs.{values_of}
 use Rattle.ips_action.specs.Action.{Fields}
 use Rattle.ips_books.specs.Accounts.{gid_at}
 use Rattle.ips_books.specs.Seen.{files_seen}
-use Rattle.ips_accounts.specs.Editing.{number_for, passwd_text, put, in_groups}
+use Rattle.ips_books.specs.Writing.{put}
+use Rattle.ips_accounts.specs.Editing.{number_for, passwd_text, in_groups}
 use Rattle.ips_accounts.proofs.Steps.{user_added}
 use Rattle.ips_accounts.proofs.users.add_user.Goals as goal
 
