@@ -5,8 +5,10 @@ use Rattle.std.proofs.lemmas.Bool.Decides.{nat_tests}
 use Rattle.std.proofs.lemmas.List.Sums.{prefix_len-le-length}
 use Rattle.std.proofs.lemmas.List.Folds.{list_any-append}
 use Rattle.ips_text.proofs.Lists.{take_item}
-use Rattle.ips_accounts.specs.Lines.{Line}
-use Rattle.ips_accounts.specs.Editing.{has_number, is_used, free_from, free_number}
+use Rattle.ips_books.specs.Lines.{Line}
+use Rattle.ips_books.specs.Writing.{has_number}
+use Rattle.ips_turnover.proofs.Holding.{turned}
+use Rattle.ips_accounts.specs.Editing.{is_used, free_from, free_number}
 
 -- Of each number from one on it is said whether it is used.
 pub free_at : (lines : List Line) (used : List Bool) (id more : ℕ) → length used ≡ more → ((k : ℕ) → k < more → get_or used k false ≡ is_used lines (id + k)) → free_from lines id more ≡ id + position_or_len not used
@@ -61,12 +63,6 @@ free_last lines free is le = sym (ap (λ (n : ℕ). min n (2 ^ 32 - 1)) is ∙ m
   where
     most : (n : ℕ) → 4294967295 ≤ n → min n 4294967295 ≡ 4294967295
     most n le = omega arith
-
-pub turned : (a b : Bool) → (a || b) ≡ (b || (a || false))
-turned true true = refl
-turned true false = refl
-turned false true = refl
-turned false false = refl
 
 -- one more line is told of
 pub used_more : (lines : List Line) (i : ℕ) (line : Line) (old new : List Bool) → i < length lines → line ≡ get_or lines i line → length old ≡ length lines → ((k : ℕ) → k < length lines → get_or old k false ≡ is_used (take i lines) (k + 1))

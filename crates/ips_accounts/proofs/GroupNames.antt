@@ -8,10 +8,12 @@ use Rattle.ips_text.proofs.Truths.{not_true}
 use Rattle.ips_action.specs.Attrs.{is_same, values_of}
 use Rattle.ips_action.specs.Action.{Fields}
 use Rattle.ips_action.specs.Check.{IsField}
-use Rattle.ips_accounts.specs.declared.fault.AccountFault.{AccountFault}
-use Rattle.ips_accounts.specs.Lines.{Line}
-use Rattle.ips_accounts.specs.Accounts.{is_kept, is_of, field, fields, line_at, members_of, Accounts}
-use Rattle.ips_accounts.specs.Editing.{at_first, put, with_members, joined_by, in_groups, left_by, user_name, group_name, groups_in, name_cmp, is_fresh, is_named_in, fresh_groups, fresh_users, after_gone, edited_books, number_for, number_given, group_text, standing_members, passwd_text, with_shadow, gid_of, with_group, with_user, each, if_known}
+use Rattle.ips_books.specs.declared.fault.AccountFault.{AccountFault}
+use Rattle.ips_books.specs.Lines.{Line}
+use Rattle.ips_books.specs.Accounts.{is_kept, is_of, field, fields, line_at, members_of, Accounts}
+use Rattle.ips_books.specs.Writing.{at_first, put, with_members}
+use Rattle.ips_turnover.specs.Turnover.{left_by, user_name, group_name, groups_in, name_cmp, is_fresh, is_named_in, fresh_groups, fresh_users, after_gone, number_given}
+use Rattle.ips_accounts.specs.Editing.{joined_by, in_groups, edited_books, number_for, group_text, standing_members, passwd_text, with_shadow, gid_of, with_group, with_user, each, if_known}
 use Rattle.ips_accounts.specs.Laws.{is_gone_user, is_gone_group}
 use Rattle.ips_accounts.proofs.Lacking.{Lacks, lacks_put, lacks_without, not_of, written_name, none_at, all_ordered, all_filtered, ok_value, err_no, bind_ok, not_there}
 use Rattle.ips_accounts.proofs.Others.{each_keeps, known_keeps, all_units}
@@ -22,7 +24,7 @@ onto_plain : (b : ℕ) (parts : List (List ℕ)) → eqb b 58 ≡ false → AllB
 onto_plain b [] e all = (ap (λ (t : Bool). t || false) e, tt)
 onto_plain b (p ∷ parts) e all = (ap (λ (t : Bool). t || list_any (λ b. eqb b 58) p) e ∙ all.0, all.1)
 
-parts_plain : (bytes : List ℕ) → AllByRecursion IsField (slice_split (λ b. eqb b 58) bytes)
+pub parts_plain : (bytes : List ℕ) → AllByRecursion IsField (slice_split (λ b. eqb b 58) bytes)
 parts_plain [] = (refl, tt)
 parts_plain (b ∷ bytes) = go (eqb b 58) refl (parts_plain bytes)
   where

@@ -2,9 +2,8 @@
 use Rattle.std.proofs.Common.{◌≡◌, ℕ, Bool, true, false, cond, not, ◌&&◌, ◌||◌, eqb, List, [], ◌∷◌, ◌++◌, filter, Some, None, Result, Ok, Err, is_err, is_some, unwrap_or, slice_get, refl, sym, ap, subst, ◌∙◌}
 use Rattle.std.specs.List.{slice_split, onto_first, list_any, find, AllByRecursion}
 use Rattle.std.specs.declared.cmp.Ordering.{Ordering}
-use Rattle.std.specs.Ordering.{is_lt}
 use Rattle.std.specs.Fmt.{decimal}
-use Rattle.std.proofs.lemmas.Bool.{or_parts, true≢false}
+use Rattle.std.proofs.lemmas.Bool.{or_parts, and_parts, true≢false}
 use Rattle.ips_text.specs.Reading.{◌>>=◌}
 use Rattle.ips_text.proofs.Lists.{all_append}
 use lib.Chars.{codes}
@@ -13,22 +12,17 @@ use Rattle.ips_action.specs.Attrs.{is_same, values_of}
 use Rattle.ips_action.specs.Action.{Fields}
 use Rattle.ips_conflict.specs.Key.{value_of}
 use Rattle.ips_action.specs.Check.{IsField}
-use Rattle.ips_accounts.specs.declared.fault.AccountFault.{AccountFault}
-use Rattle.ips_accounts.specs.declared.fault.AccountFault.TheVariants.{UnknownGroup}
-use Rattle.ips_accounts.specs.Lines.{Line, last_ended}
-use Rattle.ips_accounts.specs.Accounts.{is_kept, is_of, field, joined, line_at, Accounts}
+use Rattle.ips_books.specs.declared.fault.AccountFault.{AccountFault}
+use Rattle.ips_books.specs.declared.fault.AccountFault.TheVariants.{UnknownGroup}
+use Rattle.ips_books.specs.Lines.{Line, last_ended}
+use Rattle.ips_books.specs.Accounts.{is_kept, is_of, field, joined, line_at, Accounts}
 use Rattle.ips_accounts.specs.Laws.{is_gone_user}
-use Rattle.ips_accounts.specs.Editing.{placed, ordered, ordered_with, at_first, rewritten, added, put, without, user_name, group_name, with_group, with_user, with_shadow, in_groups, number_for, number_given, gid_of, passwd_text, shadow_text, users_in, name_cmp, is_fresh, fresh_groups, fresh_users, after_gone, edited_books, standing_members, if_known, each, is_named_in}
+use Rattle.ips_books.specs.Writing.{at_first, rewritten, added, put}
+use Rattle.ips_turnover.proofs.Sorting.{all_placed}
+use Rattle.ips_turnover.specs.Turnover.{placed, ordered, ordered_with, without, user_name, group_name, number_given, users_in, name_cmp, is_fresh, fresh_groups, fresh_users, after_gone, is_named_in}
+use Rattle.ips_accounts.specs.Editing.{with_group, with_user, with_shadow, in_groups, number_for, gid_of, passwd_text, shadow_text, edited_books, standing_members, if_known, each}
 
 -- ---- lists of actions
-
-all_placed : (P : Fields → Type 0) (cmp : Fields → Fields → Ordering) (a : Fields) (actions : List Fields) → P a → AllByRecursion P actions → AllByRecursion P (placed cmp a actions)
-all_placed P cmp a [] p all = (p, all)
-all_placed P cmp a (b ∷ actions) p all = go (is_lt (cmp a b)) (all_placed P cmp a actions p all.1)
-  where
-    go : (t : Bool) → AllByRecursion P (placed cmp a actions) → AllByRecursion P (cond t (a ∷ b ∷ actions) (b ∷ placed cmp a actions))
-    go true rest = (p, all)
-    go false rest = (all.0, rest)
 
 all_ordered_with : (P : Fields → Type 0) (cmp : Fields → Fields → Ordering) (actions sorted : List Fields) → AllByRecursion P actions → AllByRecursion P sorted → AllByRecursion P (ordered_with cmp actions sorted)
 all_ordered_with P cmp [] sorted all done = done
@@ -88,6 +82,12 @@ not_of name line first e apart =
     ap (λ (f : List ℕ). not (is_kept line) && is_same name f) e
     ∙ ap (λ (t : Bool). not (is_kept line) && t) apart
     ∙ and_false (not (is_kept line))
+
+-- a line that speaks of a name speaks of no other
+pub apart_line : (name other : List ℕ) (line : Line) → is_same name other ≡ false → is_of other line ≡ true → is_of name line ≡ false
+apart_line name other line apart of =
+    let parts = and_parts (not (is_kept line)) (is_same other (field 0 line)) of in
+    not_of name line other (sym (same_true other (field 0 line) parts.1)) apart
 
 lacks_ended : (name : List ℕ) (lines : List Line) → Lacks name lines → Lacks name (last_ended lines)
 lacks_ended name [] lacks = tt

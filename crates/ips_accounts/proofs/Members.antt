@@ -20,11 +20,13 @@ use Rattle.ips_action.specs.Action.{Fields}
 use Rattle.ips_action.specs.Check.{IsField, IsAccount}
 use Rattle.ips_action.proofs.KeyOrder.{same_true, same_self}
 use Rattle.ips_conflict.specs.Key.{first_value}
-use Rattle.ips_accounts.specs.declared.fault.AccountFault.{AccountFault}
-use Rattle.ips_accounts.specs.declared.fault.AccountFault.TheVariants.{IdTaken}
-use Rattle.ips_accounts.specs.Lines.{Line, last_ended}
-use Rattle.ips_accounts.specs.Accounts.{is_kept, is_of, field, fields, joined, number_in, number_of, line_at, members_in, members_of, Accounts}
-use Rattle.ips_accounts.specs.Editing.{at_first, rewritten, added, put, stays, with_members, joined_by, in_groups, left_by, user_name, group_name, users_in, groups_in, name_cmp, is_fresh, is_named_in, fresh_groups, fresh_users, after_gone, edited_books, number_for, number_given, free_number, free_from, wanted_number, is_taken, group_text, standing_members, with_group, with_user, each, if_known}
+use Rattle.ips_books.specs.declared.fault.AccountFault.{AccountFault}
+use Rattle.ips_books.specs.declared.fault.AccountFault.TheVariants.{IdTaken}
+use Rattle.ips_books.specs.Lines.{Line, last_ended}
+use Rattle.ips_books.specs.Accounts.{is_kept, is_of, field, fields, joined, number_in, number_of, line_at, members_in, members_of, Accounts}
+use Rattle.ips_books.specs.Writing.{at_first, rewritten, added, put, with_members, is_taken}
+use Rattle.ips_turnover.specs.Turnover.{stays, left_by, user_name, group_name, users_in, groups_in, name_cmp, is_fresh, is_named_in, fresh_groups, fresh_users, after_gone, number_given}
+use Rattle.ips_accounts.specs.Editing.{joined_by, in_groups, edited_books, number_for, free_number, free_from, wanted_number, group_text, standing_members, with_group, with_user, each, if_known}
 use Rattle.ips_accounts.specs.Laws.{is_gone_user, is_gone_group, is_member}
 use Rattle.ips_accounts.proofs.Lacking.{and_false, all_ordered, all_filtered, ok_value, err_no, bind_ok, not_there}
 use Rattle.ips_accounts.proofs.Others.{each_keeps, known_keeps}
@@ -46,13 +48,13 @@ cut_front mark (b ∷ front) behind e =
     ap (λ (t : Bool). cond t ([] ∷ pieces mark (front ++ mark ∷ behind)) (onto_first b (pieces mark (front ++ mark ∷ behind)))) parts.0
     ∙ ap (onto_first b) (cut_front mark front behind parts.1)
 
-cut_none : (mark : ℕ) (bytes : List ℕ) → Lacks mark bytes → pieces mark bytes ≡ bytes ∷ []
+pub cut_none : (mark : ℕ) (bytes : List ℕ) → Lacks mark bytes → pieces mark bytes ≡ bytes ∷ []
 cut_none mark [] e = refl
 cut_none mark (b ∷ bytes) e =
     let parts = or_parts (eqb b mark) (list_any (λ b. eqb b mark) bytes) e in
     ap (λ (t : Bool). cond t ([] ∷ pieces mark bytes) (onto_first b (pieces mark bytes))) parts.0 ∙ ap (onto_first b) (cut_none mark bytes parts.1)
 
-pieces_back : (mark : ℕ) (x : List ℕ) (xs : List (List ℕ)) → AllByRecursion (Lacks mark) (x ∷ xs) → pieces mark (join_with_byte mark (x ∷ xs)) ≡ x ∷ xs
+pub pieces_back : (mark : ℕ) (x : List ℕ) (xs : List (List ℕ)) → AllByRecursion (Lacks mark) (x ∷ xs) → pieces mark (join_with_byte mark (x ∷ xs)) ≡ x ∷ xs
 pieces_back mark x [] all = cut_none mark x all.0
 pieces_back mark x (y ∷ xs) all = cut_front mark x (join_with_byte mark (y ∷ xs)) all.0 ∙ ap (λ (l : List (List ℕ)). x ∷ l) (pieces_back mark y xs all.1)
 
@@ -78,7 +80,7 @@ pieces_keep mark other (b ∷ bytes) e =
     go true e all = (refl, all)
     go false e all = onto_lacks other b (pieces mark bytes) e all
 
-joined_lack : (mark other : ℕ) (xs : List (List ℕ)) → eqb mark other ≡ false → AllByRecursion (Lacks other) xs → Lacks other (join_with_byte mark xs)
+pub joined_lack : (mark other : ℕ) (xs : List (List ℕ)) → eqb mark other ≡ false → AllByRecursion (Lacks other) xs → Lacks other (join_with_byte mark xs)
 joined_lack mark other [] e all = refl
 joined_lack mark other (x ∷ []) e all = all.0
 joined_lack mark other (x ∷ y ∷ xs) e all =
@@ -129,10 +131,10 @@ with_out : (name : List ℕ) (members : List (List ℕ)) (line : Line) → AllBy
 with_out name members line commas colons out =
     of_four name (field 0 line) (field 1 line) (field 2 line) (join_with_byte 44 members) line.ended (field_lacks 0 line) (field_lacks 1 line) (field_lacks 2 line) (joined_lack 44 58 members refl colons) (has_back name members commas out)
 
-commas_of : (line : Line) → AllByRecursion (Lacks 44) (members_of line)
+pub commas_of : (line : Line) → AllByRecursion (Lacks 44) (members_of line)
 commas_of line = members_lack 44 (field 3 line) (pieces_lack 44 (field 3 line))
 
-colons_of : (line : Line) → AllByRecursion (Lacks 58) (members_of line)
+pub colons_of : (line : Line) → AllByRecursion (Lacks 58) (members_of line)
 colons_of line = members_lack 58 (field 3 line) (pieces_keep 44 58 (field 3 line) (field_lacks 3 line))
 
 -- ---- gone names leave
@@ -266,7 +268,7 @@ group_without name a b c plain all e = go (number_for b.group (group_name a) (nu
 
 -- ---- users that join
 
-turned_apart : (name user : List ℕ) → is_same name user ≡ false → is_same user name ≡ false
+pub turned_apart : (name user : List ℕ) → is_same name user ≡ false → is_same user name ≡ false
 turned_apart name user e = go (is_same user name) refl
   where
     go : (t : Bool) → is_same user name ≡ t → t ≡ false
@@ -278,7 +280,7 @@ pub record Joins (name : List ℕ) (a : Fields) : Type 0 where
   pub apart : is_same name (user_name a) ≡ false
   pub account : IsAccount (user_name a)
 
-all_join : (name : List ℕ) (users : List Fields) → is_named_in user_name users name ≡ false → AllByRecursion (λ a. IsAccount (user_name a)) users → AllByRecursion (Joins name) users
+pub all_join : (name : List ℕ) (users : List Fields) → is_named_in user_name users name ≡ false → AllByRecursion (λ a. IsAccount (user_name a)) users → AllByRecursion (Joins name) users
 all_join name [] e all = tt
 all_join name (a ∷ users) e all =
     let parts = or_parts (is_same name (user_name a)) (is_named_in user_name users name) e in

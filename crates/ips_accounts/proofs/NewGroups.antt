@@ -1,105 +1,31 @@
 -- New groups stand as their actions say.
-use Rattle.std.proofs.Common.{◌≡◌, ℕ, ◌<◌, ◌^◌, min, Bool, true, false, cond, not, ◌&&◌, ◌||◌, eqb, ltb, List, [], ◌∷◌, ◌++◌, filter, Option, Some, None, option_map, Result, Ok, Err, IfSome, unwrap_or, slice_get, refl, sym, ◌∙◌, ap, subst, arith}
+use Rattle.std.proofs.Common.{◌≡◌, ℕ, ◌<◌, ◌^◌, Bool, true, false, cond, not, eqb, List, [], ◌∷◌, ◌++◌, filter, Option, Some, option_map, Result, Ok, Err, IfSome, unwrap_or, slice_get, refl, sym, ◌∙◌, ap, subst}
 use lib.Chars.{codes}
 use Rattle.std.specs.List.{list_any, find, slice_split, join_with_byte, AllByRecursion}
-use Rattle.std.specs.Option.{option_or, option_and_then}
 use Rattle.std.specs.Fmt.{decimal}
-use Rattle.std.specs.Char.{digit_value}
-use Rattle.std.specs.Str.Parse.{AllDigits, digits_value}
-use Rattle.std.proofs.lemmas.Fmt.{decimal_is_IsNumeral}
-use Rattle.std.proofs.lemmas.Bool.{and_parts, ltb-true}
-use Rattle.std.proofs.lemmas.Bool.Decides.{nat_tests}
+use Rattle.std.proofs.lemmas.Bool.{and_parts}
 use Rattle.ips_text.specs.Reading.{◌>>=◌}
 use Rattle.ips_text.proofs.Truths.{not_true}
 use Rattle.ips_action.specs.Attrs.{is_same, values_of}
 use Rattle.ips_action.specs.Check.{IsAccount, IsField}
 use Rattle.ips_action.specs.Action.{Fields}
-use Rattle.ips_conflict.specs.Key.{first_value}
-use Rattle.ips_accounts.specs.declared.fault.AccountFault.{AccountFault}
-use Rattle.ips_accounts.specs.declared.fault.AccountFault.TheVariants.{IdTaken}
-use Rattle.ips_accounts.specs.Lines.{Line}
-use Rattle.ips_accounts.specs.Accounts.{is_kept, is_of, field, joined, number_in, number_of, members_of, line_at, Accounts}
-use Rattle.ips_accounts.specs.Editing.{at_first, put, with_members, joined_by, in_groups, group_name, groups_in, user_name, name_cmp, is_fresh, fresh_groups, fresh_users, after_gone, edited_books, if_known, with_group, with_user, is_taken, free_number, standing_number, standing_members, wanted_number, number_for, number_given, group_text, each}
+use Rattle.ips_books.specs.declared.fault.AccountFault.{AccountFault}
+use Rattle.ips_books.specs.Lines.{Line}
+use Rattle.ips_books.specs.Accounts.{is_kept, is_of, field, joined, number_in, number_of, members_of, Accounts}
+use Rattle.ips_books.specs.Writing.{at_first, put, with_members, is_taken}
+use Rattle.ips_turnover.specs.Turnover.{group_name, groups_in, user_name, name_cmp, is_fresh, fresh_groups, fresh_users, after_gone, number_given}
+use Rattle.ips_accounts.specs.Editing.{joined_by, in_groups, edited_books, if_known, with_group, with_user, standing_members, number_for, group_text, each}
 use Rattle.ips_accounts.specs.Laws.{NamedOnce, text_at, GroupStands}
 use Rattle.ips_accounts.proofs.Lacking.{bind_ok, err_no, ok_value, split_at, all_ordered, all_filtered}
 use Rattle.ips_accounts.proofs.Others.{each_keeps, known_keeps, all_units}
 use Rattle.ips_accounts.proofs.GroupNames.{IsApart, all_apart, user_joins, joined_apart}
 use Rattle.ips_accounts.proofs.NewUsers.{own_line, other_line, put_own, put_other, given_is}
-
--- ---- numbers are small
-
-number_low : (bytes : List ℕ) (n : ℕ) → number_in bytes ≡ Some n → n < 2 ^ 32
-number_low bytes n e = go (is_same bytes (decimal (digits_value 10 bytes)) && ltb (digits_value 10 bytes) (2 ^ 32)) refl e
-  where
-    go : (t : Bool) → (is_same bytes (decimal (digits_value 10 bytes)) && ltb (digits_value 10 bytes) (2 ^ 32)) ≡ t → (let o : Option ℕ = cond t (Some (digits_value 10 bytes)) None in o ≡ Some n) → n < 2 ^ 32
-    go true h is =
-        let lt = ltb-true (digits_value 10 bytes) (2 ^ 32) (and_parts (is_same bytes (decimal (digits_value 10 bytes))) (ltb (digits_value 10 bytes) (2 ^ 32)) h).1 in
-        let same : digits_value 10 bytes ≡ n = cc in
-        subst (λ (v : ℕ). v < 2 ^ 32) same lt
-    go false h is = absurd cc
-
-IfLow : Option ℕ → Type 0
-IfLow None = Unit {0}
-IfLow (Some n) = n < 2 ^ 32
-
-in_low : (bytes : List ℕ) → IfLow (number_in bytes)
-unfolding IfLow
-in_low bytes = go (number_in bytes) refl
-  where
-    go : (o : Option ℕ) → number_in bytes ≡ o → IfLow o
-    go None e = tt
-    go (Some n) e = number_low bytes n e
-
-given_low : (key : List ℕ) (a : Fields) → IfLow (number_given key a)
-unfolding IfLow
-given_low key a = go (first_value key a)
-  where
-    go : (o : Option (List ℕ)) → IfLow (option_and_then number_in o)
-    go None = tt
-    go (Some bytes) = in_low bytes
-
-or_zero : (o : Option ℕ) → IfLow o → unwrap_or o 0 < 2 ^ 32
-unfolding IfLow
-or_zero None h = omega arith
-or_zero (Some n) h = h
-
-standing_low : (lines : List Line) (name : List ℕ) → IfLow (standing_number lines name)
-unfolding IfLow
-standing_low lines name = go (line_at lines name)
-  where
-    go : (o : Option Line) → IfLow (option_map (λ line. unwrap_or (number_of line) 0) o)
-    go None = tt
-    go (Some line) = or_zero (number_of line) (in_low (field 2 line))
-
-least_low : (n : ℕ) → min n 4294967295 < 2 ^ 32
-least_low n = omega arith
-
-wanted_low : (free : ℕ) (id standing : Option ℕ) → free < 2 ^ 32 → IfLow id → IfLow standing → unwrap_or (option_or id standing) free < 2 ^ 32
-unfolding IfLow
-wanted_low free None None lt hi hs = lt
-wanted_low free None (Some n) lt hi hs = hs
-wanted_low free (Some n) standing lt hi hs = hi
-
-for_low : (lines : List Line) (name : List ℕ) (id : Option ℕ) (n : ℕ) → IfLow id → number_for lines name id ≡ Ok n → n < 2 ^ 32
-for_low lines name id n low e = go (is_taken lines name (wanted_number lines name id)) e
-  where
-    go : (t : Bool) → (let r : Result ℕ AccountFault = cond t (Err (IdTaken (wanted_number lines name id))) (Ok (wanted_number lines name id)) in r ≡ Ok n) → n < 2 ^ 32
-    go true h = absurd cc
-    go false h =
-        let same : wanted_number lines name id ≡ n = cc in
-        subst (λ (v : ℕ). v < 2 ^ 32) same (wanted_low (free_number lines) id (standing_number lines name) (least_low _) low (standing_low lines name))
+use Rattle.ips_accounts.proofs.Low.{given_low, for_low, decimal_plain}
+use Rattle.ips_accounts.proofs.Joined.{taken_joined}
+use Rattle.ips_accounts.proofs.Apart.{none_put, own_apart, told_free, differs, numbered_apart}
+use Rattle.ips_books.proofs.Decimals.{number_small}
 
 -- ---- fields of a group's line
-
-digit_plain : (d : ℕ) → digit_value d < 10 → eqb d 58 ≡ false
-digit_plain d lt = grind (arith, nat_tests)
-
-digits_plain : (ds : List ℕ) → AllDigits 10 ds → IsField ds
-digits_plain [] h = refl
-digits_plain (d ∷ ds) h = ap (λ (t : Bool). t || list_any (λ b. eqb b 58) ds) (digit_plain d h.0) ∙ digits_plain ds h.1
-
-decimal_plain : (n : ℕ) → n < 2 ^ 32 → IsField (decimal n)
-decimal_plain n lt = digits_plain (decimal n) (decimal_is_IsNumeral n (omega (arith, lt))).0.1
 
 group_fields : (name : List ℕ) (gid : ℕ) (members : List ℕ) → IsField name → gid < 2 ^ 32 → slice_split (λ b. eqb b 58) (group_text name gid members) ≡ name ∷ [] ∷ decimal gid ∷ slice_split (λ b. eqb b 58) members
 group_fields name gid members plain lt =
@@ -176,6 +102,11 @@ pub record Stands (a : Fields) (b : Accounts) : Type 0 where
   pub low : gid < 2 ^ 32
   pub has : HasGroup (group_name a) gid b.group
   pub given : IfSome (number_given (codes "gid") a) (λ id. gid ≡ id)
+  pub alone : is_taken b.group (group_name a) gid ≡ false
+
+group_number : (name : List ℕ) (gid : ℕ) (members : List ℕ) (e : Bool) → IsField name → gid < 2 ^ 32 → number_of (record { text = group_text name gid members; ended = e }) ≡ Some gid
+group_number name gid members e plain lt =
+    ap (λ (parts : List (List ℕ)). number_in (unwrap_or (slice_get parts 2) [])) (group_fields name gid members plain lt) ∙ number_small (decimal gid) gid lt refl
 
 stands_first : (a : Fields) (b c : Accounts) → IsAccount (group_name a) → with_group a b ≡ Ok c → Stands a c
 unfolding HasGroup
@@ -187,13 +118,17 @@ stands_first a b c account e =
       low = for_low b.group (group_name a) (number_given (codes "gid") a) left.gid (given_low (codes "gid") a) left.number;
       has = (standing_members b.group (group_name a), ap (λ (l : List Line). text_at l (group_name a)) left.group ∙ put_own (group_name a) text b.group (λ t. own_line (group_name a) text _ t account refl));
       given = given_is b.group (group_name a) (number_given (codes "gid") a) left.gid left.number;
+      alone = ap (λ (l : List Line). is_taken l (group_name a) left.gid) left.group
+          ∙ none_put (group_name a) (group_name a) left.gid text b.group (λ t. own_apart (group_name a) left.gid (record { text = text; ended = t }) (own_line (group_name a) text _ t account refl)) (told_free b.group (group_name a) (number_given (codes "gid") a) left.gid left.number);
     }
 
-stands_on : (a other : Fields) (b c : Accounts) → IsApart group_name (group_name a) other → Stands a b → with_group other b ≡ Ok c → Stands a c
+stands_on : (a other : Fields) (b c : Accounts) → IsAccount (group_name a) → IsApart group_name (group_name a) other → Stands a b → with_group other b ≡ Ok c → Stands a c
 unfolding HasGroup
-stands_on a other b c names stands e =
+stands_on a other b c account names stands e =
     let left = group_left other b c e in
     let text = group_text (group_name other) left.gid (standing_members b.group (group_name other)) in
+    let low = for_low b.group (group_name other) (number_given (codes "gid") other) left.gid (given_low (codes "gid") other) left.number in
+    let apart = differs (group_name a) (group_name other) (group_text (group_name a) stands.gid stands.has.0) stands.gid left.gid b.group stands.has.1 (λ t. group_number (group_name a) stands.gid stands.has.0 t account.field stands.low) names.apart (told_free b.group (group_name other) (number_given (codes "gid") other) left.gid left.number) in
     record {
       gid = stands.gid;
       low = stands.low;
@@ -202,6 +137,8 @@ stands_on a other b c names stands e =
         ap (λ (l : List Line). text_at l (group_name a)) left.group ∙ put_other (group_name a) (group_name other) text b.group names.apart (λ t. other_line (group_name a) (group_name other) text _ t names.plain names.apart refl) ∙ stands.has.1,
       );
       given = stands.given;
+      alone = ap (λ (l : List Line). is_taken l (group_name a) stands.gid) left.group
+          ∙ none_put (group_name a) (group_name other) stands.gid text b.group (λ t. numbered_apart (group_name a) stands.gid left.gid (record { text = text; ended = t }) (group_number (group_name other) left.gid (standing_members b.group (group_name other)) t names.plain low) apart) stands.alone;
     }
 
 plain_names : (groups : List Fields) → AllByRecursion (λ a. IsAccount (group_name a)) groups → AllByRecursion (λ a. IsField (group_name a)) groups
@@ -212,7 +149,7 @@ groups_stand : (groups : List Fields) (books done : Accounts) → AllByRecursion
 groups_stand [] books done all once e = tt
 groups_stand (a ∷ groups) books done all once e =
     let one = bind_ok (with_group a books) (each with_group groups) done e in (
-      each_keeps (IsApart group_name (group_name a)) (Stands a) with_group (λ other b c. stands_on a other b c) groups one.0 done (all_apart group_name (group_name a) groups once.0 (plain_names groups all.1)) (stands_first a books one.0 all.0 one.1) one.2,
+      each_keeps (IsApart group_name (group_name a)) (Stands a) with_group (λ other b c. stands_on a other b c all.0) groups one.0 done (all_apart group_name (group_name a) groups once.0 (plain_names groups all.1)) (stands_first a books one.0 all.0 one.1) one.2,
       groups_stand groups one.0 done all.1 once.1 one.2,
     )
 
@@ -225,8 +162,9 @@ behind_users users (a ∷ groups) books done accounts all e =
       low = stands.low;
       has = subst (HasGroup (group_name a) stands.gid) (sym (user_joins u b c s)) (has_in (group_name a) (user_name u) (values_of (codes "group-list") u.attrs) stands.gid b.group accounts.0 stands.low stands.has);
       given = stands.given;
+      alone = ap (λ (l : List Line). is_taken l (group_name a) stands.gid) (user_joins u b c s) ∙ taken_joined (group_name a) stands.gid (user_name u) (values_of (codes "group-list") u.attrs) b.group ∙ stands.alone;
     }) users books done (all_units users) all.0 e in
-    (record { gid = last.gid; members = last.has.0; line = last.has.1; given = last.given }, behind_users users groups books done accounts.1 all.1 e)
+    (record { gid = last.gid; members = last.has.0; line = last.has.1; given = last.given; alone = last.alone }, behind_users users groups books done accounts.1 all.1 e)
 
 pub new_groups : (before after : Accounts) (old new : List Fields) → AllByRecursion (λ a. IsAccount (group_name a)) (groups_in new) → NamedOnce group_name (fresh_groups old new) → edited_books before old new ≡ Ok after → AllByRecursion (GroupStands after) (fresh_groups old new)
 new_groups before after old new accounts once e =

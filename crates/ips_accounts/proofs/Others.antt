@@ -12,14 +12,16 @@ use Rattle.ips_action.specs.Attrs.{is_same, values_of}
 use Rattle.ips_action.specs.Check.{IsAccount, begins_with_mark}
 use Rattle.ips_action.specs.Action.{Fields}
 use Rattle.ips_conflict.specs.Key.{value_of}
-use Rattle.ips_accounts.specs.declared.fault.AccountFault.{AccountFault}
-use Rattle.ips_accounts.specs.declared.fault.AccountFault.TheVariants.{UnknownGroup}
-use Rattle.ips_accounts.specs.Lines.{Line, ended}
-use Rattle.ips_accounts.specs.Accounts.{is_kept, is_of, field, joined, Accounts}
-use Rattle.ips_accounts.specs.Editing.{at_first, rewritten, added, put, without, user_name, group_name, users_in, name_cmp, is_fresh, fresh_groups, fresh_users, after_gone, edited_books, standing_members, if_known, with_group, with_user, with_shadow, in_groups, number_for, number_given, gid_of, passwd_text, shadow_text, each, is_named_in}
-use Rattle.ips_accounts.specs.Laws.{is_gone_user, is_other_user, bytes_of, OthersStay}
+use Rattle.ips_books.specs.declared.fault.AccountFault.{AccountFault}
+use Rattle.ips_books.specs.declared.fault.AccountFault.TheVariants.{UnknownGroup}
+use Rattle.ips_books.specs.Lines.{Line, ended}
+use Rattle.ips_books.specs.Accounts.{is_kept, is_of, field, joined, Accounts}
+use Rattle.ips_books.specs.Writing.{at_first, rewritten, added, put}
+use Rattle.ips_turnover.specs.Turnover.{without, user_name, group_name, users_in, name_cmp, is_fresh, fresh_groups, fresh_users, after_gone, number_given, is_named_in}
+use Rattle.ips_accounts.specs.Editing.{edited_books, standing_members, if_known, with_group, with_user, with_shadow, in_groups, number_for, gid_of, passwd_text, shadow_text, each}
+use Rattle.ips_accounts.specs.Laws.{is_gone_user, is_other_user, bytes_of}
 use Rattle.ips_accounts.proofs.Lacking.{bind_ok, err_no, ok_value, written_name, all_ordered, all_filtered}
-use Rattle.ips_accounts.proofs.Put.{later}
+use Rattle.ips_books.proofs.Written.{later}
 
 -- The bytes of a list with one more line in front, by whether that passes.
 in_front : (passes : Line → Bool) (line : Line) (one two : List Line) → bytes_of passes one ≡ bytes_of passes two → bytes_of passes (line ∷ one) ≡ bytes_of passes (line ∷ two)
@@ -32,44 +34,51 @@ in_front passes line one two e = go (passes line)
 left_out : (passes : Line → Bool) (line : Line) (lines : List Line) → passes line ≡ false → bytes_of passes (line ∷ lines) ≡ bytes_of passes lines
 left_out passes line lines e = ap (λ (t : Bool). map (λ (l : Line). l.text) (cond t (line ∷ filter passes lines) (filter passes lines))) e
 
-stay_added : (old new : List Fields) (text : List ℕ) (lines : List Line) → is_other_user old new (record { text = text; ended = true }) ≡ false → bytes_of (is_other_user old new) (added text lines) ≡ bytes_of (is_other_user old new) lines
-stay_added old new text [] e = left_out (is_other_user old new) (record { text = text; ended = true }) [] e
-stay_added old new text (line ∷ []) e = go (is_other_user old new line) (left_out (is_other_user old new) (record { text = text; ended = true }) [] e)
+-- Whether a line passes doesn't hang on its newline.
+abbrev pub IgnoresEnds : (Line → Bool) → Type 0
+IgnoresEnds passes = (line : Line) → passes (ended line) ≡ passes line
+
+pub stay_added : (passes : Line → Bool) (text : List ℕ) (lines : List Line) → IgnoresEnds passes → passes (record { text = text; ended = true }) ≡ false → bytes_of passes (added text lines) ≡ bytes_of passes lines
+stay_added passes text [] ends e = left_out passes (record { text = text; ended = true }) [] e
+stay_added passes text (line ∷ []) ends e =
+    ap (λ (t : Bool). map (λ (l : Line). l.text) (cond t (ended line ∷ filter passes (record { text = text; ended = true } ∷ [])) (filter passes (record { text = text; ended = true } ∷ [])))) (ends line)
+    ∙ go (passes line) (left_out passes (record { text = text; ended = true }) [] e)
   where
-    go : (t : Bool) → bytes_of (is_other_user old new) (record { text = text; ended = true } ∷ []) ≡ []
-        → map (λ (l : Line). l.text) (cond t (ended line ∷ filter (is_other_user old new) (record { text = text; ended = true } ∷ [])) (filter (is_other_user old new) (record { text = text; ended = true } ∷ []))) ≡ map (λ (l : Line). l.text) (cond t (line ∷ []) [])
+    go : (t : Bool) → bytes_of passes (record { text = text; ended = true } ∷ []) ≡ []
+        → map (λ (l : Line). l.text) (cond t (ended line ∷ filter passes (record { text = text; ended = true } ∷ [])) (filter passes (record { text = text; ended = true } ∷ []))) ≡ map (λ (l : Line). l.text) (cond t (line ∷ []) [])
     go true rest = ap (λ (texts : List (List ℕ)). line.text ∷ texts) rest
     go false rest = rest
-stay_added old new text (line ∷ next ∷ lines) e = in_front (is_other_user old new) line (added text (next ∷ lines)) (next ∷ lines) (stay_added old new text (next ∷ lines) e)
+stay_added passes text (line ∷ next ∷ lines) ends e = in_front passes line (added text (next ∷ lines)) (next ∷ lines) (stay_added passes text (next ∷ lines) ends e)
 
-stay_first : (passes test : Line → Bool) (text : List ℕ) (lines : List Line) → ((e : Bool) → passes (record { text = text; ended = e }) ≡ false) → ((line : Line) → test line ≡ true → passes line ≡ false) → bytes_of passes (at_first test (rewritten text) lines) ≡ bytes_of passes lines
-stay_first passes test text [] new old = refl
-stay_first passes test text (line ∷ lines) new old = go (test line) refl (stay_first passes test text lines new old)
+pub stay_changed : (passes test : Line → Bool) (change : Line → Line) (lines : List Line) → ((line : Line) → test line ≡ true → passes (change line) ≡ false) → ((line : Line) → test line ≡ true → passes line ≡ false) → bytes_of passes (at_first test change lines) ≡ bytes_of passes lines
+stay_changed passes test change [] new old = refl
+stay_changed passes test change (line ∷ lines) new old = go (test line) refl (stay_changed passes test change lines new old)
   where
-    go : (t : Bool) → test line ≡ t → bytes_of passes (at_first test (rewritten text) lines) ≡ bytes_of passes lines → bytes_of passes (cond t (rewritten text line ∷ lines) (line ∷ at_first test (rewritten text) lines)) ≡ bytes_of passes (line ∷ lines)
-    go true e rest = left_out passes (rewritten text line) lines (new line.ended) ∙ sym (left_out passes line lines (old line e))
-    go false e rest = in_front passes line (at_first test (rewritten text) lines) lines rest
+    go : (t : Bool) → test line ≡ t → bytes_of passes (at_first test change lines) ≡ bytes_of passes lines → bytes_of passes (cond t (change line ∷ lines) (line ∷ at_first test change lines)) ≡ bytes_of passes (line ∷ lines)
+    go true e rest = left_out passes (change line) lines (new line e) ∙ sym (left_out passes line lines (old line e))
+    go false e rest = in_front passes line (at_first test change lines) lines rest
 
-stay_put : (old new : List Fields) (name text : List ℕ) (lines : List Line) → ((e : Bool) → is_other_user old new (record { text = text; ended = e }) ≡ false) → ((line : Line) → is_of name line ≡ true → is_other_user old new line ≡ false)
-    → bytes_of (is_other_user old new) (put name text lines) ≡ bytes_of (is_other_user old new) lines
-stay_put old new name text lines fresh standing = go (list_any (is_of name) lines)
+pub stay_put : (passes : Line → Bool) (name text : List ℕ) (lines : List Line) → IgnoresEnds passes → ((e : Bool) → passes (record { text = text; ended = e }) ≡ false) → ((line : Line) → is_of name line ≡ true → passes line ≡ false) → bytes_of passes (put name text lines) ≡ bytes_of passes lines
+stay_put passes name text lines ends fresh standing = go (list_any (is_of name) lines)
   where
-    go : (t : Bool) → bytes_of (is_other_user old new) (cond t (at_first (is_of name) (rewritten text) lines) (added text lines)) ≡ bytes_of (is_other_user old new) lines
-    go true = stay_first (is_other_user old new) (is_of name) text lines fresh standing
-    go false = stay_added old new text lines (fresh true)
+    go : (t : Bool) → bytes_of passes (cond t (at_first (is_of name) (rewritten text) lines) (added text lines)) ≡ bytes_of passes lines
+    go true = stay_changed passes (is_of name) (rewritten text) lines (λ line of. fresh line.ended) standing
+    go false = stay_added passes text lines ends (fresh true)
 
 -- What goes with gone names is no other line.
-stay_without : (old new : List Fields) (lines : List Line) → bytes_of (is_other_user old new) (without (is_gone_user old new) lines) ≡ bytes_of (is_other_user old new) lines
-stay_without old new [] = refl
-stay_without old new (line ∷ lines) = go (is_kept line) (is_gone_user old new (field 0 line)) refl refl (stay_without old new lines)
+pub stay_without : (passes : Line → Bool) (gone : List ℕ → Bool) (lines : List Line) → ((line : Line) → is_kept line ≡ false → gone (field 0 line) ≡ true → passes line ≡ false) → bytes_of passes (without gone lines) ≡ bytes_of passes lines
+stay_without passes gone [] goes = refl
+stay_without passes gone (line ∷ lines) goes = go (is_kept line) (gone (field 0 line)) refl refl (stay_without passes gone lines goes)
   where
-    go : (k g : Bool) → is_kept line ≡ k → is_gone_user old new (field 0 line) ≡ g → bytes_of (is_other_user old new) (without (is_gone_user old new) lines) ≡ bytes_of (is_other_user old new) lines
-        → bytes_of (is_other_user old new) (cond (k || not g) (line ∷ without (is_gone_user old new) lines) (without (is_gone_user old new) lines)) ≡ bytes_of (is_other_user old new) (line ∷ lines)
-    go true g ke ge rest = in_front (is_other_user old new) line (without (is_gone_user old new) lines) lines rest
-    go false false ke ge rest = in_front (is_other_user old new) line (without (is_gone_user old new) lines) lines rest
-    go false true ke ge rest = rest ∙ sym (left_out (is_other_user old new) line lines (
-        ap (λ (t : Bool). t || not (is_gone_user old new (field 0 line) || is_named_in user_name (fresh_users old new) (field 0 line))) ke
-        ∙ ap (λ (t : Bool). not (t || is_named_in user_name (fresh_users old new) (field 0 line))) ge))
+    go : (k g : Bool) → is_kept line ≡ k → gone (field 0 line) ≡ g → bytes_of passes (without gone lines) ≡ bytes_of passes lines → bytes_of passes (cond (k || not g) (line ∷ without gone lines) (without gone lines)) ≡ bytes_of passes (line ∷ lines)
+    go true g ke ge rest = in_front passes line (without gone lines) lines rest
+    go false false ke ge rest = in_front passes line (without gone lines) lines rest
+    go false true ke ge rest = rest ∙ sym (left_out passes line lines (goes line ke ge))
+
+gone_no_other : (old new : List Fields) (line : Line) → is_kept line ≡ false → is_gone_user old new (field 0 line) ≡ true → is_other_user old new line ≡ false
+gone_no_other old new line ke ge =
+    ap (λ (t : Bool). t || not (is_gone_user old new (field 0 line) || is_named_in user_name (fresh_users old new) (field 0 line))) ke
+    ∙ ap (λ (t : Bool). not (t || is_named_in user_name (fresh_users old new) (field 0 line))) ge
 
 -- ---- users that are written
 
@@ -99,7 +108,7 @@ standing_no_other old new line name named of =
     no_other old new line name (not_true (is_kept line) parts.0) (sym (same_true name (field 0 line) parts.1)) named
 
 pub user_stays : (old new : List Fields) (a : Fields) (uid gid : ℕ) (lines : List Line) → Writes (fresh_users old new) a → bytes_of (is_other_user old new) (put (user_name a) (passwd_text a uid gid) lines) ≡ bytes_of (is_other_user old new) lines
-user_stays old new a uid gid lines writes = stay_put old new (user_name a) (passwd_text a uid gid) lines
+user_stays old new a uid gid lines writes = stay_put (is_other_user old new) (user_name a) (passwd_text a uid gid) lines (λ line. refl)
     (λ e. no_other old new (record { text = passwd_text a uid gid; ended = e }) (user_name a) (not_kept (user_name a) _ e writes.account) (written_name (user_name a) (passwd_text a uid gid) _ e writes.account.field refl) writes.named)
     (λ line of. standing_no_other old new line (user_name a) writes.named of)
 
@@ -117,7 +126,7 @@ pub all_units : (actions : List Fields) → AllByRecursion (λ (a : Fields). Uni
 all_units [] = tt
 all_units (a ∷ actions) = (tt, all_units actions)
 
-group_keeps : (a : Fields) (b c : Accounts) → with_group a b ≡ Ok c → (c.passwd ≡ b.passwd) × (c.shadow ≡ b.shadow)
+pub group_keeps : (a : Fields) (b c : Accounts) → with_group a b ≡ Ok c → (c.passwd ≡ b.passwd) × (c.shadow ≡ b.shadow)
 group_keeps a b c e = go (number_for b.group (group_name a) (number_given (codes "gid") a)) e
   where
     go : (r : Result ℕ AccountFault) → (r >>= λ gid. Ok (record { passwd = b.passwd; shadow = b.shadow; group = put (group_name a) (joined (group_name a ∷ [] ∷ decimal gid ∷ standing_members b.group (group_name a) ∷ [])) b.group })) ≡ Ok c → (c.passwd ≡ b.passwd) × (c.shadow ≡ b.shadow)
@@ -149,7 +158,7 @@ shadow_stays old new a lines writes = go (list_any (is_of (user_name a)) lines)
   where
     go : (t : Bool) → is_other_user old new (record { text = shadow_text a; ended = true }) ≡ false → bytes_of (is_other_user old new) (cond t lines (added (shadow_text a) lines)) ≡ bytes_of (is_other_user old new) lines
     go true e = refl
-    go false e = stay_added old new (shadow_text a) lines e
+    go false e = stay_added (is_other_user old new) (shadow_text a) lines (λ line. refl) e
 
 pub known_keeps : (users : List Fields) (books after : Accounts) → if_known users books ≡ Ok after → books ≡ after
 known_keeps [] books after e = ok_value books after e
@@ -164,7 +173,7 @@ all_more : (first : Fields) (users actions : List Fields) → AllByRecursion (λ
 all_more first users [] all = tt
 all_more first users (a ∷ actions) all = (ap (λ (t : Bool). is_same (user_name a) (user_name first) || t) all.0 ∙ or_true (is_same (user_name a) (user_name first)), all_more first users actions all.1)
 
-all_named : (users : List Fields) → AllByRecursion (λ a. is_named_in user_name users (user_name a) ≡ true) users
+pub all_named : (users : List Fields) → AllByRecursion (λ a. is_named_in user_name users (user_name a) ≡ true) users
 all_named [] = tt
 all_named (a ∷ users) = (ap (λ (t : Bool). t || is_named_in user_name users (user_name a)) (nat_list_eq_equiv.refl (user_name a)), all_more a users users (all_named users))
 
@@ -173,21 +182,28 @@ all_write users [] accounts named = tt
 all_write users (a ∷ actions) accounts named = (record { account = accounts.0; named = named.0 }, all_write users actions accounts.1 named.1)
 
 -- The lines of passwd and shadow that are about no gone user and none that is written have their bytes and their order.
-pub others_stay : (before after : Accounts) (old new : List Fields) → AllByRecursion (λ a. IsAccount (user_name a)) (users_in new) → edited_books before old new ≡ Ok after → OthersStay old new before after
-others_stay before after old new accounts e =
+pub record UsersStay (old new : List Fields) (before after : Accounts) : Type 0 where
+  pub passwd : bytes_of (is_other_user old new) after.passwd ≡ bytes_of (is_other_user old new) before.passwd
+  pub shadow : bytes_of (is_other_user old new) after.shadow ≡ bytes_of (is_other_user old new) before.shadow
+
+pub users_stay : (before after : Accounts) (old new : List Fields) → AllByRecursion (λ a. IsAccount (user_name a)) (users_in new) → edited_books before old new ≡ Ok after → UsersStay old new before after
+users_stay before after old new accounts e =
     let users = fresh_users old new in
     let kept = bytes_of (is_other_user old new) in
     let fresh = all_ordered (λ a. IsAccount (user_name a)) (name_cmp user_name) (filter (is_fresh (users_in old)) (users_in new)) (all_filtered (λ a. IsAccount (user_name a)) (is_fresh (users_in old)) (users_in new) accounts) in
     let writes = all_write users users fresh (all_named users) in
     let first = bind_ok (each with_group (fresh_groups old new) (after_gone old new before)) (λ grouped. each with_user users grouped >>= if_known users) after e in
     let second = bind_ok (each with_user users first.0) (if_known users) after first.2 in
-    let start : OthersStay old new before (after_gone old new before) = record { passwd = stay_without old new before.passwd; shadow = stay_without old new before.shadow } in
-    let grouped = each_keeps (λ a. Unit {0}) (OthersStay old new before) with_group (λ a b c p q s.
+    let start : UsersStay old new before (after_gone old new before) = record {
+      passwd = stay_without (is_other_user old new) (is_gone_user old new) before.passwd (gone_no_other old new);
+      shadow = stay_without (is_other_user old new) (is_gone_user old new) before.shadow (gone_no_other old new);
+    } in
+    let grouped = each_keeps (λ a. Unit {0}) (UsersStay old new before) with_group (λ a b c p q s.
     let same = group_keeps a b c s in record { passwd = ap kept same.0 ∙ q.passwd; shadow = ap kept same.1 ∙ q.shadow }) (fresh_groups old new) (after_gone old new before) first.0 (all_units (fresh_groups old new)) start first.1 in
-    let done = each_keeps (Writes users) (OthersStay old new before) with_user (λ a b c p q s.
+    let done = each_keeps (Writes users) (UsersStay old new before) with_user (λ a b c p q s.
     let given = user_gives a b c s in
     record {
       passwd = ap kept given.1 ∙ user_stays old new a given.0 (unwrap_or (gid_of b.group a) 0) b.passwd p ∙ q.passwd;
       shadow = ap kept given.2 ∙ shadow_stays old new a b.shadow p ∙ q.shadow;
     }) users first.0 second.0 writes grouped second.1 in
-    subst (OthersStay old new before) (known_keeps users second.0 after second.2) done
+    subst (UsersStay old new before) (known_keeps users second.0 after second.2) done

@@ -8,11 +8,13 @@ use Rattle.ips_text.specs.Reading.{◌>>=◌, Fails}
 use Rattle.ips_action.specs.Attrs.{values_of}
 use Rattle.ips_action.specs.Action.{Fields}
 use Rattle.ips_conflict.specs.Key.{value_of}
-use Rattle.ips_accounts.specs.declared.fault.AccountFault.{AccountFault}
-use Rattle.ips_accounts.specs.declared.fault.AccountFault.TheVariants.{UnknownGroup}
-use Rattle.ips_accounts.specs.Lines.{Line}
-use Rattle.ips_accounts.specs.Accounts.{Accounts}
-use Rattle.ips_accounts.specs.Editing.{each, if_known, gid_of, in_groups, group_name, user_name, number_given, number_for, put, group_text, standing_members, passwd_text, with_shadow, with_group, with_user, fresh_groups, fresh_users, after_gone, edited_books}
+use Rattle.ips_books.specs.declared.fault.AccountFault.{AccountFault}
+use Rattle.ips_books.specs.declared.fault.AccountFault.TheVariants.{UnknownGroup}
+use Rattle.ips_books.specs.Lines.{Line}
+use Rattle.ips_books.specs.Accounts.{Accounts}
+use Rattle.ips_books.specs.Writing.{put}
+use Rattle.ips_turnover.specs.Turnover.{group_name, user_name, number_given, fresh_groups, fresh_users, after_gone}
+use Rattle.ips_accounts.specs.Editing.{each, if_known, gid_of, in_groups, number_for, group_text, standing_members, passwd_text, with_shadow, with_group, with_user, edited_books}
 
 -- what fails first is how the whole fails
 pub fails_first : {X Y E : Type 0} (e : Or E) (r : Result X E) (f : X → Result Y E) (whole : Result Y E) → (r >>= f) ≡ whole → Fails e r → Fails e whole

@@ -1,154 +1,21 @@
 -- What an edit does to the account files, step by step.
-use Rattle.std.specs.Prelude.{ℕ, zero, suc, ◌+◌, ◌-◌, ◌^◌, min, Bool, true, not, ◌&&◌, ◌||◌, ◌==◌, if◌then◌else◌, List, [], ◌∷◌, ◌++◌, map, filter, length, replicate, Option, Some, option_map, is_some, unwrap_or, codes, Result, Ok, Err}
-use Rattle.std.specs.List.{list_any, join_with_byte}
-use Rattle.std.specs.Option.{option_eq, option_or, option_and_then}
+use Rattle.std.specs.Prelude.{ℕ, zero, suc, ◌+◌, ◌-◌, ◌^◌, min, Bool, if◌then◌else◌, List, [], ◌∷◌, ◌++◌, length, replicate, Option, option_map, is_some, unwrap_or, codes, Result, Ok, Err}
+use Rattle.std.specs.List.{list_any}
+use Rattle.std.specs.Option.{option_or}
 use Rattle.std.specs.Fmt.{decimal}
-use Rattle.std.specs.declared.cmp.Ordering.{Ordering}
-use Rattle.std.specs.Ordering.{nat_cmp, is_lt, on, then_cmp}
-use Rattle.std.specs.Cmp.Lexicographic.{slice_cmp}
 use Rattle.ips_text.specs.Reading.{◌>>=◌}
-use Rattle.ips_action.specs.Kind.{kind_name}
 use Rattle.ips_action.specs.Attrs.{is_same, values_of}
-use Rattle.ips_action.specs.Action.{Fields, line_text}
-use Rattle.ips_conflict.specs.Key.{first_value, value_of}
-use Rattle.ips_accounts.specs.declared.books.Book.{Book}
-use Rattle.ips_accounts.specs.declared.books.Book.TheVariants.{Passwd, Shadow, Group}
-use Rattle.ips_accounts.specs.declared.fault.AccountFault.{AccountFault}
-use Rattle.ips_accounts.specs.declared.fault.AccountFault.TheVariants.{BadAccountLine, IdTaken, UnknownGroup}
-use Rattle.ips_accounts.specs.Lines.{Line, lines_of, text_of, last_ended}
-use Rattle.ips_accounts.specs.Accounts.{is_kept, is_of, field, joined, number_in, number_of, members_of, bad_line, line_at, gid_at, Accounts}
-
--- ---- what actions say
-
--- The value of an attribute, or what stands for it where it isn't given.
-abbrev pub given_or : List ℕ → List ℕ → Fields → List ℕ
-given_or other key a = unwrap_or (first_value key a) other
-
--- The number that an attribute gives.
-abbrev pub number_given : List ℕ → Fields → Option ℕ
-number_given key a = option_and_then number_in (first_value key a)
-
--- The actions are of this kind.
-abbrev pub is_a : List ℕ → Fields → Bool
-is_a kind a = is_same (kind_name a.kind) kind
-
--- The users among actions.
-abbrev pub users_in : List Fields → List Fields
-users_in actions = filter (is_a (codes "user")) actions
-
--- The groups among actions.
-abbrev pub groups_in : List Fields → List Fields
-groups_in actions = filter (is_a (codes "group")) actions
-
--- The name of a user.
-abbrev pub user_name : Fields → List ℕ
-user_name a = value_of (codes "username") a
-
--- The name of a group.
-abbrev pub group_name : Fields → List ℕ
-group_name a = value_of (codes "groupname") a
-
--- The name is that of one of the actions.
-abbrev pub is_named_in : (Fields → List ℕ) → List Fields → List ℕ → Bool
-is_named_in name_of actions name = list_any (λ a. is_same name (name_of a)) actions
-
--- The name is gone: an old action has it, and no new one.
-abbrev pub is_gone : (Fields → List ℕ) → List Fields → List Fields → List ℕ → Bool
-is_gone name_of old new name = is_named_in name_of old name && not (is_named_in name_of new name)
-
--- The line of the action differs from every old one.
-abbrev pub is_fresh : List Fields → Fields → Bool
-is_fresh old a = not (list_any (λ o. is_same (line_text a) (line_text o)) old)
-
--- ---- the order of actions
-
--- The actions, with one more at its place in order, behind those that tie with it.
-abbrev pub placed : (Fields → Fields → Ordering) → Fields → List Fields → List Fields
-placed cmp a [] = a ∷ []
-placed cmp a (b ∷ actions) = if is_lt (cmp a b) then a ∷ b ∷ actions else b ∷ placed cmp a actions
-
--- The actions in order, with these more.
-abbrev pub ordered_with : (Fields → Fields → Ordering) → List Fields → List Fields → List Fields
-ordered_with cmp [] sorted = sorted
-ordered_with cmp (a ∷ actions) sorted = ordered_with cmp actions (placed cmp a sorted)
-
--- The actions in order.
-abbrev pub ordered : (Fields → Fields → Ordering) → List Fields → List Fields
-ordered cmp actions = ordered_with cmp actions []
-
--- How two actions stand to one another: by the bytes of the name, then of the line.
-abbrev pub name_cmp : (Fields → List ℕ) → Fields → Fields → Ordering
-name_cmp name_of = then_cmp (on name_of (slice_cmp nat_cmp)) (on line_text (slice_cmp nat_cmp))
-
--- The new groups whose line differs from every old one, by name.
-abbrev pub fresh_groups : List Fields → List Fields → List Fields
-fresh_groups old new = ordered (name_cmp group_name) (filter (is_fresh (groups_in old)) (groups_in new))
-
--- The new users whose line differs from every old one, by name.
-abbrev pub fresh_users : List Fields → List Fields → List Fields
-fresh_users old new = ordered (name_cmp user_name) (filter (is_fresh (users_in old)) (users_in new))
-
--- ---- lines that are written
-
--- The lines, with the first one that passes changed.
-abbrev pub at_first : (Line → Bool) → (Line → Line) → List Line → List Line
-at_first passes change [] = []
-at_first passes change (line ∷ lines) = if passes line then change line ∷ lines else line ∷ at_first passes change lines
-
--- The line with other text: its newline stays, or stays away.
-abbrev pub rewritten : List ℕ → Line → Line
-rewritten text line = record { text = text; ended = line.ended }
-
--- The lines with one more at the end; a line that lacked its newline gets it.
-abbrev pub added : List ℕ → List Line → List Line
-added text lines = last_ended lines ++ record { text = text; ended = true } ∷ []
-
--- The lines with that of a name: its first line is rewritten at its place, or a line is added at the end.
-abbrev pub put : List ℕ → List ℕ → List Line → List Line
-put name text lines = if list_any (is_of name) lines then at_first (is_of name) (rewritten text) lines else added text lines
-
--- ---- gone names
-
--- The line is kept as it is, or its name isn't gone.
-abbrev pub stays : (List ℕ → Bool) → Line → Bool
-stays gone line = is_kept line || not (gone (field 0 line))
-
--- The lines without those of gone names.
-abbrev pub without : (List ℕ → Bool) → List Line → List Line
-without gone lines = filter (stays gone) lines
-
--- The line of a group with these members.
-abbrev pub with_members : List (List ℕ) → Line → Line
-with_members members line = rewritten (joined (field 0 line ∷ field 1 line ∷ field 2 line ∷ join_with_byte 44 members ∷ [])) line
-
--- The line of a group without the members that are gone.
-abbrev pub left_by : (List ℕ → Bool) → Line → Line
-left_by gone line = if not (is_kept line) && list_any gone (members_of line) then with_members (filter (λ member. not (gone member)) (members_of line)) line else line
-
--- The files without gone names: their lines go, and gone users leave all member lists.
-abbrev pub after_gone : List Fields → List Fields → Accounts → Accounts
-after_gone old new books =
-    let gone_user = is_gone user_name (users_in old) (users_in new) in
-    let gone_group = is_gone group_name (groups_in old) (groups_in new) in
-    record {
-      passwd = without gone_user books.passwd;
-      shadow = without gone_user books.shadow;
-      group = without gone_group (map (left_by gone_user) books.group);
-    }
+use Rattle.ips_action.specs.Action.{Fields}
+use Rattle.ips_conflict.specs.Key.{value_of}
+use Rattle.ips_books.specs.declared.fault.AccountFault.{AccountFault}
+use Rattle.ips_books.specs.declared.fault.AccountFault.TheVariants.{IdTaken, UnknownGroup}
+use Rattle.ips_books.specs.Lines.{Line}
+use Rattle.ips_books.specs.Accounts.{is_of, field, joined, number_of, members_of, line_at, gid_at, Accounts}
+use Rattle.ips_books.specs.Reading.{Texts, read_books, texts_of}
+use Rattle.ips_books.specs.Writing.{at_first, added, put, with_members, has_number, is_taken}
+use Rattle.ips_turnover.specs.Turnover.{given_or, number_given, user_name, group_name, fresh_groups, fresh_users, after_gone}
 
 -- ---- numbers
-
--- The line has this number.
-abbrev pub has_number : ℕ → Line → Bool
-has_number id line = not (is_kept line) && option_eq ◌==◌ (number_of line) (Some id)
-
--- The line has this number, and speaks of another name.
-abbrev pub is_of_other : List ℕ → ℕ → Line → Bool
-is_of_other name id line = has_number id line && not (is_of name line)
-
--- The number is that of a line that speaks of another name.
-abbrev pub is_taken : List Line → List ℕ → ℕ → Bool
-is_taken lines name id = list_any (is_of_other name id) lines
 
 -- The number is that of a line.
 abbrev pub is_used : List Line → ℕ → Bool
@@ -234,30 +101,6 @@ each step [] books = Ok books
 each step (a ∷ actions) books = step a books >>= each step actions
 
 -- ---- the whole
-
--- The lines of a file, or the first that isn't one of it.
-abbrev pub read_book : Book → List ℕ → Result (List Line) AccountFault
-read_book book text =
-    let found = bad_line book (lines_of text) in
-    if is_some found then Err (BadAccountLine book (unwrap_or found 0 + 1)) else Ok (lines_of text)
-
--- The texts of the files.
-pub record Texts : Type 0 where
-  pub passwd : List ℕ
-  pub shadow : List ℕ
-  pub group : List ℕ
-
--- The three files, or the first bad line, passwd before shadow before group.
-abbrev pub read_books : Texts → Result Accounts AccountFault
-read_books texts = do
-  passwd ← read_book Passwd texts.passwd
-  shadow ← read_book Shadow texts.shadow
-  group ← read_book Group texts.group
-  Ok (record { passwd = passwd; shadow = shadow; group = group })
-
--- The texts of three files.
-abbrev pub texts_of : Accounts → Texts
-texts_of books = record { passwd = text_of books.passwd; shadow = text_of books.shadow; group = text_of books.group }
 
 -- The files, unless the group of a user has no number: the first such user is told.
 abbrev pub if_known : List Fields → Accounts → Result Accounts AccountFault

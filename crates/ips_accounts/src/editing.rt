@@ -1,18 +1,15 @@
 //! The edit.
 
 ghost use Rattle.ips_text.specs.Reading.{Gives};
-ghost use Rattle.ips_accounts.specs.Seen.{files_seen, texts};
+ghost use Rattle.ips_books.specs.Seen.{files_seen, texts};
 ghost use Rattle.ips_accounts.specs.Editing.{edited, edited_books};
 
-use crate::books::Books;
-use crate::fault::AccountFault;
-use crate::files::{Files, print_books, read_books};
-use crate::fresh::fresh;
-use crate::gone::remove_gone;
 use crate::groups::add_groups;
 use crate::users::{add_users, are_known};
 use ips_action::Action;
+use ips_books::{AccountFault, Books, Files, print_books, read_books};
 use ips_text::Or;
+use ips_turnover::{fresh, remove_gone};
 use std::alloc::Global;
 
 /// The texts of the account files after the users and groups of the old packages gave way to those of the new ones.

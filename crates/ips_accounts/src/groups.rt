@@ -4,19 +4,19 @@ ghost use Rattle.std.specs.Prelude.{◌≡◌, map, unwrap_or, IfOk, OnOk};
 ghost use Rattle.std.specs.List.{list_any};
 ghost use Rattle.ips_text.specs.Reading.{Gives};
 ghost use Rattle.ips_action.specs.Attrs.{is_same};
-ghost use Rattle.ips_accounts.specs.Accounts as lines_spec;
+ghost use Rattle.ips_books.specs.Accounts as lines_spec;
 ghost use Rattle.ips_accounts.specs.Editing as spec;
-ghost use Rattle.ips_accounts.specs.Seen.{files_seen};
+ghost use Rattle.ips_books.specs.Writing as writing_spec;
+ghost use Rattle.ips_books.specs.Seen.{files_seen};
 
-use crate::fault::AccountFault;
-use crate::files::Files;
-use crate::finding::{line_at, place_of};
-use crate::line::{Line, field};
 use crate::numbers::number_for;
-use crate::values::{number_given, value_of};
-use crate::writing::{join, members_of, put, replace, with_members};
 use ips_action::Action;
+use ips_books::{
+    AccountFault, Files, Line, field, join, line_at, members_of, place_of, put, replace,
+    with_members,
+};
 use ips_text::{Or, Text};
+use ips_turnover::{number_given, value_of};
 use std::alloc::{AllocError, Global};
 
 /// Adds each group in turn, or tells the first whose number is another name's.
@@ -89,7 +89,7 @@ pub fn join_groups(
 
 // Makes the user a member of the group.
 fn join_group(alloc: Global, lines: &mut [Line], user: &str, group: &str) -> Result<(), AllocError>
-    ensures { OnOk result (lines.new ≡ spec.at_first (lines_spec.is_of group.now) (spec.joined_by user.now) lines.old) }
+    ensures { OnOk result (lines.new ≡ writing_spec.at_first (lines_spec.is_of group.now) (spec.joined_by user.now) lines.old) }
 {
     match place_of(lines, group.as_bytes()) {
         Some(place) => {

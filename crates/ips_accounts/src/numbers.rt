@@ -4,11 +4,10 @@ ghost use Rattle.std.specs.Prelude.{◌≡◌, ◌<◌, ◌+◌, ◌||◌, ℕ, 
 ghost use Rattle.std.specs.List.{position};
 ghost use Rattle.ips_text.specs.Reading.{Gives};
 ghost use Rattle.ips_accounts.specs.Editing as spec;
-ghost use Rattle.ips_accounts.specs.Seen.{as_line};
+ghost use Rattle.ips_books.specs.Writing as writing_spec;
+ghost use Rattle.ips_books.specs.Seen.{as_line};
 
-use crate::fault::AccountFault;
-use crate::finding::{is_taken, line_at};
-use crate::line::{Line, is_kept, number_of};
+use ips_books::{AccountFault, Line, is_kept, is_taken, line_at, number_of};
 use ips_text::Or;
 use std::alloc::{AllocError, Global};
 
@@ -87,7 +86,7 @@ fn used_numbers(alloc: Global, lines: &[Line]) -> Result<Vec<bool>, AllocError>
 
 // Marks the number of the line as used.
 fn mark(used: &mut [bool], line: &[u8])
-    ensures { (k : ℕ) → k < length used.old → slice_index_or used.new k false ≡ (spec.has_number (k + 1) (as_line line.now) || slice_index_or used.old k false) }
+    ensures { (k : ℕ) → k < length used.old → slice_index_or used.new k false ≡ (writing_spec.has_number (k + 1) (as_line line.now) || slice_index_or used.old k false) }
 {
     if is_kept(line) {
         return;

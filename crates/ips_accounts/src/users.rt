@@ -3,18 +3,14 @@
 ghost use Rattle.std.specs.Prelude.{◌≡◌, map, Ok, IfOk, OnOk};
 ghost use Rattle.ips_text.specs.Reading.{Gives};
 ghost use Rattle.ips_accounts.specs.Editing as spec;
-ghost use Rattle.ips_accounts.specs.Seen.{files_seen};
+ghost use Rattle.ips_books.specs.Seen.{files_seen};
 
-use crate::fault::AccountFault;
-use crate::files::Files;
-use crate::finding::{gid_at, place_of};
 use crate::groups::join_groups;
-use crate::line::Line;
 use crate::numbers::number_for;
-use crate::values::{given_or, number_given, value_of};
-use crate::writing::{add, join, put};
 use ips_action::Action;
+use ips_books::{AccountFault, Files, Line, add, gid_at, join, place_of, put};
 use ips_text::{Or, Text};
+use ips_turnover::{given_or, number_given, value_of};
 use std::alloc::{AllocError, Global};
 
 /// Adds each user in turn, or tells the first whose number is another name's.

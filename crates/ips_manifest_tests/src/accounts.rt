@@ -124,6 +124,11 @@ u:x:5:2::/:¶ ! u:p:::::::¶ ! g::1:u¶h::2:v,u¶i::3:u,w¶j::4:v | user usernam
 # Two users of one number that stand: what the edit isn't about isn't judged, and a user keeps no number that is another's.
 a:x:1:1::/:¶b:x:1:1::/:¶ ! a:p:::::::¶b:p:::::::¶ ! | | user username=c group=bin -> a:x:1:1::/:¶b:x:1:1::/:¶c:x:2:2:& User:/:¶!a:p:::::::¶b:p:::::::¶c:*LK*:::::::¶!
 a:x:1:1::/:¶b:x:1:1::/:¶ !! | | user username=a group=bin -> taken 1
+# A number that a user gives up is free for the next, and users come by the bytes of their names.
+a:x:1:1::/:¶ !! | | user username=b group=bin; user username=a uid=9 group=bin -> a:x:9:2:& User:/:¶b:x:1:2:& User:/:¶!a:*LK*:::::::¶b:*LK*:::::::¶!
+!! | | user username=c group=bin; user username=a group=bin; user username=b group=bin -> a:x:1:2:& User:/:¶b:x:2:2:& User:/:¶c:x:3:2:& User:/:¶!a:*LK*:::::::¶b:*LK*:::::::¶c:*LK*:::::::¶!
+# Two of one name go by their lines: the later one counts.
+!! | | user username=a uid=3 group=bin; user username=a uid=3 group=bin home-dir=/x -> a:x:3:2:& User:/:¶!a:*LK*:::::::¶!
 # A line that stays asks for nothing.
 !! | user username=a group=none | user username=a group=none -> !!
 # Groups come before users, each by the bytes of their names.
@@ -142,6 +147,6 @@ root:x:7:1::/:¶root:x:8:1::/:¶ !! g::9: | root g -> 7 9
 #[test]
 fn edits_account_files(rt: HostRuntime) {
     let alloc = rt.alloc();
-    holds(&rt, alloc, &mut Asked::Edited, 22, ACCOUNTS_ARE_EDITED);
+    holds(&rt, alloc, &mut Asked::Edited, 25, ACCOUNTS_ARE_EDITED);
     holds(&rt, alloc, &mut Asked::Owned, 6, OWNERS_HAVE_NUMBERS);
 }

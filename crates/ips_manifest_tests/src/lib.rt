@@ -7,6 +7,8 @@ mod accounts;
 #[cfg(test)]
 mod action;
 #[cfg(test)]
+mod actuate;
+#[cfg(test)]
 mod catalog;
 #[cfg(test)]
 mod depend;

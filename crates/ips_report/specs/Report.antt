@@ -6,8 +6,8 @@ use Rattle.ips_text.specs.Quote.{shown}
 use Rattle.ips_digest.specs.Name.{spelling}
 use Rattle.ips_fmri.specs.Version.{Parts, version_text}
 use Rattle.ips_refute.specs.Text.{entries, refutation_text}
-use Rattle.ips_accounts.specs.declared.books.Book.{Book}
-use Rattle.ips_accounts.specs.declared.books.Book.TheVariants.{Passwd, Shadow, Group}
+use Rattle.ips_books.specs.declared.books.Book.{Book}
+use Rattle.ips_books.specs.declared.books.Book.TheVariants.{Passwd, Shadow, Group}
 use Rattle.ips_meaning.specs.declared.finding.Finding.{Finding}
 use Rattle.ips_meaning.specs.declared.finding.Damage.{Damage}
 use Rattle.ips_meaning.specs.declared.finding.Damage.TheVariants.{Missing, WrongKind, WrongContent, WrongMode, WrongTarget, NotSame}

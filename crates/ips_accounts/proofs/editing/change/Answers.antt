@@ -2,7 +2,7 @@ use Rattle.std.proofs.Common.{Bor, List, map, sym, ap, subst, ◌∙◌}
 use Rattle.std.proofs.lemmas.Result.{err_from_is_err_and}
 use Rattle.ips_action.specs.Action.{Fields}
 use Rattle.ips_text.specs.Reading.{Gives, Fails}
-use Rattle.ips_accounts.specs.Seen.{files_seen}
+use Rattle.ips_books.specs.Seen.{files_seen}
 use Rattle.ips_accounts.specs.Editing.{each, with_group, with_user, if_known}
 use Rattle.ips_accounts.proofs.Steps.{edited_is, groups_fail, users_fail}
 use Rattle.ips_accounts.proofs.editing.change.Goals as goal

@@ -1,6 +1,7 @@
 use Rattle.std.proofs.Common.{sym, ◌∙◌}
-use Rattle.ips_accounts.specs.Seen.{files_seen}
-use Rattle.ips_accounts.specs.Editing.{number_for, group_text, standing_members, put}
+use Rattle.ips_books.specs.Seen.{files_seen}
+use Rattle.ips_books.specs.Writing.{put}
+use Rattle.ips_accounts.specs.Editing.{number_for, group_text, standing_members}
 use Rattle.ips_accounts.proofs.Steps.{group_added}
 use Rattle.ips_accounts.proofs.groups.add_group.Goals as goal
 

@@ -1,6 +1,6 @@
 use Rattle.std.proofs.Common.{refl, arith}
 use Rattle.std.proofs.lemmas.Result.{err_from_is_err_and}
-use Rattle.ips_accounts.specs.Seen.{files_seen}
+use Rattle.ips_books.specs.Seen.{files_seen}
 use Rattle.ips_accounts.specs.Editing.{with_group}
 use Rattle.ips_accounts.proofs.Steps.{goes_more, goes_fails, goes_done}
 use Rattle.ips_accounts.proofs.groups.add_groups.Goals as goal

@@ -2,7 +2,7 @@ use Rattle.std.proofs.Common.{Bor, List, ℕ, rules, tests, ◌∙◌}
 use Rattle.std.proofs.lemmas.Iterator.{YieldsList-from_slice}
 use Rattle.std.proofs.lemmas.Iterator.Search.{any_from_yields_List}
 use Rattle.ips_action.specs.Attrs.{is_same}
-use Rattle.ips_accounts.proofs.Left.{seen_any}
+use Rattle.ips_turnover.proofs.Left.{seen_any}
 use Rattle.ips_accounts.proofs.groups.is_member.Goals as goal
 
 pub returns : goal.returns

@@ -1,10 +1,10 @@
 use Rattle.std.proofs.Common.{◌≡◌, List, ℕ, get_or, set, sym, ap, ◌∙◌}
 use Rattle.std.specs.List.{position}
-use Rattle.ips_accounts.specs.Lines.{Line}
-use Rattle.ips_accounts.specs.Accounts.{is_of}
+use Rattle.ips_books.specs.Lines.{Line}
+use Rattle.ips_books.specs.Accounts.{is_of}
 use Rattle.ips_accounts.specs.Editing.{joined_by}
-use Rattle.ips_accounts.proofs.Read.{none_first}
-use Rattle.ips_accounts.proofs.Put.{first_at, first_none}
+use Rattle.ips_books.proofs.Read.{none_first}
+use Rattle.ips_books.proofs.Written.{first_at, first_none}
 use Rattle.ips_accounts.proofs.groups.join_group.Goals as goal
 
 pub returns-in_ok-next-in-Some : goal.returns-in_ok-next-in-Some

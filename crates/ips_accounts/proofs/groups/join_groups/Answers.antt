@@ -1,7 +1,8 @@
 use Rattle.std.proofs.Common.{List, ℕ, ◌+◌, drop, sym, ap, ◌∙◌}
 use Rattle.std.proofs.lemmas.List.{at_drop_more}
-use Rattle.ips_accounts.specs.Accounts.{is_of}
-use Rattle.ips_accounts.specs.Editing.{at_first, joined_by, in_groups}
+use Rattle.ips_books.specs.Accounts.{is_of}
+use Rattle.ips_books.specs.Writing.{at_first}
+use Rattle.ips_accounts.specs.Editing.{joined_by, in_groups}
 use Rattle.ips_accounts.proofs.groups.join_groups.Goals as goal
 
 pub loop-group-preserved : goal.loop-group-preserved

@@ -1,9 +1,9 @@
 use Rattle.std.proofs.Common.{List, ℕ, sym, ap, ◌∙◌}
 use Rattle.std.specs.List.{position}
 use Rattle.std.proofs.lemmas.Result.{on_ok_weaker}
-use Rattle.ips_accounts.specs.Accounts.{is_of}
-use Rattle.ips_accounts.specs.Editing.{added}
-use Rattle.ips_accounts.proofs.Put.{shadow_there, shadow_none}
+use Rattle.ips_books.specs.Accounts.{is_of}
+use Rattle.ips_books.specs.Writing.{added}
+use Rattle.ips_accounts.proofs.Passwords.{shadow_there, shadow_none}
 use Rattle.ips_accounts.proofs.users.add_password.Goals as goal
 
 pub returns-in-Some : goal.returns-in-Some

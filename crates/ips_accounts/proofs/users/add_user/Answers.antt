@@ -4,9 +4,10 @@ use Rattle.std.specs.Vec.{with_items}
 use Rattle.std.proofs.lemmas.List.{with_items_is}
 use Rattle.ips_action.specs.Attrs.{values_of}
 use Rattle.ips_action.specs.Action.{Fields}
-use Rattle.ips_accounts.specs.Accounts.{gid_at}
-use Rattle.ips_accounts.specs.Seen.{files_seen}
-use Rattle.ips_accounts.specs.Editing.{number_for, passwd_text, put, in_groups}
+use Rattle.ips_books.specs.Accounts.{gid_at}
+use Rattle.ips_books.specs.Seen.{files_seen}
+use Rattle.ips_books.specs.Writing.{put}
+use Rattle.ips_accounts.specs.Editing.{number_for, passwd_text, in_groups}
 use Rattle.ips_accounts.proofs.Steps.{user_added}
 use Rattle.ips_accounts.proofs.users.add_user.Goals as goal
 

@@ -1,4 +1,4 @@
-use Rattle.ips_accounts.specs.Seen.{files_seen}
+use Rattle.ips_books.specs.Seen.{files_seen}
 use Rattle.ips_accounts.specs.Editing.{with_user}
 use Rattle.ips_accounts.proofs.Steps.{Goes}
 use Rattle.ips_accounts.proofs.users.add_users.Given as goal

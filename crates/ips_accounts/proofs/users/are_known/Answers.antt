@@ -1,6 +1,6 @@
 use Rattle.std.proofs.Common.{Option, ℕ, is_some, refl, sym, ap, arith, ◌∙◌}
-use Rattle.ips_accounts.specs.Accounts.{gid_at}
-use Rattle.ips_accounts.specs.Seen.{files_seen}
+use Rattle.ips_books.specs.Accounts.{gid_at}
+use Rattle.ips_books.specs.Seen.{files_seen}
 use Rattle.ips_accounts.proofs.Steps.{known_more, known_not, known_done}
 use Rattle.ips_accounts.proofs.users.are_known.Goals as goal
 

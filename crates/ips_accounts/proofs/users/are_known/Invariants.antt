@@ -1,4 +1,4 @@
-use Rattle.ips_accounts.specs.Seen.{files_seen}
+use Rattle.ips_books.specs.Seen.{files_seen}
 use Rattle.ips_accounts.proofs.Steps.{Known}
 use Rattle.ips_accounts.proofs.users.are_known.Given as goal
 

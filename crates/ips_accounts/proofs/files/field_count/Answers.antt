@@ -1,9 +1,0 @@
-use Rattle.std.proofs.Common.{eqb, rules}
-use Rattle.std.proofs.lemmas.Iterator.Consumers.{count_from_yields_List}
-use Rattle.std.proofs.lemmas.Iterator.Splits.{YieldsList-from_slice_split}
-use Rattle.ips_accounts.proofs.files.field_count.Goals as goal
-
-pub returns : goal.returns
-returns c =
-    count_from_yields_List c.split.result c.count.result c.count.ensures.ran
-    (YieldsList-from_slice_split _ (λ b. eqb b 58) c.args.line.now c.split.ensures.rest c.split.ensures.done c.split.ensures.closure (λ x b q h. search rules))

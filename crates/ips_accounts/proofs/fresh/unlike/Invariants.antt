@@ -1,6 +1,0 @@
-use Rattle.std.proofs.Common.{◌≡◌, map, filter, take}
-use Rattle.ips_accounts.specs.Seen.{is_unlike}
-use Rattle.ips_accounts.proofs.fresh.unlike.Given as goal
-
-abbrev pub invariant-loop-action : goal.invariant-loop-action
-invariant-loop-action l = map (λ a. a.now) l.found.items ≡ filter (is_unlike l.kind l.lines) (take l.action-index l.actions)

@@ -1,0 +1,5 @@
+pub mod Decimals
+pub mod Ended
+pub mod Pieces
+pub mod Written
+pub mod Read
