@@ -3,3 +3,10 @@ pub mod Settings
 pub mod FileKinds
 pub mod Unread
 pub mod OneText
+pub mod HeadWords
+pub mod HeadSections
+pub mod HeadBad
+pub mod HeadFiles
+pub mod SetInOrder
+pub mod OriginsDiffer
+pub mod HeadKinds

@@ -10,14 +10,21 @@
 
 mod fault;
 mod files;
+mod head_lines;
+mod head_words;
+mod heading;
 mod laws;
 mod listings;
 mod lists;
 mod manifests;
 mod mediators;
+mod origins;
+mod set_lines;
 
 pub use fault::StateFault;
 pub use files::{bad_line, load_bytes, load_list, path_of};
+pub use head_lines::HeadLine;
+pub use heading::{Heading, read_heading};
 pub use laws::lists_are_one;
 pub use listings::{Mediators, Names, Requests, Stems};
 pub use lists::{load_history, load_mediators, load_names, load_stems};
