@@ -11,8 +11,8 @@ use Rattle.ips_books.specs.declared.books.Book.TheVariants.{Passwd, Shadow, Grou
 use Rattle.ips_meaning.specs.declared.finding.Finding.{Finding}
 use Rattle.ips_meaning.specs.declared.finding.Damage.{Damage}
 use Rattle.ips_meaning.specs.declared.finding.Damage.TheVariants.{Missing, WrongKind, WrongContent, WrongMode, WrongTarget, NotSame}
-use Rattle.ips_words.specs.declared.table.Why.{Why}
-use Rattle.ips_words.specs.declared.table.Why.TheVariants as why
+use Rattle.ips_syntax.specs.declared.table.Why.{Why}
+use Rattle.ips_syntax.specs.declared.table.Why.TheVariants as why
 use Rattle.ips_report.specs.declared.counts.Counts.{Counts}
 use Rattle.ips_report.specs.declared.counts.Sorts.{Sorts}
 use Rattle.ips_report.specs.declared.unsolved.Tried.{Tried}

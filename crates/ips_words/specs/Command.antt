@@ -1,13 +1,13 @@
 -- What the words ask for, or where they go wrong.
 use Rattle.std.specs.Prelude.{◌≡◌, ℕ, ◌-◌, ◌&&◌, Bool, false, List, [], ◌∷◌, length, codes, Ok, Err}
 use Rattle.ips_text.specs.declared.refusal.Stop.{Stop}
-use Rattle.ips_words.specs.declared.table.Why.{Why}
-use Rattle.ips_words.specs.declared.values.Given.{Given}
-use Rattle.ips_words.specs.declared.lines.Line.{Line}
+use Rattle.ips_syntax.specs.declared.table.Why.{Why}
+use Rattle.ips_syntax.specs.declared.values.Given.{Given}
+use Rattle.ips_syntax.specs.declared.lines.Line.{Line}
 use Rattle.ips_words.specs.declared.what.Usage.{Usage}
 use Rattle.ips_words.specs.declared.command.Command as declared
-use Rattle.ips_words.specs.Values.{same}
-use Rattle.ips_words.specs.Reading.{line_at}
+use Rattle.ips_syntax.specs.Values.{same}
+use Rattle.ips_syntax.specs.Reading.{line_at}
 use Rattle.ips_words.specs.Meaning.{Means}
 use Rattle.ips_words.specs.History.{from_command, history_of}
 

@@ -1,13 +1,13 @@
 -- The help: a page of the table, and the lines of one command.
 use Rattle.std.specs.Prelude.{ℕ, ◌==◌, ◌&&◌, Bool, if◌then◌else◌, List, [], ◌++◌, length, codes, Option, Some, None}
 use Rattle.std.specs.List.{flat_map, list_any}
-use Rattle.ips_words.specs.declared.table.Verb.{Verb}
-use Rattle.ips_words.specs.declared.table.Verb.TheVariants as verb
-use Rattle.ips_words.specs.declared.table.Role.{Role}
-use Rattle.ips_words.specs.declared.table.Form.{Form}
-use Rattle.ips_words.specs.declared.table.Form.TheVariants as form
-use Rattle.ips_words.specs.declared.table.Operands.{Operands}
-use Rattle.ips_words.specs.Table.{all_verbs, verb_name, options_of, operands_of, required_of, role_name, value_form, repeats, sets}
+use Rattle.ips_syntax.specs.declared.table.Verb.{Verb}
+use Rattle.ips_syntax.specs.declared.table.Verb.TheVariants as verb
+use Rattle.ips_syntax.specs.declared.table.Role.{Role}
+use Rattle.ips_syntax.specs.declared.table.Form.{Form}
+use Rattle.ips_syntax.specs.declared.table.Form.TheVariants as form
+use Rattle.ips_syntax.specs.declared.table.Operands.{Operands}
+use Rattle.ips_syntax.specs.Table.{all_verbs, verb_name, options_of, operands_of, required_of, role_name, value_form, repeats, sets}
 
 -- How the help shows a word of a form, behind a blank.
 abbrev pub form_text : Form → List ℕ
@@ -64,7 +64,7 @@ deed verb.Search = codes "show where a word stands in the installed packages; * 
 deed verb.RebuildIndex = codes "make the index that search reads"
 deed verb.ChangeFacet = codes "set facets, or take their settings away"
 deed verb.ChangeVariant = codes "set a variant"
-deed verb.SetMediator = codes "choose among mediated links, by version, implementation or both"
+deed verb.SetMediator = codes "choose among mediated links by -V, by -I or by both: one has to stand"
 deed verb.UnsetMediator = codes "leave the choice among mediated links to the packages"
 deed verb.Avoid = codes "keep group dependencies from installing these packages"
 deed verb.Unavoid = codes "take packages from the avoid list"
@@ -85,7 +85,7 @@ head_text = codes "usage: pkg -R <image> -s <repository> <command>\n       pkg -
 
 -- The numbers that the program ends with.
 unfoldable pub foot_text : List ℕ
-foot_text = codes "exit status: 0 done, 1 refused, 2 bad words, 4 nothing to do, 6 license needed, 99 out of memory\n"
+foot_text = codes "exit status: 0 done, 1 refused, failed or damaged, 2 bad words, 4 nothing to do, 6 license needed, 99 out of memory\n"
 
 -- The lines of one command, or of all.
 abbrev pub body_text : Option Verb → List ℕ
@@ -95,3 +95,7 @@ body_text (Some v) = command_text v
 -- The help of one command, or of all.
 abbrev pub help_text : Option Verb → List ℕ
 help_text command = head_text ++ body_text command ++ foot_text
+
+-- The version of the program, as `--version` shows it.
+abbrev pub version_text : List ℕ
+version_text = codes "pkg 0.1"

@@ -2,7 +2,7 @@
 use Rattle.std.specs.Prelude.{ℕ, ◌==◌, Bool, if◌then◌else◌, List, [], ◌∷◌, ◌++◌, drop, codes}
 use Rattle.std.specs.List.{flat_map}
 use Rattle.ips_text.specs.Quote.{quoted, AreBytes}
-use Rattle.ips_words.specs.Values.{same}
+use Rattle.ips_syntax.specs.Values.{same}
 
 -- The byte is a blank.
 abbrev pub is_blank : ℕ → Bool

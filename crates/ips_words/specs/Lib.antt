@@ -1,6 +1,3 @@
-pub mod Table
-pub mod Values
-pub mod Reading
 pub mod Meaning
 pub mod History
 pub mod Help

@@ -4,20 +4,20 @@ use Rattle.std.specs.List.{flat_map}
 use Rattle.ips_fmri.specs.Version.{Parts}
 use Rattle.ips_fmri.specs.declared.fmri.Fmri.{Fmri}
 use Rattle.ips_fmri.specs.declared.pattern.Pattern.{Pattern}
-use Rattle.ips_words.specs.declared.table.Verb.{Verb}
-use Rattle.ips_words.specs.declared.table.Verb.TheVariants as verb
-use Rattle.ips_words.specs.declared.table.Role.{Role}
-use Rattle.ips_words.specs.declared.table.Role.TheVariants.{Operand, Accept, Actuator, Facet, Implementation, Manifest, NonSticky, Publisher, Reject, SearchFirst, SearchLimit, Sticky, Variant, Version}
-use Rattle.ips_words.specs.declared.values.Value.{Value}
-use Rattle.ips_words.specs.declared.values.Value.TheVariants as value
-use Rattle.ips_words.specs.declared.values.VariantWord.{VariantWord}
-use Rattle.ips_words.specs.declared.values.FacetWord.{FacetWord}
-use Rattle.ips_words.specs.declared.values.Given.{Given}
-use Rattle.ips_words.specs.declared.lines.Line.{Line}
-use Rattle.ips_words.specs.declared.lines.Line.TheVariants as line
+use Rattle.ips_syntax.specs.declared.table.Verb.{Verb}
+use Rattle.ips_syntax.specs.declared.table.Verb.TheVariants as verb
+use Rattle.ips_syntax.specs.declared.table.Role.{Role}
+use Rattle.ips_syntax.specs.declared.table.Role.TheVariants.{Operand, Accept, Actuator, Facet, Implementation, Manifest, NonSticky, Publisher, Reject, SearchFirst, SearchLimit, Sticky, Variant, Version}
+use Rattle.ips_syntax.specs.declared.values.Value.{Value}
+use Rattle.ips_syntax.specs.declared.values.Value.TheVariants as value
+use Rattle.ips_syntax.specs.declared.values.VariantWord.{VariantWord}
+use Rattle.ips_syntax.specs.declared.values.FacetWord.{FacetWord}
+use Rattle.ips_syntax.specs.declared.values.Given.{Given}
+use Rattle.ips_syntax.specs.declared.lines.Line.{Line}
+use Rattle.ips_syntax.specs.declared.lines.Line.TheVariants as line
 use Rattle.ips_words.specs.declared.what.What.{What}
 use Rattle.ips_words.specs.declared.what.What.TheVariants as what
-use Rattle.ips_words.specs.Reading.{is_set_by, stands}
+use Rattle.ips_syntax.specs.Reading.{is_set_by, stands}
 
 -- ---- lists, in the order of the words
 

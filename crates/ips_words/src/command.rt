@@ -8,11 +8,9 @@ ghost use Rattle.ips_words.specs.Command as command;
 ghost use Rattle.ips_words.specs.Command.{is_led, IsCommand, IsUsage, usage_of};
 
 use crate::history::history_text;
-use crate::lines::{Line, next_word, read_line};
 use crate::making::what_of;
-use crate::table::Why;
-use crate::values::Given;
 use crate::what::{Usage, What};
+use ips_syntax::{Given, Line, Why, next_word, read_line};
 use ips_text::{Or, Stop, Text};
 use std::alloc::{AllocError, Global};
 

@@ -4,9 +4,8 @@ ghost use Rattle.std.specs.Prelude.{◌≡◌, ◌++◌, OnOk, IfNone, IfOk, IfS
 ghost use Rattle.ips_words.specs.Meaning as meaning;
 ghost use Rattle.ips_words.specs.Meaning.{all_of, facet_in, freeze_in, or_empty, pattern_in, variant_in, word_in, word_of};
 
-use crate::table::{Role, sets};
-use crate::values::{FacetWord, Given, Value, VariantWord};
 use ips_fmri::{Fmri, Pattern, Version};
+use ips_syntax::{FacetWord, Given, Role, Value, VariantWord, sets};
 use ips_text::Text;
 use std::alloc::{AllocError, Global};
 

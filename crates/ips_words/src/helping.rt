@@ -4,7 +4,7 @@ ghost use Rattle.std.specs.Prelude.{◌≡◌, ◌++◌, IfOk, OnOk, string_byte
 ghost use Rattle.std.specs.List.{flat_map};
 ghost use Rattle.ips_words.specs.Help as page;
 
-use crate::table::{
+use ips_syntax::{
     Form, Operands, Role, VERBS, Verb, operands_of, options_of, repeats, required_of, role_name,
     sets, value_form, verb_name,
 };
@@ -20,6 +20,13 @@ pub fn help(alloc: Global, command: Option<Verb>) -> Result<Text, AllocError>
     push_body(&mut out, command)?;
     push_foot(&mut out)?;
     Ok(Text::from_string(out))
+}
+
+/// The version of the program, which `--version` shows.
+pub fn version() -> &'static str
+    ensures { result.now ≡ page.version_text }
+{
+    "pkg 0.1"
 }
 
 // Writes how a command is given.
@@ -38,7 +45,7 @@ fn push_foot(out: &mut String) -> Result<(), AllocError>
     ensures { OnOk result (string_bytes out.new ≡ string_bytes out.old ++ page.foot_text) }
 {
     out.push_str(
-        "exit status: 0 done, 1 refused, 2 bad words, 4 nothing to do, 6 license needed, 99 out of memory\n",
+        "exit status: 0 done, 1 refused, failed or damaged, 2 bad words, 4 nothing to do, 6 license needed, 99 out of memory\n",
     )
 }
 
@@ -172,7 +179,8 @@ fn deed(verb: Verb) -> &'static str
         Verb::RebuildIndex => "make the index that search reads",
         Verb::ChangeFacet => "set facets, or take their settings away",
         Verb::ChangeVariant => "set a variant",
-        Verb::SetMediator => "choose among mediated links, by version, implementation or both",
+        Verb::SetMediator =>
+            "choose among mediated links by -V, by -I or by both: one has to stand",
         Verb::UnsetMediator => "leave the choice among mediated links to the packages",
         Verb::Avoid => "keep group dependencies from installing these packages",
         Verb::Unavoid => "take packages from the avoid list",

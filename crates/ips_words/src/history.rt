@@ -5,7 +5,7 @@ ghost use Rattle.std.specs.List.{flat_map, slice_split};
 ghost use Rattle.percent_encoding.specs.Percent.{percent_decode};
 ghost use Rattle.ips_words.specs.History.{AreWords, blank_and_word, history_of, is_blank};
 
-use crate::lines::next_word;
+use ips_syntax::next_word;
 use ips_text::{Text, quote};
 use std::alloc::{AllocError, Global};
 

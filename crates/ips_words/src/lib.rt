@@ -8,15 +8,11 @@ mod command;
 mod gather;
 mod helping;
 mod history;
-mod lines;
 mod making;
-mod table;
-mod values;
 mod what;
 
 pub use command::{Command, roots};
-pub use helping::help;
+pub use helping::{help, version};
 pub use history::history_reads_back;
-pub use table::{Form, Operands, Role, Verb, Why};
-pub use values::{FacetWord, Given, Value, VariantWord};
+pub use ips_syntax::{FacetWord, Form, Given, Operands, Role, Value, VariantWord, Verb, Why};
 pub use what::{Usage, What};

@@ -1,8 +1,8 @@
 //! What a line means, made of what was given.
 
 ghost use Rattle.std.specs.Prelude.{IfOk};
-ghost use Rattle.ips_words.specs.declared.table.Verb.TheVariants as verb;
-ghost use Rattle.ips_words.specs.declared.lines.Line.TheVariants as line;
+ghost use Rattle.ips_syntax.specs.declared.table.Verb.TheVariants as verb;
+ghost use Rattle.ips_syntax.specs.declared.lines.Line.TheVariants as line;
 ghost use Rattle.ips_words.specs.Meaning as meaning;
 ghost use Rattle.ips_words.specs.Meaning.{Means};
 
@@ -10,10 +10,8 @@ use crate::gather::{
     facets, freezes, name, number_or, pattern, patterns, sticky, texts, variant, variants, version,
     word,
 };
-use crate::lines::{Line, stands};
-use crate::table::{Role, Verb};
-use crate::values::{Given, VariantWord};
 use crate::what::What;
+use ips_syntax::{Given, Line, Role, VariantWord, Verb, stands};
 use std::alloc::{AllocError, Global};
 
 /// The limit of a search where the words give none.

@@ -1,8 +1,7 @@
 //! What the words mean.
 
-use crate::table::{Verb, Why};
-use crate::values::{FacetWord, VariantWord};
 use ips_fmri::{Fmri, Pattern, Version};
+use ips_syntax::{FacetWord, VariantWord, Verb, Why};
 use ips_text::Text;
 
 /// Where the words go wrong, and how.

@@ -11,7 +11,7 @@ fn the_help_of_one_command(rt: HostRuntime) {
        pkg --help | --version | <command> --help
   image-create -p <publisher> [--variant variant.<name>=<value>].. [--facet facet.<name>=true|false].. [--actuator <name>]
       make an image
-exit status: 0 done, 1 refused, 2 bad words, 4 nothing to do, 6 license needed, 99 out of memory
+exit status: 0 done, 1 refused, failed or damaged, 2 bad words, 4 nothing to do, 6 license needed, 99 out of memory
 ";
     assert!(rt; page.as_str() == wanted, "{}", page.as_str());
 }

@@ -8,6 +8,8 @@ mod lines;
 #[cfg(test)]
 mod orders;
 #[cfg(test)]
+mod pages;
+#[cfg(test)]
 mod reports;
 #[cfg(test)]
 mod table;

@@ -1,6 +1,6 @@
 use Rattle.std.proofs.Common.{◌≡◌, length}
-use Rattle.ips_words.specs.Reading.{role_in}
-use Rattle.ips_words.proofs.lines.role_in.Given as goal
+use Rattle.ips_syntax.specs.Reading.{role_in}
+use Rattle.ips_syntax.proofs.lines.role_in.Given as goal
 
 abbrev pub invariant-loop-rest : goal.invariant-loop-rest
 invariant-loop-rest l = role_in l.rest l.word ≡ role_in l.roles l.word

@@ -3,21 +3,21 @@ use Rattle.std.specs.Prelude.{ℕ, suc, ◌+◌, Bool, true, false, not, ◌&&�
 use Rattle.std.specs.List.{list_any}
 use Rattle.ips_text.specs.declared.refusal.Stop.{Stop}
 use Rattle.ips_text.specs.Reading.{◌>>=◌}
-use Rattle.ips_words.specs.declared.table.Why.{Why}
-use Rattle.ips_words.specs.declared.table.Why.TheVariants.{Missing, Unknown, Repeated, Extra}
-use Rattle.ips_words.specs.declared.table.Verb.{Verb}
-use Rattle.ips_words.specs.declared.table.Role.{Role}
-use Rattle.ips_words.specs.declared.table.Role.TheVariants.{Operand}
-use Rattle.ips_words.specs.declared.table.Form.{Form}
-use Rattle.ips_words.specs.declared.table.Form.TheVariants as form
-use Rattle.ips_words.specs.declared.table.Operands.{Operands}
-use Rattle.ips_words.specs.declared.values.Value.{Value}
-use Rattle.ips_words.specs.declared.values.Value.TheVariants as value
-use Rattle.ips_words.specs.declared.values.Given.{Given}
-use Rattle.ips_words.specs.declared.lines.Line.{Line}
-use Rattle.ips_words.specs.declared.lines.Line.TheVariants.{Help, HelpOf, Version, Does}
-use Rattle.ips_words.specs.Table.{all_verbs, verb_name, options_of, operands_of, required_of, role_name, value_form, repeats, sets}
-use Rattle.ips_words.specs.Values.{same, value_at}
+use Rattle.ips_syntax.specs.declared.table.Why.{Why}
+use Rattle.ips_syntax.specs.declared.table.Why.TheVariants.{Missing, Unknown, Repeated, Extra}
+use Rattle.ips_syntax.specs.declared.table.Verb.{Verb}
+use Rattle.ips_syntax.specs.declared.table.Role.{Role}
+use Rattle.ips_syntax.specs.declared.table.Role.TheVariants.{Operand}
+use Rattle.ips_syntax.specs.declared.table.Form.{Form}
+use Rattle.ips_syntax.specs.declared.table.Form.TheVariants as form
+use Rattle.ips_syntax.specs.declared.table.Operands.{Operands}
+use Rattle.ips_syntax.specs.declared.values.Value.{Value}
+use Rattle.ips_syntax.specs.declared.values.Value.TheVariants as value
+use Rattle.ips_syntax.specs.declared.values.Given.{Given}
+use Rattle.ips_syntax.specs.declared.lines.Line.{Line}
+use Rattle.ips_syntax.specs.declared.lines.Line.TheVariants.{Help, HelpOf, Version, Does}
+use Rattle.ips_syntax.specs.Table.{all_verbs, verb_name, options_of, operands_of, required_of, role_name, value_form, repeats, sets}
+use Rattle.ips_syntax.specs.Values.{same, value_at}
 
 -- A stop of this kind where so many words are left.
 abbrev pub stop : Why → ℕ → Stop Why

@@ -1,7 +1,7 @@
 //! The table of the commands.
 
 ghost use Rattle.std.specs.Prelude.{◌≡◌, ◌==◌, IfSome, IfNone};
-ghost use Rattle.ips_words.specs.Table as table;
+ghost use Rattle.ips_syntax.specs.Table as table;
 
 /// Why a word is at fault.
 #[derive(Clone, Copy, Debug, PartialEq, Eq, Drop)]

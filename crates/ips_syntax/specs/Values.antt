@@ -13,12 +13,12 @@ use Rattle.ips_fmri.specs.Reading.{placed, read_name, read_fmri, read_version}
 use Rattle.ips_fmri.specs.declared.fault.FmriFault.{FmriFault}
 use Rattle.ips_fmri.specs.declared.fmri.Fmri.{Fmri}
 use Rattle.ips_fmri.specs.declared.pattern.Pattern.{Pattern}
-use Rattle.ips_words.specs.declared.table.Why.{Why}
-use Rattle.ips_words.specs.declared.table.Why.TheVariants.{BadValue}
-use Rattle.ips_words.specs.declared.table.Form.{Form}
-use Rattle.ips_words.specs.declared.table.Form.TheVariants as form
-use Rattle.ips_words.specs.declared.values.Value.{Value}
-use Rattle.ips_words.specs.declared.values.Value.TheVariants as value
+use Rattle.ips_syntax.specs.declared.table.Why.{Why}
+use Rattle.ips_syntax.specs.declared.table.Why.TheVariants.{BadValue}
+use Rattle.ips_syntax.specs.declared.table.Form.{Form}
+use Rattle.ips_syntax.specs.declared.table.Form.TheVariants as form
+use Rattle.ips_syntax.specs.declared.values.Value.{Value}
+use Rattle.ips_syntax.specs.declared.values.Value.TheVariants as value
 
 -- The two texts are the same.
 abbrev pub same : List ℕ → List ℕ → Bool

@@ -1,6 +1,6 @@
 use Rattle.std.proofs.Common.{◌≡◌, length}
-use Rattle.ips_words.specs.Reading.{verb_in}
-use Rattle.ips_words.proofs.lines.verb_of.Given as goal
+use Rattle.ips_syntax.specs.Reading.{verb_in}
+use Rattle.ips_syntax.proofs.lines.verb_of.Given as goal
 
 abbrev pub invariant-loop-rest : goal.invariant-loop-rest
 invariant-loop-rest l = verb_in l.rest l.word ≡ verb_in l.verbs l.word

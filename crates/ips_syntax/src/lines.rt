@@ -3,8 +3,8 @@
 ghost use Rattle.std.specs.Prelude.{◌≡◌, ◌<◌, ◌≤◌, ◌∷◌, ℕ, suc, IfNone, IfOk, IfSome, Some, [], map, string_bytes, length};
 ghost use Rattle.std.specs.List.{list_any};
 ghost use Rattle.ips_text.specs.Reading.{Gives};
-ghost use Rattle.ips_words.specs.Reading as reading;
-ghost use Rattle.ips_words.specs.Values as values;
+ghost use Rattle.ips_syntax.specs.Reading as reading;
+ghost use Rattle.ips_syntax.specs.Values as values;
 
 use crate::table::{
     Form, Operands, Role, VERBS, Verb, Why, operands_of, options_of, repeats, required_of,

@@ -3,14 +3,14 @@ use Rattle.std.specs.Prelude.{if◌then◌else◌}
 use Rattle.std.proofs.Common.{◌≡◌, ℕ, suc, Bool, true, false, List, [], ◌∷◌, ◌++◌, length, Result, Ok, Err, refl, sym}
 use Rattle.ips_text.specs.declared.refusal.Stop.{Stop}
 use Rattle.ips_text.specs.Reading.{◌>>=◌}
-use Rattle.ips_words.specs.declared.table.Why.{Why}
-use Rattle.ips_words.specs.declared.table.Why.TheVariants.{Missing, Repeated}
-use Rattle.ips_words.specs.declared.table.Verb.{Verb}
-use Rattle.ips_words.specs.declared.values.Value.{Value}
-use Rattle.ips_words.specs.declared.values.Given.{Given}
-use Rattle.ips_words.specs.Table.{value_form}
-use Rattle.ips_words.specs.Values.{value_at}
-use Rattle.ips_words.specs.Reading.{stop, stopping, is_operand, role_of, again, takes, plain, valued, option_at, options_at}
+use Rattle.ips_syntax.specs.declared.table.Why.{Why}
+use Rattle.ips_syntax.specs.declared.table.Why.TheVariants.{Missing, Repeated}
+use Rattle.ips_syntax.specs.declared.table.Verb.{Verb}
+use Rattle.ips_syntax.specs.declared.values.Value.{Value}
+use Rattle.ips_syntax.specs.declared.values.Given.{Given}
+use Rattle.ips_syntax.specs.Table.{value_form}
+use Rattle.ips_syntax.specs.Values.{value_at}
+use Rattle.ips_syntax.specs.Reading.{stop, stopping, is_operand, role_of, again, takes, plain, valued, option_at, options_at}
 
 -- what is read behind the first option
 abbrev After : Type 0

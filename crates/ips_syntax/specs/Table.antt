@@ -1,12 +1,12 @@
 -- The table of the commands: each with its word, its options and its operands (pkg(1), narrowed, and commands of this program alone).
 use Rattle.std.specs.Prelude.{ℕ, ◌^◌, ◌-◌, Bool, true, false, List, [], ◌∷◌, codes}
-use Rattle.ips_words.specs.declared.table.Verb.{Verb}
-use Rattle.ips_words.specs.declared.table.Verb.TheVariants.{ImageCreate, Install, Update, Uninstall, Fix, Verify, List as ListInstalled, Contents, History, Search, RebuildIndex, ChangeFacet, ChangeVariant, SetMediator, UnsetMediator, Avoid, Unavoid, Freeze, Unfreeze, SetPublisher, UnsetPublisher, UpdateFormat, Gen}
-use Rattle.ips_words.specs.declared.table.Role.{Role}
-use Rattle.ips_words.specs.declared.table.Role.TheVariants as role
-use Rattle.ips_words.specs.declared.table.Form.{Form}
-use Rattle.ips_words.specs.declared.table.Form.TheVariants as form
-use Rattle.ips_words.specs.declared.table.Operands.{Operands}
+use Rattle.ips_syntax.specs.declared.table.Verb.{Verb}
+use Rattle.ips_syntax.specs.declared.table.Verb.TheVariants.{ImageCreate, Install, Update, Uninstall, Fix, Verify, List as ListInstalled, Contents, History, Search, RebuildIndex, ChangeFacet, ChangeVariant, SetMediator, UnsetMediator, Avoid, Unavoid, Freeze, Unfreeze, SetPublisher, UnsetPublisher, UpdateFormat, Gen}
+use Rattle.ips_syntax.specs.declared.table.Role.{Role}
+use Rattle.ips_syntax.specs.declared.table.Role.TheVariants as role
+use Rattle.ips_syntax.specs.declared.table.Form.{Form}
+use Rattle.ips_syntax.specs.declared.table.Form.TheVariants as form
+use Rattle.ips_syntax.specs.declared.table.Operands.{Operands}
 
 -- The word of a command.
 abbrev pub verb_name : Verb → List ℕ

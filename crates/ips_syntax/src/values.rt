@@ -5,11 +5,11 @@ ghost use Rattle.std.specs.List.{list_all};
 ghost use Rattle.ips_text.specs.Reading.{Gives};
 ghost use Rattle.ips_text.specs.Number.{number_at};
 ghost use Rattle.ips_fmri.specs.Name as name;
-ghost use Rattle.ips_words.specs.declared.table.Why.TheVariants as why;
-ghost use Rattle.ips_words.specs.declared.table.Form.TheVariants as form;
-ghost use Rattle.ips_words.specs.declared.values.Value.TheVariants as value;
-ghost use Rattle.ips_words.specs.Values as values;
-ghost use Rattle.ips_words.specs.Values.{checked, cut, facet_of, made_of, same_in_any_case, switch_of, value_at, within};
+ghost use Rattle.ips_syntax.specs.declared.table.Why.TheVariants as why;
+ghost use Rattle.ips_syntax.specs.declared.table.Form.TheVariants as form;
+ghost use Rattle.ips_syntax.specs.declared.values.Value.TheVariants as value;
+ghost use Rattle.ips_syntax.specs.Values as values;
+ghost use Rattle.ips_syntax.specs.Values.{checked, cut, facet_of, made_of, same_in_any_case, switch_of, value_at, within};
 
 use crate::table::{Form, Role, Why};
 use ips_fmri::{Fmri, Pattern, Version};
