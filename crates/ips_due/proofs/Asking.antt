@@ -1,5 +1,5 @@
 -- A request between what packages mean is such as the laws of the image after ask for.
-use Rattle.std.proofs.Common.{◌≡◌, ℕ, ◌<◌, Bool, true, false, cond, ◌||◌, List, [], ◌∷◌, map, Option, Some, None, is_some, refl, sym, ◌∙◌, ap, subst, inl, inr, arith}
+use Rattle.std.proofs.Common.{◌≡◌, ℕ, ◌<◌, Bool, true, false, List, map, Option, Some, is_some, sym, ap, subst, inl, inr, arith}
 use Rattle.std.specs.Prelude.{codes}
 use Rattle.std.proofs.lemmas.Bool.{or_cases, or_left, or_right}
 use Rattle.ips_text.specs.Path.{IsPath}
@@ -11,16 +11,15 @@ use Rattle.ips_filter.specs.Settings.{Set}
 use Rattle.ips_mediate.specs.declared.set.SetMediator.{SetMediator}
 use Rattle.ips_conflict.specs.Clash.{has_legacy}
 use Rattle.ips_meaning.specs.declared.entry.Entry as meaning
-use Rattle.ips_after.specs.Lists.{listed}
 use Rattle.ips_after.specs.Planned.{HasEntryParts, IsNameable, IsProperRequest}
-use Rattle.ips_after.specs.Request.{IsRequest, Over, Request, Wanted}
+use Rattle.ips_after.specs.Request.{IsRequest, Over, Request}
 use Rattle.ips_after.proofs.Behind.{above_path}
 use Rattle.ips_after.proofs.Sorted.{sorted_once}
 use Rattle.ips_wanted.specs.Wanted.{want_of, wanted_among}
 use Rattle.ips_wanted.proofs.Apart.{legacy_wanted, nothing_below, nothing_legacy, own_wanted, wanted_named}
 use Rattle.ips_wanted.proofs.Found.{is_want, led_to_file, proper_at, some_there}
 use Rattle.ips_due.specs.Asked.{AreMeant, request_between}
-use Rattle.ips_due.specs.Due.{Due, FitsAccounts, HasProperDue, IsDue, IsOverOf, LeavesOwn, account_at, is_due, is_own, record_at, said}
+use Rattle.ips_due.specs.Due.{Due, FitsAccounts, HasProperDue, IsDue, IsOverOf, LeavesOwn, is_due}
 use Rattle.ips_due.proofs.Fitting.{Account, Folder, Gone, Record, Said, Silent, due_of_account, due_of_folder, due_of_record, over_fits, over_named, said_is}
 
 module _ (so sn : Set) (mo mn : List SetMediator) (po pn : List Package) (old new : List (List ℕ × meaning.Entry)) (was : AreMeant so mo po old) (is : AreMeant sn mn pn new)

@@ -1,5 +1,5 @@
 -- What a change of a state makes due hangs together.
-use Rattle.std.proofs.Common.{◌≡◌, ℕ, ◌/◌, ◌%◌, Bool, true, false, cond, not, ◌&&◌, ◌||◌, ◌==◌, List, [], ◌∷◌, ◌++◌, map, Option, Some, None, is_some, refl, sym, ◌∙◌, ap, subst, inl, inr, arith}
+use Rattle.std.proofs.Common.{◌≡◌, ℕ, ◌/◌, ◌%◌, Bool, true, false, cond, not, ◌||◌, ◌==◌, List, [], ◌∷◌, ◌++◌, map, Option, Some, None, is_some, refl, sym, ◌∙◌, ap, subst, inl, inr, arith}
 use Rattle.std.specs.Prelude.{codes}
 use Rattle.std.specs.List.{AllByRecursion, list_any}
 use Rattle.std.specs.Fmt.{digit_glyph}
@@ -16,7 +16,7 @@ use Rattle.ips_index.specs.Rows.{Row}
 use Rattle.ips_state.specs.State.{Installed, Recorded}
 use Rattle.ips_state.specs.Records.{avoid_path, common_records, freeze_path, gone_stems, history_path, image_path, index_path, index_records, installed_path, listed_records, manifest_path, manifests_path, mediators_path, package_path, package_records, packages_path, records_by, records_of, taken_away, taken_by}
 use Rattle.ips_after.specs.Lists.{listed}
-use Rattle.ips_due.specs.Due.{IsDue, is_due, is_own, record_at}
+use Rattle.ips_due.specs.Due.{IsDue, is_own, record_at}
 use Rattle.ips_due.specs.State.{renewed_by, state_due}
 
 -- ---- quoted names
