@@ -1,6 +1,6 @@
 -- A request, phase by phase: what is owed, and what is due.
 use Rattle.std.proofs.Common.{◌≡◌, ◌≢◌, inl, inr, ⊎_elim, ℕ, Bool, true, false, IsTrue, IsFalse, List, [], Option, Some, None, is_none, ◌||◌, map, refl, sym, ◌∙◌, ap, subst}
-use Rattle.ips_text.specs.Ancestry.{covers, same_path, parent}
+use Rattle.ips_text.specs.Ancestry.{covers, same_path}
 use Rattle.ips_text.proofs.Ancestry.{covers-self}
 use Rattle.ips_outside.specs.Image.{Entry, Image, IsImage, is_dir, file_bytes, dir_or_none}
 use Rattle.ips_outside.specs.State.{State, IsSettled}
@@ -11,7 +11,7 @@ use Rattle.ips_steps.specs.Steps.{Step}
 use Rattle.ips_steps.specs.Private.{records_name, journal_name, gate_name, begins, mark_front, visible}
 use Rattle.ips_steps.specs.Owed.{FolderOwes}
 use Rattle.ips_steps.proofs.Lists.{clash}
-use Rattle.ips_steps.proofs.PrivateNames.{gate_private}
+use Rattle.ips_steps.proofs.PrivateNames.{gate_private, gate_parent}
 use Rattle.ips_kinds.specs.Tallies.{Carrier}
 use Rattle.ips_journal.specs.Text.{journal_text}
 use Rattle.ips_actuate.specs.declared.running.ActFault.{ActFault}
@@ -28,10 +28,6 @@ use Rattle.ips_run.specs.Phases.{uncommitted_as, IsUnrun, Failed, Spawn, IsResum
 use Rattle.ips_run.proofs.Opened.{owes_seen, always_shut, never_open, stays_owed, withdrawn}
 
 -- ---- the gate can be made where a change stands ready
-
-gate_parent : parent gate_name ≡ Some records_name
-unfolding gate_name records_name
-gate_parent = refl
 
 above_journal : covers records_name journal_name ≡ true
 unfolding records_name journal_name

@@ -2,7 +2,6 @@
 use Rattle.std.proofs.Common.{◌≡◌, ◌≢◌, inl, inr, ℕ, ◌+◌, Bool, true, false, IsTrue, IsFalse, List, [], None, refl, sym, ◌∙◌, ap, subst}
 use Rattle.ips_outside.specs.Image.{Image}
 use Rattle.ips_outside.specs.Running.{Run, Running}
-use Rattle.ips_outside.specs.Outside.{OneMore, counted}
 use Rattle.ips_steps.specs.Private.{gate_name}
 use Rattle.ips_steps.proofs.Lists.{clash}
 use Rattle.ips_kinds.specs.Tallies.{Carrier}
@@ -56,10 +55,6 @@ left_fault (ending.ActuatorFailed after words status) left = cc
 left_fault (ending.SpawnFault after) left = cc
 left_fault ending.SourceFault left = cc
 left_fault ending.OutOfMemory left = cc
-
--- one call was counted, and none since
-pub one_since : (a b c : ℕ) → OneMore a b → c ≡ b → OneMore a c
-one_since a b c one none = subst (OneMore a) (sym none) one
 
 -- ---- causes
 

@@ -1,21 +1,17 @@
 -- A recovery, by its answer.
 use Rattle.std.proofs.Common.{◌≡◌, ◌≢◌, ℕ, Bool, true, false, ◌||◌, IsTrue, IsFalse, List, Option, Some, None, IfSome, Err, Result, is_some, refl, sym, ◌∙◌, ap, subst}
-use Rattle.std.proofs.lemmas.Bool.{or_parts, or_from}
 use Rattle.ips_text.specs.declared.refusal.Or.{Or}
 use Rattle.ips_text.specs.declared.refusal.Or.TheVariants.{Bad, OutOfMemory}
 use Rattle.ips_text.specs.Reading.{IfBad}
-use Rattle.ips_text.specs.Ancestry.{covers}
-use Rattle.ips_outside.proofs.Moments.{agrees_less}
-use Rattle.ips_outside.specs.Image.{Entry, Image, Agrees}
+use Rattle.ips_outside.specs.Image.{Entry, Image}
 use Rattle.ips_outside.specs.State.{State, Within, nowhere}
 use Rattle.ips_outside.specs.Outside.{Outside}
 use Rattle.ips_folder.specs.Calls.{Keeps}
 use Rattle.ips_folder.proofs.Runs.{weaker}
-use Rattle.ips_steps.specs.Steps.{Step, stage_name, after}
-use Rattle.ips_steps.specs.Private.{gate_name, journal_name, mark_front, begins, is_private, visible}
+use Rattle.ips_steps.specs.Steps.{Step, after}
+use Rattle.ips_steps.specs.Private.{gate_name, visible}
 use Rattle.ips_steps.specs.Owed.{IsOpen, Owes, Old, Open, New, FolderOwes, steps_left}
 use Rattle.ips_steps.proofs.Lists.{clash}
-use Rattle.ips_steps.proofs.PrivateNames.{visible_agrees}
 use Rattle.ips_steps.proofs.Owing.{owed_open}
 use Rattle.ips_kinds.specs.Tallies.{Carrier, all_counted}
 use Rattle.ips_journal.specs.Text.{journal_text}
@@ -24,6 +20,8 @@ use Rattle.ips_commit.specs.Pending.{IsDone, is_swept}
 use Rattle.ips_commit.specs.Recovering.{SaysOfRecovery, IfBadJournal, IsJournalled, CanRollForward, IsUnfinished}
 use Rattle.ips_commit.specs.declared.fault.CommitFault.{CommitFault}
 use Rattle.ips_commit.specs.declared.fault.CommitFault.TheVariants.{Unchanged, Unfinished, BadJournal}
+use Rattle.ips_commit.proofs.Owing.{swept_seen}
+use Rattle.ips_commit.proofs.OwnNames.{gate_unswept}
 use Rattle.ips_history.specs.Due.{HasEnded}
 use Rattle.ips_history.specs.Course.{StillOwes}
 use Rattle.ips_history.specs.Run.{IsRecovered, StaysShut}
@@ -33,23 +31,6 @@ use Rattle.ips_run.specs.Ending.{is_done, is_refused, recovery, is_left, is_bad_
 use Rattle.ips_run.specs.Comes.{IsBackTo}
 use Rattle.ips_run.specs.Phases.{uncommitted_as, IsBack}
 use Rattle.ips_run.proofs.Carried.{ended}
-
-unswept : (s j g m : Bool) → (s || (j || (g || m))) ≡ false → (s || (j || m)) ≡ false
-unswept s j g m off =
-    let a = or_parts s (j || (g || m)) off in
-    let b = or_parts j (g || m) a.1 in
-    let c = or_parts g m b.1 in
-    or_from s (j || m) a.0 (or_from j m b.0 c.1)
-
--- what is swept isn't seen
-swept_seen : (t u : Image) → Agrees is_swept nowhere t u → visible u ≡ visible t
-swept_seen t u h = visible_agrees t u (agrees_less is_swept nowhere is_private nowhere t u
-    (λ q seen. unswept (covers stage_name q) (covers journal_name q) (covers gate_name q) (begins mark_front q) seen) (λ q l. refl) h)
-
--- the gate isn't swept
-gate_unswept : is_swept gate_name ≡ false
-unfolding gate_name journal_name mark_front stage_name
-gate_unswept = refl
 
 -- what is swept leaves a closed gate closed
 swept_shut : (old s : State) → old.held.look gate_name ≡ None → Within is_swept nowhere old s → s.held.look gate_name ≡ None

@@ -1,5 +1,6 @@
 use Rattle.std.proofs.Common.{inl, inr, refl, sym, ◌∙◌, ap, subst, false}
 use Rattle.ips_outside.specs.State.{State}
+use Rattle.ips_outside.proofs.Faults.{one_before}
 use Rattle.ips_outside.specs.Image.{Image}
 use Rattle.ips_steps.specs.Private.{gate_name}
 use Rattle.ips_steps.proofs.Lists.{clash}
@@ -9,7 +10,7 @@ use Rattle.ips_run.specs.declared.ending.Ending.TheVariants as ending
 use Rattle.ips_run.specs.declared.next.Next.TheVariants as next
 use Rattle.ips_run.proofs.Opened.{synced_safe, elapses_kept, run_unopened, run_read, run_back, run_asked}
 use Rattle.ips_run.proofs.Nexts.{shown_of, changed_of, show_is, change_is, recover_is}
-use Rattle.ips_run.proofs.Performed.{fault_of, starved_of, unfinished_of, early_fault, early_starved, early_unfinished, left_fault, one_since, comes_unopened, comes_refused, comes_back, comes_shown, comes_asked, next_as}
+use Rattle.ips_run.proofs.Performed.{fault_of, starved_of, unfinished_of, early_fault, early_starved, early_unfinished, left_fault, comes_unopened, comes_refused, comes_back, comes_shown, comes_asked, next_as}
 use Rattle.ips_run.proofs.performing.perform.Goals as goal
 
 pub returns-in_default-clause-run : goal.returns-in_default-clause-run
@@ -96,7 +97,7 @@ returns-in-Recover-clause-untouched g c = λ told there refused.
     let time = elapses_kept o sane c.args.folder.now c.sync.new.self at c.sync.ensures.call.time c.pending.ensures.reads.call.time c.pending.ensures.reads.kept in
     let is_synced = c.pending.ensures.reads.kept ∙ c.in-Ok.ensures.done told in
     let told_at = c.pending.ensures.reads.call.same_kind ∙ c.sync.ensures.call.same_kind ∙ told in
-    one_since _ _ _ c.sync.ensures.one_made
+    one_before _ _ _ c.sync.ensures.one_made
     (c.recovered.ensures.untouched told_at (λ shut. there (ap (λ (s : State). s.held.look gate_name) (sym is_synced) ∙ shut)) refused ∙ c.pending.ensures.reads.none_made)
 
 pub shown-requires-clause-shows : goal.shown-requires-clause-shows
