@@ -1,0 +1,156 @@
+-- A request, phase by phase: what is owed, and what is due.
+use Rattle.std.proofs.Common.{◌≡◌, ◌≢◌, inl, inr, ⊎_elim, ℕ, Bool, true, false, IsTrue, IsFalse, List, [], Option, Some, None, is_none, ◌||◌, map, refl, sym, ◌∙◌, ap, subst}
+use Rattle.ips_text.specs.Ancestry.{covers, same_path}
+use Rattle.ips_text.proofs.Ancestry.{covers-self}
+use Rattle.ips_outside.specs.Image.{Entry, Image, IsImage, is_dir, file_bytes, dir_or_none}
+use Rattle.ips_outside.specs.State.{State, IsSettled}
+use Rattle.ips_outside.specs.Outside.{Outside, IsOutside, Elapses}
+use Rattle.ips_folder.specs.Calls.{CanMake, Throughout}
+use Rattle.ips_folder.proofs.Runs.{started, joins}
+use Rattle.ips_steps.specs.Steps.{Step}
+use Rattle.ips_steps.specs.Private.{records_name, journal_name, gate_name, begins, mark_front, visible}
+use Rattle.ips_steps.specs.Owed.{FolderOwes}
+use Rattle.ips_steps.proofs.Lists.{clash}
+use Rattle.ips_steps.proofs.PrivateNames.{gate_private, gate_parent}
+use Rattle.ips_kinds.specs.Tallies.{Carrier}
+use Rattle.ips_journal.specs.Text.{journal_text}
+use Rattle.ips_actuate.specs.declared.running.ActFault.{ActFault}
+use Rattle.ips_commit.specs.Due.{IsSafelyOpen, IsDueSince, DueOnceOpen}
+use Rattle.ips_commit.specs.Pending.{IsDone, HasNoOtherMark}
+use Rattle.ips_commit.specs.Staging.{IsStaged}
+use Rattle.ips_commit.specs.declared.fault.CommitFault.{CommitFault}
+use Rattle.ips_commit.specs.declared.fault.CommitFault.TheVariants as commit_fault
+use Rattle.ips_history.specs.Due.{NeverOpen, HasEnded}
+use Rattle.ips_run.specs.declared.ending.Ending.{Ending}
+use Rattle.ips_run.specs.declared.ending.Ending.TheVariants as ending
+use Rattle.ips_run.specs.Ending.{is_done, is_refused, is_starved, IsEarly}
+use Rattle.ips_run.specs.Phases.{uncommitted_as, IsUnrun, Failed, Spawn, IsResumable, IsCarried, IsAsked}
+use Rattle.ips_run.proofs.Opened.{owes_seen, always_shut, never_open, stays_owed, withdrawn}
+
+-- ---- the gate can be made where a change stands ready
+
+above_journal : covers records_name journal_name ≡ true
+unfolding records_name journal_name
+above_journal = refl
+
+not_journal : same_path records_name journal_name ≡ false
+unfolding records_name journal_name
+not_journal = refl
+
+stands_above : (e : Option Entry) (text : List ℕ) (d : Bool) → (is_none e || d) ≡ true → file_bytes e ≡ Some text → d ≡ true
+stands_above None text d above there = cc
+stands_above (Some e) text d above there = above
+
+pub can_open : (steps : List Step) (a : Image) (s : State) → IsImage s.held → IsStaged steps a s → CanMake s.held gate_name
+can_open steps a s formed staged = record {
+  absent = staged.shut;
+  parent = ap (dir_or_none s.held) gate_parent
+      ∙ stands_above (s.held.look journal_name) _ (is_dir (s.held.look records_name)) (formed.below_dirs records_name journal_name above_journal not_journal) staged.ready.journal;
+}
+
+pub unmarked : (steps : List Step) (a : Image) (s : State) → IsStaged steps a s → HasNoOtherMark s.held []
+unmarked steps a s staged = λ q is others. staged.unmarked q is
+
+-- ---- what is due
+
+pub ended : (a : Image) (s : State) → IsDone a s → HasEnded (Some a) s
+ended a s done = record { seen = ap (λ (t : Image). Some t) (sym done.seen); shut = done.bare gate_name (gate_private gate_name (covers-self gate_name)); safe = done.safe }
+
+module _ {F : Type 0} (o : Outside F) (sane : IsOutside o) where
+  -- from where a command has decided
+  pub owed_from : (old mid new : F) (a : Option Image) → Elapses o old mid → o.state mid ≡ o.state old → IsSettled (o.state old) → (o.state old).held.look gate_name ≡ None
+      → Throughout o mid new (FolderOwes journal_text (visible (o.state mid).held) a false) → Throughout o old new (FolderOwes journal_text (visible (o.state old).held) a false)
+  owed_from old mid new a time kept clean shut owed =
+      let P : State → Type 0 = FolderOwes journal_text (visible (o.state old).held) a false in
+      joins o old mid new P (stays_owed o sane old mid time kept (visible (o.state old).held) a false (owes_seen (o.state old) a clean shut))
+      (subst (λ (s : State). Throughout o mid new (FolderOwes journal_text (visible s.held) a false)) kept owed)
+
+  -- the gate was never open until then
+  due_then : (b a : Image) (old mid new : F) → NeverOpen o old mid → DueOnceOpen o b a mid new → DueOnceOpen o b a old new
+  due_then b a old mid new never due = ⊎_elim
+      (λ still. inl (joins o old mid new (λ s. IsSafelyOpen s → ⊥) never still))
+      (λ d. inr (record {
+        before = d.before;
+        since = d.since;
+        not_yet = joins o old mid d.before (λ s. IsSafelyOpen s → ⊥) never d.not_yet;
+        written = d.written;
+        call = d.call;
+        sync = d.sync;
+        is_open = d.is_open;
+        owed = d.owed;
+      }))
+      due
+
+  module _ (steps : List Step) (a : Image) (old : F) (staged : IsStaged steps a (o.state old)) where
+    owes_here : FolderOwes journal_text (visible (o.state old).held) (Some a) false (o.state old)
+    owes_here = owes_seen (o.state old) (Some a) staged.safe staged.shut
+
+  module _ {T : Type 0} (steps : List Step) (a : Image) (old : F) (staged : IsStaged steps a (o.state old)) (before : List Carrier) where
+    -- an actuator before the commit wasn't run to its end
+    pub carried_unrun : (list : List (List (List ℕ))) (why : ActFault) (x : Ending T) → IsUnrun list false why x → IsCarried o a x before before old old
+    carried_unrun list why x is = go why x is
+      where
+        here : Throughout o old old (FolderOwes journal_text (visible (o.state old).held) (Some a) false)
+        here = started o old (FolderOwes journal_text (visible (o.state old).held) (Some a) false) (sane.only_now old) (owes_here steps a old staged)
+
+        never : NeverOpen o old old
+        never = started o old (λ s. IsSafelyOpen s → ⊥) (sane.only_now old) (λ is. is.stands staged.shut)
+
+        go : (why : ActFault) (x : Ending T) → IsUnrun list false why x → IsCarried o a x before before old old
+        go why x (Failed at) = record { owed = here; due = inl never; done = λ is. cc; kept = λ is. refl; resumes = λ is. cc; unrecovered = refl; readable = refl; fed = refl }
+        go why x Spawn = record { owed = here; due = inl never; done = λ is. cc; kept = λ is. refl; resumes = λ is. cc; unrecovered = refl; readable = refl; fed = refl }
+
+    module _ (new : F) (now : List Carrier) (owed : Throughout o old new (FolderOwes journal_text (visible (o.state old).held) (Some a) false)) (due : DueOnceOpen o (visible (o.state old).held) a old new) where
+      -- the commit wasn't
+      pub carried_part : (why : CommitFault) (x : Ending T) → why ≡ commit_fault.Unfinished → x ≡ uncommitted_as why → IsResumable o before now new → IsCarried o a x before now old new
+      carried_part why x unfinished is resumable = subst (λ (r : Ending T). IsCarried o a r before now old new) (sym (is ∙ ap (λ (w : CommitFault). uncommitted_as w) unfinished))
+          (record { owed = owed; due = due; done = λ is. cc; kept = λ is. cc; resumes = λ is. resumable; unrecovered = refl; readable = refl; fed = refl })
+
+      module _ (done : IsDone a (o.state new)) where
+        -- an actuator after it wasn't
+        pub carried_but : (list : List (List (List ℕ))) (why : ActFault) (x : Ending T) → IsUnrun list true why x → IsCarried o a x before now old new
+        carried_but list why x (Failed at) = record { owed = owed; due = due; done = λ is. ended a (o.state new) done; kept = λ is. cc; resumes = λ is. cc; unrecovered = refl; readable = refl; fed = refl }
+        carried_but list why x Spawn = record { owed = owed; due = due; done = λ is. ended a (o.state new) done; kept = λ is. cc; resumes = λ is. cc; unrecovered = refl; readable = refl; fed = refl }
+
+        pub carried_all : (told : T) → IsCarried o a (ending.Done told) before now old new
+        carried_all told = record { owed = owed; due = due; done = λ is. ended a (o.state new) done; kept = λ is. cc; resumes = λ is. cc; unrecovered = refl; readable = refl; fed = refl }
+
+  -- ---- the whole
+
+  module _ {T : Type 0} (means : Image → Image → Type 0) (old : F) (clean : IsSettled (o.state old)) (shut : (o.state old).held.look gate_name ≡ None) (before : List Carrier) where
+    -- no change stands ready
+    pub asked_early : (new : F) (x : Ending T) → IsEarly x → Throughout o old new (FolderOwes journal_text (visible (o.state old).held) None false) → visible (o.state new).held ≡ (visible (o.state old).held)
+        → IsAsked o means x before before old new
+    asked_early new x early owed seen = record {
+      request = withdrawn o sane means (is_done x) early.undone old new clean shut owed;
+      unseen = λ is. seen;
+      unopened = λ is. always_shut o sane (visible (o.state old).held) old new owed;
+      resumes = λ is. absurd (clash _ is early.finished);
+      unrecovered = early.unrecovered;
+      readable = early.readable;
+      starved = λ is. always_shut o sane (visible (o.state old).held) old new owed;
+    }
+
+    pub asked_ready : (mid new : F) (now : List Carrier) (x : Ending T) (a : Image) → means (visible (o.state old).held) a → ((c : Option Image) → Throughout o old mid (FolderOwes journal_text (visible (o.state old).held) c false))
+        → visible (o.state mid).held ≡ (visible (o.state old).held) → IsCarried o a x before now mid new → IsAsked o means x before now old new
+    asked_ready mid new now x a is_meant owed seen carried =
+        let there : Throughout o mid new (FolderOwes journal_text (visible (o.state old).held) (Some a) false) = subst (λ (b : Image). Throughout o mid new (FolderOwes journal_text b (Some a) false)) seen carried.owed in
+        let due : DueOnceOpen o (visible (o.state old).held) a mid new = subst (λ (b : Image). DueOnceOpen o b a mid new) seen carried.due in
+        let closed = always_shut o sane (visible (o.state old).held) old mid (owed None) in
+        record {
+          request = record {
+            safe = clean;
+            shut = shut;
+            after = Some a;
+            is_meant = is_meant;
+            owed = joins o old mid new (FolderOwes journal_text (visible (o.state old).held) (Some a) false) (owed (Some a)) there;
+            due = due_then (visible (o.state old).held) a old mid new (never_open o sane old mid closed) due;
+            done = carried.done;
+          };
+          unseen = λ is. ap (λ (f : F). visible (o.state f).held) (carried.kept is) ∙ seen;
+          unopened = λ is. subst (λ (f : F). Throughout o old f (λ s. s.held.look gate_name ≡ None)) (sym (carried.kept is)) closed;
+          resumes = carried.resumes;
+          unrecovered = carried.unrecovered;
+          readable = carried.readable;
+          starved = λ is. absurd (clash (is_starved x) is carried.fed);
+        }

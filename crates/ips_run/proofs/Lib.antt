@@ -1,0 +1,6 @@
+mod Opened
+mod Carried
+mod Told
+mod Recoveries
+mod Nexts
+mod Performed

@@ -1,0 +1,180 @@
+-- A recovery, by its answer.
+use Rattle.std.proofs.Common.{◌≡◌, ◌≢◌, ℕ, Bool, true, false, ◌||◌, IsTrue, IsFalse, List, Option, Some, None, IfSome, Err, Result, is_some, refl, sym, ◌∙◌, ap, subst}
+use Rattle.ips_text.specs.declared.refusal.Or.{Or}
+use Rattle.ips_text.specs.declared.refusal.Or.TheVariants.{Bad, OutOfMemory}
+use Rattle.ips_text.specs.Reading.{IfBad}
+use Rattle.ips_outside.specs.Image.{Entry, Image}
+use Rattle.ips_outside.specs.State.{State, Within, nowhere}
+use Rattle.ips_outside.specs.Outside.{Outside}
+use Rattle.ips_folder.specs.Calls.{Keeps}
+use Rattle.ips_folder.proofs.Runs.{weaker}
+use Rattle.ips_steps.specs.Steps.{Step, after}
+use Rattle.ips_steps.specs.Private.{gate_name, visible}
+use Rattle.ips_steps.specs.Owed.{IsOpen, Owes, Old, Open, New, FolderOwes, steps_left}
+use Rattle.ips_steps.proofs.Lists.{clash}
+use Rattle.ips_steps.proofs.Owing.{owed_open}
+use Rattle.ips_kinds.specs.Tallies.{Carrier, all_counted}
+use Rattle.ips_journal.specs.Text.{journal_text}
+use Rattle.ips_commit.specs.Answers.{IfStarved}
+use Rattle.ips_commit.specs.Pending.{IsDone, is_swept}
+use Rattle.ips_commit.specs.Recovering.{SaysOfRecovery, IfBadJournal, IsJournalled, CanRollForward, IsUnfinished}
+use Rattle.ips_commit.specs.declared.fault.CommitFault.{CommitFault}
+use Rattle.ips_commit.specs.declared.fault.CommitFault.TheVariants.{Unchanged, Unfinished, BadJournal}
+use Rattle.ips_commit.proofs.Owing.{swept_seen}
+use Rattle.ips_commit.proofs.OwnNames.{gate_unswept}
+use Rattle.ips_history.specs.Due.{HasEnded}
+use Rattle.ips_history.specs.Course.{StillOwes}
+use Rattle.ips_history.specs.Run.{IsRecovered, StaysShut}
+use Rattle.ips_run.specs.declared.ending.Ending.{Ending}
+use Rattle.ips_run.specs.declared.ending.Ending.TheVariants as ending
+use Rattle.ips_run.specs.Ending.{is_done, is_refused, recovery, is_left, is_bad_journal, is_starved}
+use Rattle.ips_run.specs.Comes.{IsBackTo}
+use Rattle.ips_run.specs.Phases.{uncommitted_as, IsBack}
+use Rattle.ips_run.proofs.Carried.{ended}
+
+-- what is swept leaves a closed gate closed
+swept_shut : (old s : State) → old.held.look gate_name ≡ None → Within is_swept nowhere old s → s.held.look gate_name ≡ None
+swept_shut old s shut within = within.agrees.look gate_name gate_unswept refl ∙ shut
+
+module _ {F : Type 0} (o : Outside F) (before now : List Carrier) (old new : F) (still : StillOwes o old new) where
+  abbrev t : Image
+  t = (o.state old).held
+
+  -- ---- it answered
+
+  pub back : {T : Type 0} (forward : Bool) → forward ≡ is_some (t.look gate_name)
+      → ((steps : List Step) (count : ℕ) (a : Image) → IsOpen journal_text steps count a t → IsDone a (o.state new))
+      → (t.look gate_name ≢ None → (steps : List Step) × (count : ℕ) × CanRollForward t steps count × IsDone (visible (after (steps_left count steps) t)) (o.state new)
+      × (now ≡ all_counted (steps_left count steps) before))
+      → (t.look gate_name ≡ None → IsDone (visible t) (o.state new)) → (t.look gate_name ≡ None → now ≡ before)
+      → IsBack {T = T} o (ending.Recovered forward) before now old new
+  back forward is meant on cleared uncounted = record {
+    still = still;
+    undone = refl;
+    recovered = go (t.look gate_name) refl;
+    unseen = λ is. cc;
+    unopened = λ is. cc;
+    readable = λ is. cc;
+    starved = λ is. cc;
+    resumes = λ is. cc;
+  }
+    where
+      forth : t.look gate_name ≢ None → (b a : Image) (due : Bool) → FolderOwes journal_text b (Some a) due (o.state old) → HasEnded (Some a) (o.state new)
+      forth there b a due owes = let (steps, count, is_open) = owed_open journal_text b a due t owes.now there in ended a (o.state new) (meant steps count a is_open)
+
+      go : (e : Option Entry) → t.look gate_name ≡ e → IsRecovered o forward before now old new
+      go None shut =
+          let no : forward ≡ false = is ∙ ap (λ (x : Option Entry). is_some x) shut in
+          let done = cleared shut in
+          record {
+            still = still;
+            shut = (ended (visible t) (o.state new) done).shut;
+            safe = done.safe;
+            is = is;
+            on = λ yes. clash forward yes no;
+            laid = λ yes. absurd (clash forward yes no);
+            back = λ off. done.seen;
+            unlaid = λ off. uncounted shut;
+          }
+      go (Some e) there =
+          let yes : forward ≡ true = is ∙ ap (λ (x : Option Entry). is_some x) there in
+          let open_gate : t.look gate_name ≢ None = λ none. cc in
+          let (steps, count, can, done, counted) = on open_gate in
+          record {
+            still = still;
+            shut = (ended (visible (after (steps_left count steps) t)) (o.state new) done).shut;
+            safe = done.safe;
+            is = is;
+            on = λ on. forth open_gate;
+            laid = λ on. (steps, count, can, counted);
+            back = λ off. clash forward yes off;
+            unlaid = λ off. clash forward yes off;
+          }
+
+  -- ---- it didn't
+
+  -- an image is owed behind an open gate
+  owed_some : (b : Image) (a : Option Image) (due : Bool) → Owes journal_text b a due t → t.look gate_name ≢ None → (steps : List Step) × (count : ℕ) × (x : Image) × IsOpen journal_text steps count x t
+  owed_some b a due (Old gone seen) there = absurd (there gone)
+  owed_some b a due (Open {a = x} steps count is) there = (steps, count, x, is)
+  owed_some b a due (New gone seen) there = absurd (there gone)
+
+  pub back_fault : {T : Type 0} (why : CommitFault) (x : Ending T) → x ≡ uncommitted_as why → SaysOfRecovery (o.state old) (o.state new) before now why
+      → (t.look gate_name ≡ None → Keeps o is_swept nowhere old new)
+      → ((steps : List Step) (count : ℕ) (a : Image) → IsOpen journal_text steps count a t → (line : ℕ) → why ≡ BadJournal line → ⊥)
+      → (why ≡ Unfinished → (steps : List Step) (count : ℕ) → IsJournalled t steps count → IsUnfinished t (o.state new) steps count before now)
+      → IsBack o x before now old new
+  back_fault {T = T} why x is says closed meant stopped = subst (λ (r : Ending T). IsBack o r before now old new) (sym is) (go why says meant stopped)
+    where
+      seen : (t.look gate_name ≢ None → o.state new ≡ o.state old) → (e : Option Entry) → t.look gate_name ≡ e → visible (o.state new).held ≡ visible t
+      seen kept None shut = swept_seen t (o.state new).held (closed shut).now.agrees
+      seen kept (Some e) there = ap (λ (s : State). visible s.held) (kept (λ none. cc))
+
+      shut_still : t.look gate_name ≡ None → StaysShut o old new
+      shut_still shut = weaker o old new (Within is_swept nowhere (o.state old)) (λ s. s.held.look gate_name ≡ None) (λ s within. swept_shut (o.state old) s shut within) (closed shut).moments
+
+      go : (why : CommitFault) → SaysOfRecovery (o.state old) (o.state new) before now why → ((steps : List Step) (count : ℕ) (a : Image) → IsOpen journal_text steps count a t → (line : ℕ) → why ≡ BadJournal line → ⊥)
+          → (why ≡ Unfinished → (steps : List Step) (count : ℕ) → IsJournalled t steps count → IsUnfinished t (o.state new) steps count before now)
+          → IsBack {T = T} o (uncommitted_as why) before now old new
+      go Unchanged says meant stopped = record {
+        still = still;
+        undone = refl;
+        recovered = tt;
+        unseen = λ is. seen says (t.look gate_name) refl;
+        unopened = λ is. shut_still;
+        readable = λ is. cc;
+        starved = λ is. cc;
+        resumes = λ is. cc;
+      }
+      go Unfinished says meant stopped = record {
+        still = still;
+        undone = refl;
+        recovered = tt;
+        unseen = λ is. cc;
+        unopened = λ is. cc;
+        readable = λ is. cc;
+        starved = λ is. cc;
+        resumes = λ is. (says, stopped refl);
+      }
+      go (BadJournal line) says meant stopped = record {
+        still = still;
+        undone = refl;
+        recovered = tt;
+        unseen = λ is. cc;
+        unopened = λ is. cc;
+        readable = λ is b a due owes. let (steps, count, x, is_open) = owed_some b a due owes.now says.0 in meant steps count x is_open line refl;
+        starved = λ is. cc;
+        resumes = λ is. cc;
+      }
+
+  pub back_starved : {T : Type 0} → o.state new ≡ o.state old → (t.look gate_name ≡ None → Keeps o is_swept nowhere old new) → IsBack {T = T} o ending.OutOfMemory before now old new
+  back_starved kept closed = record {
+    still = still;
+    undone = refl;
+    recovered = tt;
+    unseen = λ is. ap (λ (s : State). visible s.held) kept;
+    unopened = λ is shut. weaker o old new (Within is_swept nowhere (o.state old)) (λ s. s.held.look gate_name ≡ None) (λ s within. swept_shut (o.state old) s shut within) (closed shut).moments;
+    readable = λ is. cc;
+    starved = λ is. kept;
+    resumes = λ is. cc;
+  }
+
+-- what a fault of a recovery is told of the image and of the tallies
+pub told_back : {T : Type 0} (why : CommitFault) (x : Ending T) (old new : State) (before now : List Carrier) → x ≡ uncommitted_as why → SaysOfRecovery old new before now why
+    → (why ≡ Unchanged → now ≡ before) → IsBackTo old.held new.held before now x
+told_back {T = T} why x old new before now is says unlaid = subst (λ (r : Ending T). IsBackTo old.held new.held before now r) (sym is) (go why says unlaid)
+  where
+    go : (why : CommitFault) → SaysOfRecovery old new before now why → (why ≡ Unchanged → now ≡ before) → IsBackTo {T = T} old.held new.held before now (uncommitted_as why)
+    go Unchanged says unlaid = (λ yes. cc, λ no. unlaid refl)
+    go Unfinished says unlaid = (λ yes. says, λ no. cc)
+    go (BadJournal line) says unlaid = (says.0, says.1, λ bad. ap (λ (s : State). s.held) (says.2 bad))
+
+-- a fact of the fault, by cases of the answer
+pub bad_of : {T : Type 0} (result : Result T (Or CommitFault)) (why : CommitFault) (line : ℕ) → result ≡ Err (Bad why) → why ≡ BadJournal line → IfBadJournal result (λ line. ⊥) → ⊥
+bad_of {T = T} result why line is bad none = subst (λ (r : Result T (Or CommitFault)). IfBadJournal r (λ line. ⊥)) (is ∙ ap (λ (e : CommitFault). Err (Bad e)) bad) none
+
+pub says_of : (T : Type 0) (e : Or CommitFault) (why : CommitFault) → e ≡ Bad why → (P : CommitFault → Type 0) → IfBad {X = T} {E = CommitFault} (Err e) P → P why
+says_of T e why is P says = subst (λ (x : Or CommitFault). IfBad {X = T} {E = CommitFault} (Err x) P) is says
+
+pub starved_of : (T : Type 0) (e : Or CommitFault) → e ≡ OutOfMemory → (P : Type 0) → IfStarved {T = T} {E = CommitFault} (Err e) P → P
+starved_of T e is P starved = subst (λ (x : Or CommitFault). IfStarved {T = T} {E = CommitFault} (Err x) P) is starved

@@ -1,0 +1,176 @@
+use Rattle.std.proofs.Common.{inl, inr, refl, sym, ◌∙◌, ap, subst, false}
+use Rattle.ips_outside.specs.State.{State}
+use Rattle.ips_outside.proofs.Faults.{one_before}
+use Rattle.ips_outside.specs.Image.{Image}
+use Rattle.ips_steps.specs.Private.{gate_name}
+use Rattle.ips_steps.proofs.Lists.{clash}
+use Rattle.ips_commit.specs.Pending.{IsPending}
+use Rattle.ips_history.specs.Course.{shows}
+use Rattle.ips_run.specs.declared.ending.Ending.TheVariants as ending
+use Rattle.ips_run.specs.declared.next.Next.TheVariants as next
+use Rattle.ips_run.proofs.Opened.{synced_safe, elapses_kept, run_unopened, run_read, run_back, run_asked}
+use Rattle.ips_run.proofs.Nexts.{shown_of, changed_of, show_is, change_is, recover_is}
+use Rattle.ips_run.proofs.Performed.{fault_of, starved_of, unfinished_of, early_fault, early_starved, early_unfinished, left_fault, comes_unopened, comes_refused, comes_back, comes_shown, comes_asked, next_as}
+use Rattle.ips_run.proofs.performing.perform.Goals as goal
+
+pub returns-in_default-clause-run : goal.returns-in_default-clause-run
+returns-in_default-clause-run g c = λ told.
+    run_unopened g.F.Source.outside g.met.F.Source.sane _ (g.C.Operation.nature c.args.operation.now) (fault_of (g.C.Operation.decides c.args.operation.now (g.S.Source.outside.tells c.args.source.now) (g.S.Source.outside.state c.args.source.now).held)) _ _ c.args.folder.now c.sync.new.self c.sync.ensures.call.time c.in_default.ensures.kept early_fault refl
+
+pub returns-in_default-clause-comes : goal.returns-in_default-clause-comes
+returns-in_default-clause-comes g c = λ told.
+    comes_unopened g.P.Spawner.running c.args.spawner.now (g.C.Operation.nature c.args.operation.now) (g.C.Operation.decides c.args.operation.now (g.S.Source.outside.tells c.args.source.now) (g.S.Source.outside.state c.args.source.now).held) _ _ _ _ _ (ending.FolderFault false) refl
+
+pub returns-in-Err-Bad-clause-run : goal.returns-in-Err-Bad-clause-run
+returns-in-Err-Bad-clause-run g c = λ told.
+    run_read g.F.Source.outside g.met.F.Source.sane _ (g.C.Operation.nature c.args.operation.now) (fault_of (g.C.Operation.decides c.args.operation.now (g.S.Source.outside.tells c.args.source.now) (g.S.Source.outside.state c.args.source.now).held)) _ _ c.args.folder.now c.sync.new.self c.pending.new.folder c.sync.ensures.call.time (c.in-Ok.ensures.done told) c.pending.ensures.reads.call.time c.pending.ensures.reads.kept early_fault
+
+pub returns-in-Err-Bad-clause-comes : goal.returns-in-Err-Bad-clause-comes
+returns-in-Err-Bad-clause-comes g c = λ told.
+    comes_unopened g.P.Spawner.running c.args.spawner.now (g.C.Operation.nature c.args.operation.now) (g.C.Operation.decides c.args.operation.now (g.S.Source.outside.tells c.args.source.now) (g.S.Source.outside.state c.args.source.now).held) _ _ _ _ _ (ending.FolderFault false) refl
+
+pub returns-in-Err-OutOfMemory-clause-run : goal.returns-in-Err-OutOfMemory-clause-run
+returns-in-Err-OutOfMemory-clause-run g c = λ told.
+    run_read g.F.Source.outside g.met.F.Source.sane _ (g.C.Operation.nature c.args.operation.now) (starved_of (g.C.Operation.decides c.args.operation.now (g.S.Source.outside.tells c.args.source.now) (g.S.Source.outside.state c.args.source.now).held)) _ _ c.args.folder.now c.sync.new.self c.pending.new.folder c.sync.ensures.call.time (c.in-Ok.ensures.done told) c.pending.ensures.reads.call.time c.pending.ensures.reads.kept early_starved
+
+pub returns-in-Err-OutOfMemory-clause-comes : goal.returns-in-Err-OutOfMemory-clause-comes
+returns-in-Err-OutOfMemory-clause-comes g c = λ told.
+    comes_unopened g.P.Spawner.running c.args.spawner.now (g.C.Operation.nature c.args.operation.now) (g.C.Operation.decides c.args.operation.now (g.S.Source.outside.tells c.args.source.now) (g.S.Source.outside.state c.args.source.now).held) _ _ _ _ _ ending.OutOfMemory tt
+
+pub returns-in-Refuse-clause-run : goal.returns-in-Refuse-clause-run
+returns-in-Refuse-clause-run g c = λ told.
+    run_read g.F.Source.outside g.met.F.Source.sane _ (g.C.Operation.nature c.args.operation.now) (unfinished_of (g.C.Operation.decides c.args.operation.now (g.S.Source.outside.tells c.args.source.now) (g.S.Source.outside.state c.args.source.now).held)) _ _ c.args.folder.now c.sync.new.self c.pending.new.folder c.sync.ensures.call.time (c.in-Ok.ensures.done told) c.pending.ensures.reads.call.time c.pending.ensures.reads.kept early_unfinished
+
+pub returns-in-Refuse-clause-comes : goal.returns-in-Refuse-clause-comes
+returns-in-Refuse-clause-comes g c = λ told.
+    comes_refused g.P.Spawner.running c.args.spawner.now (g.C.Operation.nature c.args.operation.now) (g.C.Operation.decides c.args.operation.now (g.S.Source.outside.tells c.args.source.now) (g.S.Source.outside.state c.args.source.now).held) _ _ _ _ (g.F.Source.outside.state c.sync.new.self).held _ (ap (λ (s : State). s.held) (c.in-Ok.ensures.done told)) c.in-Ok-pending.found (c.in-Ok-pending.ensures.found (c.sync.ensures.call.same_kind ∙ told)) (next_as (g.C.Operation.nature c.args.operation.now) c.nature.result c.in-Ok-pending.found _ c.phase_behind.result c.nature.ensures c.phase_behind.ensures c.in-Refuse.is)
+
+pub recovered-requires-clause-safe : goal.recovered-requires-clause-safe
+recovered-requires-clause-safe g c = λ told.
+    synced_safe (g.F.Source.outside.state c.args.folder.now) (g.F.Source.outside.state c.pending.new.folder)
+    (c.pending.ensures.reads.kept ∙ c.in-Ok.ensures.done (sym c.sync.ensures.call.same_kind ∙ sym c.pending.ensures.reads.call.same_kind ∙ told))
+
+pub returns-in-Recover-clause-run : goal.returns-in-Recover-clause-run
+returns-in-Recover-clause-run g c = λ told.
+    let o = g.F.Source.outside in
+    let sane = g.met.F.Source.sane in
+    let at = c.pending.new.folder in
+    let time = elapses_kept o sane c.args.folder.now c.sync.new.self at c.sync.ensures.call.time c.pending.ensures.reads.call.time c.pending.ensures.reads.kept in
+    let is_synced = c.pending.ensures.reads.kept ∙ c.in-Ok.ensures.done told in
+    let told_at = c.pending.ensures.reads.call.same_kind ∙ c.sync.ensures.call.same_kind ∙ told in
+    run_back o sane _ (g.C.Operation.nature c.args.operation.now) c.recovered.result _ _ c.args.folder.now at c.recovered.new.folder time is_synced (c.recovered.ensures.back told_at)
+
+pub returns-in-Recover-clause-comes : goal.returns-in-Recover-clause-comes
+returns-in-Recover-clause-comes g c = λ told.
+    let o = g.F.Source.outside in
+    let sane = g.met.F.Source.sane in
+    let at = c.pending.new.folder in
+    let time = elapses_kept o sane c.args.folder.now c.sync.new.self at c.sync.ensures.call.time c.pending.ensures.reads.call.time c.pending.ensures.reads.kept in
+    let is_synced = c.pending.ensures.reads.kept ∙ c.in-Ok.ensures.done told in
+    let told_at = c.pending.ensures.reads.call.same_kind ∙ c.sync.ensures.call.same_kind ∙ told in
+    comes_back g.P.Spawner.running c.args.spawner.now (g.C.Operation.nature c.args.operation.now) (g.C.Operation.decides c.args.operation.now (g.S.Source.outside.tells c.args.source.now) (g.S.Source.outside.state c.args.source.now).held) _ _ _ _ (g.F.Source.outside.state c.pending.new.folder).held _ ((ap (λ (s : State). s.held) c.pending.ensures.reads.kept) ∙ (ap (λ (s : State). s.held) (c.in-Ok.ensures.done told))) c.in-Ok-pending.found (subst (λ (t : Image). IsPending t c.in-Ok-pending.found) (sym (ap (λ (s : State). s.held) c.pending.ensures.reads.kept)) (c.in-Ok-pending.ensures.found (c.sync.ensures.call.same_kind ∙ told))) _ c.recovered.result (next_as (g.C.Operation.nature c.args.operation.now) c.nature.result c.in-Ok-pending.found _ c.phase_behind.result c.nature.ensures c.phase_behind.ensures c.in-Recover.is) (c.recovered.ensures.told told_at)
+
+pub returns-in-Recover-clause-begun : goal.returns-in-Recover-clause-begun
+returns-in-Recover-clause-begun g c = λ told left.
+    let o = g.F.Source.outside in
+    let sane = g.met.F.Source.sane in
+    let at = c.pending.new.folder in
+    let time = elapses_kept o sane c.args.folder.now c.sync.new.self at c.sync.ensures.call.time c.pending.ensures.reads.call.time c.pending.ensures.reads.kept in
+    let is_synced = c.pending.ensures.reads.kept ∙ c.in-Ok.ensures.done told in
+    let told_at = c.pending.ensures.reads.call.same_kind ∙ c.sync.ensures.call.same_kind ∙ told in
+    inr (record {
+      opened = at;
+      safe = synced_safe (o.state c.args.folder.now) (o.state at) is_synced;
+      stands = ((c.recovered.ensures.back told_at).resumes left).0;
+      rose = c.recovered.ensures.cause.rose (left_fault c.recovered.result left);
+      changed = c.recovered.ensures.changed left;
+    })
+
+pub returns-in-Recover-clause-shows : goal.returns-in-Recover-clause-shows
+returns-in-Recover-clause-shows g c = λ is. absurd (clash (shows (g.C.Operation.nature c.args.operation.now)) is (recover_is (g.C.Operation.nature c.args.operation.now) c.in-Ok-pending.found (next_as (g.C.Operation.nature c.args.operation.now) c.nature.result c.in-Ok-pending.found _ c.phase_behind.result c.nature.ensures c.phase_behind.ensures c.in-Recover.is)))
+
+pub returns-in-Recover-clause-untouched : goal.returns-in-Recover-clause-untouched
+returns-in-Recover-clause-untouched g c = λ told there refused.
+    let o = g.F.Source.outside in
+    let sane = g.met.F.Source.sane in
+    let at = c.pending.new.folder in
+    let time = elapses_kept o sane c.args.folder.now c.sync.new.self at c.sync.ensures.call.time c.pending.ensures.reads.call.time c.pending.ensures.reads.kept in
+    let is_synced = c.pending.ensures.reads.kept ∙ c.in-Ok.ensures.done told in
+    let told_at = c.pending.ensures.reads.call.same_kind ∙ c.sync.ensures.call.same_kind ∙ told in
+    one_before _ _ _ c.sync.ensures.one_made
+    (c.recovered.ensures.untouched told_at (λ shut. there (ap (λ (s : State). s.held.look gate_name) (sym is_synced) ∙ shut)) refused ∙ c.pending.ensures.reads.none_made)
+
+pub shown-requires-clause-shows : goal.shown-requires-clause-shows
+shown-requires-clause-shows g c = show_is (g.C.Operation.nature c.args.operation.now) c.in-Ok-pending.found (next_as (g.C.Operation.nature c.args.operation.now) c.nature.result c.in-Ok-pending.found _ c.phase_behind.result c.nature.ensures c.phase_behind.ensures c.in-Show.is)
+
+pub shown-requires-clause-shut : goal.shown-requires-clause-shut
+shown-requires-clause-shut g c = λ told.
+    let told_at = sym c.pending.ensures.reads.call.same_kind ∙ told in
+    let found = c.in-Ok-pending.ensures.found told_at in
+    ap (λ (s : State). s.held.look gate_name) c.pending.ensures.reads.kept ∙ (shown_of (g.F.Source.outside.state c.sync.new.self).held (g.C.Operation.nature c.args.operation.now) c.in-Ok-pending.found found (next_as (g.C.Operation.nature c.args.operation.now) c.nature.result c.in-Ok-pending.found _ c.phase_behind.result c.nature.ensures c.phase_behind.ensures c.in-Show.is)).0
+
+pub returns-in-Show-clause-run : goal.returns-in-Show-clause-run
+returns-in-Show-clause-run g c = λ told.
+    let o = g.F.Source.outside in
+    let sane = g.met.F.Source.sane in
+    let at = c.pending.new.folder in
+    let time = elapses_kept o sane c.args.folder.now c.sync.new.self at c.sync.ensures.call.time c.pending.ensures.reads.call.time c.pending.ensures.reads.kept in
+    let is_synced = c.pending.ensures.reads.kept ∙ c.in-Ok.ensures.done told in
+    let told_at = c.pending.ensures.reads.call.same_kind ∙ c.sync.ensures.call.same_kind ∙ told in
+    let new = c.shown.new.folder in
+    let since = elapses_kept o sane c.sync.new.self at new c.pending.ensures.reads.call.time c.shown.ensures.reads.call.time c.shown.ensures.reads.kept in
+    run_read o sane _ (g.C.Operation.nature c.args.operation.now) c.shown.result _ _ c.args.folder.now c.sync.new.self new c.sync.ensures.call.time (c.in-Ok.ensures.done told) since (c.shown.ensures.reads.kept ∙ c.pending.ensures.reads.kept) c.shown.ensures.early
+
+pub returns-in-Show-clause-comes : goal.returns-in-Show-clause-comes
+returns-in-Show-clause-comes g c = λ told.
+    let o = g.F.Source.outside in
+    let sane = g.met.F.Source.sane in
+    let at = c.pending.new.folder in
+    let time = elapses_kept o sane c.args.folder.now c.sync.new.self at c.sync.ensures.call.time c.pending.ensures.reads.call.time c.pending.ensures.reads.kept in
+    let is_synced = c.pending.ensures.reads.kept ∙ c.in-Ok.ensures.done told in
+    let told_at = c.pending.ensures.reads.call.same_kind ∙ c.sync.ensures.call.same_kind ∙ told in
+    comes_shown g.P.Spawner.running c.args.spawner.now (g.C.Operation.nature c.args.operation.now) (g.C.Operation.decides c.args.operation.now (g.S.Source.outside.tells c.args.source.now) (g.S.Source.outside.state c.args.source.now).held) _ _ _ _ (g.F.Source.outside.state c.pending.new.folder).held _ ((ap (λ (s : State). s.held) c.pending.ensures.reads.kept) ∙ (ap (λ (s : State). s.held) (c.in-Ok.ensures.done told))) c.in-Ok-pending.found (subst (λ (t : Image). IsPending t c.in-Ok-pending.found) (sym (ap (λ (s : State). s.held) c.pending.ensures.reads.kept)) (c.in-Ok-pending.ensures.found (c.sync.ensures.call.same_kind ∙ told))) c.shown.result (next_as (g.C.Operation.nature c.args.operation.now) c.nature.result c.in-Ok-pending.found _ c.phase_behind.result c.nature.ensures c.phase_behind.ensures c.in-Show.is) (c.shown.ensures.unready told_at)
+
+pub request-requires-clause-shut : goal.request-requires-clause-shut
+request-requires-clause-shut g c = λ told.
+    let told_at = sym c.pending.ensures.reads.call.same_kind ∙ told in
+    let found = c.in-Ok-pending.ensures.found told_at in
+    ap (λ (s : State). s.held.look gate_name) c.pending.ensures.reads.kept ∙ (changed_of (g.F.Source.outside.state c.sync.new.self).held (g.C.Operation.nature c.args.operation.now) c.in-Ok-pending.found found (next_as (g.C.Operation.nature c.args.operation.now) c.nature.result c.in-Ok-pending.found _ c.phase_behind.result c.nature.ensures c.phase_behind.ensures c.in-Change.is)).0
+
+pub returns-in-Change-clause-run : goal.returns-in-Change-clause-run
+returns-in-Change-clause-run g c = λ told.
+    let o = g.F.Source.outside in
+    let sane = g.met.F.Source.sane in
+    let at = c.pending.new.folder in
+    let time = elapses_kept o sane c.args.folder.now c.sync.new.self at c.sync.ensures.call.time c.pending.ensures.reads.call.time c.pending.ensures.reads.kept in
+    let is_synced = c.pending.ensures.reads.kept ∙ c.in-Ok.ensures.done told in
+    let told_at = c.pending.ensures.reads.call.same_kind ∙ c.sync.ensures.call.same_kind ∙ told in
+    run_asked o sane _ (g.C.Operation.nature c.args.operation.now) c.request.result _ _ c.args.folder.now at c.request.new.folder time is_synced (change_is (g.C.Operation.nature c.args.operation.now) c.in-Ok-pending.found (next_as (g.C.Operation.nature c.args.operation.now) c.nature.result c.in-Ok-pending.found _ c.phase_behind.result c.nature.ensures c.phase_behind.ensures c.in-Change.is))
+    (c.request.ensures.asked told_at (synced_safe (o.state c.args.folder.now) (o.state at) is_synced))
+
+pub returns-in-Change-clause-comes : goal.returns-in-Change-clause-comes
+returns-in-Change-clause-comes g c = λ told.
+    let o = g.F.Source.outside in
+    let sane = g.met.F.Source.sane in
+    let at = c.pending.new.folder in
+    let time = elapses_kept o sane c.args.folder.now c.sync.new.self at c.sync.ensures.call.time c.pending.ensures.reads.call.time c.pending.ensures.reads.kept in
+    let is_synced = c.pending.ensures.reads.kept ∙ c.in-Ok.ensures.done told in
+    let told_at = c.pending.ensures.reads.call.same_kind ∙ c.sync.ensures.call.same_kind ∙ told in
+    comes_asked g.P.Spawner.running c.args.spawner.now (g.C.Operation.nature c.args.operation.now) (g.C.Operation.decides c.args.operation.now (g.S.Source.outside.tells c.args.source.now) (g.S.Source.outside.state c.args.source.now).held) _ _ _ _ (g.F.Source.outside.state c.pending.new.folder).held _ ((ap (λ (s : State). s.held) c.pending.ensures.reads.kept) ∙ (ap (λ (s : State). s.held) (c.in-Ok.ensures.done told))) c.in-Ok-pending.found (subst (λ (t : Image). IsPending t c.in-Ok-pending.found) (sym (ap (λ (s : State). s.held) c.pending.ensures.reads.kept)) (c.in-Ok-pending.ensures.found (c.sync.ensures.call.same_kind ∙ told))) _ _ c.request.result (next_as (g.C.Operation.nature c.args.operation.now) c.nature.result c.in-Ok-pending.found _ c.phase_behind.result c.nature.ensures c.phase_behind.ensures c.in-Change.is) (c.request.ensures.comes told_at)
+
+pub returns-in-Change-clause-begun : goal.returns-in-Change-clause-begun
+returns-in-Change-clause-begun g c = λ told left.
+    let o = g.F.Source.outside in
+    let sane = g.met.F.Source.sane in
+    let at = c.pending.new.folder in
+    let time = elapses_kept o sane c.args.folder.now c.sync.new.self at c.sync.ensures.call.time c.pending.ensures.reads.call.time c.pending.ensures.reads.kept in
+    let is_synced = c.pending.ensures.reads.kept ∙ c.in-Ok.ensures.done told in
+    let told_at = c.pending.ensures.reads.call.same_kind ∙ c.sync.ensures.call.same_kind ∙ told in
+    inl (c.request.ensures.begun told_at left)
+
+pub returns-in-Change-clause-shows : goal.returns-in-Change-clause-shows
+returns-in-Change-clause-shows g c = λ is. absurd (clash (shows (g.C.Operation.nature c.args.operation.now)) is (change_is (g.C.Operation.nature c.args.operation.now) c.in-Ok-pending.found (next_as (g.C.Operation.nature c.args.operation.now) c.nature.result c.in-Ok-pending.found _ c.phase_behind.result c.nature.ensures c.phase_behind.ensures c.in-Change.is)))
+
+pub returns-in-Change-clause-untouched : goal.returns-in-Change-clause-untouched
+returns-in-Change-clause-untouched g c = λ told there refused.
+    absurd (there (ap (λ (s : State). s.held.look gate_name) (sym (c.in-Ok.ensures.done told)) ∙ (changed_of (g.F.Source.outside.state c.sync.new.self).held (g.C.Operation.nature c.args.operation.now) c.in-Ok-pending.found (c.in-Ok-pending.ensures.found (c.sync.ensures.call.same_kind ∙ told)) (next_as (g.C.Operation.nature c.args.operation.now) c.nature.result c.in-Ok-pending.found _ c.phase_behind.result c.nature.ensures c.phase_behind.ensures c.in-Change.is)).0))

@@ -1,0 +1,38 @@
+use Rattle.std.proofs.Common.{◌≡◌, Bool, Err, ap, ◌∙◌, sym}
+use Rattle.ips_text.specs.declared.refusal.Or.{Or}
+use Rattle.ips_text.specs.declared.refusal.Or.TheVariants.{Bad}
+use Rattle.ips_commit.specs.declared.fault.CommitFault.{CommitFault}
+use Rattle.ips_commit.specs.Recovering.{SaysOfRecovery}
+use Rattle.ips_run.proofs.Recoveries.{back, back_fault, back_starved, told_back, bad_of, says_of, starved_of}
+use Rattle.ips_run.proofs.recovering.recovered.Goals as goal
+
+pub returns-in-Ok-clause-back : goal.returns-in-Ok-clause-back
+returns-in-Ok-clause-back g c = λ told.
+    let o = g.F.Source.outside in
+    let old = c.args.folder.now in
+    back o _ _ old c.recover.new.folder (λ b a due owes. c.recover.ensures.owed told b a due owes) c.in-Ok.forward (c.in-Ok.ensures.forward told)
+    (λ steps count a is_open. (c.in-Ok.ensures.meant told steps count a is_open).0)
+    (λ there. c.in-Ok.ensures.done told there)
+    (λ shut. c.in-Ok.ensures.cleared told shut)
+    (λ shut. c.recover.ensures.uncounted told shut)
+
+pub returns-in-Err-Bad-clause-back : goal.returns-in-Err-Bad-clause-back
+returns-in-Err-Bad-clause-back g c = λ told.
+    back_fault g.F.Source.outside _ _ c.args.folder.now c.recover.new.folder (λ b a due owes. c.recover.ensures.owed told b a due owes) c.in-Err-Bad.fault c.uncommitted.result c.uncommitted.ensures
+    (says_of Bool c.in-Err-Bad.field-0 c.in-Err-Bad.fault c.in-Err-Bad.field-0-is _ (c.in-Err-Bad.ensures.refused told))
+    (λ shut. c.recover.ensures.closed told shut)
+    (λ steps count a is_open line is. bad_of {T = Bool} (Err c.in-Err-Bad.field-0) c.in-Err-Bad.fault line (ap (λ (e : Or CommitFault). Err e) c.in-Err-Bad.field-0-is) is (c.in-Err-Bad.ensures.meant told steps count a is_open).1)
+    (λ unfinished steps count lists. says_of Bool c.in-Err-Bad.field-0 c.in-Err-Bad.fault c.in-Err-Bad.field-0-is _ (c.in-Err-Bad.ensures.stopped told steps count lists) unfinished)
+
+pub returns-in-Err-OutOfMemory-clause-back : goal.returns-in-Err-OutOfMemory-clause-back
+returns-in-Err-OutOfMemory-clause-back g c = λ told.
+    back_starved g.F.Source.outside _ _ c.args.folder.now c.recover.new.folder (λ b a due owes. c.recover.ensures.owed told b a due owes)
+    (starved_of Bool c.in-Err-OutOfMemory.field-0 c.in-Err-OutOfMemory.field-0-is _ c.in-Err-OutOfMemory.ensures.starved).0
+    (λ shut. c.recover.ensures.closed told shut)
+
+pub returns-in-Err-Bad-clause-told : goal.returns-in-Err-Bad-clause-told
+returns-in-Err-Bad-clause-told g c = λ told.
+    let o = g.F.Source.outside in
+    told_back c.in-Err-Bad.fault c.uncommitted.result (o.state c.args.folder.now) (o.state c.recover.new.folder) _ _ c.uncommitted.ensures
+    (says_of Bool c.in-Err-Bad.field-0 c.in-Err-Bad.fault c.in-Err-Bad.field-0-is _ (c.in-Err-Bad.ensures.refused told))
+    (λ unchanged. c.in-Err-Bad.ensures.unlaid (ap (λ (e : Or CommitFault). Err e) (c.in-Err-Bad.field-0-is ∙ ap (λ (w : CommitFault). Bad w) unchanged)))

@@ -1,0 +1,49 @@
+use Rattle.std.proofs.Common.{None, refl, sym, ◌∙◌}
+use Rattle.ips_steps.proofs.Lists.{clash}
+use Rattle.ips_run.specs.Ending.{is_left}
+use Rattle.ips_run.specs.Comes.{Unready, Carried}
+use Rattle.ips_run.proofs.Carried.{can_open, unmarked, asked_early, asked_ready}
+use Rattle.ips_run.proofs.Told.{none_run, carried_as}
+use Rattle.ips_run.proofs.Performed.{left_fault}
+use Rattle.ips_run.proofs.requesting.request.Goals as goal
+
+pub returns-in-Err-clause-asked : goal.returns-in-Err-clause-asked
+returns-in-Err-clause-asked g c = λ told clean.
+    asked_early g.F.Source.outside g.met.F.Source.sane _
+    c.args.folder.now clean (c.requires.shut told) _ c.prepare.new.folder c.in-Err.ending c.in-Err.ensures.early (c.prepare.ensures.owed told clean None) (c.prepare.ensures.seen told)
+
+pub returns-in-Err-clause-comes : goal.returns-in-Err-clause-comes
+returns-in-Err-clause-comes g c = λ told to_decide.
+    Unready to_decide (c.in-Err.ensures.unready told) refl (none_run g.P.Spawner.running c.args.spawner.now)
+
+pub returns-in-Err-clause-begun : goal.returns-in-Err-clause-begun
+returns-in-Err-clause-begun g c = λ told left. absurd (clash (is_left c.in-Err.ending) left c.in-Err.ensures.early.finished)
+
+pub carry_out-requires-clause-gate : goal.carry_out-requires-clause-gate
+carry_out-requires-clause-gate g c = λ told.
+    let ready = c.in-Ok.ensures.readied (sym c.prepare.ensures.same_kind ∙ told) in
+    can_open _ ready.after (g.F.Source.outside.state c.prepare.new.folder) (g.met.F.Source.sane.formed c.prepare.new.folder told) ready.staged
+
+pub carry_out-requires-clause-unmarked : goal.carry_out-requires-clause-unmarked
+carry_out-requires-clause-unmarked g c = λ told.
+    let ready = c.in-Ok.ensures.readied (sym c.prepare.ensures.same_kind ∙ told) in
+    unmarked _ ready.after (g.F.Source.outside.state c.prepare.new.folder) ready.staged
+
+pub returns-clause-asked : goal.returns-clause-asked
+returns-clause-asked g c = λ told clean.
+    let ready = c.in-Ok.ensures.readied told in
+    asked_ready g.F.Source.outside g.met.F.Source.sane _
+    c.args.folder.now clean (c.requires.shut told) _ c.prepare.new.folder c.carry_out.new.folder _ c.carry_out.result ready.after ready.is_meant (λ a. c.prepare.ensures.owed told clean a) (c.prepare.ensures.seen told)
+    (c.carry_out.ensures.carried (c.prepare.ensures.same_kind ∙ told) _ ready.after ready.staged)
+
+pub returns-clause-comes : goal.returns-clause-comes
+returns-clause-comes g c = λ told to_decide.
+    let ready = c.in-Ok.ensures.readied told in
+    Carried ready.change c.in-Ok.ensures.changes to_decide ready.decided
+    (carried_as _ _ _ _ c.carry_out.result _ _ _ _ _ _ ready.before ready.behind ready.told
+    (c.carry_out.ensures.told (c.prepare.ensures.same_kind ∙ told) _ ready.after ready.staged))
+
+pub returns-clause-begun : goal.returns-clause-begun
+returns-clause-begun g c = λ told left.
+    let ready = c.in-Ok.ensures.readied told in
+    record { ready = c.prepare.new.folder; steps = _; after = ready.after; staged = ready.staged; rose = c.carry_out.ensures.folder.rose (left_fault c.carry_out.result left) }

@@ -1,0 +1,115 @@
+-- Under which cause each ending comes.
+use Rattle.std.specs.Prelude.{◌≡◌, ◌≢◌, ◌⊎◌, ℕ, ◌<◌, ◌≤◌, Bool, cond, IsTrue, IsFalse, List, [], ◌∷◌, ◌++◌, length, map, take, slice_get, Option, Some, None, is_some}
+use Rattle.ips_outside.specs.Image.{Image}
+use Rattle.ips_outside.specs.Running.{Run, Running}
+use Rattle.ips_steps.specs.Steps.{Step}
+use Rattle.ips_steps.specs.Private.{gate_name}
+use Rattle.ips_steps.specs.View.{step_of}
+use Rattle.ips_kinds.specs.Tallies.{Carrier, all_counted}
+use Rattle.ips_journal.specs.Bad.{IsBadLine}
+use Rattle.ips_journal.specs.Reading.{journal_of}
+use Rattle.ips_actuate.specs.Running.{succeeded}
+use Rattle.ips_commit.specs.Pending.{IsBare, IsPending}
+use Rattle.ips_commit.specs.Contents.{SaysOfStage}
+use Rattle.ips_commit.specs.Recovering.{IsBadJournal}
+use Rattle.ips_commit.specs.declared.found.Pending.TheVariants as pending
+use Rattle.ips_commit.specs.declared.fault.StageFault.TheVariants as stage
+use Rattle.ips_history.specs.Course.{shows, fixes}
+use Rattle.ips_history.specs.declared.nature.Nature.{Nature}
+use Rattle.ips_run.specs.declared.operation.Change.{Change}
+use Rattle.ips_run.specs.declared.operation.Decision.{Decision}
+use Rattle.ips_run.specs.declared.operation.Decision.TheVariants as decision
+use Rattle.ips_run.specs.declared.ending.Ending.{Ending}
+use Rattle.ips_run.specs.declared.ending.Ending.TheVariants as ending
+
+-- these runs were made, where it is told which were
+abbrev pub HasRun : {P : Type 0} → Running P → P → P → List Run → Type 0
+HasRun r old new ran = IsTrue (r.tells old) → r.ran new ≡ r.ran old ++ ran
+
+-- something stands at the gate, or the gate is closed and something is left behind it
+abbrev pub IsStopped : Image → Type 0
+IsStopped t = IsPending t pending.Open ⊎ IsPending t pending.Leftover
+
+-- the operation is to decide: the gate is closed, and for one that recovers nothing is left behind it
+abbrev pub IsToDecide : Nature → Image → Type 0
+IsToDecide nature t = (t.look gate_name ≡ None) × (IsTrue (fixes nature) → IsBare t)
+
+-- the folder couldn't be made safe, or the gate not be looked at
+abbrev pub IsUnopened : {T : Type 0} → Ending T → Type 0
+IsUnopened (ending.FolderFault unfinished) = IsFalse unfinished
+IsUnopened ending.OutOfMemory = Unit {0}
+IsUnopened other = ⊥
+
+-- Nothing is to be committed: the operation decides so; or the first payload that has a fault is this one, in a change that it
+-- decides on; or a call failed.
+abbrev pub IsUnready : {T : Type 0} → Nature → (Decision T → Type 0) → Bool → Image → Ending T → Type 0
+IsUnready nature decides tells repository (ending.Shown told) = IsTrue (shows nature) × decides (decision.Shown told)
+IsUnready nature decides tells repository (ending.Refused told) = decides (decision.Refused told)
+IsUnready nature decides tells repository ending.NothingToDo = IsFalse (shows nature) × decides decision.Nothing
+IsUnready nature decides tells repository (ending.BadPayload name fault) = IsFalse (shows nature) × ((c : Change _) × decides (decision.Change c)
+    × SaysOfStage tells repository c.publisher c.staged.items (stage.Payload name fault))
+IsUnready nature decides tells repository ending.SourceFault = IsFalse (shows nature)
+IsUnready nature decides tells repository (ending.FolderFault unfinished) = IsFalse unfinished
+IsUnready nature decides tells repository ending.OutOfMemory = Unit {0}
+IsUnready nature decides tells repository other = ⊥
+
+-- the actuators of the list before were run, where the change was committed, and so were so many of that list in which one had a fault
+abbrev pub front_run : Bool → List (List (List ℕ)) → List (List (List ℕ)) → ℕ → List Run
+front_run after before behind index = cond after (map succeeded before) [] ++ map succeeded (take index (cond after behind before))
+
+-- An actuator ended with another status than 0: it is one of the list before, and nothing is committed; or of the list behind, and
+-- all steps are laid. Those before it were run, and none behind it.
+pub record HasFailed (steps : List Step) (before behind : List (List (List ℕ))) (old now : List Carrier) (Ran : List Run → Type 0) (after : Bool) (words : List (List ℕ)) (status : ℕ) : Type 0 where
+  pub index : ℕ
+  pub stands : slice_get (cond after behind before) index ≡ Some words
+  pub failed : status ≢ 0
+  pub counted : now ≡ all_counted (cond after steps []) old
+  pub ran : Ran (front_run after before behind index ++ record { words = words; status = status } ∷ [])
+
+-- An actuator couldn't be run: one of the list before, or of the list behind. Those before it were run.
+pub record HasNotRun (steps : List Step) (before behind : List (List (List ℕ))) (old now : List Carrier) (Ran : List Run → Type 0) (after : Bool) : Type 0 where
+  pub index : ℕ
+  pub within : index < length (cond after behind before)
+  pub counted : now ≡ all_counted (cond after steps []) old
+  pub ran : Ran (front_run after before behind index)
+
+-- The commit was begun and not finished: the actuators before were run, and some of the steps are laid and counted.
+pub record IsCommittedPartly (steps : List Step) (before : List (List (List ℕ))) (old now : List Carrier) (Ran : List Run → Type 0) : Type 0 where
+  pub laid : ℕ
+  pub few : laid ≤ length steps
+  pub counted : now ≡ all_counted (take laid steps) old
+  pub ran : Ran (map succeeded before)
+
+-- The change is done: each step was counted by the first kind that takes it, and the actuators before and behind were run, in this
+-- order, each with status 0.
+pub record IsAllDone (steps : List Step) (before behind : List (List (List ℕ))) (old now : List Carrier) (Ran : List Run → Type 0) : Type 0 where
+  pub counted : now ≡ all_counted steps old
+  pub ran : Ran (map succeeded before ++ map succeeded behind)
+
+-- how far a change that stands ready is carried out
+abbrev pub IsCarriedTo : {T : Type 0} → List Step → List (List (List ℕ)) → List (List (List ℕ)) → T → List Carrier → List Carrier → (List Run → Type 0) → Ending T → Type 0
+IsCarriedTo steps before behind told old now Ran (ending.Done is) = (is ≡ told) × IsAllDone steps before behind old now Ran
+IsCarriedTo steps before behind told old now Ran (ending.ActuatorFailed after words status) = HasFailed steps before behind old now Ran after words status
+IsCarriedTo steps before behind told old now Ran (ending.SpawnFault after) = HasNotRun steps before behind old now Ran after
+IsCarriedTo steps before behind told old now Ran (ending.FolderFault unfinished) = IsTrue unfinished × IsCommittedPartly steps before old now Ran
+IsCarriedTo steps before behind told old now Ran other = ⊥
+
+-- how far what was stopped is brought to its end: forward where something stands at the gate. The journal behind it is bad, and
+-- where it isn't of the grammar nothing is changed. An open gate alone leaves something unfinished.
+abbrev pub IsBackTo : {T : Type 0} → Image → Image → List Carrier → List Carrier → Ending T → Type 0
+IsBackTo held left old now (ending.Recovered forward) = forward ≡ is_some (held.look gate_name)
+IsBackTo held left old now (ending.BadJournal line) = (held.look gate_name ≢ None) × IsBadJournal held left old now line × (IsBadLine (journal_of held) line → left ≡ held)
+IsBackTo held left old now (ending.FolderFault unfinished) = (IsTrue unfinished → held.look gate_name ≢ None) × (IsFalse unfinished → now ≡ old)
+IsBackTo held left old now ending.OutOfMemory = now ≡ old
+IsBackTo held left old now other = ⊥
+
+-- Each ending comes under its cause, phase by phase: a call failed before the gate was looked at; something stands at the gate, and
+-- the operation doesn't recover; it does, and something was stopped; nothing is to be committed; or a change that was decided on
+-- was carried out as far as the ending says. No actuator is run but by a change that is carried out.
+pub data Comes {T : Type 0} (nature : Nature) (decides : Decision T → Type 0) (tells : Bool) (repository held left : Image) (old now : List Carrier) (Ran : List Run → Type 0) : Ending T → Type 0 where
+  Unopened : {x : Ending T} → IsUnopened x → now ≡ old → Ran [] → Comes nature decides tells repository held left old now Ran x
+  Unfinished : IsFalse (fixes nature) → held.look gate_name ≢ None → now ≡ old → Ran [] → Comes nature decides tells repository held left old now Ran ending.Unfinished
+  Back : {x : Ending T} → IsTrue (fixes nature) → IsStopped held → IsBackTo held left old now x → Ran [] → Comes nature decides tells repository held left old now Ran x
+  Unready : {x : Ending T} → IsToDecide nature held → IsUnready nature decides tells repository x → now ≡ old → Ran [] → Comes nature decides tells repository held left old now Ran x
+  Carried : {x : Ending T} (c : Change T) → IsFalse (shows nature) → IsToDecide nature held → decides (decision.Change c)
+      → IsCarriedTo (map step_of c.steps.items) c.before.items c.after.items c.told old now Ran x → Comes nature decides tells repository held left old now Ran x

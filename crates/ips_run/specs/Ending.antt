@@ -1,0 +1,76 @@
+-- What the ending of a run claims of the image, and whose fault it is.
+use Rattle.std.specs.Prelude.{◌≡◌, Bool, true, false, not, IsTrue, IsFalse, Option, Some, None, Result, Ok, Err}
+use Rattle.ips_history.specs.Run.{Claim}
+use Rattle.ips_run.specs.declared.ending.Ending.{Ending}
+use Rattle.ips_run.specs.declared.ending.Ending.TheVariants as ending
+
+-- the image is changed as the operation means, whether or not each actuator after it was run
+abbrev pub is_done : {T : Type 0} → Ending T → Bool
+is_done (ending.Done told) = true
+is_done (ending.ActuatorFailed after words status) = after
+is_done (ending.SpawnFault after) = after
+is_done other = false
+
+-- what is seen is as before
+abbrev pub is_refused : {T : Type 0} → Ending T → Bool
+is_refused (ending.Done told) = false
+is_refused (ending.BadJournal line) = false
+is_refused (ending.Recovered forward) = false
+is_refused (ending.ActuatorFailed after words status) = not after
+is_refused (ending.SpawnFault after) = not after
+is_refused (ending.FolderFault unfinished) = not unfinished
+is_refused other = true
+
+-- what was stopped is brought to its end, forward or back
+abbrev pub recovery : {T : Type 0} → Ending T → Option Bool
+recovery (ending.Recovered forward) = Some forward
+recovery other = None
+
+-- a change is left to be brought to its end
+abbrev pub is_left : {T : Type 0} → Ending T → Bool
+is_left (ending.FolderFault unfinished) = unfinished
+is_left other = false
+
+-- the journal is bad
+abbrev pub is_bad_journal : {T : Type 0} → Ending T → Bool
+is_bad_journal (ending.BadJournal line) = true
+is_bad_journal other = false
+
+-- memory ran out
+abbrev pub is_starved : {T : Type 0} → Ending T → Bool
+is_starved ending.OutOfMemory = true
+is_starved other = false
+
+-- all that an ending claims
+abbrev pub claim_of : {T : Type 0} → Ending T → Claim
+claim_of x = record { done = is_done x; refused = is_refused x; recovered = recovery x; unfinished = is_left x; bad_journal = is_bad_journal x; starved = is_starved x }
+
+-- a call on the image failed
+abbrev pub is_folder_fault : {T : Type 0} → Ending T → Bool
+is_folder_fault (ending.FolderFault unfinished) = true
+is_folder_fault other = false
+
+-- a call on the repository failed
+abbrev pub is_source_fault : {T : Type 0} → Ending T → Bool
+is_source_fault ending.SourceFault = true
+is_source_fault other = false
+
+-- an actuator couldn't be run
+abbrev pub is_spawn_fault : {T : Type 0} → Ending T → Bool
+is_spawn_fault (ending.SpawnFault after) = true
+is_spawn_fault other = false
+
+-- the answer is an ending of this kind
+abbrev pub EndsAs : {T X : Type 0} → (Ending T → Bool) → Result X (Ending T) → Type 0
+EndsAs kind (Ok x) = ⊥
+EndsAs kind (Err e) = IsTrue (kind e)
+
+-- An ending of a request that hasn't come to its gate: what is seen is as before, nothing was recovered, no journal was read and
+-- no actuator run.
+pub record IsEarly {T : Type 0} (x : Ending T) : Type 0 where
+  pub refused : IsTrue (is_refused x)
+  pub undone : IsFalse (is_done x)
+  pub unrecovered : recovery x ≡ None
+  pub finished : IsFalse (is_left x)
+  pub readable : IsFalse (is_bad_journal x)
+  pub unspawned : IsFalse (is_spawn_fault x)

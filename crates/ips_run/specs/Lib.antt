@@ -1,0 +1,4 @@
+pub mod Planned
+pub mod Ending
+pub mod Comes
+pub mod Phases

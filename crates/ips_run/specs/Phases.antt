@@ -1,0 +1,135 @@
+-- What the phases of a run do to a folder.
+use Rattle.std.specs.Prelude.{◌≡◌, ◌≢◌, ◌⊎◌, ℕ, ◌≤◌, Bool, true, false, cond, IsTrue, IsFalse, List, length, map, take, slice_get, Option, Some, None, IfSome}
+use Rattle.ips_outside.specs.Image.{Image}
+use Rattle.ips_outside.specs.State.{State, IsSettled}
+use Rattle.ips_outside.specs.Outside.{Outside, Rose}
+use Rattle.ips_folder.specs.Calls.{Throughout}
+use Rattle.ips_steps.specs.Steps.{Step}
+use Rattle.ips_steps.specs.Private.{gate_name, visible}
+use Rattle.ips_steps.specs.Owed.{FolderOwes}
+use Rattle.ips_steps.specs.View.{step_of}
+use Rattle.ips_kinds.specs.Tallies.{Carrier, all_counted}
+use Rattle.ips_journal.specs.Text.{journal_text}
+use Rattle.ips_actuate.specs.declared.running.ActFault.{ActFault}
+use Rattle.ips_actuate.specs.declared.running.ActFault.TheVariants as act_fault
+use Rattle.ips_commit.specs.Contents.{SaysOfStage}
+use Rattle.ips_commit.specs.Staging.{IsStaged}
+use Rattle.ips_commit.specs.Due.{DueOnceOpen}
+use Rattle.ips_commit.specs.Recovering.{IsJournalled, CanResume, IsUnfinished}
+use Rattle.ips_commit.specs.declared.fault.StageFault.TheVariants as stage
+use Rattle.ips_commit.specs.declared.fault.CommitFault.{CommitFault}
+use Rattle.ips_commit.specs.declared.fault.CommitFault.TheVariants as commit_fault
+use Rattle.ips_commit.specs.declared.found.Pending.{Pending}
+use Rattle.ips_commit.specs.declared.found.Pending.TheVariants as pending
+use Rattle.ips_history.specs.Due.{HasEnded}
+use Rattle.ips_history.specs.Course.{fixes, StillOwes, IsRequest}
+use Rattle.ips_history.specs.Run.{IsRecovered, StaysShut}
+use Rattle.ips_history.specs.declared.nature.Nature.{Nature}
+use Rattle.ips_history.specs.declared.nature.Nature.TheVariants as nature
+use Rattle.ips_run.specs.declared.operation.Change.{Change}
+use Rattle.ips_run.specs.declared.operation.Decision.{Decision}
+use Rattle.ips_run.specs.declared.operation.Decision.TheVariants as decision
+use Rattle.ips_run.specs.declared.preparing.Prepared.{Prepared}
+use Rattle.ips_run.specs.declared.next.Next.{Next}
+use Rattle.ips_run.specs.declared.next.Next.TheVariants as next
+use Rattle.ips_run.specs.declared.ending.Ending.{Ending}
+use Rattle.ips_run.specs.declared.ending.Ending.TheVariants as ending
+use Rattle.ips_run.specs.Ending.{is_done, is_refused, recovery, is_left, is_bad_journal, is_starved}
+
+-- what comes behind a closed gate at which nothing is to be recovered
+abbrev pub decided_next : Nature → Next
+decided_next nature.Shows = next.Show
+decided_next nature.Changes = next.Change
+decided_next nature.Founds = next.Change
+decided_next nature.Fixes = next.Change
+
+-- what comes behind the look at the gate
+abbrev pub next_of : Nature → Pending → Next
+next_of nature pending.Nothing = decided_next nature
+next_of nature pending.Leftover = cond (fixes nature) next.Recover (decided_next nature)
+next_of nature pending.Open = cond (fixes nature) next.Recover next.Refuse
+
+-- how a run ends where a change isn't committed
+abbrev pub uncommitted_as : {T : Type 0} → CommitFault → Ending T
+uncommitted_as commit_fault.Unchanged = ending.FolderFault false
+uncommitted_as commit_fault.Unfinished = ending.FolderFault true
+uncommitted_as (commit_fault.BadJournal line) = ending.BadJournal line
+
+-- A change stands ready, and means so: it is one that was decided on, with its actuators and what it tells.
+pub record IsReadied {T : Type 0} (means : Image → Image → Type 0) (decides : Decision T → Type 0) (old new : State) (p : Prepared T) : Type 0 where
+  pub change : Change T
+  pub decided : decides (decision.Change change)
+  pub before : p.before.items ≡ change.before.items
+  pub behind : p.after.items ≡ change.after.items
+  pub told : p.told ≡ change.told
+  pub after : Image
+  pub staged : IsStaged (map step_of change.steps.items) after new
+  pub is_meant : means (visible old.held) after
+
+-- why a change isn't staged: the first payload that has a fault is this one, or a call failed
+abbrev pub IsUnstaged : {T : Type 0} → Bool → Image → Change T → Ending T → Type 0
+IsUnstaged tells repository c (ending.BadPayload name fault) = SaysOfStage tells repository c.publisher c.staged.items (stage.Payload name fault)
+IsUnstaged tells repository c ending.SourceFault = Unit {0}
+IsUnstaged tells repository c (ending.FolderFault unfinished) = IsFalse unfinished
+IsUnstaged tells repository c ending.OutOfMemory = Unit {0}
+IsUnstaged tells repository c other = ⊥
+
+-- How a run ends where an actuator of the list before the commit, or after it, wasn't run to its end.
+pub data IsUnrun {T : Type 0} (list : List (List (List ℕ))) (after : Bool) : ActFault → Ending T → Type 0 where
+  Failed : {index status : ℕ} {words : List (List ℕ)} → slice_get list index ≡ Some words → IsUnrun list after (act_fault.Failed index status) (ending.ActuatorFailed after words status)
+  Spawn : {index : ℕ} → IsUnrun list after (act_fault.Spawn index) (ending.SpawnFault after)
+
+-- some of these steps are laid and counted, and a recovery lays no more than a thousand of them again
+abbrev pub IsResumable : {F : Type 0} → Outside F → List Carrier → List Carrier → F → Type 0
+IsResumable o before now new = (steps : List Step) × (laid : ℕ) × (laid ≤ length steps) × (now ≡ all_counted (take laid steps) before) × CanResume (o.state new) 0 laid
+
+-- A change is carried out as far as the ending says: the image before it is owed, or the one that it means, which is due
+-- once the gate is safely open, and reached at the end; what was refused has changed nothing.
+pub record IsCarried {F T : Type 0} (o : Outside F) (a : Image) (x : Ending T) (before now : List Carrier) (old new : F) : Type 0 where
+  pub owed : Throughout o old new (FolderOwes journal_text (visible (o.state old).held) (Some a) false)
+  pub due : DueOnceOpen o (visible (o.state old).held) a old new
+  pub done : IsTrue (is_done x) → HasEnded (Some a) (o.state new)
+  pub kept : IsTrue (is_refused x) → new ≡ old
+  pub resumes : IsTrue (is_left x) → IsResumable o before now new
+  pub unrecovered : recovery x ≡ None
+  pub readable : IsFalse (is_bad_journal x)
+  pub fed : IsFalse (is_starved x)
+
+-- A request from a closed gate on: the image before it is owed, or one that it means; a refusal leaves what is seen as before and
+-- the gate closed; and memory runs out only before the gate's call.
+pub record IsAsked {F T : Type 0} (o : Outside F) (means : Image → Image → Type 0) (x : Ending T) (before now : List Carrier) (at new : F) : Type 0 where
+  pub request : IsRequest o means (is_done x) at new
+  pub unseen : IsTrue (is_refused x) → visible (o.state new).held ≡ visible (o.state at).held
+  pub unopened : IsTrue (is_refused x) → StaysShut o at new
+  pub resumes : IsTrue (is_left x) → IsResumable o before now new
+  pub unrecovered : recovery x ≡ None
+  pub readable : IsFalse (is_bad_journal x)
+  pub starved : IsTrue (is_starved x) → StaysShut o at new
+
+-- A run that brings to its end what was stopped, or changes nothing that is owed.
+pub record IsBack {F T : Type 0} (o : Outside F) (x : Ending T) (before now : List Carrier) (at new : F) : Type 0 where
+  pub still : StillOwes o at new
+  pub undone : IsFalse (is_done x)
+  pub recovered : IfSome (recovery x) (λ forward. IsRecovered o forward before now at new)
+  pub unseen : IsTrue (is_refused x) → visible (o.state new).held ≡ visible (o.state at).held
+  pub unopened : IsTrue (is_refused x) → (o.state at).held.look gate_name ≡ None → StaysShut o at new
+  pub readable : IsTrue (is_bad_journal x) → (b : Image) (a : Option Image) (due : Bool) → FolderOwes journal_text b a due (o.state at) → ⊥
+  pub starved : IsTrue (is_starved x) → o.state new ≡ o.state at
+  pub resumes : IsTrue (is_left x) → ((o.state at).held.look gate_name ≢ None)
+      × ((steps : List Step) (count : ℕ) → IsJournalled (o.state at).held steps count → IsUnfinished (o.state at).held (o.state new) steps count before now)
+
+-- A call failed in a commit: where a change stood ready, and the gate's call or a later one did.
+pub record HasFailedInCommit {F : Type 0} (o : Outside F) (new : F) : Type 0 where
+  pub ready : F
+  pub steps : List Step
+  pub after : Image
+  pub staged : IsStaged steps after (o.state ready)
+  pub rose : Rose (o.faults ready) (o.faults new)
+
+-- A call failed in a recovery from an open gate, behind a call that may have changed something.
+pub record HasFailedInRecovery {F : Type 0} (o : Outside F) (new : F) : Type 0 where
+  pub opened : F
+  pub safe : IsSettled (o.state opened)
+  pub stands : (o.state opened).held.look gate_name ≢ None
+  pub rose : Rose (o.faults opened) (o.faults new)
+  pub changed : Rose (o.changes opened) (o.changes new)

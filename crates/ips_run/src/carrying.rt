@@ -1,0 +1,90 @@
+//! A change that stands ready, carried out.
+
+ghost use Rattle.std.specs.Prelude.{◌≡◌, [], List, IsTrue, IsFalse};
+ghost use Rattle.ips_outside.specs.Image.{Image};
+ghost use Rattle.ips_outside.specs.Outside.{HasCause};
+ghost use Rattle.ips_folder.specs.Calls.{CanMake};
+ghost use Rattle.ips_steps.specs.Steps.{Step};
+ghost use Rattle.ips_steps.specs.Private.{gate_name};
+ghost use Rattle.ips_steps.specs.declared.step.Sort.{Sort};
+ghost use Rattle.ips_kinds.specs.Tallies.{seen_by, taken};
+ghost use Rattle.ips_actuate.specs.Running.{IsFaultOf};
+ghost use Rattle.ips_commit.specs.Pending.{HasNoOtherMark};
+ghost use Rattle.ips_commit.specs.Staging.{IsStaged};
+ghost use Rattle.ips_run.specs.Ending.{is_folder_fault, is_source_fault, is_spawn_fault};
+ghost use Rattle.ips_run.specs.Comes.{HasRun, IsCarriedTo};
+ghost use Rattle.ips_run.specs.Phases.{IsCarried, IsUnrun, uncommitted_as};
+
+use crate::ending::Ending;
+use crate::preparing::Prepared;
+use ips_actuate::{ActFault, Words, run_all};
+use ips_commit::{CommitFault, commit};
+use ips_folder::Folder;
+use ips_kinds::Kind;
+use ips_outside::{Source, Spawner};
+
+// Runs the actuators before, commits what stands ready, and runs the actuators after.
+pub(crate) fn carry_out<T: Drop, F: Folder, P: Spawner>(
+    prepared: Prepared<T>,
+    folder: &mut F,
+    spawner: &mut P,
+    kinds: &mut Vec<Box<dyn Kind>>,
+) -> Ending<T>
+    requires gate { IsTrue (F.outside.tells folder.old) → CanMake (F.outside.state folder.old).held gate_name }
+    requires unmarked { IsTrue (F.outside.tells folder.old) → HasNoOtherMark (F.outside.state folder.old).held [] }
+    requires takers { (s : Sort) → IsTrue (taken (seen_by sorts finished kinds.old.items) s) }
+    ensures carried { IsTrue (F.outside.tells folder.old) → (steps : List Step) (a : Image) → IsStaged steps a (F.outside.state folder.old)
+        → IsCarried F.outside a result (seen_by sorts finished kinds.old.items) (seen_by sorts finished kinds.new.items) folder.old folder.new }
+    ensures told { IsTrue (F.outside.tells folder.old) → (steps : List Step) (a : Image) → IsStaged steps a (F.outside.state folder.old)
+        → IsCarriedTo steps prepared.before.items prepared.after.items prepared.told
+        (seen_by sorts finished kinds.old.items) (seen_by sorts finished kinds.new.items) (HasRun P.running spawner.old spawner.new) result }
+    ensures folder { HasCause (F.outside.faults folder.old) (F.outside.faults folder.new) (IsTrue (is_folder_fault result)) }
+    ensures spawner { HasCause (P.running.faults spawner.old) (P.running.faults spawner.new) (IsTrue (is_spawn_fault result)) }
+    ensures read { IsFalse (is_source_fault result) }
+    ensures same_kind { F.outside.tells folder.new ≡ F.outside.tells folder.old }
+{
+    let Prepared {
+        ready,
+        mut before,
+        mut after,
+        told,
+    } = prepared;
+    match run_all(spawner, &before) {
+        Ok(()) => {}
+        Err(fault) => return unrun(fault, false, &mut before),
+    }
+    match commit(ready, folder, kinds) {
+        Ok(_) => {}
+        Err(fault) => return uncommitted(fault),
+    }
+    match run_all(spawner, &after) {
+        Ok(()) => Ending::Done(told),
+        Err(fault) => unrun(fault, true, &mut after),
+    }
+}
+
+// How a run ends where an actuator of the list wasn't run to its end. Its words are taken out.
+fn unrun<T: Drop>(fault: ActFault, after: bool, list: &mut Vec<Words>) -> Ending<T>
+    requires { IsFaultOf list.old.items fault }
+    ensures { IsUnrun list.old.items after fault result }
+{
+    match fault {
+        ActFault::Failed { index, status } => Ending::ActuatorFailed {
+            after,
+            words: list.swap_remove(index),
+            status,
+        },
+        ActFault::Spawn { .. } => Ending::SpawnFault { after },
+    }
+}
+
+// How a run ends where a change isn't committed.
+pub(crate) fn uncommitted<T: Drop>(fault: CommitFault) -> Ending<T>
+    ensures { result ≡ uncommitted_as fault }
+{
+    match fault {
+        CommitFault::Unchanged => Ending::FolderFault { unfinished: false },
+        CommitFault::Unfinished => Ending::FolderFault { unfinished: true },
+        CommitFault::BadJournal { line } => Ending::BadJournal { line },
+    }
+}
