@@ -83,7 +83,13 @@ fn heading_told(rt: &impl Abort, alloc: Global, heading: &Heading) -> String {
     };
     let variants = heading.settings.variants(alloc).expect(rt, "memory").len();
     let facets = heading.settings.facets(alloc).expect(rt, "memory").len();
-    format!(in alloc; "{} {} {} {actuator} {variants} {facets}", heading.format, heading.publisher.as_str(), heading.origins.len()).expect(rt, "memory")
+    format!(in alloc;
+        "{} {} {} {actuator} {variants} {facets}",
+        heading.format,
+        heading.publisher.as_str(),
+        heading.origins.len()
+    )
+    .expect(rt, "memory")
 }
 
 // What is told of the text.
@@ -121,8 +127,10 @@ fn all_that_is_told(rt: HostRuntime) {
         "image 2¶publisher test¶origin b free¶origin a sticky¶actuator %2Fbin%2Fecho¶variant arch i%20386¶facet doc true¶facet locale.%2A false¶",
     );
     let heading = read_heading(alloc, &text).ok().expect(&rt, "a heading");
-    assert!(rt; heading.origins[0].name.as_str() == "b" && !heading.origins[0].sticky);
-    assert!(rt; heading.origins[1].name.as_str() == "a" && heading.origins[1].sticky);
+    let first = heading.origins.first().expect(&rt, "an origin");
+    assert!(rt; first.name.as_str() == "b" && !first.sticky);
+    let last = heading.origins.last().expect(&rt, "an origin");
+    assert!(rt; last.name.as_str() == "a" && last.sticky);
     assert!(rt; heading.settings.variant("arch") == "i 386");
     assert!(rt; heading.settings.facet("doc") && !heading.settings.facet("locale.de"));
 }
