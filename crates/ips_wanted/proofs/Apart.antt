@@ -1,5 +1,5 @@
 -- Packages leave the folder of the image's records alone.
-use Rattle.std.proofs.Common.{◌≡◌, ℕ, zero, suc, ◌||◌, ◌&&◌, true, List, [], ◌∷◌, map, length, Option, Some, None, is_some, refl, sym, ap, subst, ◌∙◌, ◌⊎◌, inl, inr, arith}
+use Rattle.std.proofs.Common.{◌≡◌, ℕ, zero, suc, ◌||◌, ◌&&◌, true, List, [], ◌∷◌, map, length, Option, Some, None, is_some, refl, sym, ap, subst, ◌∙◌, inl, inr, arith, Bool, false}
 use Rattle.std.specs.Prelude.{codes, slice_get}
 use Rattle.std.specs.List.{Contains}
 use Rattle.std.proofs.lemmas.Bool.{and_parts, or_cases, or_left, or_right, not-true, cases_Bool, false_from_ne_true}
@@ -13,18 +13,23 @@ use Rattle.ips_manifest.specs.declared.package.Package.{Package}
 use Rattle.ips_filter.specs.Settings.{Set}
 use Rattle.ips_mediate.specs.declared.set.SetMediator.{SetMediator}
 use Rattle.ips_conflict.specs.declared.placed.Placed.{Placed}
-use Rattle.ips_conflict.specs.Clash.{has_legacy}
+use Rattle.ips_conflict.specs.declared.clashing.Rule.TheVariants.{Below}
+use Rattle.ips_conflict.specs.Key.{is_dir}
+use Rattle.ips_conflict.specs.Alike.{mode_of}
+use Rattle.ips_conflict.specs.Clash.{HasKey, has_legacy, is_held_by, path_key}
+use Rattle.ips_action.specs.declared.kind.ActionKind.{ActionKind}
+use Rattle.ips_action.specs.declared.kind.ActionKind.TheVariants as kind
 use Rattle.ips_meaning.specs.declared.entry.Entry.{Entry}
-use Rattle.ips_meaning.specs.declared.entry.Entry.TheVariants.{Dir}
+use Rattle.ips_meaning.specs.declared.entry.Entry.TheVariants.{Dir, File, Link, Hard}
 use Rattle.ips_meaning.specs.Reserved.{is_reserved}
 use Rattle.ips_meaning.specs.Taken.{Leaves}
-use Rattle.ips_meaning.specs.Want.{IsGiven, IsWanted, PackagesMean}
+use Rattle.ips_meaning.specs.Want.{IsGiven, IsWanted, Means, PackagesMean}
 use Rattle.ips_meaning.proofs.Together.{entry_there}
 use Rattle.ips_after.specs.Request.{Wanted, is_dir_wanted}
-use Rattle.ips_after.proofs.Fits.{apart}
+use Rattle.ips_after.proofs.Fits.{apart, below_trans}
 use Rattle.ips_after.proofs.Places.{may_of, private_own}
 use Rattle.ips_after.proofs.Sorted.{sorted_once}
-use Rattle.ips_wanted.specs.Wanted.{wanted_at, wanted_of}
+use Rattle.ips_wanted.specs.Wanted.{wanted_among, wanted_of}
 use Rattle.ips_wanted.proofs.Found.{found_at, in_either, only_at}
 
 contained : (xs : List Placed) (i : ℕ) (x : Placed) → slice_get xs i ≡ Some x → Contains xs x
@@ -79,12 +84,117 @@ module _ (settings : Set) (mediators : List SetMediator) (packages : List Packag
   ]
 
   -- nothing below the folder of the records is wanted
-  pub nothing_below : (q : List ℕ) → is_below records_name q ≡ true → wanted_at entries q ≡ None
-  nothing_below q below = go (wanted_at entries q) refl
+  pub nothing_below : (q : List ℕ) → is_below records_name q ≡ true → wanted_among entries q ≡ None
+  nothing_below q below = go (wanted_among entries q) refl
     where
-      go : (o : Option Wanted) → wanted_at entries q ≡ o → o ≡ None
+      go : (o : Option Wanted) → wanted_among entries q ≡ o → o ≡ None
       go None is = refl
       go (Some w) is = absurd (let e = only_at entries q w is in none_wanted q e.0 below (All-contains (λ (x : List ℕ × Entry). IsWanted kept x.0 x.1) entries (q, e.0) mean.want.each e.1))
+
+  none_legacy : (q : List ℕ) (entry : Entry) → is_below (codes "var/sadm/pkg") q ≡ true → IsWanted kept q entry → ⊥
+  none_legacy q entry below (inl gives) = none_given q (or_right (covers (codes "var/pkg") q) _ below) (gives.i, gives.p, gives.at)
+  none_legacy q entry below (inr (implicit, is)) =
+      let parts = and_parts (covers (codes "var/sadm/pkg") q) _ below in
+      elim implicit.needed [
+        | inl need ↦ elim (or_cases (covers q (codes "var/pkg")) (has_legacy kept && covers q (codes "var/sadm/pkg")) need) [
+          | inl up ↦ let far : covers (codes "var/sadm/pkg") (codes "var/pkg") ≡ true = covers_trans (codes "var/sadm/pkg") q (codes "var/pkg") parts.0 up in absurd (cc)
+          | inr legacy ↦ apart (codes "var/sadm/pkg") q parts.0 (not-true _ parts.1) (and_parts (has_legacy kept) (covers q (codes "var/sadm/pkg")) legacy).1
+        ]
+        | inr (lower, given, up) ↦ none_given lower (or_right (covers (codes "var/pkg") lower) _ (below_trans (codes "var/sadm/pkg") q lower below up)) given
+      ]
+
+  -- nor is anything below the folder of legacy packages
+  pub nothing_legacy : (q : List ℕ) → is_below (codes "var/sadm/pkg") q ≡ true → wanted_among entries q ≡ None
+  nothing_legacy q below = go (wanted_among entries q) refl
+    where
+      go : (o : Option Wanted) → wanted_among entries q ≡ o → o ≡ None
+      go None is = refl
+      go (Some w) is = absurd (let e = only_at entries q w is in none_legacy q e.0 below (All-contains (λ (x : List ℕ × Entry). IsWanted kept x.0 x.1) entries (q, e.0) mean.want.each e.1))
+
+  abbrev folder : List ℕ
+  folder = codes "var/sadm/pkg"
+
+  -- an action at that folder, where a legacy package has an entry, gives a directory
+  folder_dir : has_legacy kept ≡ true → (i : ℕ) (p : Placed) → HasKey kept (path_key folder) i p → is_dir p.action.kind ≡ true
+  folder_dir legacy i p at = go (is_dir p.action.kind) refl
+    where
+      go : (b : Bool) → is_dir p.action.kind ≡ b → is_dir p.action.kind ≡ true
+      go true is = is
+      go false is = absurd (mean.no_clash (record { key = path_key folder; rule = Below; first = i; second = None }) (record {
+        path = folder;
+        a = p;
+        of_path = refl;
+        a_key = at;
+        other = is;
+        above = held (has_legacy kept) legacy;
+      }))
+        where
+          held : (l : Bool) → l ≡ true → is_held_by l folder ≡ true
+          held true e = refl
+          held false e = cc
+
+  dir_means : (k : ActionKind) → is_dir k ≡ true → k ≡ kind.Dir
+  dir_means kind.Dir h = refl
+  dir_means kind.Set h = cc
+  dir_means kind.Depend h = cc
+  dir_means kind.File h = cc
+  dir_means kind.Link h = cc
+  dir_means kind.Hardlink h = cc
+  dir_means kind.User h = cc
+  dir_means kind.Group h = cc
+  dir_means kind.Driver h = cc
+  dir_means kind.License h = cc
+  dir_means kind.Legacy h = cc
+  dir_means kind.Signature h = cc
+
+  folder_entry : has_legacy kept ≡ true → (entry : Entry) → IsWanted kept folder entry → is_dir_wanted (Some (wanted_of entry)) ≡ true
+  folder_entry legacy entry (inr (implicit, is)) = ap (λ (x : Entry). is_dir_wanted (Some (wanted_of x))) is
+  folder_entry legacy entry (inl gives) = go entry gives.means
+    where
+      dir : is_dir gives.p.action.kind ≡ true
+      dir = folder_dir legacy gives.i gives.p gives.at
+
+      other : (k : ActionKind) → gives.p.action.kind ≡ k → is_dir k ≡ false → ⊥
+      other k is off = clash (is_dir k) (ap is_dir (sym is) ∙ dir) off
+
+      go : (x : Entry) → Means gives.p.action x → is_dir_wanted (Some (wanted_of x)) ≡ true
+      go (Dir m) h = refl
+      go (File payload m preserve) h = absurd (other kind.File h.0 refl)
+      go (Link g) h = absurd (other kind.Link h.0 refl)
+      go (Hard to) h = absurd (other kind.Hardlink h.0 refl)
+
+  -- something is wanted there then
+  folder_some : has_legacy kept ≡ true → wanted_among entries folder ≡ None → ⊥
+  folder_some legacy none = missing (Dir None) (inr (record { not_given = not_given; needed = inl (or_right (covers folder (codes "var/pkg")) _ (need (has_legacy kept) legacy)) }, refl))
+    where
+      need : (l : Bool) → l ≡ true → (l && covers folder folder) ≡ true
+      need true e = refl
+      need false e = cc
+
+      missing : (entry : Entry) → IsWanted kept folder entry → ⊥
+      missing entry is = let e = entry_there entries folder (mean.want.whole folder entry is) in
+          none≢some (sym none ∙ found_at entries folder e.0 (sorted_once (map (λ (e : List ℕ × Entry). e.0) entries) mean.want.in_order) e.1)
+        where
+          none≢some : {w : Wanted} → None ≡ Some w → ⊥
+          none≢some h = cc
+
+      not_given : IsGiven kept folder → ⊥
+      not_given (i, p, at) =
+          let dir = dir_means p.action.kind (folder_dir legacy i p at) in
+          missing (Dir (Some (mode_of p.action))) (inl (record { i = i; p = p; at = at; counts = λ file. absurd (no_file (sym dir ∙ file)); means = (dir, refl) }))
+        where
+          no_file : kind.Dir ≡ kind.File → ⊥
+          no_file h = cc
+
+  -- that folder is wanted as a directory where a legacy package has an entry
+  pub legacy_wanted : has_legacy kept ≡ true → is_dir_wanted (wanted_among entries folder) ≡ true
+  legacy_wanted legacy = go (wanted_among entries folder) refl
+    where
+      go : (o : Option Wanted) → wanted_among entries folder ≡ o → is_dir_wanted o ≡ true
+      go None is = absurd (folder_some legacy is)
+      go (Some w) is =
+          let e = only_at entries folder w is in
+          ap (λ (x : Wanted). is_dir_wanted (Some x)) e.2 ∙ folder_entry legacy e.0 (All-contains (λ (x : List ℕ × Entry). IsWanted kept x.0 x.1) entries (folder, e.0) mean.want.each e.1)
 
   own_implicit : IsWanted kept (codes "var/pkg") (Dir None)
   own_implicit = inr (record { not_given = none_given (codes "var/pkg") refl; needed = inl refl }, refl)
@@ -94,16 +204,16 @@ module _ (settings : Set) (mediators : List SetMediator) (packages : List Packag
   own_entry entry (inr (implicit, is)) = is
 
   -- that folder is wanted as a directory
-  pub own_wanted : is_dir_wanted (wanted_at entries records_name) ≡ true
+  pub own_wanted : is_dir_wanted (wanted_among entries records_name) ≡ true
   own_wanted =
       let e = entry_there entries (codes "var/pkg") (mean.want.whole (codes "var/pkg") (Dir None) own_implicit) in
-      ap (λ (q : List ℕ). is_dir_wanted (wanted_at entries q)) (sym own_name)
+      ap (λ (q : List ℕ). is_dir_wanted (wanted_among entries q)) (sym own_name)
       ∙ ap is_dir_wanted (found_at entries (codes "var/pkg") e.0 (sorted_once (map (λ (e : List ℕ × Entry). e.0) entries) mean.want.in_order) e.1)
       ∙ ap (λ (x : Entry). is_dir_wanted (Some (wanted_of x))) (own_entry e.0 (All-contains (λ (x : List ℕ × Entry). IsWanted kept x.0 x.1) entries (codes "var/pkg", e.0) mean.want.each e.1))
 
   -- a journal can name what is wanted, but for that folder and what is above it
-  pub wanted_named : (q : List ℕ) → is_some (wanted_at entries q) ≡ true → (may_name q || covers q records_name) ≡ true
+  pub wanted_named : (q : List ℕ) → is_some (wanted_among entries q) ≡ true → (may_name q || covers q records_name) ≡ true
   wanted_named q there = elim (cases_Bool (covers q records_name)) [
     | inl up ↦ or_right _ _ up
-    | inr off ↦ or_left _ _ (may_of q (false_from_ne_true _ (λ h. clash (is_some (wanted_at entries q)) there (ap is_some (nothing_below q (private_own q h))))) off)
+    | inr off ↦ or_left _ _ (may_of q (false_from_ne_true _ (λ h. clash (is_some (wanted_among entries q)) there (ap is_some (nothing_below q (private_own q h))))) off)
   ]

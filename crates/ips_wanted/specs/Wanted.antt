@@ -16,13 +16,13 @@ wanted_of (Link target) = WantLink target
 wanted_of (Hard to) = WantHard to.bytes
 
 -- What is wanted at a path: the entry that the list has there.
-abbrev pub wanted_at : List (List ℕ × Entry) → List ℕ → Option Wanted
-wanted_at [] q = None
-wanted_at (e ∷ entries) q = cond (same_path e.0 q) (Some (wanted_of e.1)) (wanted_at entries q)
+abbrev pub wanted_among : List (List ℕ × Entry) → List ℕ → Option Wanted
+wanted_among [] q = None
+wanted_among (e ∷ entries) q = cond (same_path e.0 q) (Some (wanted_of e.1)) (wanted_among entries q)
 
 -- Entries by their paths as a Want.
 abbrev pub want_of : List (List ℕ × Entry) → Want
-want_of entries = record { at = wanted_at entries; keys = map (λ e. e.0) entries }
+want_of entries = record { at = wanted_among entries; keys = map (λ e. e.0) entries }
 
 -- What a symbolic link of the entry says is bytes.
 abbrev pub HasLinkBytes : Entry → Type 0

@@ -1,6 +1,6 @@
 //! Laws of what packages mean, each the contract of a function that does nothing.
 
-ghost use Rattle.std.specs.Prelude.{◌≡◌, ℕ, ◌||◌, List, map, Option, Some, None, is_some, IsTrue, IsFalse};
+ghost use Rattle.std.specs.Prelude.{◌≡◌, ℕ, ◌||◌, List, map, Option, Some, None, is_some, codes, IsTrue};
 ghost use Rattle.std.specs.List.{Contains};
 ghost use Rattle.std.specs.List.Sorted.{IsStrictlySortedBy};
 ghost use Rattle.std.specs.Ordering.{nat_cmp};
@@ -15,6 +15,7 @@ ghost use Rattle.ips_mediate.specs.declared.set.SetMediator.{SetMediator};
 ghost use Rattle.ips_meaning.specs.declared.entry.Entry.{Entry};
 ghost use Rattle.ips_meaning.specs.Want.{PackagesMean};
 ghost use Rattle.ips_meaning.specs.Together.{AreProper, HangTogether};
+ghost use Rattle.ips_conflict.specs.Clash.{has_legacy};
 ghost use Rattle.ips_after.specs.Request.{IsWant, WantHard, Wanted, is_dir_wanted, is_file_wanted};
 ghost use Rattle.ips_after.specs.Planned.{HasWantedParts};
 ghost use Rattle.ips_wanted.specs.Wanted.{AreLinkBytes, want_of, wanted_of};
@@ -39,13 +40,17 @@ pub fn parts_are_proper()
     ensures { (entries : List (List ℕ × Entry)) (path : List ℕ) (w : Wanted) → AreProper entries → AreLinkBytes entries → (want_of entries).at path ≡ Some w → IsPath path × HasWantedParts w }
 {}
 
-/// Packages leave the folder of the image's records to the image: it is wanted as a directory, nothing below it is wanted, and a
-/// journal can name each other wanted path that isn't above it.
-pub fn own_folder_is_left()
+/// Packages leave the folders of the image's records to the image: that of its own is wanted as a directory, and that of legacy packages
+/// where one has an entry; nothing below them is wanted; and a journal can name each other wanted path that isn't above the first.
+pub fn own_folders_are_left()
     ensures wanted { (settings : Set) (mediators : List SetMediator) (packages : List Package) (entries : List (List ℕ × Entry)) → PackagesMean settings mediators packages entries
         → IsTrue (is_dir_wanted ((want_of entries).at records_name)) }
     ensures none { (settings : Set) (mediators : List SetMediator) (packages : List Package) (entries : List (List ℕ × Entry)) (path : List ℕ) → PackagesMean settings mediators packages entries
         → IsTrue (is_below records_name path) → (want_of entries).at path ≡ None }
+    ensures legacy_none { (settings : Set) (mediators : List SetMediator) (packages : List Package) (entries : List (List ℕ × Entry)) (path : List ℕ) → PackagesMean settings mediators packages entries
+        → IsTrue (is_below (codes "var/sadm/pkg") path) → (want_of entries).at path ≡ None }
+    ensures legacy { (settings : Set) (mediators : List SetMediator) (packages : List Package) (entries : List (List ℕ × Entry)) (mean : PackagesMean settings mediators packages entries)
+        → IsTrue (has_legacy mean.taken.kept) → IsTrue (is_dir_wanted ((want_of entries).at (codes "var/sadm/pkg"))) }
     ensures names { (settings : Set) (mediators : List SetMediator) (packages : List Package) (entries : List (List ℕ × Entry)) (path : List ℕ) → PackagesMean settings mediators packages entries
         → IsTrue (is_some ((want_of entries).at path)) → IsTrue (may_name path || covers path records_name) }
 {}

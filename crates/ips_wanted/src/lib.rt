@@ -6,4 +6,4 @@
 
 mod laws;
 
-pub use laws::{links_lead_to_files, meanings_are_wants, own_folder_is_left, parts_are_proper};
+pub use laws::{links_lead_to_files, meanings_are_wants, own_folders_are_left, parts_are_proper};

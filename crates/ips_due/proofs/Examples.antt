@@ -1,0 +1,73 @@
+-- Examples of what is said of records that are due.
+use Rattle.std.proofs.Common.{◌≡◌, ℕ, false, cond, List, [], ◌∷◌, Option, Some, None, refl}
+use Rattle.std.specs.Prelude.{codes}
+use Rattle.ips_text.specs.Ancestry.{same_path}
+use Rattle.ips_outside.specs.Image.{Entry, Dir, File, Image}
+use Rattle.ips_due.specs.Due.{Due, said}
+
+abbrev look_in : List (List ℕ × Entry) → List ℕ → Option Entry
+look_in [] q = None
+look_in (x ∷ rest) q = cond (same_path x.0 q) (Some x.1) (look_in rest q)
+
+-- two records that stand, one of them with a mode of its own, in a folder
+abbrev tree : Image
+tree = record {
+  look = look_in ((codes "var/pkg/image", File 420 (1 ∷ [])) ∷ (codes "var/pkg/packages", Dir 493 false) ∷ (codes "var/pkg/packages/a", File 384 (2 ∷ [])) ∷ []);
+  same = λ a b. same_path a b;
+}
+
+-- they are due as they stand, and a third one, and what an old package recorded goes
+abbrev due : Due
+due = record {
+  accounts = [];
+  records = (codes "var/pkg/image", 1 ∷ []) ∷ (codes "var/pkg/history", 3 ∷ []) ∷ (codes "var/pkg/packages/a", 2 ∷ []) ∷ [];
+  renewed = [];
+  folders = codes "var/pkg/license" ∷ codes "var/pkg/packages" ∷ [];
+  gone = codes "var/pkg/packages/b" ∷ [];
+}
+
+-- what stands as it should isn't spoken of, whatever its mode
+stands_image : said due tree (codes "var/pkg/image") ≡ None
+stands_image = refl
+
+stands_package : said due tree (codes "var/pkg/packages/a") ≡ None
+stands_package = refl
+
+-- what is missing is laid
+missing_history : said due tree (codes "var/pkg/history") ≡ Some (Some (File 420 (3 ∷ [])))
+missing_history = refl
+
+-- nor is what goes where nothing stands
+missing_gone : said due tree (codes "var/pkg/packages/b") ≡ None
+missing_gone = refl
+
+-- a folder is made where none stands
+missing_folder : said due tree (codes "var/pkg/license") ≡ Some (Some (Dir 493 false))
+missing_folder = refl
+
+standing_folder : said due tree (codes "var/pkg/packages") ≡ None
+standing_folder = refl
+
+-- a folder that is made anew takes its records with it, so they are laid again
+abbrev renewing : Due
+renewing = record {
+  accounts = [];
+  records = (codes "var/pkg/image", 4 ∷ []) ∷ (codes "var/pkg/packages/a", 2 ∷ []) ∷ [];
+  renewed = codes "var/pkg/packages" ∷ [];
+  folders = [];
+  gone = codes "var/pkg/image" ∷ codes "var/pkg/packages/a" ∷ [];
+}
+
+renewed_folder : said renewing tree (codes "var/pkg/packages") ≡ Some (Some (Dir 493 false))
+renewed_folder = refl
+
+renewed_record : said renewing tree (codes "var/pkg/packages/a") ≡ Some (Some (File 420 (2 ∷ [])))
+renewed_record = refl
+
+-- other bytes are laid over what stands
+other_image : said renewing tree (codes "var/pkg/image") ≡ Some (Some (File 420 (4 ∷ [])))
+other_image = refl
+
+-- what stands and isn't due any more is taken away
+going : said (record { accounts = []; records = []; renewed = []; folders = []; gone = codes "var/pkg/packages/a" ∷ [] }) tree (codes "var/pkg/packages/a") ≡ Some None
+going = refl

@@ -1,0 +1,4 @@
+pub mod Fitting
+pub mod Asking
+pub mod StateDue
+pub mod Examples

@@ -1,0 +1,10 @@
+use Rattle.std.proofs.Common.{refl}
+use Rattle.ips_after.specs.Lists.{listed}
+use Rattle.ips_due.proofs.Fitting.{nothing_gone}
+use Rattle.ips_due.proofs.laws.standing_is_not_spoken_of.Goals as goal
+
+pub returns : goal.returns
+returns c = record {
+  stands = λ due t q bytes account due_here there stays. rw (account, due_here, there, stays) refl;
+  absent = λ due t q account due_here renewed folder nothing. rw (account, due_here, renewed, folder) (nothing_gone (listed due.gone q) (t.look q) nothing);
+}

@@ -1,0 +1,58 @@
+//! Laws of what is due, each the contract of a function that does nothing.
+
+ghost use Rattle.std.specs.Prelude.{◌≡◌, ℕ, List, Option, Some, None, is_some, is_none, codes, Bool, IsTrue, IsFalse};
+ghost use Rattle.ips_text.specs.Ancestry.{is_below};
+ghost use Rattle.ips_outside.specs.Image.{Image, is_dir};
+ghost use Rattle.ips_steps.specs.Private.{records_name};
+ghost use Rattle.ips_manifest.specs.declared.package.Package.{Package};
+ghost use Rattle.ips_filter.specs.Settings.{Set};
+ghost use Rattle.ips_mediate.specs.declared.set.SetMediator.{SetMediator};
+ghost use Rattle.ips_conflict.specs.Clash.{has_legacy};
+ghost use Rattle.ips_meaning.specs.declared.entry.Entry.{Entry};
+ghost use Rattle.ips_after.specs.Planned.{IsNameable, IsProperRequest};
+ghost use Rattle.ips_wanted.specs.Wanted.{want_of};
+ghost use Rattle.ips_steps.specs.Journal.{may_name};
+ghost use Rattle.ips_after.specs.Lists.{listed};
+ghost use Rattle.ips_after.specs.Request.{IsRequest, IsWant, OverFits, Over, Want};
+ghost use Rattle.ips_state.specs.State.{Recorded};
+ghost use Rattle.ips_due.specs.State.{state_due};
+ghost use Rattle.ips_due.specs.Asked.{AreMeant, request_between};
+ghost use Rattle.ips_due.specs.Due.{account_at, Due, HasProperDue, is_due, FitsAccounts, goes_with, holds_bytes, IsDue, IsOverOf, LeavesOwn, record_at, said};
+
+/// What account files and records say by what is due fits what is wanted.
+pub fn due_fits_the_want()
+    ensures { (due : Due) (t : Image) (o : Over) (new : Want) → IsDue due → IsOverOf due t o → IsWant new → FitsAccounts new → LeavesOwn due new → OverFits o new }
+{}
+
+/// A journal can name each path of which they speak.
+pub fn due_can_be_named()
+    ensures { (due : Due) (t : Image) (o : Over) (q : List ℕ) → IsDue due → IsOverOf due t o → IsTrue (is_some (o.at q)) → IsTrue (may_name q) }
+{}
+
+/// A record that stands as it should, and that doesn't go with what is above it, isn't spoken of, nor is what goes where nothing stands.
+pub fn standing_is_not_spoken_of()
+    ensures stands { (due : Due) (t : Image) (q bytes : List ℕ) → account_at due.accounts q ≡ None → record_at due.records q ≡ Some bytes → IsTrue (holds_bytes bytes (t.look q)) → IsFalse (goes_with due q) → said due t q ≡ None }
+    ensures absent { (due : Due) (t : Image) (q : List ℕ) → account_at due.accounts q ≡ None → record_at due.records q ≡ None → IsFalse (listed due.renewed q) → IsFalse (listed due.folders q)
+        → IsTrue (is_none (t.look q)) → said due t q ≡ None }
+{}
+
+/// Between what packages mean, with what is due behind the request, there is a request such as the laws of the image after ask for:
+/// its Wants and what account files and records say fit, a journal can name what it is about, and its parts are proper. Records of
+/// legacy packages are due only where the new packages have such an entry.
+pub fn requests_are_lawful()
+    ensures request { (so sn : Set) (mo mn : List SetMediator) (po pn : List Package) (old new : List (List ℕ × Entry)) (was : AreMeant so mo po old) (is : AreMeant sn mn pn new)
+        → (due : Due) (t : Image) (o : Over) → IsDue due → IsOverOf due t o → FitsAccounts (want_of new)
+        → ((q : List ℕ) → IsTrue (is_below (codes "var/sadm/pkg") q) → IsTrue (is_due due q) → IsTrue (has_legacy is.mean.taken.kept))
+        → (bytes : List ℕ → List ℕ) (holds : List ℕ → List ℕ → Bool) → IsRequest (request_between old new bytes holds o) }
+    ensures names { (so sn : Set) (mo mn : List SetMediator) (po pn : List Package) (old new : List (List ℕ × Entry)) → AreMeant so mo po old → AreMeant sn mn pn new
+        → (due : Due) (t : Image) (o : Over) → IsDue due → IsOverOf due t o → IsTrue (is_dir (t.look records_name))
+        → (bytes : List ℕ → List ℕ) (holds : List ℕ → List ℕ → Bool) → IsNameable (request_between old new bytes holds o) t }
+    ensures proper { (so sn : Set) (mo mn : List SetMediator) (po pn : List Package) (old new : List (List ℕ × Entry)) → AreMeant so mo po old → AreMeant sn mn pn new
+        → (due : Due) (t : Image) (o : Over) → IsDue due → HasProperDue due → IsOverOf due t o
+        → (bytes : List ℕ → List ℕ) (holds : List ℕ → List ℕ → Bool) → IsProperRequest (request_between old new bytes holds o) }
+{}
+
+/// What a change of an image's state makes due hangs together, in both formats of the records and from the older to the newer one.
+pub fn state_hangs_together()
+    ensures { (old new : Recorded) → IsDue (state_due old new) }
+{}

@@ -1,0 +1,12 @@
+//! Which account files and records are due behind a request, and what of it the request says.
+//!
+//! A record that stands as it should isn't spoken of, nor is a removal where nothing stands. What is said so fits what packages
+//! mean, as the laws of the image after ask for, and a journal can name it.
+#![tactic(auto)]
+
+mod laws;
+
+pub use laws::{
+    due_can_be_named, due_fits_the_want, requests_are_lawful, standing_is_not_spoken_of,
+    state_hangs_together,
+};
