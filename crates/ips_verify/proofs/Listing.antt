@@ -12,7 +12,7 @@ use Rattle.ips_after.specs.Findings.{Damage, Finding, finding, finding_as, findi
 use Rattle.ips_after.specs.Request.{Want, Wanted}
 use Rattle.ips_after.proofs.Sorted.{sorted_once}
 use Rattle.ips_meaning.specs.declared.entry.Entry.{Entry}
-use Rattle.ips_wanted.specs.Wanted.{want_of, wanted_at, wanted_of}
+use Rattle.ips_wanted.specs.Wanted.{want_of, wanted_among, wanted_of}
 use Rattle.ips_wanted.proofs.Found.{found_at}
 
 with_more : (q : List ℕ) (d : Option Damage) (found more : List Finding) → with_finding q d (found ++ more) ≡ with_finding q d found ++ more
@@ -34,7 +34,7 @@ module _ (entries : List (List ℕ × Entry)) (i : ℕ) (p : List ℕ) (e : Entr
   pub paths_next : map (λ (x : List ℕ × Entry). x.0) (take (i + 1) entries) ≡ map (λ (x : List ℕ × Entry). x.0) (take i entries) ++ p ∷ []
   paths_next = map_item (λ (x : List ℕ × Entry). x.0) entries i (p, e) (slice_get_within entries i (p, e) there) get
 
-  pub wanted_there : IsStrictlySortedBy (slice_cmp nat_cmp) (map (λ (x : List ℕ × Entry). x.0) entries) → wanted_at entries p ≡ Some (wanted_of e)
+  pub wanted_there : IsStrictlySortedBy (slice_cmp nat_cmp) (map (λ (x : List ℕ × Entry). x.0) entries) → wanted_among entries p ≡ Some (wanted_of e)
   wanted_there order = found_at entries p e (sorted_once _ order)
       (subst (Contains entries) (sym get) (Contains-get_or entries i (p, e) (slice_get_within entries i (p, e) there)))
 
