@@ -17,9 +17,12 @@ use Rattle.ips_accounts.specs.Laws.{text_at}
 use Rattle.ips_accounts.proofs.Lacking.{and_false, apart_line}
 use Rattle.ips_accounts.proofs.Members.{turned_apart}
 
-and_true : (b : Bool) → (b && true) ≡ b
-and_true true = refl
-and_true false = refl
+same_alone : (id number : ℕ) → (eqb id number && true) ≡ eqb id number
+same_alone id number = go (eqb id number)
+  where
+    go : (b : Bool) → (b && true) ≡ b
+    go true = refl
+    go false = refl
 
 turned : (a b : ℕ) → eqb a b ≡ false → eqb b a ≡ false
 turned a b e = grind (arith, nat_tests)
@@ -73,8 +76,8 @@ told_free lines name id n e = go (is_taken lines name (wanted_number lines name 
         let same : wanted_number lines name id ≡ n = cc in
         subst (λ (v : ℕ). is_taken lines name v ≡ false) same f
 
-some_same : (x y : List ℕ) → (let o : Option (List ℕ) = Some x in o ≡ Some y) → x ≡ y
-some_same x y e = cc
+pub some_text : (x y : List ℕ) → (let o : Option (List ℕ) = Some x in o ≡ Some y) → x ≡ y
+some_text x y e = cc
 
 -- the number of a standing name differs from one that another name gets
 pub differs : (name other text : List ℕ) (id number : ℕ) (lines : List Line) → text_at lines name ≡ Some text → ((e : Bool) → number_of (record { text = text; ended = e }) ≡ Some id) → is_same name other ≡ false → is_taken lines other number ≡ false → eqb id number ≡ false
@@ -86,9 +89,9 @@ differs name other text id number (x ∷ lines) at numbered apart free = go (is_
   where
     go : (t : Bool) → is_of name x ≡ t → option_map (λ (l : Line). l.text) (cond t (Some x) (find (is_of name) lines)) ≡ Some text → (is_of_other other number x ≡ false) × (is_taken lines other number ≡ false) → (text_at lines name ≡ Some text → is_taken lines other number ≡ false → eqb id number ≡ false) → eqb id number ≡ false
     go true of h parts later =
-        let same = some_same x.text text h in
+        let same = some_text x.text text h in
         let is : number_of x ≡ Some id = ap (λ (t : List ℕ). number_of (record { text = t; ended = x.ended })) same ∙ numbered x.ended in
         let kept = not_true (is_kept x) (and_parts (not (is_kept x)) _ of).0 in
         let away = apart_line other name x (turned_apart name other apart) of in
-        sym (and_true (eqb id number)) ∙ sym (λ i. (not (kept i) && option_eq eqb (is i) (Some number)) && not (away i)) ∙ parts.0
+        sym (same_alone id number) ∙ sym (λ i. (not (kept i) && option_eq eqb (is i) (Some number)) && not (away i)) ∙ parts.0
     go false of h parts later = later h parts.1

@@ -22,7 +22,7 @@ use Rattle.ips_accounts.proofs.GroupNames.{IsApart, all_apart, user_joins, joine
 use Rattle.ips_accounts.proofs.NewUsers.{own_line, other_line, put_own, put_other, given_is}
 use Rattle.ips_accounts.proofs.Low.{given_low, for_low, decimal_plain}
 use Rattle.ips_accounts.proofs.Joined.{taken_joined}
-use Rattle.ips_accounts.proofs.Apart.{none_put, own_apart, told_free, differs, numbered_apart}
+use Rattle.ips_accounts.proofs.Apart.{none_put, own_apart, told_free, differs, numbered_apart, some_text}
 use Rattle.ips_books.proofs.Decimals.{number_small}
 
 -- ---- fields of a group's line
@@ -51,9 +51,6 @@ HasGroup name gid lines = (members : List ℕ) × (text_at lines name ≡ Some (
 
 own_of : (name : List ℕ) (gid : ℕ) (members : List ℕ) (line : Line) → IsAccount name → line.text ≡ group_text name gid members → is_of name line ≡ true
 own_of name gid members line account e = own_line name line.text _ line.ended account e
-
-some_text : (x y : List ℕ) → (let o : Option (List ℕ) = Some x in o ≡ Some y) → x ≡ y
-some_text x y e = cc
 
 has_joined : (name user group : List ℕ) (gid : ℕ) (lines : List Line) → IsAccount name → gid < 2 ^ 32 → HasGroup name gid lines → HasGroup name gid (at_first (is_of group) (joined_by user) lines)
 unfolding HasGroup

@@ -1,5 +1,5 @@
 -- Where the files of the repository stand.
-use Rattle.std.proofs.Common.{◌≡◌, ℕ, ◌%◌, ◌<◌, ◌^◌, Bool, true, ◌+◌, List, [], ◌∷◌, ◌++◌, length, length-append, take, refl, ◌∙◌, subst, append_assoc, arith}
+use Rattle.std.proofs.Common.{◌≡◌, ◌≤◌, false, ℕ, ◌%◌, ◌<◌, ◌^◌, Bool, true, ◌+◌, List, [], ◌∷◌, ◌++◌, length, length-append, take, refl, ◌∙◌, subst, append_assoc, arith}
 use Rattle.std.specs.List.{list_all, join_with_byte}
 use Rattle.std.specs.Prelude.{codes}
 use Rattle.std.specs.Fmt.{decimal}
@@ -7,62 +7,42 @@ use Rattle.std.proofs.lemmas.Bool.{and_from}
 use Rattle.std.proofs.lemmas.Bool.Decides.{nat_tests}
 use Rattle.std.proofs.lemmas.Fmt.{decimal_by_steps, length-decimal-le}
 use Rattle.std.proofs.lemmas.List.Folds.{list_all-append}
-use Rattle.ips_text.specs.Path.{IsPath}
+use Rattle.ips_text.specs.Path.{IsPath, is_dots}
 use Rattle.ips_digest.specs.Name.{IsName, spelling}
 use Rattle.ips_digest.specs.declared.name.PayloadName.{PayloadName}
 use Rattle.ips_records.proofs.Joined.{is_name_byte, IsFileName, joined_path, pkg_name}
 use Rattle.ips_repo.proofs.Digits.{payload_digits}
 use Rattle.ips_generate.specs.Generated.{quoted_stem, quoted_version, manifest_place, payload_place}
 
-word_publisher : IsFileName (codes "publisher")
-word_publisher = record { bytes = refl; some = omega arith; few = omega arith; no_dots = refl }
-
-word_gen : IsFileName (codes "gen")
-word_gen = record { bytes = refl; some = omega arith; few = omega arith; no_dots = refl }
-
-word_file : IsFileName (codes "file")
-word_file = record { bytes = refl; some = omega arith; few = omega arith; no_dots = refl }
-
-word_catalog : IsFileName (codes "catalog")
-word_catalog = record { bytes = refl; some = omega arith; few = omega arith; no_dots = refl }
-
-word_base : IsFileName (codes "catalog.base.C")
-word_base = record { bytes = refl; some = omega arith; few = omega arith; no_dots = refl }
-
-word_mark : IsFileName (codes "pkg5.repository")
-word_mark = record { bytes = refl; some = omega arith; few = omega arith; no_dots = refl }
-
-word_version : IsFileName quoted_version
-word_version = record { bytes = refl; some = omega arith; few = omega arith; no_dots = refl }
-
-word_all : IsFileName (codes "all")
-word_all = record { bytes = refl; some = omega arith; few = omega arith; no_dots = refl }
+-- what can be tested of a name makes it the name of a file
+name_is : (name : List ℕ) → list_all is_name_byte name ≡ true → is_dots name ≡ false → 0 < length name → length name ≤ 255 → IsFileName name
+name_is name bytes dots some few = record { bytes = bytes; some = some; few = few; no_dots = dots }
 
 pub mark_path : IsPath (codes "pkg5.repository")
-mark_path = joined_path (codes "pkg5.repository" ∷ []) word_mark (omega arith)
+mark_path = joined_path (codes "pkg5.repository" ∷ []) (name_is (codes "pkg5.repository") refl refl (omega arith) (omega arith)) (omega arith)
 
 pub top_path : IsPath (codes "publisher")
-top_path = joined_path (codes "publisher" ∷ []) word_publisher (omega arith)
+top_path = joined_path (codes "publisher" ∷ []) (name_is (codes "publisher") refl refl (omega arith) (omega arith)) (omega arith)
 
 pub own_path : IsPath (codes "publisher/gen")
-own_path = joined_path (codes "publisher" ∷ codes "gen" ∷ []) (word_publisher, word_gen) (omega arith)
+own_path = joined_path (codes "publisher" ∷ codes "gen" ∷ []) (name_is (codes "publisher") refl refl (omega arith) (omega arith), name_is (codes "gen") refl refl (omega arith) (omega arith)) (omega arith)
 
 pub catalog_path : IsPath (codes "publisher/gen/catalog" ++ 47 ∷ codes "catalog.base.C")
-catalog_path = joined_path (codes "publisher" ∷ codes "gen" ∷ codes "catalog" ∷ codes "catalog.base.C" ∷ []) (word_publisher, (word_gen, (word_catalog, word_base))) (omega arith)
+catalog_path = joined_path (codes "publisher" ∷ codes "gen" ∷ codes "catalog" ∷ codes "catalog.base.C" ∷ []) (name_is (codes "publisher") refl refl (omega arith) (omega arith), (name_is (codes "gen") refl refl (omega arith) (omega arith), (name_is (codes "catalog") refl refl (omega arith) (omega arith), name_is (codes "catalog.base.C") refl refl (omega arith) (omega arith)))) (omega arith)
 
 pub pkg_path : IsPath (codes "publisher/gen/pkg")
-pkg_path = joined_path (codes "publisher" ∷ codes "gen" ∷ codes "pkg" ∷ []) (word_publisher, (word_gen, pkg_name)) (omega arith)
+pkg_path = joined_path (codes "publisher" ∷ codes "gen" ∷ codes "pkg" ∷ []) (name_is (codes "publisher") refl refl (omega arith) (omega arith), (name_is (codes "gen") refl refl (omega arith) (omega arith), pkg_name)) (omega arith)
 
 pub file_path : IsPath (codes "publisher/gen/file")
-file_path = joined_path (codes "publisher" ∷ codes "gen" ∷ codes "file" ∷ []) (word_publisher, (word_gen, word_file)) (omega arith)
+file_path = joined_path (codes "publisher" ∷ codes "gen" ∷ codes "file" ∷ []) (name_is (codes "publisher") refl refl (omega arith) (omega arith), (name_is (codes "gen") refl refl (omega arith) (omega arith), name_is (codes "file") refl refl (omega arith) (omega arith))) (omega arith)
 
 manifest_is_path : (name : List ℕ) → IsFileName name → IsPath (manifest_place name)
 manifest_is_path name s =
     let is : join_with_byte 47 (codes "publisher" ∷ codes "gen" ∷ codes "pkg" ∷ name ∷ quoted_version ∷ []) ≡ manifest_place name = simp append_assoc in
-    subst IsPath is (joined_path (codes "publisher" ∷ codes "gen" ∷ codes "pkg" ∷ name ∷ quoted_version ∷ []) (word_publisher, (word_gen, (pkg_name, (s, word_version)))) (simp length-append (omega (arith, s.few))))
+    subst IsPath is (joined_path (codes "publisher" ∷ codes "gen" ∷ codes "pkg" ∷ name ∷ quoted_version ∷ []) (name_is (codes "publisher") refl refl (omega arith) (omega arith), (name_is (codes "gen") refl refl (omega arith) (omega arith), (pkg_name, (s, name_is quoted_version refl refl (omega arith) (omega arith))))) (simp length-append (omega (arith, s.few))))
 
 pub all_path : IsPath (manifest_place (codes "all"))
-all_path = manifest_is_path (codes "all") word_all
+all_path = manifest_is_path (codes "all") (name_is (codes "all") refl refl (omega arith) (omega arith))
 
 name_digit : (n : ℕ) → n < 10 → is_name_byte (48 + n) ≡ true
 name_digit n lt = grind (arith, nat_tests)
@@ -88,4 +68,4 @@ payload_path name n =
     let digits = payload_digits name n in
     let names : List (List ℕ) = codes "publisher" ∷ codes "gen" ∷ codes "file" ∷ take 2 (spelling name) ∷ spelling name ∷ [] in
     let is : join_with_byte 47 names ≡ payload_place (spelling name) = simp append_assoc in
-    subst IsPath is (joined_path names (word_publisher, (word_gen, (word_file, (digits.front, digits.all)))) (simp length-append (omega (arith, digits.front.few, digits.short))))
+    subst IsPath is (joined_path names (name_is (codes "publisher") refl refl (omega arith) (omega arith), (name_is (codes "gen") refl refl (omega arith) (omega arith), (name_is (codes "file") refl refl (omega arith) (omega arith), (digits.front, digits.all)))) (simp length-append (omega (arith, digits.front.few, digits.short))))

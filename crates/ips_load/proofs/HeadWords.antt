@@ -161,21 +161,18 @@ pub unswitched : (second : List ℕ) → (second ≡ codes "true" → ⊥) → (
 unswitched second up down true e = up (sym e)
 unswitched second up down false e = down (sym e)
 
-word_lacks : (w : List ℕ) → IsWord w → has_byte 32 (quoted w) ≡ false
-word_lacks w h = clear_lacks 32 (quoted w) (omega arith) (word_clear w h)
-
 -- a quoted word and what stands behind the blank
 pub word_cut : (w behind rest first second : List ℕ) → IsWord w → IsCut 32 rest first second → quoted w ++ 32 ∷ behind ≡ rest → (quoted w ≡ first) × (behind ≡ second)
-word_cut w behind rest first second h c e = cut_once 32 (quoted w) behind first second (word_lacks w h) c.first_lacks (e ∙ c.parts)
+word_cut w behind rest first second h c e = cut_once 32 (quoted w) behind first second (clear_lacks 32 (quoted w) (omega arith) (word_clear w h)) c.first_lacks (e ∙ c.parts)
 
 pub variant_one : (v w : List ℕ × List ℕ) → IsVariant v → IsVariant w → variant_value v ≡ variant_value w → v ≡ w
 variant_one v w hv hw e =
-    let c = cut_once 32 (quoted v.0) (quoted v.1) (quoted w.0) (quoted w.1) (word_lacks v.0 hv.0) (word_lacks w.0 hw.0) e in
+    let c = cut_once 32 (quoted v.0) (quoted v.1) (quoted w.0) (quoted w.1) (clear_lacks 32 (quoted v.0) (omega arith) (word_clear v.0 hv.0)) (clear_lacks 32 (quoted w.0) (omega arith) (word_clear w.0 hw.0)) e in
     ap₂ (λ (a b : List ℕ). (a, b)) (word_one v.0 w.0 hv.0 hw.0 c.0) (word_one v.1 w.1 hv.1 hw.1 c.1)
 
 pub facet_one : (f g : List ℕ × Bool) → IsFacet f → IsFacet g → facet_value f ≡ facet_value g → f ≡ g
 facet_one f g hf hg e =
-    let c = cut_once 32 (quoted f.0) (switch f.1) (quoted g.0) (switch g.1) (word_lacks f.0 hf) (word_lacks g.0 hg) e in
+    let c = cut_once 32 (quoted f.0) (switch f.1) (quoted g.0) (switch g.1) (clear_lacks 32 (quoted f.0) (omega arith) (word_clear f.0 hf)) (clear_lacks 32 (quoted g.0) (omega arith) (word_clear g.0 hg)) e in
     ap₂ (λ (a : List ℕ) (b : Bool). (a, b)) (word_one f.0 g.0 hf hg c.0) (switch_one f.1 g.1 c.1)
 
 -- a line of two parts is written again

@@ -19,11 +19,8 @@ use Rattle.ips_state.proofs.Ordered.{IsBefore}
 use Rattle.ips_load.specs.declared.head_lines.HeadLine.{HeadLine}
 use Rattle.ips_load.specs.HeadLines.{AreSet}
 
-self_eq : (a : List ℕ) → bytes_eq a a ≡ true
-self_eq a = (bytes_decides a a).1 refl
-
-not_equal : Less ≡ Equal → ⊥
-not_equal e = cc
+not_equal : {A : Type 0} → Less ≡ Equal → A
+not_equal e = absurd (cc)
 
 differs : (a b : List ℕ) → IsBefore a b → bytes_eq a b ≡ false
 differs a b before = false_from_ne_true (bytes_eq a b) (λ t. not_equal (sym before ∙ ap (slice_cmp nat_cmp a) (sym ((bytes_decides a b).0 t)) ∙ self_equal a))
@@ -41,7 +38,7 @@ module _ {V : Type 0} where
   absent name (e ∷ es) all = ap (λ (t : Bool). cond t (Some e.1) (value_at es name)) (differs name e.0 all.0) ∙ absent name es all.1
 
   present : (e : List ℕ × V) (es : List (List ℕ × V)) → value_at (e ∷ es) e.0 ≡ Some e.1
-  present e es = ap (λ (t : Bool). cond t (Some e.1) (value_at es e.0)) (self_eq e.0)
+  present e es = ap (λ (t : Bool). cond t (Some e.1) (value_at es e.0)) ((bytes_decides e.0 e.0).1 refl)
 
   tails_alike : (x y : List ℕ × V) (a b : List (List ℕ × V)) → AllByRecursion (IsBefore x.0) (keys_of a) → AllByRecursion (IsBefore y.0) (keys_of b) → x.0 ≡ y.0
       → ((q : List ℕ) → value_at (x ∷ a) q ≡ value_at (y ∷ b) q) → (q : List ℕ) → value_at a q ≡ value_at b q

@@ -8,5 +8,5 @@ pub loop-i-preserved : goal.loop-i-preserved
 loop-i-preserved c =
     let next : c.loop-i.i + 1 ≡ suc c.loop-i.i = omega arith in
     let made : tree_image c.put_package.new.tree ≡ spec.with_packages (suc c.loop-i.i) (tree_image c.args.tree.now) =
-        c.in_ok-put_package.ensures ∙ ap (λ (t : Image). spec.with_package c.loop-i.i t) c.loop-i.invariant.made in
+    c.in_ok-put_package.ensures ∙ ap (λ (t : Image). spec.with_package c.loop-i.i t) c.loop-i.invariant.made in
     record { made = rw next made }
