@@ -34,7 +34,11 @@ fn a_failed_actuator_is_told_with_its_words(rt: HostRuntime) {
         status: 3,
     };
     let told = report(alloc, &outcome).ok().expect(&rt, "memory");
-    assert!(&rt; told.as_str() == "actuator failed after 3: /bin/echo restart svc:/a\n", "{}", told.as_str());
+    assert!(&rt;
+        told.as_str() == "actuator failed after 3: /bin/echo restart svc:/a\n",
+        "{}",
+        told.as_str()
+    );
 }
 
 #[test]
@@ -57,11 +61,20 @@ fn a_page_has_the_report_of_its_last_outcome(rt: HostRuntime) {
     let mut page = Page::with_room(alloc, 64).ok().expect(&rt, "memory");
     assert!(&rt; page.bytes().is_empty(), "a new page");
     page.write(&Outcome::FolderFault { unfinished: true });
-    assert!(&rt; page.bytes() == b"folder fault: unfinished\n", "a fault");
+    assert!(&rt;
+        page.bytes() == b"folder fault: unfinished\n".as_slice(),
+        "a fault"
+    );
     page.write(&Outcome::Recovered { forward: false });
-    assert!(&rt; page.bytes() == b"recovered: leftovers cleared\n", "leftovers");
+    assert!(&rt;
+        page.bytes() == b"recovered: leftovers cleared\n".as_slice(),
+        "leftovers"
+    );
     page.write(&Outcome::SpawnFault { after: false });
-    assert!(&rt; page.bytes() == b"spawn fault before\n", "an actuator");
+    assert!(&rt;
+        page.bytes() == b"spawn fault before\n".as_slice(),
+        "an actuator"
+    );
 }
 
 // Where the words, which are divided by blanks, have image and repository.
