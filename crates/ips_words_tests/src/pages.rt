@@ -48,11 +48,6 @@ fn a_report_that_was_not_written_ends_with_1(rt: HostRuntime) {
         told: false,
     };
     assert!(&rt; nothing.number() == 1, "nothing to do");
-    let memory = Status {
-        outcome: Outcome::OutOfMemory,
-        told: false,
-    };
-    assert!(&rt; memory.number() == 1, "out of memory");
 }
 
 #[test]
