@@ -6,7 +6,7 @@ ghost use Rattle.ips_outside.specs.Outside.{Reads, readable};
 ghost use Rattle.ips_files.specs.Files.{file_at, HasSize};
 ghost use Rattle.ips_digest.specs.Digest.{algorithm_of, digest_of};
 ghost use Rattle.ips_digest.specs.Name.{digit_count, spelling};
-ghost use Rattle.ips_verify.specs.Verified.{is_named};
+ghost use Rattle.ips_wanted.specs.Named.{is_named};
 
 use ips_digest::{Hasher, PayloadName};
 use ips_files::read_part;

@@ -11,7 +11,8 @@ ghost use Rattle.ips_after.specs.After.{is_kind};
 ghost use Rattle.ips_after.specs.Findings as after;
 ghost use Rattle.ips_after.specs.Request.{Wanted, WantDir, WantFile, WantHard, WantLink};
 ghost use Rattle.ips_wanted.specs.Wanted.{wanted_of};
-ghost use Rattle.ips_verify.specs.Verified.{damage_of, HasFailed, is_named};
+ghost use Rattle.ips_wanted.specs.Named.{is_named};
+ghost use Rattle.ips_verify.specs.Verified.{damage_told, HasFailed};
 
 use crate::content::{has_content, is_same};
 use ips_action::Preserve;
@@ -31,7 +32,7 @@ pub fn damage_at<F: Folder>(
     buffer: &mut [u8],
 ) -> Result<Option<Damage>, Or<Failed>>
     requires room { 0 < length buffer.old }
-    ensures found { IsTrue (F.outside.tells folder.old) → IfOk result (λ damage. option_map damage_of damage ≡ after.finding_as is_named (F.outside.state folder.old).held path.now.bytes (wanted_of entry.now)) }
+    ensures found { IsTrue (F.outside.tells folder.old) → IfOk result (λ damage. option_map damage_told damage ≡ after.finding_as is_named (F.outside.state folder.old).held path.now.bytes (wanted_of entry.now)) }
     ensures reads { Reads F.outside folder.old folder.new (HasFailed result) }
 {
     let found = look(folder, path)?;
@@ -60,7 +61,7 @@ fn look<F: Folder>(folder: &mut F, path: &RelPath) -> Result<Look, Or<Failed>>
 
 // The damage where a directory is wanted, which may have any mode where none is stated.
 fn dir_damage(mode: Option<u16>, found: Look) -> Option<Damage>
-    ensures { (e : Option image.Entry) → found ≡ look_of e → option_map damage_of result ≡ after.unless_there (WantDir mode) e (after.damage_if (after.wrong_mode mode e) after.WrongMode None) }
+    ensures { (e : Option image.Entry) → found ≡ look_of e → option_map damage_told result ≡ after.unless_there (WantDir mode) e (after.damage_if (after.wrong_mode mode e) after.WrongMode None) }
 {
     let Look::Dir { mode: was } = found else {
         return Some(not_there(found));
@@ -73,7 +74,7 @@ fn dir_damage(mode: Option<u16>, found: Look) -> Option<Damage>
 
 // The damage where what is wanted doesn't stand.
 fn not_there(found: Look) -> Damage
-    ensures { (e : Option image.Entry) → found ≡ look_of e → (w : Wanted) → is_kind w e ≡ false → (otherwise : Option after.Damage) → Some (damage_of result) ≡ after.unless_there w e otherwise }
+    ensures { (e : Option image.Entry) → found ≡ look_of e → (w : Wanted) → is_kind w e ≡ false → (otherwise : Option after.Damage) → Some (damage_told result) ≡ after.unless_there w e otherwise }
 {
     match found {
         Look::Absent => Damage::Missing,
@@ -93,7 +94,7 @@ fn file_damage<F: Folder>(
 ) -> Result<Option<Damage>, Or<Failed>>
     requires room { 0 < length buffer.old }
     requires seen { IsTrue (F.outside.tells folder.old) → found ≡ look_of ((F.outside.state folder.old).held.look path.now.bytes) }
-    ensures found { IsTrue (F.outside.tells folder.old) → IfOk result (λ damage. option_map damage_of damage ≡ after.finding_as is_named (F.outside.state folder.old).held path.now.bytes (WantFile (spelling payload.now) mode preserve)) }
+    ensures found { IsTrue (F.outside.tells folder.old) → IfOk result (λ damage. option_map damage_told damage ≡ after.finding_as is_named (F.outside.state folder.old).held path.now.bytes (WantFile (spelling payload.now) mode preserve)) }
     ensures reads { Reads F.outside folder.old folder.new (HasFailed result) }
 {
     let Look::File { mode: was, size } = found else {
@@ -113,7 +114,7 @@ fn file_damage<F: Folder>(
 fn no_file(preserve: Preserve, found: Look) -> Option<Damage>
     requires { (mode size : ℕ) → found ≡ look.File mode size → ⊥ }
     ensures { (e : Option image.Entry) → found ≡ look_of e → (payload : List ℕ) (mode : ℕ) (otherwise : Option after.Damage)
-        → option_map damage_of result ≡ cond (after.is_loose preserve) (after.mode_finding mode e) (after.unless_there (WantFile payload mode preserve) e otherwise) }
+        → option_map damage_told result ≡ cond (after.is_loose preserve) (after.mode_finding mode e) (after.unless_there (WantFile payload mode preserve) e otherwise) }
 {
     if is_loose(preserve) {
         return None;
@@ -160,7 +161,7 @@ fn link_damage<F: Folder>(
     found: Look,
 ) -> Result<Option<Damage>, Or<Failed>>
     requires seen { IsTrue (F.outside.tells folder.old) → found ≡ look_of ((F.outside.state folder.old).held.look path.now.bytes) }
-    ensures found { IsTrue (F.outside.tells folder.old) → IfOk result (λ damage. option_map damage_of damage ≡ after.finding_as is_named (F.outside.state folder.old).held path.now.bytes (WantLink target.now)) }
+    ensures found { IsTrue (F.outside.tells folder.old) → IfOk result (λ damage. option_map damage_told damage ≡ after.finding_as is_named (F.outside.state folder.old).held path.now.bytes (WantLink target.now)) }
     ensures reads { Reads F.outside folder.old folder.new (HasFailed result) }
 {
     let Look::Link = found else {
@@ -175,7 +176,7 @@ fn link_damage<F: Folder>(
 
 // The damage of a symbolic link's target.
 fn target_damage(target: &Text, stands: &[u8]) -> Option<Damage>
-    ensures { option_map damage_of result ≡ after.damage_if (not (same_path target.now stands.now)) after.WrongTarget None }
+    ensures { option_map damage_told result ≡ after.damage_if (not (same_path target.now stands.now)) after.WrongTarget None }
 {
     if is_same(target.as_str().as_bytes(), stands) {
         return None;
@@ -191,7 +192,7 @@ fn hard_damage<F: Folder>(
     found: Look,
 ) -> Result<Option<Damage>, Or<Failed>>
     requires seen { IsTrue (F.outside.tells folder.old) → found ≡ look_of ((F.outside.state folder.old).held.look path.now.bytes) }
-    ensures found { IsTrue (F.outside.tells folder.old) → IfOk result (λ damage. option_map damage_of damage ≡ after.finding_as is_named (F.outside.state folder.old).held path.now.bytes (WantHard to.now.bytes)) }
+    ensures found { IsTrue (F.outside.tells folder.old) → IfOk result (λ damage. option_map damage_told damage ≡ after.finding_as is_named (F.outside.state folder.old).held path.now.bytes (WantHard to.now.bytes)) }
     ensures reads { Reads F.outside folder.old folder.new (HasFailed result) }
 {
     let Look::File { .. } = found else {

@@ -1,12 +1,16 @@
 //! Laws of what packages mean, each the contract of a function that does nothing.
 
-ghost use Rattle.std.specs.Prelude.{◌≡◌, ℕ, ◌||◌, List, map, Option, Some, None, is_some, codes, IsTrue};
+ghost use Rattle.std.specs.Prelude.{◌≡◌, ◌↔◌, true, ℕ, ◌||◌, List, map, Option, Some, None, is_some, codes, IsTrue};
 ghost use Rattle.std.specs.List.{Contains};
 ghost use Rattle.std.specs.List.Sorted.{IsStrictlySortedBy};
 ghost use Rattle.std.specs.Ordering.{nat_cmp};
 ghost use Rattle.std.specs.Cmp.Lexicographic.{slice_cmp};
 ghost use Rattle.ips_text.specs.Ancestry.{is_below, covers};
 ghost use Rattle.ips_text.specs.Path.{IsPath};
+ghost use Rattle.ips_digest.specs.Digest.{algorithm_of, digest_of};
+ghost use Rattle.ips_digest.specs.Name.{IsName, spelling};
+ghost use Rattle.ips_digest.specs.declared.name.PayloadName.{PayloadName};
+ghost use Rattle.ips_wanted.specs.Named.{is_named};
 ghost use Rattle.ips_steps.specs.Private.{records_name};
 ghost use Rattle.ips_steps.specs.Journal.{may_name};
 ghost use Rattle.ips_manifest.specs.declared.package.Package.{Package};
@@ -53,4 +57,9 @@ pub fn own_folders_are_left()
         → IsTrue (has_legacy mean.taken.kept) → IsTrue (is_dir_wanted ((want_of entries).at (codes "var/sadm/pkg"))) }
     ensures names { (settings : Set) (mediators : List SetMediator) (packages : List Package) (entries : List (List ℕ × Entry)) (path : List ℕ) → PackagesMean settings mediators packages entries
         → IsTrue (is_some ((want_of entries).at path)) → IsTrue (may_name path || covers path records_name) }
+{}
+
+/// Bytes are a payload's by the spelling of its name just where their digest is that name.
+pub fn names_are_digests()
+    ensures { (name : PayloadName) (bytes : List ℕ) → IsName name → IsName (digest_of (algorithm_of name) bytes) → is_named (spelling name) bytes ≡ true ↔ digest_of (algorithm_of name) bytes ≡ name }
 {}

@@ -6,4 +6,7 @@
 
 mod laws;
 
-pub use laws::{links_lead_to_files, meanings_are_wants, own_folders_are_left, parts_are_proper};
+pub use laws::{
+    links_lead_to_files, meanings_are_wants, names_are_digests, own_folders_are_left,
+    parts_are_proper,
+};
