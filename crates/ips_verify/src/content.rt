@@ -6,7 +6,7 @@ ghost use Rattle.ips_outside.specs.Outside.{Reads, readable};
 ghost use Rattle.ips_files.specs.Files.{file_at, HasSize};
 ghost use Rattle.ips_digest.specs.Digest.{algorithm_of, digest_of};
 ghost use Rattle.ips_digest.specs.Name.{digit_count, spelling};
-ghost use Rattle.ips_wanted.specs.Named.{is_named};
+ghost use Rattle.ips_wanted.specs.Named.{is_payload_of};
 
 use ips_digest::{Hasher, PayloadName};
 use ips_files::read_part;
@@ -23,7 +23,7 @@ pub fn has_content<S: Source>(
 ) -> Result<bool, Failed>
     requires room { 0 < length buffer.old }
     ensures found { IsTrue (S.outside.tells source.old) → HasSize (file_at (S.outside.state source.old).held path.now.bytes) size
-        → IfOk result (λ same. same ≡ is_named (spelling name.now) (readable ((S.outside.state source.old).held.look path.now.bytes))) }
+        → IfOk result (λ same. same ≡ is_payload_of (spelling name.now) (readable ((S.outside.state source.old).held.look path.now.bytes))) }
     ensures reads { Reads S.outside source.old source.new (IsErr result) }
 {
     let mut hasher = Hasher::new(name);

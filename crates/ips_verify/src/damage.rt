@@ -11,7 +11,7 @@ ghost use Rattle.ips_after.specs.After.{is_kind};
 ghost use Rattle.ips_after.specs.Findings as after;
 ghost use Rattle.ips_after.specs.Request.{Wanted, WantDir, WantFile, WantHard, WantLink};
 ghost use Rattle.ips_wanted.specs.Wanted.{wanted_of};
-ghost use Rattle.ips_wanted.specs.Named.{is_named};
+ghost use Rattle.ips_wanted.specs.Named.{is_payload_of};
 ghost use Rattle.ips_verify.specs.Verified.{damage_told, HasFailed};
 
 use crate::content::{has_content, is_same};
@@ -32,7 +32,7 @@ pub fn damage_at<F: Folder>(
     buffer: &mut [u8],
 ) -> Result<Option<Damage>, Or<Failed>>
     requires room { 0 < length buffer.old }
-    ensures found { IsTrue (F.outside.tells folder.old) → IfOk result (λ damage. option_map damage_told damage ≡ after.finding_as is_named (F.outside.state folder.old).held path.now.bytes (wanted_of entry.now)) }
+    ensures found { IsTrue (F.outside.tells folder.old) → IfOk result (λ damage. option_map damage_told damage ≡ after.finding_as is_payload_of (F.outside.state folder.old).held path.now.bytes (wanted_of entry.now)) }
     ensures reads { Reads F.outside folder.old folder.new (HasFailed result) }
 {
     let found = look(folder, path)?;
@@ -94,7 +94,7 @@ fn file_damage<F: Folder>(
 ) -> Result<Option<Damage>, Or<Failed>>
     requires room { 0 < length buffer.old }
     requires seen { IsTrue (F.outside.tells folder.old) → found ≡ look_of ((F.outside.state folder.old).held.look path.now.bytes) }
-    ensures found { IsTrue (F.outside.tells folder.old) → IfOk result (λ damage. option_map damage_told damage ≡ after.finding_as is_named (F.outside.state folder.old).held path.now.bytes (WantFile (spelling payload.now) mode preserve)) }
+    ensures found { IsTrue (F.outside.tells folder.old) → IfOk result (λ damage. option_map damage_told damage ≡ after.finding_as is_payload_of (F.outside.state folder.old).held path.now.bytes (WantFile (spelling payload.now) mode preserve)) }
     ensures reads { Reads F.outside folder.old folder.new (HasFailed result) }
 {
     let Look::File { mode: was, size } = found else {
@@ -161,7 +161,7 @@ fn link_damage<F: Folder>(
     found: Look,
 ) -> Result<Option<Damage>, Or<Failed>>
     requires seen { IsTrue (F.outside.tells folder.old) → found ≡ look_of ((F.outside.state folder.old).held.look path.now.bytes) }
-    ensures found { IsTrue (F.outside.tells folder.old) → IfOk result (λ damage. option_map damage_told damage ≡ after.finding_as is_named (F.outside.state folder.old).held path.now.bytes (WantLink target.now)) }
+    ensures found { IsTrue (F.outside.tells folder.old) → IfOk result (λ damage. option_map damage_told damage ≡ after.finding_as is_payload_of (F.outside.state folder.old).held path.now.bytes (WantLink target.now)) }
     ensures reads { Reads F.outside folder.old folder.new (HasFailed result) }
 {
     let Look::Link = found else {
@@ -192,7 +192,7 @@ fn hard_damage<F: Folder>(
     found: Look,
 ) -> Result<Option<Damage>, Or<Failed>>
     requires seen { IsTrue (F.outside.tells folder.old) → found ≡ look_of ((F.outside.state folder.old).held.look path.now.bytes) }
-    ensures found { IsTrue (F.outside.tells folder.old) → IfOk result (λ damage. option_map damage_told damage ≡ after.finding_as is_named (F.outside.state folder.old).held path.now.bytes (WantHard to.now.bytes)) }
+    ensures found { IsTrue (F.outside.tells folder.old) → IfOk result (λ damage. option_map damage_told damage ≡ after.finding_as is_payload_of (F.outside.state folder.old).held path.now.bytes (WantHard to.now.bytes)) }
     ensures reads { Reads F.outside folder.old folder.new (HasFailed result) }
 {
     let Look::File { .. } = found else {

@@ -4,7 +4,7 @@ ghost use Rattle.std.specs.Prelude.{◌≡◌, ◌<◌, ◌++◌, [], Some, IsTr
 ghost use Rattle.ips_outside.specs.Outside.{Reads};
 ghost use Rattle.ips_after.specs.Findings as after;
 ghost use Rattle.ips_wanted.specs.Wanted.{want_of, wanted_of};
-ghost use Rattle.ips_wanted.specs.Named.{is_named};
+ghost use Rattle.ips_wanted.specs.Named.{is_payload_of};
 ghost use Rattle.ips_verify.specs.Verified.{damage_told, finding_told, HasFailed};
 
 use crate::damage::damage_at;
@@ -21,7 +21,7 @@ pub fn findings<F: Folder>(
     want: &Want,
     folder: &mut F,
 ) -> Result<Vec<Finding>, Or<Failed>>
-    ensures found { IsTrue (F.outside.tells folder.old) → IfOk result (λ found. map finding_told found.items ≡ after.findings is_named (want_of want.now) (F.outside.state folder.old).held) }
+    ensures found { IsTrue (F.outside.tells folder.old) → IfOk result (λ found. map finding_told found.items ≡ after.findings is_payload_of (want_of want.now) (F.outside.state folder.old).held) }
     ensures reads { Reads F.outside folder.old folder.new (HasFailed result) }
 {
     let mut buffer = vec![in alloc; 0u8; CHUNK]?;
@@ -41,7 +41,7 @@ fn find<F: Folder>(
     found: &mut Vec<Finding>,
 ) -> Result<(), Or<Failed>>
     requires room { 0 < length buffer.old }
-    ensures found { IsTrue (F.outside.tells folder.old) → OnOk result (map finding_told found.new.items ≡ map finding_told found.old.items ++ after.findings is_named (want_of want.now) (F.outside.state folder.old).held) }
+    ensures found { IsTrue (F.outside.tells folder.old) → OnOk result (map finding_told found.new.items ≡ map finding_told found.old.items ++ after.findings is_payload_of (want_of want.now) (F.outside.state folder.old).held) }
     ensures reads { Reads F.outside folder.old folder.new (HasFailed result) }
 {
     for i in 0..want.len() {
@@ -65,7 +65,7 @@ fn add<F: Folder>(
     found: &mut Vec<Finding>,
 ) -> Result<(), Or<Failed>>
     requires room { 0 < length buffer.old }
-    ensures found { IsTrue (F.outside.tells folder.old) → OnOk result (map finding_told found.new.items ≡ map finding_told found.old.items ++ after.with_finding path.now.bytes (after.finding_as is_named (F.outside.state folder.old).held path.now.bytes (wanted_of entry.now)) []) }
+    ensures found { IsTrue (F.outside.tells folder.old) → OnOk result (map finding_told found.new.items ≡ map finding_told found.old.items ++ after.with_finding path.now.bytes (after.finding_as is_payload_of (F.outside.state folder.old).held path.now.bytes (wanted_of entry.now)) []) }
     ensures reads { Reads F.outside folder.old folder.new (HasFailed result) }
 {
     match damage_at(alloc, folder, path, entry, buffer) {

@@ -9,5 +9,5 @@ abbrev pub algorithm_by : ℕ → Algorithm
 algorithm_by count = cond (count == 64) SHA256 SHA1
 
 -- the bytes have this name: their digest is spelled so
-abbrev pub is_named : List ℕ → List ℕ → Bool
-is_named name bytes = same_path name (spelling (digest_of (algorithm_by (length name)) bytes))
+abbrev pub is_payload_of : List ℕ → List ℕ → Bool
+is_payload_of name bytes = same_path name (spelling (digest_of (algorithm_by (length name)) bytes))

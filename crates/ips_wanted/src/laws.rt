@@ -10,7 +10,7 @@ ghost use Rattle.ips_text.specs.Path.{IsPath};
 ghost use Rattle.ips_digest.specs.Digest.{algorithm_of, digest_of};
 ghost use Rattle.ips_digest.specs.Name.{IsName, spelling};
 ghost use Rattle.ips_digest.specs.declared.name.PayloadName.{PayloadName};
-ghost use Rattle.ips_wanted.specs.Named.{is_named};
+ghost use Rattle.ips_wanted.specs.Named.{is_payload_of};
 ghost use Rattle.ips_steps.specs.Private.{records_name};
 ghost use Rattle.ips_steps.specs.Journal.{may_name};
 ghost use Rattle.ips_manifest.specs.declared.package.Package.{Package};
@@ -61,5 +61,5 @@ pub fn own_folders_are_left()
 
 /// Bytes are a payload's by the spelling of its name just where their digest is that name.
 pub fn names_are_digests()
-    ensures { (name : PayloadName) (bytes : List ℕ) → IsName name → IsName (digest_of (algorithm_of name) bytes) → is_named (spelling name) bytes ≡ true ↔ digest_of (algorithm_of name) bytes ≡ name }
+    ensures { (name : PayloadName) (bytes : List ℕ) → IsName name → IsName (digest_of (algorithm_of name) bytes) → is_payload_of (spelling name) bytes ≡ true ↔ digest_of (algorithm_of name) bytes ≡ name }
 {}

@@ -4,7 +4,7 @@ use Rattle.ips_outside.specs.State.{State}
 use Rattle.ips_outside.proofs.Reading.{reads_then}
 use Rattle.ips_after.specs.Findings.{finding_as, with_finding}
 use Rattle.ips_wanted.specs.Wanted.{wanted_of}
-use Rattle.ips_wanted.specs.Named.{is_named}
+use Rattle.ips_wanted.specs.Named.{is_payload_of}
 use Rattle.ips_verify.specs.Verified.{finding_told, HasFailed}
 use Rattle.ips_verify.proofs.Listing.{found_next}
 use Rattle.ips_verify.proofs.verifying.find.Goals as goal
@@ -17,7 +17,7 @@ loop-i-preserved g c = record {
       let kept = ap (λ (s : State). s.held) c.loop-i.invariant.reads.kept in
       let p = c.in-Some.path.now.bytes in
       c.in_default-add.ensures.found (c.loop-i.invariant.reads.call.same_kind ∙ told)
-      ∙ ap (λ (t : Image). map finding_told c.loop-i.found.items ++ with_finding p (finding_as is_named t p (wanted_of c.in-Some.entry.now)) []) kept
-      ∙ found_next c.args.want.now c.loop-i.i p c.in-Some.entry.now c.in-Some.ensures.some is_named (g.F.Source.outside.state c.args.folder.now).held
+      ∙ ap (λ (t : Image). map finding_told c.loop-i.found.items ++ with_finding p (finding_as is_payload_of t p (wanted_of c.in-Some.entry.now)) []) kept
+      ∙ found_next c.args.want.now c.loop-i.i p c.in-Some.entry.now c.in-Some.ensures.some is_payload_of (g.F.Source.outside.state c.args.folder.now).held
       (map finding_told c.args.found.now.items) (map finding_told c.loop-i.found.items) c.len-i-end.ensures.in_order (c.loop-i.invariant.found told);
 }

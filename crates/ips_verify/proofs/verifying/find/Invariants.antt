@@ -2,7 +2,7 @@ use Rattle.std.proofs.Common.{◌≡◌, ◌<◌, ◌++◌, IsTrue, length, map,
 use Rattle.ips_outside.specs.Outside.{Reads}
 use Rattle.ips_after.specs.Findings as after
 use Rattle.ips_wanted.specs.Wanted.{want_of}
-use Rattle.ips_wanted.specs.Named.{is_named}
+use Rattle.ips_wanted.specs.Named.{is_payload_of}
 use Rattle.ips_verify.specs.Verified.{finding_told}
 use Rattle.ips_verify.proofs.verifying.find.Given as goal
 
@@ -11,5 +11,5 @@ invariant-loop-i g l = record {
   room : 0 < length l.buffer;
   reads : Reads g.F.Source.outside l.fn.folder l.folder ⊥;
   found : IsTrue (g.F.Source.outside.tells l.fn.folder) → map finding_told l.found.items
-      ≡ map finding_told l.fn.found.items ++ after.findings_at is_named (want_of l.want) (g.F.Source.outside.state l.fn.folder).held (map (λ e. e.0) (take l.i l.want));
+      ≡ map finding_told l.fn.found.items ++ after.findings_at is_payload_of (want_of l.want) (g.F.Source.outside.state l.fn.folder).held (map (λ e. e.0) (take l.i l.want));
 }
