@@ -9,6 +9,7 @@ use Rattle.ips_steps.specs.Private.{gate_name, visible}
 use Rattle.ips_steps.specs.Owed.{FolderOwes, steps_left}
 use Rattle.ips_kinds.specs.Tallies.{Carrier, all_counted}
 use Rattle.ips_journal.specs.Text.{journal_text}
+use Rattle.ips_commit.specs.Pending.{IsBare}
 use Rattle.ips_commit.specs.Recovering.{IsJournalled, CanRollForward, CanResume, IsUnfinished}
 use Rattle.ips_history.specs.Due.{HasEnded}
 use Rattle.ips_history.specs.Course.{founds, StillOwes, Founds, Course}
@@ -25,12 +26,12 @@ pub record Claim : Type 0 where
   pub bad_journal : Bool
   pub starved : Bool
 
--- What was stopped is brought to its end: what is owed stays owed, nothing stands at the gate, and nothing is touched. It
--- went forward where something stood at the gate, to the image that was owed as the new one, and laid just the steps that the
--- marks left; else what is seen is as before, and nothing was laid.
+-- What was stopped is brought to its end: what is owed stays owed, nothing stands at the updater's own names any more, and
+-- nothing is touched. It went forward where something stood at the gate, to the image that was owed as the new one, and laid
+-- just the steps that the marks left; else what is seen is as before, and nothing was laid.
 pub record IsRecovered {F : Type 0} (o : Outside F) (forward : Bool) (before now : List Carrier) (old new : F) : Type 0 where
   pub still : StillOwes o old new
-  pub shut : (o.state new).held.look gate_name ≡ None
+  pub bare : IsBare (o.state new).held
   pub safe : IsSettled (o.state new)
   pub is : forward ≡ is_some ((o.state old).held.look gate_name)
   pub on : IsTrue forward → (b a : Image) (due : Bool) → FolderOwes journal_text b (Some a) due (o.state old) → HasEnded (Some a) (o.state new)

@@ -1,7 +1,6 @@
 -- A request, phase by phase: what is owed, and what is due.
 use Rattle.std.proofs.Common.{◌≡◌, ◌≢◌, inl, inr, ⊎_elim, ℕ, Bool, true, false, IsTrue, IsFalse, List, [], Option, Some, None, is_none, ◌||◌, map, refl, sym, ◌∙◌, ap, subst}
 use Rattle.ips_text.specs.Ancestry.{covers, same_path}
-use Rattle.ips_text.proofs.Ancestry.{covers-self}
 use Rattle.ips_outside.specs.Image.{Entry, Image, IsImage, is_dir, file_bytes, dir_or_none}
 use Rattle.ips_outside.specs.State.{State, IsSettled}
 use Rattle.ips_outside.specs.Outside.{Outside, IsOutside, Elapses}
@@ -11,7 +10,7 @@ use Rattle.ips_steps.specs.Steps.{Step}
 use Rattle.ips_steps.specs.Private.{records_name, journal_name, gate_name, begins, mark_front, visible}
 use Rattle.ips_steps.specs.Owed.{FolderOwes}
 use Rattle.ips_steps.proofs.Lists.{clash}
-use Rattle.ips_steps.proofs.PrivateNames.{gate_private, gate_parent}
+use Rattle.ips_steps.proofs.PrivateNames.{gate_parent}
 use Rattle.ips_kinds.specs.Tallies.{Carrier}
 use Rattle.ips_journal.specs.Text.{journal_text}
 use Rattle.ips_actuate.specs.declared.running.ActFault.{ActFault}
@@ -54,7 +53,7 @@ unmarked steps a s staged = λ q is others. staged.unmarked q is
 -- ---- what is due
 
 pub ended : (a : Image) (s : State) → IsDone a s → HasEnded (Some a) s
-ended a s done = record { seen = ap (λ (t : Image). Some t) (sym done.seen); shut = done.bare gate_name (gate_private gate_name (covers-self gate_name)); safe = done.safe }
+ended a s done = record { seen = ap (λ (t : Image). Some t) (sym done.seen); bare = done.bare; safe = done.safe }
 
 module _ {F : Type 0} (o : Outside F) (sane : IsOutside o) where
   -- from where a command has decided

@@ -133,7 +133,7 @@ module _ {F : Type 0} (o : Outside F) (sane : IsOutside o) where
         recovers : (forward : Bool) → IsRecovered o forward before now at new → IsRecovered o forward before now old new
         recovers forward r = record {
           still = then_owes old at new opening r.still;
-          shut = r.shut;
+          bare = r.bare;
           safe = r.safe;
           is = r.is ∙ ap (λ (t : Image). is_some (t.look gate_name)) same_held;
           on = λ is b a due owes. r.on is b a due (owes_then b (Some a) due owes);

@@ -68,7 +68,7 @@ module _ {F : Type 0} (o : Outside F) (before now : List Carrier) (old new : F) 
           let done = cleared shut in
           record {
             still = still;
-            shut = (ended (visible t) (o.state new) done).shut;
+            bare = done.bare;
             safe = done.safe;
             is = is;
             on = λ yes. clash forward yes no;
@@ -82,7 +82,7 @@ module _ {F : Type 0} (o : Outside F) (before now : List Carrier) (old new : F) 
           let (steps, count, can, done, counted) = on open_gate in
           record {
             still = still;
-            shut = (ended (visible (after (steps_left count steps) t)) (o.state new) done).shut;
+            bare = done.bare;
             safe = done.safe;
             is = is;
             on = λ on. forth open_gate;
