@@ -169,6 +169,16 @@ told_back {T = T} why x old new before now is says unlaid = subst (λ (r : Endin
     go Unfinished says unlaid = (λ yes. says, λ no. cc)
     go (BadJournal line) says unlaid = (says.0, says.1, λ bad. ap (λ (s : State). s.held) (says.2 bad))
 
+-- a fault that is refused behind an open gate leaves everything as it was
+pub kept_back : {T : Type 0} (why : CommitFault) (x : Ending T) (old new : State) (before now : List Carrier) → x ≡ uncommitted_as why → SaysOfRecovery old new before now why
+    → old.held.look gate_name ≢ None → is_refused x ≡ true → new ≡ old
+kept_back {T = T} why x old new before now is says there refused = go why says (ap (λ (r : Ending T). is_refused r) (sym is) ∙ refused)
+  where
+    go : (why : CommitFault) → SaysOfRecovery old new before now why → is_refused {T = T} (uncommitted_as why) ≡ true → new ≡ old
+    go Unchanged says refused = says there
+    go Unfinished says refused = cc
+    go (BadJournal line) says refused = cc
+
 -- a fact of the fault, by cases of the answer
 pub bad_of : {T : Type 0} (result : Result T (Or CommitFault)) (why : CommitFault) (line : ℕ) → result ≡ Err (Bad why) → why ≡ BadJournal line → IfBadJournal result (λ line. ⊥) → ⊥
 bad_of {T = T} result why line is bad none = subst (λ (r : Result T (Or CommitFault)). IfBadJournal r (λ line. ⊥)) (is ∙ ap (λ (e : CommitFault). Err (Bad e)) bad) none

@@ -9,7 +9,7 @@ ghost use Rattle.ips_history.specs.Course.{founds, shows};
 ghost use Rattle.ips_history.specs.Run.{IsRun};
 ghost use Rattle.ips_run.specs.Ending.{claim_of, is_left, is_refused, is_folder_fault, is_source_fault, is_spawn_fault};
 ghost use Rattle.ips_run.specs.Comes.{Comes, HasRun};
-ghost use Rattle.ips_run.specs.Phases.{HasFailedInCommit, HasFailedInRecovery};
+ghost use Rattle.ips_run.specs.Phases.{HasFailedInCommit, HasFailedInRecovery, IsKeptOrSettled};
 
 use crate::deciding::shown;
 use crate::ending::Ending;
@@ -56,10 +56,14 @@ pub fn perform<T: Drop, S: Source, F: Folder, P: Spawner, C: Operation<T>>(
     // Unfinished: in the gate's call or later, or in a recovery from an open gate behind a call that may have changed something.
     ensures begun { IsTrue (F.outside.tells folder.old) → IsTrue (is_left result) → HasFailedInCommit F.outside folder.new ⊎ HasFailedInRecovery F.outside folder.new }
 
-    // The opening sync is the only call that may change something, where something is shown, and where an open gate is left as it was.
+    // The opening sync is the only call that may change something, where something is shown, and where an open gate is left as it
+    // was; and nothing but that has happened to the image.
     ensures shows { IsTrue (shows (C.nature operation.now)) → OneMore (F.outside.changes folder.old) (F.outside.changes folder.new) }
     ensures untouched { IsTrue (F.outside.tells folder.old) → (F.outside.state folder.old).held.look gate_name ≢ None → IsTrue (is_refused result)
         → OneMore (F.outside.changes folder.old) (F.outside.changes folder.new) }
+    ensures shows_kept { IsTrue (F.outside.tells folder.old) → IsTrue (shows (C.nature operation.now)) → IsKeptOrSettled F.outside folder.old folder.new }
+    ensures untouched_kept { IsTrue (F.outside.tells folder.old) → (F.outside.state folder.old).held.look gate_name ≢ None → IsTrue (is_refused result)
+        → IsKeptOrSettled F.outside folder.old folder.new }
     ensures same_kind { F.outside.tells folder.new ≡ F.outside.tells folder.old }
 {
     let Ok(()) = folder.sync() else {

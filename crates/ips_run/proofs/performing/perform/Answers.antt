@@ -174,3 +174,49 @@ returns-in-Change-clause-shows g c = λ is. absurd (clash (shows (g.C.Operation.
 pub returns-in-Change-clause-untouched : goal.returns-in-Change-clause-untouched
 returns-in-Change-clause-untouched g c = λ told there refused.
     absurd (there (ap (λ (s : State). s.held.look gate_name) (sym (c.in-Ok.ensures.done told)) ∙ (changed_of (g.F.Source.outside.state c.sync.new.self).held (g.C.Operation.nature c.args.operation.now) c.in-Ok-pending.found (c.in-Ok-pending.ensures.found (c.sync.ensures.call.same_kind ∙ told)) (next_as (g.C.Operation.nature c.args.operation.now) c.nature.result c.in-Ok-pending.found _ c.phase_behind.result c.nature.ensures c.phase_behind.ensures c.in-Change.is)).0))
+
+pub returns-in_default-clause-shows_kept : goal.returns-in_default-clause-shows_kept
+returns-in_default-clause-shows_kept g c = λ told is. inl c.in_default.ensures.kept
+
+pub returns-in_default-clause-untouched_kept : goal.returns-in_default-clause-untouched_kept
+returns-in_default-clause-untouched_kept g c = λ told there refused. inl c.in_default.ensures.kept
+
+pub returns-in-Err-Bad-clause-shows_kept : goal.returns-in-Err-Bad-clause-shows_kept
+returns-in-Err-Bad-clause-shows_kept g c = λ told is. inr (c.pending.ensures.reads.kept ∙ c.in-Ok.ensures.done told)
+
+pub returns-in-Err-Bad-clause-untouched_kept : goal.returns-in-Err-Bad-clause-untouched_kept
+returns-in-Err-Bad-clause-untouched_kept g c = λ told there refused. inr (c.pending.ensures.reads.kept ∙ c.in-Ok.ensures.done told)
+
+pub returns-in-Err-OutOfMemory-clause-shows_kept : goal.returns-in-Err-OutOfMemory-clause-shows_kept
+returns-in-Err-OutOfMemory-clause-shows_kept g c = λ told is. inr (c.pending.ensures.reads.kept ∙ c.in-Ok.ensures.done told)
+
+pub returns-in-Err-OutOfMemory-clause-untouched_kept : goal.returns-in-Err-OutOfMemory-clause-untouched_kept
+returns-in-Err-OutOfMemory-clause-untouched_kept g c = λ told there refused. inr (c.pending.ensures.reads.kept ∙ c.in-Ok.ensures.done told)
+
+pub returns-in-Refuse-clause-shows_kept : goal.returns-in-Refuse-clause-shows_kept
+returns-in-Refuse-clause-shows_kept g c = λ told is. inr (c.pending.ensures.reads.kept ∙ c.in-Ok.ensures.done told)
+
+pub returns-in-Refuse-clause-untouched_kept : goal.returns-in-Refuse-clause-untouched_kept
+returns-in-Refuse-clause-untouched_kept g c = λ told there refused. inr (c.pending.ensures.reads.kept ∙ c.in-Ok.ensures.done told)
+
+pub returns-in-Show-clause-shows_kept : goal.returns-in-Show-clause-shows_kept
+returns-in-Show-clause-shows_kept g c = λ told is. inr (c.shown.ensures.reads.kept ∙ c.pending.ensures.reads.kept ∙ c.in-Ok.ensures.done told)
+
+pub returns-in-Show-clause-untouched_kept : goal.returns-in-Show-clause-untouched_kept
+returns-in-Show-clause-untouched_kept g c = λ told there refused. inr (c.shown.ensures.reads.kept ∙ c.pending.ensures.reads.kept ∙ c.in-Ok.ensures.done told)
+
+pub returns-in-Recover-clause-shows_kept : goal.returns-in-Recover-clause-shows_kept
+returns-in-Recover-clause-shows_kept g c = λ told is. absurd (clash (shows (g.C.Operation.nature c.args.operation.now)) is (recover_is (g.C.Operation.nature c.args.operation.now) c.in-Ok-pending.found (next_as (g.C.Operation.nature c.args.operation.now) c.nature.result c.in-Ok-pending.found _ c.phase_behind.result c.nature.ensures c.phase_behind.ensures c.in-Recover.is)))
+
+pub returns-in-Recover-clause-untouched_kept : goal.returns-in-Recover-clause-untouched_kept
+returns-in-Recover-clause-untouched_kept g c = λ told there refused.
+    let is_synced = c.pending.ensures.reads.kept ∙ c.in-Ok.ensures.done told in
+    let told_at = c.pending.ensures.reads.call.same_kind ∙ c.sync.ensures.call.same_kind ∙ told in
+    inr (c.recovered.ensures.kept told_at (λ shut. there (ap (λ (s : State). s.held.look gate_name) (sym is_synced) ∙ shut)) refused ∙ is_synced)
+
+pub returns-in-Change-clause-shows_kept : goal.returns-in-Change-clause-shows_kept
+returns-in-Change-clause-shows_kept g c = λ told is. absurd (clash (shows (g.C.Operation.nature c.args.operation.now)) is (change_is (g.C.Operation.nature c.args.operation.now) c.in-Ok-pending.found (next_as (g.C.Operation.nature c.args.operation.now) c.nature.result c.in-Ok-pending.found _ c.phase_behind.result c.nature.ensures c.phase_behind.ensures c.in-Change.is)))
+
+pub returns-in-Change-clause-untouched_kept : goal.returns-in-Change-clause-untouched_kept
+returns-in-Change-clause-untouched_kept g c = λ told there refused.
+    absurd (there (ap (λ (s : State). s.held.look gate_name) (sym (c.in-Ok.ensures.done told)) ∙ (changed_of (g.F.Source.outside.state c.sync.new.self).held (g.C.Operation.nature c.args.operation.now) c.in-Ok-pending.found (c.in-Ok-pending.ensures.found (c.sync.ensures.call.same_kind ∙ told)) (next_as (g.C.Operation.nature c.args.operation.now) c.nature.result c.in-Ok-pending.found _ c.phase_behind.result c.nature.ensures c.phase_behind.ensures c.in-Change.is)).0))
