@@ -53,6 +53,10 @@ pub fn perform<T: Drop, S: Source, F: Folder, P: Spawner, C: Operation<T>>(
     ensures source { Reads S.outside source.old source.new (IsTrue (is_source_fault result)) }
     ensures spawner { HasCause (P.running.faults spawner.old) (P.running.faults spawner.new) (IsTrue (is_spawn_fault result)) }
 
+    // Where something is shown, no fault is the repository's or a spawner's, whether or not the folder tells its image.
+    ensures shows_unasked { IsTrue (shows (C.nature operation.now)) → IsFalse (is_source_fault result) }
+    ensures shows_unspawned { IsTrue (shows (C.nature operation.now)) → IsFalse (is_spawn_fault result) }
+
     // Unfinished: in the gate's call or later, or in a recovery from an open gate behind a call that may have changed something.
     ensures begun { IsTrue (F.outside.tells folder.old) → IsTrue (is_left result) → HasFailedInCommit F.outside folder.new ⊎ HasFailedInRecovery F.outside folder.new }
 

@@ -220,3 +220,15 @@ returns-in-Change-clause-shows_kept g c = λ told is. absurd (clash (shows (g.C.
 pub returns-in-Change-clause-untouched_kept : goal.returns-in-Change-clause-untouched_kept
 returns-in-Change-clause-untouched_kept g c = λ told there refused.
     absurd (there (ap (λ (s : State). s.held.look gate_name) (sym (c.in-Ok.ensures.done told)) ∙ (changed_of (g.F.Source.outside.state c.sync.new.self).held (g.C.Operation.nature c.args.operation.now) c.in-Ok-pending.found (c.in-Ok-pending.ensures.found (c.sync.ensures.call.same_kind ∙ told)) (next_as (g.C.Operation.nature c.args.operation.now) c.nature.result c.in-Ok-pending.found _ c.phase_behind.result c.nature.ensures c.phase_behind.ensures c.in-Change.is)).0))
+
+pub returns-in-Change-clause-shows_unasked : goal.returns-in-Change-clause-shows_unasked
+returns-in-Change-clause-shows_unasked g c = λ is. absurd (clash (shows (g.C.Operation.nature c.args.operation.now)) is (change_is (g.C.Operation.nature c.args.operation.now) c.in-Ok-pending.found (next_as (g.C.Operation.nature c.args.operation.now) c.nature.result c.in-Ok-pending.found _ c.phase_behind.result c.nature.ensures c.phase_behind.ensures c.in-Change.is)))
+
+pub returns-in-Change-clause-shows_unspawned : goal.returns-in-Change-clause-shows_unspawned
+returns-in-Change-clause-shows_unspawned g c = λ is. absurd (clash (shows (g.C.Operation.nature c.args.operation.now)) is (change_is (g.C.Operation.nature c.args.operation.now) c.in-Ok-pending.found (next_as (g.C.Operation.nature c.args.operation.now) c.nature.result c.in-Ok-pending.found _ c.phase_behind.result c.nature.ensures c.phase_behind.ensures c.in-Change.is)))
+
+pub returns-in-Show-clause-shows_unasked : goal.returns-in-Show-clause-shows_unasked
+returns-in-Show-clause-shows_unasked g c = λ is. c.shown.ensures.unasked
+
+pub returns-in-Show-clause-shows_unspawned : goal.returns-in-Show-clause-shows_unspawned
+returns-in-Show-clause-shows_unspawned g c = λ is. c.shown.ensures.early.unspawned
