@@ -122,13 +122,15 @@ pub record IsBack {F T : Type 0} (o : Outside F) (x : Ending T) (before now : Li
 abbrev pub IsKeptOrSettled : {F : Type 0} → Outside F → F → F → Type 0
 IsKeptOrSettled o old new = (o.state new ≡ o.state old) ⊎ (o.state new ≡ settled (o.state old))
 
--- A call failed in a commit: where a change stood ready, and the gate's call or a later one did.
+-- A call failed in a commit: where a change stood ready, and the gate's call or a later one did, and a call was made that may
+-- have changed something.
 pub record HasFailedInCommit {F : Type 0} (o : Outside F) (new : F) : Type 0 where
   pub ready : F
   pub steps : List Step
   pub after : Image
   pub staged : IsStaged steps after (o.state ready)
   pub rose : Rose (o.faults ready) (o.faults new)
+  pub changed : Rose (o.changes ready) (o.changes new)
 
 -- A call failed in a recovery from an open gate, behind a call that may have changed something.
 pub record HasFailedInRecovery {F : Type 0} (o : Outside F) (new : F) : Type 0 where
