@@ -14,7 +14,11 @@ use Rattle.ips_steps.specs.Owed.{IsOpen, Owes, Old, Open, New, FolderOwes, steps
 use Rattle.ips_steps.proofs.Lists.{clash}
 use Rattle.ips_steps.proofs.Owing.{owed_open}
 use Rattle.ips_kinds.specs.Tallies.{Carrier, all_counted}
+use Rattle.ips_steps.specs.Journal.{IsJournal}
 use Rattle.ips_journal.specs.Text.{journal_text}
+use Rattle.ips_journal.specs.Bad.{IsBadLine}
+use Rattle.ips_journal.specs.Reading.{journal_of}
+use Rattle.ips_journal.proofs.JournalLaws.{none_bad}
 use Rattle.ips_commit.specs.Answers.{IfStarved}
 use Rattle.ips_commit.specs.Pending.{IsDone, is_swept}
 use Rattle.ips_commit.specs.Recovering.{SaysOfRecovery, IfBadJournal, IsJournalled, CanRollForward, IsUnfinished}
@@ -161,13 +165,14 @@ module _ {F : Type 0} (o : Outside F) (before now : List Carrier) (old new : F) 
 
 -- what a fault of a recovery is told of the image and of the tallies
 pub told_back : {T : Type 0} (why : CommitFault) (x : Ending T) (old new : State) (before now : List Carrier) → x ≡ uncommitted_as why → SaysOfRecovery old new before now why
-    → (why ≡ Unchanged → now ≡ before) → IsBackTo old.held new.held before now x
-told_back {T = T} why x old new before now is says unlaid = subst (λ (r : Ending T). IsBackTo old.held new.held before now r) (sym is) (go why says unlaid)
+    → (why ≡ Unchanged → now ≡ before) → (((steps : List Step) → IsJournal steps → journal_of old.held ≡ journal_text steps → ⊥) → old.held.look gate_name ≢ None → now ≡ before)
+    → IsBackTo old.held new.held before now x
+told_back {T = T} why x old new before now is says unlaid unread = subst (λ (r : Ending T). IsBackTo old.held new.held before now r) (sym is) (go why says unlaid)
   where
     go : (why : CommitFault) → SaysOfRecovery old new before now why → (why ≡ Unchanged → now ≡ before) → IsBackTo {T = T} old.held new.held before now (uncommitted_as why)
     go Unchanged says unlaid = (λ yes. cc, λ no. unlaid refl)
     go Unfinished says unlaid = (λ yes. says, λ no. cc)
-    go (BadJournal line) says unlaid = (says.0, says.1, λ bad. ap (λ (s : State). s.held) (says.2 bad))
+    go (BadJournal line) says unlaid = (says.0, says.1, λ bad. (ap (λ (s : State). s.held) (says.2 bad), unread (λ steps lists text. none_bad steps line lists (subst (λ (l : List ℕ). IsBadLine l line) text bad)) says.0))
 
 -- a fault that is refused behind an open gate leaves everything as it was
 pub kept_back : {T : Type 0} (why : CommitFault) (x : Ending T) (old new : State) (before now : List Carrier) → x ≡ uncommitted_as why → SaysOfRecovery old new before now why

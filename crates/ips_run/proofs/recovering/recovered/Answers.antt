@@ -36,6 +36,7 @@ returns-in-Err-Bad-clause-told g c = λ told.
     told_back c.in-Err-Bad.fault c.uncommitted.result (o.state c.args.folder.now) (o.state c.recover.new.folder) _ _ c.uncommitted.ensures
     (says_of Bool c.in-Err-Bad.field-0 c.in-Err-Bad.fault c.in-Err-Bad.field-0-is _ (c.in-Err-Bad.ensures.refused told))
     (λ unchanged. c.in-Err-Bad.ensures.unlaid (ap (λ (e : Or CommitFault). Err e) (c.in-Err-Bad.field-0-is ∙ ap (λ (w : CommitFault). Bad w) unchanged)))
+    (λ none there. (c.recover.ensures.read_first told none there).2)
 
 pub returns-in-Err-Bad-clause-kept : goal.returns-in-Err-Bad-clause-kept
 returns-in-Err-Bad-clause-kept g c = λ told there refused.
