@@ -1,6 +1,6 @@
 //! A change that stands ready, carried out.
 
-ghost use Rattle.std.specs.Prelude.{◌≡◌, [], List, IsTrue, IsFalse};
+ghost use Rattle.std.specs.Prelude.{◌≡◌, ◌≤◌, [], List, IsTrue, IsFalse};
 ghost use Rattle.ips_outside.specs.Image.{Image};
 ghost use Rattle.ips_outside.specs.Outside.{HasCause, Rose};
 ghost use Rattle.ips_folder.specs.Calls.{CanMake};
@@ -41,6 +41,7 @@ pub(crate) fn carry_out<T: Drop, F: Folder, P: Spawner>(
     ensures folder { HasCause (F.outside.faults folder.old) (F.outside.faults folder.new) (IsTrue (is_folder_fault result)) }
     ensures spawner { HasCause (P.running.faults spawner.old) (P.running.faults spawner.new) (IsTrue (is_spawn_fault result)) }
     ensures changed { IsTrue (is_left result) → Rose (F.outside.changes folder.old) (F.outside.changes folder.new) }
+    ensures later { F.outside.changes folder.old ≤ F.outside.changes folder.new }
     ensures read { IsFalse (is_source_fault result) }
     ensures same_kind { F.outside.tells folder.new ≡ F.outside.tells folder.old }
 {
