@@ -26,7 +26,8 @@ use std::alloc::Global;
 
 /// Carries out an operation on an image: makes safe what was written before and looks at the gate; then it brings to an end what
 /// was stopped, or shows what is asked for, or decides on a change, stages it, runs the actuators before it, commits it and runs
-/// the actuators after it. Each sort of step has to have a kind that takes it.
+/// the actuators after it. Each sort of step has to have a kind that takes it, and the operation may not be one that makes an
+/// image.
 pub fn perform<T: Drop, S: Source, F: Folder, P: Spawner, C: Operation<T>>(
     alloc: Global,
     operation: &C,
