@@ -1,7 +1,7 @@
 -- What a run says of the image, by its outcome.
 use Rattle.std.specs.Prelude.{◌≡◌, ◌≢◌, ◌⊎◌, ℕ, ◌≤◌, Bool, IsTrue, IsFalse, List, length, take, Option, Some, None, IfSome, is_some}
 use Rattle.ips_outside.specs.Image.{Image}
-use Rattle.ips_outside.specs.State.{State, IsSettled, settled}
+use Rattle.ips_outside.specs.State.{IsSettled, settled}
 use Rattle.ips_outside.specs.Outside.{Outside, OneMore}
 use Rattle.ips_folder.specs.Calls.{Throughout}
 use Rattle.ips_steps.specs.Steps.{Step}

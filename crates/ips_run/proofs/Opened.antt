@@ -1,5 +1,5 @@
 -- A run from its opening sync on, by its last phase.
-use Rattle.std.proofs.Common.{◌≡◌, ◌≢◌, ◌⊎◌, inl, inr, ⊎_elim, arith, ℕ, ◌≤◌, Bool, true, false, ◌||◌, IsTrue, IsFalse, List, Option, Some, None, IfSome, is_some, refl, sym, ◌∙◌, ap, subst}
+use Rattle.std.proofs.Common.{◌≡◌, ◌⊎◌, inl, inr, ⊎_elim, arith, ℕ, ◌≤◌, Bool, true, false, ◌||◌, List, Option, Some, None, IfSome, is_some, refl, sym, ◌∙◌, ap, subst}
 use Rattle.ips_outside.specs.Image.{Entry, Image}
 use Rattle.ips_outside.specs.State.{State, IsSettled, settled}
 use Rattle.ips_outside.specs.Outside.{Outside, IsOutside, Elapses, OneMore}
@@ -20,7 +20,7 @@ use Rattle.ips_history.specs.Run.{IsRecovered, StaysShut, HasOpened, IsRun}
 use Rattle.ips_history.specs.declared.nature.Nature.{Nature}
 use Rattle.ips_history.proofs.Histories.{settled_private}
 use Rattle.ips_run.specs.declared.ending.Ending.{Ending}
-use Rattle.ips_run.specs.Ending.{is_done, is_refused, recovery, is_left, is_bad_journal, is_starved, is_failed, claim_of, IsEarly}
+use Rattle.ips_run.specs.Ending.{is_done, recovery, is_left, is_bad_journal, is_starved, is_failed, claim_of, IsEarly}
 use Rattle.ips_run.specs.Phases.{IsAsked, IsBack}
 
 -- where no other image is owed, nothing stands at the gate

@@ -1,5 +1,5 @@
 -- A recovery, by its answer.
-use Rattle.std.proofs.Common.{◌≡◌, ◌≢◌, ℕ, Bool, true, false, ◌||◌, IsTrue, IsFalse, List, Option, Some, None, IfSome, Err, Result, is_some, refl, sym, ◌∙◌, ap, subst}
+use Rattle.std.proofs.Common.{◌≡◌, ◌≢◌, ℕ, Bool, true, false, List, Option, Some, None, Err, Result, is_some, refl, sym, ◌∙◌, ap, subst}
 use Rattle.ips_text.specs.declared.refusal.Or.{Or}
 use Rattle.ips_text.specs.declared.refusal.Or.TheVariants.{Bad, OutOfMemory}
 use Rattle.ips_text.specs.Reading.{IfBad}
@@ -31,7 +31,7 @@ use Rattle.ips_history.specs.Course.{StillOwes}
 use Rattle.ips_history.specs.Run.{IsRecovered, StaysShut}
 use Rattle.ips_run.specs.declared.ending.Ending.{Ending}
 use Rattle.ips_run.specs.declared.ending.Ending.TheVariants as ending
-use Rattle.ips_run.specs.Ending.{is_done, is_refused, recovery, is_left, is_bad_journal, is_starved}
+use Rattle.ips_run.specs.Ending.{is_refused}
 use Rattle.ips_run.specs.Comes.{IsBackTo}
 use Rattle.ips_run.specs.Phases.{uncommitted_as, IsBack}
 use Rattle.ips_run.proofs.Carried.{ended}

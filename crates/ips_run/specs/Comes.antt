@@ -1,5 +1,5 @@
 -- Under which cause each ending comes.
-use Rattle.std.specs.Prelude.{◌≡◌, ◌≢◌, ◌⊎◌, ℕ, ◌<◌, ◌≤◌, Bool, cond, IsTrue, IsFalse, List, [], ◌∷◌, ◌++◌, length, map, take, slice_get, Option, Some, None, is_some}
+use Rattle.std.specs.Prelude.{◌≡◌, ◌≢◌, ◌⊎◌, ℕ, ◌<◌, ◌≤◌, Bool, cond, IsTrue, IsFalse, List, [], ◌∷◌, ◌++◌, length, map, take, slice_get, Some, None, is_some}
 use Rattle.ips_outside.specs.Image.{Image}
 use Rattle.ips_outside.specs.Running.{Run, Running}
 use Rattle.ips_steps.specs.Steps.{Step}

@@ -1,4 +1,3 @@
-use Rattle.std.proofs.Common.{true, refl, sym, ◌∙◌}
 use Rattle.ips_outside.proofs.Faults.{no_cause, cause_as, cause_behind}
 use Rattle.ips_steps.proofs.Lists.{clash}
 use Rattle.ips_run.specs.Ending.{is_left, is_folder_fault}

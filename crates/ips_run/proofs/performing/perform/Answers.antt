@@ -7,7 +7,6 @@ use Rattle.ips_steps.proofs.Lists.{clash}
 use Rattle.ips_commit.specs.Pending.{IsPending}
 use Rattle.ips_history.specs.Course.{shows}
 use Rattle.ips_run.specs.declared.ending.Ending.TheVariants as ending
-use Rattle.ips_run.specs.declared.next.Next.TheVariants as next
 use Rattle.ips_run.proofs.Opened.{no_fewer, synced_safe, elapses_kept, run_unopened, run_read, run_back, run_asked}
 use Rattle.ips_run.proofs.Nexts.{shown_of, changed_of, show_is, change_is, recover_is}
 use Rattle.ips_run.proofs.Performed.{fault_of, starved_of, unfinished_of, early_fault, early_starved, early_unfinished, left_fault, comes_unopened, comes_refused, comes_back, comes_shown, comes_asked, next_as}

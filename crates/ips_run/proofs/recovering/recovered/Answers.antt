@@ -1,8 +1,7 @@
-use Rattle.std.proofs.Common.{◌≡◌, Bool, Err, ap, ◌∙◌, sym}
+use Rattle.std.proofs.Common.{Bool, Err, ap, ◌∙◌}
 use Rattle.ips_text.specs.declared.refusal.Or.{Or}
 use Rattle.ips_text.specs.declared.refusal.Or.TheVariants.{Bad}
 use Rattle.ips_commit.specs.declared.fault.CommitFault.{CommitFault}
-use Rattle.ips_commit.specs.Recovering.{SaysOfRecovery}
 use Rattle.ips_run.proofs.Recoveries.{back, back_fault, back_starved, told_back, kept_back, bad_of, says_of, starved_of}
 use Rattle.ips_run.proofs.recovering.recovered.Goals as goal
 
