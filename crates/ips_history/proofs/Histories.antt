@@ -1,11 +1,13 @@
 -- What a history owes, and what is seen where its gate is closed.
-use Rattle.std.proofs.Common.{◌≡◌, ◌≢◌, ◌⊎◌, inl, inr, ⊎_elim, ℕ, Bool, true, false, List, Option, Some, None, IfSome, refl, sym, ◌∙◌, ap, subst}
+use Rattle.std.proofs.Common.{◌≡◌, ◌≢◌, ◌⊎◌, inl, inr, ⊎_elim, Bool, true, false, Option, Some, None, IfSome, refl, sym, ◌∙◌, ap, subst}
+use Rattle.ips_text.proofs.Ancestry.{covers-self}
 use Rattle.ips_outside.specs.Image.{Image}
 use Rattle.ips_outside.specs.State.{State, IsSettled, MayLeave, untouched}
 use Rattle.ips_outside.specs.Outside.{Outside, IsOutside}
 use Rattle.ips_steps.specs.Private.{gate_name, visible}
 use Rattle.ips_steps.specs.Owed.{Owes, Old, Open, New, FolderOwes, IsPrivate}
 use Rattle.ips_steps.proofs.Lists.{clash}
+use Rattle.ips_steps.proofs.PrivateNames.{gate_private}
 use Rattle.ips_steps.proofs.Owing.{owes_crashed, folder_old, folder_new}
 use Rattle.ips_journal.specs.Text.{journal_text}
 use Rattle.ips_history.specs.Due.{HasEnded}
@@ -21,7 +23,7 @@ settled_private s clean = record { whole = λ q is. absurd (clash (s.whole q) is
 
 pub ended_owes : (b : Image) (a : Option Image) (due : Bool) (s : State) → HasEnded a s → FolderOwes journal_text b a due s
 ended_owes b a due s ended =
-    let owes = folder_new journal_text s (settled_private s ended.safe) ended.shut (ended.safe.whole gate_name) b due in
+    let owes = folder_new journal_text s (settled_private s ended.safe) (ended.bare gate_name (gate_private gate_name (covers-self gate_name))) (ended.safe.whole gate_name) b due in
     subst (λ (x : Option Image). FolderOwes journal_text b x due s) (sym ended.seen) owes
 
 pub shut_shows : (b : Image) (a : Option Image) (due : Bool) (t : Image) → Owes journal_text b a due t → t.look gate_name ≡ None

@@ -4,7 +4,8 @@ use Rattle.ips_outside.specs.Image.{Image}
 use Rattle.ips_outside.specs.State.{State, IsSettled}
 use Rattle.ips_outside.specs.Outside.{Outside}
 use Rattle.ips_folder.specs.Calls.{Throughout}
-use Rattle.ips_steps.specs.Private.{gate_name, visible}
+use Rattle.ips_steps.specs.Private.{visible}
+use Rattle.ips_commit.specs.Pending.{IsBare}
 use Rattle.ips_commit.specs.Due.{IsSafelyOpen, DueOnceOpen}
 
 -- at no moment the gate is safely open
@@ -17,8 +18,9 @@ abbrev pub DueOnceMeant : {F : Type 0} → Outside F → Image → Option Image 
 DueOnceMeant o b None old new = NeverOpen o old new
 DueOnceMeant o b (Some a) old new = DueOnceOpen o b a old new
 
--- A request has come to its end: the image that it means is seen, nothing stands at the gate, and nothing is touched.
+-- A request has come to its end: the image that it means is seen, nothing stands at the updater's own names, and nothing is
+-- touched.
 pub record HasEnded (a : Option Image) (s : State) : Type 0 where
   pub seen : a ≡ Some (visible s.held)
-  pub shut : s.held.look gate_name ≡ None
+  pub bare : IsBare s.held
   pub safe : IsSettled s

@@ -1,5 +1,5 @@
 -- Runs on one image folder, one after another, and what is known of the image behind them.
-use Rattle.std.specs.Prelude.{◌≡◌, ◌⊎◌, ℕ, Bool, true, false, IsTrue, Option, Some, None}
+use Rattle.std.specs.Prelude.{◌≡◌, ◌⊎◌, Bool, true, false, IsTrue, Option, Some, None}
 use Rattle.ips_outside.specs.Image.{Image}
 use Rattle.ips_outside.specs.State.{State, MayLeave, IsSettled, untouched}
 use Rattle.ips_outside.specs.Outside.{Outside}

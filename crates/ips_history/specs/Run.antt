@@ -1,22 +1,23 @@
 -- What a run says of the image, by its outcome.
 use Rattle.std.specs.Prelude.{◌≡◌, ◌≢◌, ◌⊎◌, ℕ, ◌≤◌, Bool, IsTrue, IsFalse, List, length, take, Option, Some, None, IfSome, is_some}
 use Rattle.ips_outside.specs.Image.{Image}
-use Rattle.ips_outside.specs.State.{State, IsSettled, settled}
-use Rattle.ips_outside.specs.Outside.{Outside}
+use Rattle.ips_outside.specs.State.{IsSettled, settled}
+use Rattle.ips_outside.specs.Outside.{Outside, OneMore}
 use Rattle.ips_folder.specs.Calls.{Throughout}
 use Rattle.ips_steps.specs.Steps.{Step}
 use Rattle.ips_steps.specs.Private.{gate_name, visible}
 use Rattle.ips_steps.specs.Owed.{FolderOwes, steps_left}
 use Rattle.ips_kinds.specs.Tallies.{Carrier, all_counted}
 use Rattle.ips_journal.specs.Text.{journal_text}
+use Rattle.ips_commit.specs.Pending.{IsBare}
 use Rattle.ips_commit.specs.Recovering.{IsJournalled, CanRollForward, CanResume, IsUnfinished}
 use Rattle.ips_history.specs.Due.{HasEnded}
 use Rattle.ips_history.specs.Course.{founds, StillOwes, Founds, Course}
 use Rattle.ips_history.specs.declared.nature.Nature.{Nature}
 
 -- What an outcome claims of the image: that a request has come to its end; that what is seen is as before; that what was
--- stopped is brought to its end, forward or back; that a change is left unfinished; that the journal is bad; or that memory ran
--- out.
+-- stopped is brought to its end, forward or back; that a change is left unfinished; that the journal is bad; that memory ran
+-- out; or that a call failed, with nothing left unfinished.
 pub record Claim : Type 0 where
   pub done : Bool
   pub refused : Bool
@@ -24,13 +25,14 @@ pub record Claim : Type 0 where
   pub unfinished : Bool
   pub bad_journal : Bool
   pub starved : Bool
+  pub failed : Bool
 
--- What was stopped is brought to its end: what is owed stays owed, nothing stands at the gate, and nothing is touched. It
--- went forward where something stood at the gate, to the image that was owed as the new one, and laid just the steps that the
--- marks left; else what is seen is as before, and nothing was laid.
+-- What was stopped is brought to its end: what is owed stays owed, nothing stands at the updater's own names any more, and
+-- nothing is touched. It went forward where something stood at the gate, to the image that was owed as the new one, and laid
+-- just the steps that the marks left; else what is seen is as before, and nothing was laid.
 pub record IsRecovered {F : Type 0} (o : Outside F) (forward : Bool) (before now : List Carrier) (old new : F) : Type 0 where
   pub still : StillOwes o old new
-  pub shut : (o.state new).held.look gate_name ≡ None
+  pub bare : IsBare (o.state new).held
   pub safe : IsSettled (o.state new)
   pub is : forward ≡ is_some ((o.state old).held.look gate_name)
   pub on : IsTrue forward → (b a : Image) (due : Bool) → FolderOwes journal_text b (Some a) due (o.state old) → HasEnded (Some a) (o.state new)
@@ -51,10 +53,20 @@ pub record IsLeft {F : Type 0} (o : Outside F) (before now : List Carrier) (old 
 abbrev pub StaysShut : {F : Type 0} → Outside F → F → F → Type 0
 StaysShut o old new = Throughout o old new (λ s. s.held.look gate_name ≡ None)
 
+-- The opening sync has answered: it is the first call that may change something, and makes safe all that was touched; until
+-- then nothing has happened to the image, or that alone.
+pub record HasOpened {F : Type 0} (o : Outside F) (old new : F) : Type 0 where
+  pub at : F
+  pub synced : o.state at ≡ settled (o.state old)
+  pub until : Throughout o old at (λ s. (s ≡ o.state old) ⊎ (s ≡ settled (o.state old)))
+  pub one : OneMore (o.changes old) (o.changes at)
+  pub later : o.changes at ≤ o.changes new
+
 -- A run: its course; what it recovered; an outcome that refuses leaves what is seen as before, and a closed gate closed, but
 -- where the folder of the records was made what is at or below that; the journal is never bad where something is owed; memory
--- runs out only where nothing but the opening sync has happened, or before the gate's call; and what is left unfinished can be
--- resumed.
+-- runs out only where nothing but the opening sync has happened, or before the gate's call; what is left unfinished can be
+-- resumed; and unless the opening sync failed, with nothing changed, it has answered, but where the folder of the records may
+-- be made.
 pub record IsRun {F : Type 0} (o : Outside F) (means : Image → Image → Type 0) (nature : Nature) (claim : Claim) (before now : List Carrier) (old new : F) : Type 0 where
   pub course : Course o means nature claim.done old new
   pub recovered : IfSome claim.recovered (λ forward. IsRecovered o forward before now old new)
@@ -63,3 +75,4 @@ pub record IsRun {F : Type 0} (o : Outside F) (means : Image → Image → Type 
   pub readable : IsTrue claim.bad_journal → (b : Image) (a : Option Image) (due : Bool) → FolderOwes journal_text b a due (o.state old) → ⊥
   pub starved : IsTrue claim.starved → (o.state new ≡ settled (o.state old)) ⊎ StaysShut o old new
   pub resumes : IsTrue claim.unfinished → IsLeft o before now old new
+  pub opened : IsFalse (founds nature) → (IsTrue claim.failed × (o.state new ≡ o.state old)) ⊎ HasOpened o old new

@@ -19,7 +19,8 @@ pub trait Requests {
     ghost means: { Self → Image → Image → Type 0 };
 }
 
-/// However runs are stopped, and however often, the image is restored.
+/// However runs are stopped, and however often, the folder owes, and a recovery leaves, the image before the last request or the
+/// one that this means. In between, part of a change may be seen.
 pub fn restored<F: Folder, R: Requests>()
     ensures owed { (l : Last R) (s : State) → History F.outside R.means (Some l) s → FolderOwes journal_text l.before l.after l.due s }
 

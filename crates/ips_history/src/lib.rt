@@ -2,7 +2,7 @@
 //!
 //! `specs/Course` says what one run does to what the folder owes, `specs/Run` what a run claims by its outcome, and
 //! `specs/History` what a list of runs is, of which each may be stopped. `restored` is the law over them: whatever was stopped,
-//! the image is the one before the last request, or the one that this means.
+//! the folder owes, and a recovery leaves, the image before the last request or the one that this means.
 #![tactic(auto)]
 
 mod laws;

@@ -1,21 +1,20 @@
 -- A request, phase by phase: what is owed, and what is due.
-use Rattle.std.proofs.Common.{◌≡◌, ◌≢◌, inl, inr, ⊎_elim, ℕ, Bool, true, false, IsTrue, IsFalse, List, [], Option, Some, None, is_none, ◌||◌, map, refl, sym, ◌∙◌, ap, subst}
+use Rattle.std.proofs.Common.{◌≡◌, inl, inr, ⊎_elim, ℕ, Bool, true, false, List, [], Option, Some, None, is_none, ◌||◌, refl, sym, ◌∙◌, ap, subst}
 use Rattle.ips_text.specs.Ancestry.{covers, same_path}
-use Rattle.ips_text.proofs.Ancestry.{covers-self}
 use Rattle.ips_outside.specs.Image.{Entry, Image, IsImage, is_dir, file_bytes, dir_or_none}
 use Rattle.ips_outside.specs.State.{State, IsSettled}
 use Rattle.ips_outside.specs.Outside.{Outside, IsOutside, Elapses}
 use Rattle.ips_folder.specs.Calls.{CanMake, Throughout}
 use Rattle.ips_folder.proofs.Runs.{started, joins}
 use Rattle.ips_steps.specs.Steps.{Step}
-use Rattle.ips_steps.specs.Private.{records_name, journal_name, gate_name, begins, mark_front, visible}
+use Rattle.ips_steps.specs.Private.{records_name, journal_name, gate_name, visible}
 use Rattle.ips_steps.specs.Owed.{FolderOwes}
 use Rattle.ips_steps.proofs.Lists.{clash}
-use Rattle.ips_steps.proofs.PrivateNames.{gate_private, gate_parent}
+use Rattle.ips_steps.proofs.PrivateNames.{gate_parent}
 use Rattle.ips_kinds.specs.Tallies.{Carrier}
 use Rattle.ips_journal.specs.Text.{journal_text}
 use Rattle.ips_actuate.specs.declared.running.ActFault.{ActFault}
-use Rattle.ips_commit.specs.Due.{IsSafelyOpen, IsDueSince, DueOnceOpen}
+use Rattle.ips_commit.specs.Due.{IsSafelyOpen, DueOnceOpen}
 use Rattle.ips_commit.specs.Pending.{IsDone, HasNoOtherMark}
 use Rattle.ips_commit.specs.Staging.{IsStaged}
 use Rattle.ips_commit.specs.declared.fault.CommitFault.{CommitFault}
@@ -23,7 +22,7 @@ use Rattle.ips_commit.specs.declared.fault.CommitFault.TheVariants as commit_fau
 use Rattle.ips_history.specs.Due.{NeverOpen, HasEnded}
 use Rattle.ips_run.specs.declared.ending.Ending.{Ending}
 use Rattle.ips_run.specs.declared.ending.Ending.TheVariants as ending
-use Rattle.ips_run.specs.Ending.{is_done, is_refused, is_starved, IsEarly}
+use Rattle.ips_run.specs.Ending.{is_done, is_starved, IsEarly}
 use Rattle.ips_run.specs.Phases.{uncommitted_as, IsUnrun, Failed, Spawn, IsResumable, IsCarried, IsAsked}
 use Rattle.ips_run.proofs.Opened.{owes_seen, always_shut, never_open, stays_owed, withdrawn}
 
@@ -54,7 +53,7 @@ unmarked steps a s staged = λ q is others. staged.unmarked q is
 -- ---- what is due
 
 pub ended : (a : Image) (s : State) → IsDone a s → HasEnded (Some a) s
-ended a s done = record { seen = ap (λ (t : Image). Some t) (sym done.seen); shut = done.bare gate_name (gate_private gate_name (covers-self gate_name)); safe = done.safe }
+ended a s done = record { seen = ap (λ (t : Image). Some t) (sym done.seen); bare = done.bare; safe = done.safe }
 
 module _ {F : Type 0} (o : Outside F) (sane : IsOutside o) where
   -- from where a command has decided

@@ -1,5 +1,5 @@
 -- What comes behind the look at the gate, by what was found there.
-use Rattle.std.proofs.Common.{◌≡◌, ◌≢◌, inl, inr, true, false, IsTrue, IsFalse, None, refl, sym, ◌∙◌, ap, subst}
+use Rattle.std.proofs.Common.{◌≡◌, ◌≢◌, inl, inr, true, false, IsTrue, IsFalse, None, refl}
 use Rattle.ips_text.proofs.Ancestry.{covers-self}
 use Rattle.ips_outside.specs.Image.{Image}
 use Rattle.ips_steps.specs.Private.{gate_name}

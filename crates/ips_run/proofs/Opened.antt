@@ -1,8 +1,8 @@
 -- A run from its opening sync on, by its last phase.
-use Rattle.std.proofs.Common.{◌≡◌, ◌≢◌, inl, inr, ⊎_elim, arith, ℕ, Bool, true, false, ◌||◌, IsTrue, IsFalse, List, Option, Some, None, IfSome, is_some, refl, sym, ◌∙◌, ap, subst}
+use Rattle.std.proofs.Common.{◌≡◌, ◌⊎◌, inl, inr, ⊎_elim, arith, ℕ, ◌≤◌, Bool, true, false, ◌||◌, List, Option, Some, None, IfSome, is_some, refl, sym, ◌∙◌, ap, subst}
 use Rattle.ips_outside.specs.Image.{Entry, Image}
 use Rattle.ips_outside.specs.State.{State, IsSettled, settled}
-use Rattle.ips_outside.specs.Outside.{Outside, IsOutside, Elapses}
+use Rattle.ips_outside.specs.Outside.{Outside, IsOutside, Elapses, OneMore}
 use Rattle.ips_folder.specs.Calls.{Throughout}
 use Rattle.ips_folder.proofs.Runs.{started, goes_on, joins, weaker}
 use Rattle.ips_steps.specs.Steps.{Step}
@@ -16,11 +16,11 @@ use Rattle.ips_commit.specs.Due.{IsSafelyOpen}
 use Rattle.ips_commit.specs.Recovering.{IsJournalled, CanRollForward, IsUnfinished}
 use Rattle.ips_history.specs.Due.{NeverOpen}
 use Rattle.ips_history.specs.Course.{shows, founds, StillOwes, IsRequest, Course, Kept, Asked}
-use Rattle.ips_history.specs.Run.{IsRecovered, StaysShut, IsRun}
+use Rattle.ips_history.specs.Run.{IsRecovered, StaysShut, HasOpened, IsRun}
 use Rattle.ips_history.specs.declared.nature.Nature.{Nature}
 use Rattle.ips_history.proofs.Histories.{settled_private}
 use Rattle.ips_run.specs.declared.ending.Ending.{Ending}
-use Rattle.ips_run.specs.Ending.{is_done, is_refused, recovery, is_left, is_bad_journal, is_starved, claim_of, IsEarly}
+use Rattle.ips_run.specs.Ending.{is_done, recovery, is_left, is_bad_journal, is_starved, is_failed, claim_of, IsEarly}
 use Rattle.ips_run.specs.Phases.{IsAsked, IsBack}
 
 -- where no other image is owed, nothing stands at the gate
@@ -32,6 +32,10 @@ owed_shut b s owes = none_shut b false s.held owes.now
 
 pub owes_seen : (s : State) (a : Option Image) → IsSettled s → s.held.look gate_name ≡ None → FolderOwes journal_text (visible s.held) a false s
 owes_seen s a clean shut = folder_old journal_text s (settled_private s clean) shut (clean.whole gate_name) a
+
+-- a count that is the same hasn't fallen
+pub no_fewer : (a b : ℕ) → b ≡ a → a ≤ b
+no_fewer a b same = omega (arith, same)
 
 pub synced_safe : (old s : State) → s ≡ settled old → IsSettled s
 synced_safe old s is = subst IsSettled (sym is) (record { whole = λ q. refl; modes = λ q. refl })
@@ -86,8 +90,8 @@ module _ {F : Type 0} (o : Outside F) (sane : IsOutside o) where
       none_recovered old new none = subst (λ (r : Option Bool). IfSome r (λ forward. IsRecovered o forward before now old new)) (sym none) tt
 
       -- the opening sync has failed
-      pub run_unopened : (old new : F) → Elapses o old new → o.state new ≡ o.state old → IsEarly x → is_starved x ≡ false → IsRun o means nature (claim_of x) before now old new
-      run_unopened old new time kept early fed = record {
+      pub run_unopened : (old new : F) → Elapses o old new → o.state new ≡ o.state old → IsEarly x → is_starved x ≡ false → is_failed x ≡ true → IsRun o means nature (claim_of x) before now old new
+      run_unopened old new time kept early fed failed = record {
         course = Kept early.undone (inl kept) (stays_owed old new time kept);
         recovered = none_recovered old new early.unrecovered;
         unseen = λ is. inl (ap (λ (s : State). visible s.held) kept);
@@ -95,10 +99,21 @@ module _ {F : Type 0} (o : Outside F) (sane : IsOutside o) where
         readable = λ is b a due owes. clash (is_bad_journal x) is early.readable;
         starved = λ is. absurd (clash (is_starved x) is fed);
         resumes = λ is. absurd (clash (is_left x) is early.finished);
+        opened = λ unfounded. inl (failed, kept);
       }
 
       -- the opening sync has answered
-      module _ (old at new : F) (time : Elapses o old at) (is_synced : o.state at ≡ settled (o.state old)) where
+      module _ (old at new : F) (time : Elapses o old at) (is_synced : o.state at ≡ settled (o.state old)) (one : OneMore (o.changes old) (o.changes at)) (later : o.changes at ≤ o.changes new) where
+        opened : HasOpened o old new
+        opened = record {
+          at = at;
+          synced = is_synced;
+          until = goes_on o old old at (λ s. (s ≡ o.state old) ⊎ (s ≡ settled (o.state old)))
+              (started o old (λ s. (s ≡ o.state old) ⊎ (s ≡ settled (o.state old))) (sane.only_now old) (inl refl)) time (inr is_synced);
+          one = one;
+          later = later;
+        }
+
         opened_safe : IsSettled (o.state at)
         opened_safe = synced_safe (o.state old) (o.state at) is_synced
 
@@ -133,7 +148,7 @@ module _ {F : Type 0} (o : Outside F) (sane : IsOutside o) where
         recovers : (forward : Bool) → IsRecovered o forward before now at new → IsRecovered o forward before now old new
         recovers forward r = record {
           still = then_owes old at new opening r.still;
-          shut = r.shut;
+          bare = r.bare;
           safe = r.safe;
           is = r.is ∙ ap (λ (t : Image). is_some (t.look gate_name)) same_held;
           on = λ is b a due owes. r.on is b a due (owes_then b (Some a) due owes);
@@ -158,6 +173,7 @@ module _ {F : Type 0} (o : Outside F) (sane : IsOutside o) where
             begun = λ shut. absurd ((back.resumes is).0 (same_gate ∙ shut));
             again = λ there. subst (λ (t : Image). (steps : List Step) (count : ℕ) → IsJournalled t steps count → IsUnfinished t (o.state new) steps count before now) same_held (back.resumes is).1;
           };
+          opened = λ unfounded. inr opened;
         }
 
         pub run_asked : shows nature ≡ false → IsAsked o means x before now at new → IsRun o means nature (claim_of x) before now old new
@@ -172,6 +188,7 @@ module _ {F : Type 0} (o : Outside F) (sane : IsOutside o) where
             begun = λ shut. asked.resumes is;
             again = λ there. absurd (there (sym same_gate ∙ asked.request.shut));
           };
+          opened = λ unfounded. inr opened;
         }
 
         -- nothing but reading since then

@@ -1,9 +1,8 @@
 -- A run, by what comes behind the look at the gate.
-use Rattle.std.proofs.Common.{◌≡◌, ◌≢◌, inl, inr, ℕ, ◌+◌, Bool, true, false, IsTrue, IsFalse, List, [], None, refl, sym, ◌∙◌, ap, subst}
+use Rattle.std.proofs.Common.{◌≡◌, Bool, true, false, List, refl, sym, ◌∙◌, ap, subst}
 use Rattle.ips_outside.specs.Image.{Image}
 use Rattle.ips_outside.specs.Running.{Run, Running}
 use Rattle.ips_steps.specs.Private.{gate_name}
-use Rattle.ips_steps.proofs.Lists.{clash}
 use Rattle.ips_kinds.specs.Tallies.{Carrier}
 use Rattle.ips_commit.specs.Pending.{IsPending}
 use Rattle.ips_commit.specs.declared.found.Pending.{Pending}

@@ -1,5 +1,5 @@
 -- A recovery, by its answer.
-use Rattle.std.proofs.Common.{◌≡◌, ◌≢◌, ℕ, Bool, true, false, ◌||◌, IsTrue, IsFalse, List, Option, Some, None, IfSome, Err, Result, is_some, refl, sym, ◌∙◌, ap, subst}
+use Rattle.std.proofs.Common.{◌≡◌, ◌≢◌, ℕ, Bool, true, false, List, Option, Some, None, Err, Result, is_some, refl, sym, ◌∙◌, ap, subst}
 use Rattle.ips_text.specs.declared.refusal.Or.{Or}
 use Rattle.ips_text.specs.declared.refusal.Or.TheVariants.{Bad, OutOfMemory}
 use Rattle.ips_text.specs.Reading.{IfBad}
@@ -14,7 +14,11 @@ use Rattle.ips_steps.specs.Owed.{IsOpen, Owes, Old, Open, New, FolderOwes, steps
 use Rattle.ips_steps.proofs.Lists.{clash}
 use Rattle.ips_steps.proofs.Owing.{owed_open}
 use Rattle.ips_kinds.specs.Tallies.{Carrier, all_counted}
+use Rattle.ips_steps.specs.Journal.{IsJournal}
 use Rattle.ips_journal.specs.Text.{journal_text}
+use Rattle.ips_journal.specs.Bad.{IsBadLine}
+use Rattle.ips_journal.specs.Reading.{journal_of}
+use Rattle.ips_journal.proofs.JournalLaws.{none_bad}
 use Rattle.ips_commit.specs.Answers.{IfStarved}
 use Rattle.ips_commit.specs.Pending.{IsDone, is_swept}
 use Rattle.ips_commit.specs.Recovering.{SaysOfRecovery, IfBadJournal, IsJournalled, CanRollForward, IsUnfinished}
@@ -27,7 +31,7 @@ use Rattle.ips_history.specs.Course.{StillOwes}
 use Rattle.ips_history.specs.Run.{IsRecovered, StaysShut}
 use Rattle.ips_run.specs.declared.ending.Ending.{Ending}
 use Rattle.ips_run.specs.declared.ending.Ending.TheVariants as ending
-use Rattle.ips_run.specs.Ending.{is_done, is_refused, recovery, is_left, is_bad_journal, is_starved}
+use Rattle.ips_run.specs.Ending.{is_refused}
 use Rattle.ips_run.specs.Comes.{IsBackTo}
 use Rattle.ips_run.specs.Phases.{uncommitted_as, IsBack}
 use Rattle.ips_run.proofs.Carried.{ended}
@@ -68,7 +72,7 @@ module _ {F : Type 0} (o : Outside F) (before now : List Carrier) (old new : F) 
           let done = cleared shut in
           record {
             still = still;
-            shut = (ended (visible t) (o.state new) done).shut;
+            bare = done.bare;
             safe = done.safe;
             is = is;
             on = λ yes. clash forward yes no;
@@ -82,7 +86,7 @@ module _ {F : Type 0} (o : Outside F) (before now : List Carrier) (old new : F) 
           let (steps, count, can, done, counted) = on open_gate in
           record {
             still = still;
-            shut = (ended (visible (after (steps_left count steps) t)) (o.state new) done).shut;
+            bare = done.bare;
             safe = done.safe;
             is = is;
             on = λ on. forth open_gate;
@@ -161,13 +165,24 @@ module _ {F : Type 0} (o : Outside F) (before now : List Carrier) (old new : F) 
 
 -- what a fault of a recovery is told of the image and of the tallies
 pub told_back : {T : Type 0} (why : CommitFault) (x : Ending T) (old new : State) (before now : List Carrier) → x ≡ uncommitted_as why → SaysOfRecovery old new before now why
-    → (why ≡ Unchanged → now ≡ before) → IsBackTo old.held new.held before now x
-told_back {T = T} why x old new before now is says unlaid = subst (λ (r : Ending T). IsBackTo old.held new.held before now r) (sym is) (go why says unlaid)
+    → (why ≡ Unchanged → now ≡ before) → (((steps : List Step) → IsJournal steps → journal_of old.held ≡ journal_text steps → ⊥) → old.held.look gate_name ≢ None → now ≡ before)
+    → IsBackTo old.held new.held before now x
+told_back {T = T} why x old new before now is says unlaid unread = subst (λ (r : Ending T). IsBackTo old.held new.held before now r) (sym is) (go why says unlaid)
   where
     go : (why : CommitFault) → SaysOfRecovery old new before now why → (why ≡ Unchanged → now ≡ before) → IsBackTo {T = T} old.held new.held before now (uncommitted_as why)
     go Unchanged says unlaid = (λ yes. cc, λ no. unlaid refl)
     go Unfinished says unlaid = (λ yes. says, λ no. cc)
-    go (BadJournal line) says unlaid = (says.0, says.1, λ bad. ap (λ (s : State). s.held) (says.2 bad))
+    go (BadJournal line) says unlaid = (says.0, says.1, λ bad. (ap (λ (s : State). s.held) (says.2 bad), unread (λ steps lists text. none_bad steps line lists (subst (λ (l : List ℕ). IsBadLine l line) text bad)) says.0))
+
+-- a fault that is refused behind an open gate leaves everything as it was
+pub kept_back : {T : Type 0} (why : CommitFault) (x : Ending T) (old new : State) (before now : List Carrier) → x ≡ uncommitted_as why → SaysOfRecovery old new before now why
+    → old.held.look gate_name ≢ None → is_refused x ≡ true → new ≡ old
+kept_back {T = T} why x old new before now is says there refused = go why says (ap (λ (r : Ending T). is_refused r) (sym is) ∙ refused)
+  where
+    go : (why : CommitFault) → SaysOfRecovery old new before now why → is_refused {T = T} (uncommitted_as why) ≡ true → new ≡ old
+    go Unchanged says refused = says there
+    go Unfinished says refused = cc
+    go (BadJournal line) says refused = cc
 
 -- a fact of the fault, by cases of the answer
 pub bad_of : {T : Type 0} (result : Result T (Or CommitFault)) (why : CommitFault) (line : ℕ) → result ≡ Err (Bad why) → why ≡ BadJournal line → IfBadJournal result (λ line. ⊥) → ⊥

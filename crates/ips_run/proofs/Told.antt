@@ -1,5 +1,5 @@
 -- What a request did, by its ending: what was decided, which actuators were run, and what was laid.
-use Rattle.std.proofs.Common.{◌≡◌, ◌≢◌, ℕ, ◌<◌, ◌≤◌, Bool, true, false, IsTrue, IsFalse, List, [], ◌∷◌, ◌++◌, length, map, take, slice_get, Some, Result, Ok, Err, append_assoc, append-nil, refl, sym, ◌∙◌, ap, subst}
+use Rattle.std.proofs.Common.{◌≡◌, ℕ, ◌≤◌, Bool, true, false, IsTrue, List, [], ◌∷◌, ◌++◌, length, map, take, slice_get, Some, Err, append_assoc, append-nil, refl, sym, ◌∙◌, ap, subst}
 use Rattle.ips_outside.specs.Image.{Image}
 use Rattle.ips_outside.specs.State.{State}
 use Rattle.ips_outside.specs.Running.{Run, Running}
@@ -23,7 +23,7 @@ use Rattle.ips_run.specs.declared.operation.Decision.{Decision}
 use Rattle.ips_run.specs.declared.operation.Decision.TheVariants as decision
 use Rattle.ips_run.specs.declared.ending.Ending.{Ending}
 use Rattle.ips_run.specs.declared.ending.Ending.TheVariants as ending
-use Rattle.ips_run.specs.Ending.{is_folder_fault, is_source_fault, is_spawn_fault}
+use Rattle.ips_run.specs.Ending.{is_left, is_folder_fault, is_source_fault, is_spawn_fault}
 use Rattle.ips_run.specs.declared.preparing.Prepared.{Prepared}
 use Rattle.ips_run.specs.Planned.{IsPlanned}
 use Rattle.ips_run.specs.Comes.{HasRun, IsUnready, IsCarriedTo}
@@ -142,6 +142,10 @@ unrun_folder list after why x Spawn = refl
 pub unrun_source : {T : Type 0} (list : List (List (List ℕ))) (after : Bool) (why : ActFault) (x : Ending T) → IsUnrun list after why x → is_source_fault x ≡ false
 unrun_source list after why x (Failed at) = refl
 unrun_source list after why x Spawn = refl
+
+pub unrun_left : {T : Type 0} (list : List (List (List ℕ))) (after : Bool) (why : ActFault) (x : Ending T) → IsUnrun list after why x → is_left x ≡ false
+unrun_left list after why x (Failed at) = refl
+unrun_left list after why x Spawn = refl
 
 pub unrun_cause : {T : Type 0} (list : List (List (List ℕ))) (after : Bool) (why : ActFault) (x : Ending T) (a b : ℕ) → IsUnrun list after why x → HasCause a b (IsSpawn (Err why)) → HasCause a b (is_spawn_fault x ≡ true)
 unrun_cause {T = T} list after why x a b (Failed {index = index} {status = status} {words = words} at) h =

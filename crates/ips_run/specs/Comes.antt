@@ -1,5 +1,5 @@
 -- Under which cause each ending comes.
-use Rattle.std.specs.Prelude.{◌≡◌, ◌≢◌, ◌⊎◌, ℕ, ◌<◌, ◌≤◌, Bool, cond, IsTrue, IsFalse, List, [], ◌∷◌, ◌++◌, length, map, take, slice_get, Option, Some, None, is_some}
+use Rattle.std.specs.Prelude.{◌≡◌, ◌≢◌, ◌⊎◌, ℕ, ◌<◌, ◌≤◌, Bool, cond, IsTrue, IsFalse, List, [], ◌∷◌, ◌++◌, length, map, take, slice_get, Some, None, is_some}
 use Rattle.ips_outside.specs.Image.{Image}
 use Rattle.ips_outside.specs.Running.{Run, Running}
 use Rattle.ips_steps.specs.Steps.{Step}
@@ -95,10 +95,10 @@ IsCarriedTo steps before behind told old now Ran (ending.FolderFault unfinished)
 IsCarriedTo steps before behind told old now Ran other = ⊥
 
 -- how far what was stopped is brought to its end: forward where something stands at the gate. The journal behind it is bad, and
--- where it isn't of the grammar nothing is changed. An open gate alone leaves something unfinished.
+-- where it isn't of the grammar nothing is changed or counted. An open gate alone leaves something unfinished.
 abbrev pub IsBackTo : {T : Type 0} → Image → Image → List Carrier → List Carrier → Ending T → Type 0
 IsBackTo held left old now (ending.Recovered forward) = forward ≡ is_some (held.look gate_name)
-IsBackTo held left old now (ending.BadJournal line) = (held.look gate_name ≢ None) × IsBadJournal held left old now line × (IsBadLine (journal_of held) line → left ≡ held)
+IsBackTo held left old now (ending.BadJournal line) = (held.look gate_name ≢ None) × IsBadJournal held left old now line × (IsBadLine (journal_of held) line → (left ≡ held) × (now ≡ old))
 IsBackTo held left old now (ending.FolderFault unfinished) = (IsTrue unfinished → held.look gate_name ≢ None) × (IsFalse unfinished → now ≡ old)
 IsBackTo held left old now ending.OutOfMemory = now ≡ old
 IsBackTo held left old now other = ⊥

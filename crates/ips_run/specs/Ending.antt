@@ -41,9 +41,14 @@ abbrev pub is_starved : {T : Type 0} → Ending T → Bool
 is_starved ending.OutOfMemory = true
 is_starved other = false
 
+-- a call on the image failed, with nothing left unfinished
+abbrev pub is_failed : {T : Type 0} → Ending T → Bool
+is_failed (ending.FolderFault unfinished) = not unfinished
+is_failed other = false
+
 -- all that an ending claims
 abbrev pub claim_of : {T : Type 0} → Ending T → Claim
-claim_of x = record { done = is_done x; refused = is_refused x; recovered = recovery x; unfinished = is_left x; bad_journal = is_bad_journal x; starved = is_starved x }
+claim_of x = record { done = is_done x; refused = is_refused x; recovered = recovery x; unfinished = is_left x; bad_journal = is_bad_journal x; starved = is_starved x; failed = is_failed x }
 
 -- a call on the image failed
 abbrev pub is_folder_fault : {T : Type 0} → Ending T → Bool

@@ -1,7 +1,7 @@
 -- What the phases of a run do to a folder.
 use Rattle.std.specs.Prelude.{◌≡◌, ◌≢◌, ◌⊎◌, ℕ, ◌≤◌, Bool, true, false, cond, IsTrue, IsFalse, List, length, map, take, slice_get, Option, Some, None, IfSome}
 use Rattle.ips_outside.specs.Image.{Image}
-use Rattle.ips_outside.specs.State.{State, IsSettled}
+use Rattle.ips_outside.specs.State.{State, IsSettled, settled}
 use Rattle.ips_outside.specs.Outside.{Outside, Rose}
 use Rattle.ips_folder.specs.Calls.{Throughout}
 use Rattle.ips_steps.specs.Steps.{Step}
@@ -118,13 +118,19 @@ pub record IsBack {F T : Type 0} (o : Outside F) (x : Ending T) (before now : Li
   pub resumes : IsTrue (is_left x) → ((o.state at).held.look gate_name ≢ None)
       × ((steps : List Step) (count : ℕ) → IsJournalled (o.state at).held steps count → IsUnfinished (o.state at).held (o.state new) steps count before now)
 
--- A call failed in a commit: where a change stood ready, and the gate's call or a later one did.
+-- nothing has happened to the image, or what was touched is made safe and nothing else has
+abbrev pub IsKeptOrSettled : {F : Type 0} → Outside F → F → F → Type 0
+IsKeptOrSettled o old new = (o.state new ≡ o.state old) ⊎ (o.state new ≡ settled (o.state old))
+
+-- A call failed in a commit: where a change stood ready, and the gate's call or a later one did, and a call was made that may
+-- have changed something.
 pub record HasFailedInCommit {F : Type 0} (o : Outside F) (new : F) : Type 0 where
   pub ready : F
   pub steps : List Step
   pub after : Image
   pub staged : IsStaged steps after (o.state ready)
   pub rose : Rose (o.faults ready) (o.faults new)
+  pub changed : Rose (o.changes ready) (o.changes new)
 
 -- A call failed in a recovery from an open gate, behind a call that may have changed something.
 pub record HasFailedInRecovery {F : Type 0} (o : Outside F) (new : F) : Type 0 where

@@ -1,5 +1,5 @@
 -- What an operation decides on.
-use Rattle.std.specs.Prelude.{ℕ, Bool, IsTrue, IsFalse, List, map}
+use Rattle.std.specs.Prelude.{Bool, IsTrue, IsFalse, map}
 use Rattle.ips_outside.specs.Image.{Image}
 use Rattle.ips_steps.specs.Steps.{Stage, all_laid}
 use Rattle.ips_steps.specs.Private.{visible}

@@ -1,8 +1,8 @@
 //! A change that stands ready, carried out.
 
-ghost use Rattle.std.specs.Prelude.{◌≡◌, [], List, IsTrue, IsFalse};
+ghost use Rattle.std.specs.Prelude.{◌≡◌, ◌≤◌, [], List, IsTrue, IsFalse};
 ghost use Rattle.ips_outside.specs.Image.{Image};
-ghost use Rattle.ips_outside.specs.Outside.{HasCause};
+ghost use Rattle.ips_outside.specs.Outside.{HasCause, Rose};
 ghost use Rattle.ips_folder.specs.Calls.{CanMake};
 ghost use Rattle.ips_steps.specs.Steps.{Step};
 ghost use Rattle.ips_steps.specs.Private.{gate_name};
@@ -11,7 +11,7 @@ ghost use Rattle.ips_kinds.specs.Tallies.{seen_by, taken};
 ghost use Rattle.ips_actuate.specs.Running.{IsFaultOf};
 ghost use Rattle.ips_commit.specs.Pending.{HasNoOtherMark};
 ghost use Rattle.ips_commit.specs.Staging.{IsStaged};
-ghost use Rattle.ips_run.specs.Ending.{is_folder_fault, is_source_fault, is_spawn_fault};
+ghost use Rattle.ips_run.specs.Ending.{is_left, is_folder_fault, is_source_fault, is_spawn_fault};
 ghost use Rattle.ips_run.specs.Comes.{HasRun, IsCarriedTo};
 ghost use Rattle.ips_run.specs.Phases.{IsCarried, IsUnrun, uncommitted_as};
 
@@ -40,6 +40,8 @@ pub(crate) fn carry_out<T: Drop, F: Folder, P: Spawner>(
         (seen_by sorts finished kinds.old.items) (seen_by sorts finished kinds.new.items) (HasRun P.running spawner.old spawner.new) result }
     ensures folder { HasCause (F.outside.faults folder.old) (F.outside.faults folder.new) (IsTrue (is_folder_fault result)) }
     ensures spawner { HasCause (P.running.faults spawner.old) (P.running.faults spawner.new) (IsTrue (is_spawn_fault result)) }
+    ensures changed { IsTrue (is_left result) → Rose (F.outside.changes folder.old) (F.outside.changes folder.new) }
+    ensures later { F.outside.changes folder.old ≤ F.outside.changes folder.new }
     ensures read { IsFalse (is_source_fault result) }
     ensures same_kind { F.outside.tells folder.new ≡ F.outside.tells folder.old }
 {

@@ -34,6 +34,7 @@ pub(crate) fn decided<T: Drop, S: Source, F: Folder, C: Operation<T>>(
     ensures unready { IsTrue (F.outside.tells folder.old) → IfErr result (IsUnready (C.nature operation.now)
         (C.decides operation.now (S.outside.tells source.old) (S.outside.state source.old).held (F.outside.state folder.old).held)
         (S.outside.tells source.old) (S.outside.state source.old).held) }
+    ensures unasked { IsTrue (shows (C.nature operation.now)) → IfErr result (λ x. IsFalse (is_source_fault x)) }
     ensures reads { Reads F.outside folder.old folder.new (EndsAs is_folder_fault result) }
     ensures source { Reads S.outside source.old source.new (EndsAs is_source_fault result) }
 {
@@ -61,6 +62,7 @@ pub(crate) fn shown<T: Drop, S: Source, F: Folder, C: Operation<T>>(
     ensures unready { IsTrue (F.outside.tells folder.old) → IsUnready (C.nature operation.now)
         (C.decides operation.now (S.outside.tells source.old) (S.outside.state source.old).held (F.outside.state folder.old).held)
         (S.outside.tells source.old) (S.outside.state source.old).held result }
+    ensures unasked { IsFalse (is_source_fault result) }
     ensures reads { Reads F.outside folder.old folder.new (IsTrue (is_folder_fault result)) }
     ensures source { Reads S.outside source.old source.new (IsTrue (is_source_fault result)) }
 {

@@ -13,7 +13,7 @@ pub enum Ending<T> {
     Shown(T),
     /// Why the operation refuses.
     Refused(T),
-    /// The image is as the operation means.
+    /// There is nothing to change.
     NothingToDo,
     /// A change was stopped, and something stands at the gate.
     Unfinished,

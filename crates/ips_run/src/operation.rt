@@ -42,7 +42,7 @@ pub struct Change<T> {
 pub enum Decision<T> {
     /// The image is to be changed.
     Change(Change<T>),
-    /// It is as the operation means.
+    /// There is nothing to change.
     Nothing,
     /// This is to be shown.
     Shown(T),

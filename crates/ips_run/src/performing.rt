@@ -9,7 +9,7 @@ ghost use Rattle.ips_history.specs.Course.{founds, shows};
 ghost use Rattle.ips_history.specs.Run.{IsRun};
 ghost use Rattle.ips_run.specs.Ending.{claim_of, is_left, is_refused, is_folder_fault, is_source_fault, is_spawn_fault};
 ghost use Rattle.ips_run.specs.Comes.{Comes, HasRun};
-ghost use Rattle.ips_run.specs.Phases.{HasFailedInCommit, HasFailedInRecovery};
+ghost use Rattle.ips_run.specs.Phases.{HasFailedInCommit, HasFailedInRecovery, IsKeptOrSettled};
 
 use crate::deciding::shown;
 use crate::ending::Ending;
@@ -26,7 +26,8 @@ use std::alloc::Global;
 
 /// Carries out an operation on an image: makes safe what was written before and looks at the gate; then it brings to an end what
 /// was stopped, or shows what is asked for, or decides on a change, stages it, runs the actuators before it, commits it and runs
-/// the actuators after it. Each sort of step has to have a kind that takes it.
+/// the actuators after it. Each sort of step has to have a kind that takes it, and the operation may not be one that makes an
+/// image.
 pub fn perform<T: Drop, S: Source, F: Folder, P: Spawner, C: Operation<T>>(
     alloc: Global,
     operation: &C,
@@ -53,13 +54,21 @@ pub fn perform<T: Drop, S: Source, F: Folder, P: Spawner, C: Operation<T>>(
     ensures source { Reads S.outside source.old source.new (IsTrue (is_source_fault result)) }
     ensures spawner { HasCause (P.running.faults spawner.old) (P.running.faults spawner.new) (IsTrue (is_spawn_fault result)) }
 
+    // Where something is shown, no fault is the repository's or a spawner's, whether or not the folder tells its image.
+    ensures shows_unasked { IsTrue (shows (C.nature operation.now)) → IsFalse (is_source_fault result) }
+    ensures shows_unspawned { IsTrue (shows (C.nature operation.now)) → IsFalse (is_spawn_fault result) }
+
     // Unfinished: in the gate's call or later, or in a recovery from an open gate behind a call that may have changed something.
     ensures begun { IsTrue (F.outside.tells folder.old) → IsTrue (is_left result) → HasFailedInCommit F.outside folder.new ⊎ HasFailedInRecovery F.outside folder.new }
 
-    // The opening sync is the only call that may change something, where something is shown, and where an open gate is left as it was.
+    // The opening sync is the only call that may change something, where something is shown, and where an open gate is left as it
+    // was; and nothing but that has happened to the image.
     ensures shows { IsTrue (shows (C.nature operation.now)) → OneMore (F.outside.changes folder.old) (F.outside.changes folder.new) }
     ensures untouched { IsTrue (F.outside.tells folder.old) → (F.outside.state folder.old).held.look gate_name ≢ None → IsTrue (is_refused result)
         → OneMore (F.outside.changes folder.old) (F.outside.changes folder.new) }
+    ensures shows_kept { IsTrue (F.outside.tells folder.old) → IsTrue (shows (C.nature operation.now)) → IsKeptOrSettled F.outside folder.old folder.new }
+    ensures untouched_kept { IsTrue (F.outside.tells folder.old) → (F.outside.state folder.old).held.look gate_name ≢ None → IsTrue (is_refused result)
+        → IsKeptOrSettled F.outside folder.old folder.new }
     ensures same_kind { F.outside.tells folder.new ≡ F.outside.tells folder.old }
 {
     let Ok(()) = folder.sync() else {

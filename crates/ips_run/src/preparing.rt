@@ -1,6 +1,6 @@
 //! A change made ready.
 
-ghost use Rattle.std.specs.Prelude.{◌≡◌, Option, None, false, IsTrue, IsFalse, IfOk, OnOk, IfErr, map};
+ghost use Rattle.std.specs.Prelude.{◌≡◌, ◌≤◌, Option, None, false, IsTrue, IsFalse, IfOk, OnOk, IfErr, map};
 ghost use Rattle.ips_outside.specs.Image.{Image};
 ghost use Rattle.ips_outside.specs.State.{IsSettled};
 ghost use Rattle.ips_outside.specs.Outside.{HasCause, Reads};
@@ -54,6 +54,7 @@ pub(crate) fn prepare<T: Drop, S: Source, F: Folder, C: Operation<T>>(
     ensures unready { IsTrue (F.outside.tells folder.old) → IfErr result (IsUnready (C.nature operation.now)
         (C.decides operation.now (S.outside.tells source.old) (S.outside.state source.old).held (F.outside.state folder.old).held)
         (S.outside.tells source.old) (S.outside.state source.old).held) }
+    ensures later { F.outside.changes folder.old ≤ F.outside.changes folder.new }
     ensures source { Reads S.outside source.old source.new (EndsAs is_source_fault result) }
     ensures cause { HasCause (F.outside.faults folder.old) (F.outside.faults folder.new) (EndsAs is_folder_fault result) }
     ensures same_kind { F.outside.tells folder.new ≡ F.outside.tells folder.old }
@@ -98,6 +99,7 @@ fn ready_for<T: Drop, S: Source, F: Folder>(
         (HasStaged (S.outside.tells source.old) (S.outside.state source.old).held change.now.publisher (map step_of change.now.steps.items) change.now.staged.items (F.outside.state folder.old).held (F.outside.state folder.new)) }
     ensures early { IfErr result IsEarly }
     ensures unstaged { IfErr result (IsUnstaged (S.outside.tells source.old) (S.outside.state source.old).held change.now) }
+    ensures later { F.outside.changes folder.old ≤ F.outside.changes folder.new }
     ensures source { Reads S.outside source.old source.new (EndsAs is_source_fault result) }
     ensures cause { HasCause (F.outside.faults folder.old) (F.outside.faults folder.new) (EndsAs is_folder_fault result) }
     ensures same_kind { F.outside.tells folder.new ≡ F.outside.tells folder.old }

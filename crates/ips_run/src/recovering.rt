@@ -1,6 +1,6 @@
 //! What was stopped, brought to its end.
 
-ghost use Rattle.std.specs.Prelude.{◌≡◌, ◌≢◌, None, IsTrue, IsFalse};
+ghost use Rattle.std.specs.Prelude.{◌≡◌, ◌≢◌, ◌≤◌, None, IsTrue, IsFalse};
 ghost use Rattle.ips_outside.specs.State.{IsSettled};
 ghost use Rattle.ips_outside.specs.Outside.{HasCause, Rose};
 ghost use Rattle.ips_steps.specs.Private.{gate_name};
@@ -35,6 +35,9 @@ pub(crate) fn recovered<T: Drop, F: Folder>(
     ensures changed { IsTrue (is_left result) → Rose (F.outside.changes folder.old) (F.outside.changes folder.new) }
     ensures untouched { IsTrue (F.outside.tells folder.old) → (F.outside.state folder.old).held.look gate_name ≢ None
         → IsTrue (is_refused result) → F.outside.changes folder.new ≡ F.outside.changes folder.old }
+    ensures kept { IsTrue (F.outside.tells folder.old) → (F.outside.state folder.old).held.look gate_name ≢ None
+        → IsTrue (is_refused result) → F.outside.state folder.new ≡ F.outside.state folder.old }
+    ensures later { F.outside.changes folder.old ≤ F.outside.changes folder.new }
     ensures read { IsFalse (is_source_fault result) }
     ensures unspawned { IsFalse (is_spawn_fault result) }
     ensures same_kind { F.outside.tells folder.new ≡ F.outside.tells folder.old }

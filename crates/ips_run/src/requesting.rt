@@ -1,6 +1,6 @@
 //! A request, from a closed gate on.
 
-ghost use Rattle.std.specs.Prelude.{◌≡◌, None, IsTrue, IsFalse};
+ghost use Rattle.std.specs.Prelude.{◌≡◌, ◌≤◌, None, IsTrue, IsFalse};
 ghost use Rattle.ips_outside.specs.State.{IsSettled};
 ghost use Rattle.ips_outside.specs.Outside.{HasCause, Reads};
 ghost use Rattle.ips_steps.specs.Private.{gate_name};
@@ -38,6 +38,7 @@ pub(crate) fn request<T: Drop, S: Source, F: Folder, P: Spawner, C: Operation<T>
         (S.outside.tells source.old) (S.outside.state source.old).held (F.outside.state folder.old).held (F.outside.state folder.new).held
         (seen_by sorts finished kinds.old.items) (seen_by sorts finished kinds.new.items) (HasRun P.running spawner.old spawner.new) result }
     ensures begun { IsTrue (F.outside.tells folder.old) → IsTrue (is_left result) → HasFailedInCommit F.outside folder.new }
+    ensures later { F.outside.changes folder.old ≤ F.outside.changes folder.new }
     ensures folder { HasCause (F.outside.faults folder.old) (F.outside.faults folder.new) (IsTrue (is_folder_fault result)) }
     ensures source { Reads S.outside source.old source.new (IsTrue (is_source_fault result)) }
     ensures spawner { HasCause (P.running.faults spawner.old) (P.running.faults spawner.new) (IsTrue (is_spawn_fault result)) }

@@ -1,9 +1,8 @@
-use Rattle.std.proofs.Common.{true, refl, sym, ◌∙◌}
 use Rattle.ips_outside.proofs.Faults.{no_cause, cause_as, cause_behind}
 use Rattle.ips_steps.proofs.Lists.{clash}
-use Rattle.ips_run.specs.Ending.{is_folder_fault}
+use Rattle.ips_run.specs.Ending.{is_left, is_folder_fault}
 use Rattle.ips_run.proofs.Carried.{carried_unrun, carried_part, carried_but, carried_all}
-use Rattle.ips_run.proofs.Told.{told_unrun, told_part, told_done, told_but, unrun_folder, unrun_source, unrun_cause}
+use Rattle.ips_run.proofs.Told.{told_unrun, told_part, told_done, told_but, unrun_folder, unrun_source, unrun_left, unrun_cause}
 use Rattle.ips_run.proofs.carrying.carry_out.Goals as goal
 
 pub returns-in-Err-clause-carried : goal.returns-in-Err-clause-carried
@@ -63,3 +62,9 @@ returns-clause-read g c = unrun_source _ _ _ _ c.unrun-in-Err-run_all.ensures
 
 pub returns-clause-spawner : goal.returns-clause-spawner
 returns-clause-spawner g c = unrun_cause _ _ _ _ _ _ c.unrun-in-Err-run_all.ensures (cause_behind _ _ _ _ _ _ c.in-Ok.ensures.cause (λ is. is) c.in-Err-run_all.ensures.cause (λ is. is) (λ is. is))
+
+pub returns-in-Err-clause-changed : goal.returns-in-Err-clause-changed
+returns-in-Err-clause-changed g c = λ left. absurd (clash (is_left c.unrun.result) left (unrun_left _ _ _ _ c.unrun.ensures))
+
+pub returns-clause-changed : goal.returns-clause-changed
+returns-clause-changed g c = λ left. absurd (clash (is_left c.unrun-in-Err-run_all.result) left (unrun_left _ _ _ _ c.unrun-in-Err-run_all.ensures))

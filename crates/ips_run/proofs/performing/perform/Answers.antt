@@ -7,15 +7,14 @@ use Rattle.ips_steps.proofs.Lists.{clash}
 use Rattle.ips_commit.specs.Pending.{IsPending}
 use Rattle.ips_history.specs.Course.{shows}
 use Rattle.ips_run.specs.declared.ending.Ending.TheVariants as ending
-use Rattle.ips_run.specs.declared.next.Next.TheVariants as next
-use Rattle.ips_run.proofs.Opened.{synced_safe, elapses_kept, run_unopened, run_read, run_back, run_asked}
+use Rattle.ips_run.proofs.Opened.{no_fewer, synced_safe, elapses_kept, run_unopened, run_read, run_back, run_asked}
 use Rattle.ips_run.proofs.Nexts.{shown_of, changed_of, show_is, change_is, recover_is}
 use Rattle.ips_run.proofs.Performed.{fault_of, starved_of, unfinished_of, early_fault, early_starved, early_unfinished, left_fault, comes_unopened, comes_refused, comes_back, comes_shown, comes_asked, next_as}
 use Rattle.ips_run.proofs.performing.perform.Goals as goal
 
 pub returns-in_default-clause-run : goal.returns-in_default-clause-run
 returns-in_default-clause-run g c = λ told.
-    run_unopened g.F.Source.outside g.met.F.Source.sane _ (g.C.Operation.nature c.args.operation.now) (fault_of (g.C.Operation.decides c.args.operation.now (g.S.Source.outside.tells c.args.source.now) (g.S.Source.outside.state c.args.source.now).held)) _ _ c.args.folder.now c.sync.new.self c.sync.ensures.call.time c.in_default.ensures.kept early_fault refl
+    run_unopened g.F.Source.outside g.met.F.Source.sane _ (g.C.Operation.nature c.args.operation.now) (fault_of (g.C.Operation.decides c.args.operation.now (g.S.Source.outside.tells c.args.source.now) (g.S.Source.outside.state c.args.source.now).held)) _ _ c.args.folder.now c.sync.new.self c.sync.ensures.call.time c.in_default.ensures.kept early_fault refl refl
 
 pub returns-in_default-clause-comes : goal.returns-in_default-clause-comes
 returns-in_default-clause-comes g c = λ told.
@@ -23,7 +22,7 @@ returns-in_default-clause-comes g c = λ told.
 
 pub returns-in-Err-Bad-clause-run : goal.returns-in-Err-Bad-clause-run
 returns-in-Err-Bad-clause-run g c = λ told.
-    run_read g.F.Source.outside g.met.F.Source.sane _ (g.C.Operation.nature c.args.operation.now) (fault_of (g.C.Operation.decides c.args.operation.now (g.S.Source.outside.tells c.args.source.now) (g.S.Source.outside.state c.args.source.now).held)) _ _ c.args.folder.now c.sync.new.self c.pending.new.folder c.sync.ensures.call.time (c.in-Ok.ensures.done told) c.pending.ensures.reads.call.time c.pending.ensures.reads.kept early_fault
+    run_read g.F.Source.outside g.met.F.Source.sane _ (g.C.Operation.nature c.args.operation.now) (fault_of (g.C.Operation.decides c.args.operation.now (g.S.Source.outside.tells c.args.source.now) (g.S.Source.outside.state c.args.source.now).held)) _ _ c.args.folder.now c.sync.new.self c.pending.new.folder c.sync.ensures.call.time (c.in-Ok.ensures.done told) c.sync.ensures.one_made (no_fewer _ _ c.pending.ensures.reads.none_made) c.pending.ensures.reads.call.time c.pending.ensures.reads.kept early_fault
 
 pub returns-in-Err-Bad-clause-comes : goal.returns-in-Err-Bad-clause-comes
 returns-in-Err-Bad-clause-comes g c = λ told.
@@ -31,7 +30,7 @@ returns-in-Err-Bad-clause-comes g c = λ told.
 
 pub returns-in-Err-OutOfMemory-clause-run : goal.returns-in-Err-OutOfMemory-clause-run
 returns-in-Err-OutOfMemory-clause-run g c = λ told.
-    run_read g.F.Source.outside g.met.F.Source.sane _ (g.C.Operation.nature c.args.operation.now) (starved_of (g.C.Operation.decides c.args.operation.now (g.S.Source.outside.tells c.args.source.now) (g.S.Source.outside.state c.args.source.now).held)) _ _ c.args.folder.now c.sync.new.self c.pending.new.folder c.sync.ensures.call.time (c.in-Ok.ensures.done told) c.pending.ensures.reads.call.time c.pending.ensures.reads.kept early_starved
+    run_read g.F.Source.outside g.met.F.Source.sane _ (g.C.Operation.nature c.args.operation.now) (starved_of (g.C.Operation.decides c.args.operation.now (g.S.Source.outside.tells c.args.source.now) (g.S.Source.outside.state c.args.source.now).held)) _ _ c.args.folder.now c.sync.new.self c.pending.new.folder c.sync.ensures.call.time (c.in-Ok.ensures.done told) c.sync.ensures.one_made (no_fewer _ _ c.pending.ensures.reads.none_made) c.pending.ensures.reads.call.time c.pending.ensures.reads.kept early_starved
 
 pub returns-in-Err-OutOfMemory-clause-comes : goal.returns-in-Err-OutOfMemory-clause-comes
 returns-in-Err-OutOfMemory-clause-comes g c = λ told.
@@ -39,7 +38,7 @@ returns-in-Err-OutOfMemory-clause-comes g c = λ told.
 
 pub returns-in-Refuse-clause-run : goal.returns-in-Refuse-clause-run
 returns-in-Refuse-clause-run g c = λ told.
-    run_read g.F.Source.outside g.met.F.Source.sane _ (g.C.Operation.nature c.args.operation.now) (unfinished_of (g.C.Operation.decides c.args.operation.now (g.S.Source.outside.tells c.args.source.now) (g.S.Source.outside.state c.args.source.now).held)) _ _ c.args.folder.now c.sync.new.self c.pending.new.folder c.sync.ensures.call.time (c.in-Ok.ensures.done told) c.pending.ensures.reads.call.time c.pending.ensures.reads.kept early_unfinished
+    run_read g.F.Source.outside g.met.F.Source.sane _ (g.C.Operation.nature c.args.operation.now) (unfinished_of (g.C.Operation.decides c.args.operation.now (g.S.Source.outside.tells c.args.source.now) (g.S.Source.outside.state c.args.source.now).held)) _ _ c.args.folder.now c.sync.new.self c.pending.new.folder c.sync.ensures.call.time (c.in-Ok.ensures.done told) c.sync.ensures.one_made (no_fewer _ _ c.pending.ensures.reads.none_made) c.pending.ensures.reads.call.time c.pending.ensures.reads.kept early_unfinished
 
 pub returns-in-Refuse-clause-comes : goal.returns-in-Refuse-clause-comes
 returns-in-Refuse-clause-comes g c = λ told.
@@ -58,7 +57,7 @@ returns-in-Recover-clause-run g c = λ told.
     let time = elapses_kept o sane c.args.folder.now c.sync.new.self at c.sync.ensures.call.time c.pending.ensures.reads.call.time c.pending.ensures.reads.kept in
     let is_synced = c.pending.ensures.reads.kept ∙ c.in-Ok.ensures.done told in
     let told_at = c.pending.ensures.reads.call.same_kind ∙ c.sync.ensures.call.same_kind ∙ told in
-    run_back o sane _ (g.C.Operation.nature c.args.operation.now) c.recovered.result _ _ c.args.folder.now at c.recovered.new.folder time is_synced (c.recovered.ensures.back told_at)
+    run_back o sane _ (g.C.Operation.nature c.args.operation.now) c.recovered.result _ _ c.args.folder.now at c.recovered.new.folder time is_synced (one_before _ _ _ c.sync.ensures.one_made c.pending.ensures.reads.none_made) c.recovered.ensures.later (c.recovered.ensures.back told_at)
 
 pub returns-in-Recover-clause-comes : goal.returns-in-Recover-clause-comes
 returns-in-Recover-clause-comes g c = λ told.
@@ -119,7 +118,7 @@ returns-in-Show-clause-run g c = λ told.
     let told_at = c.pending.ensures.reads.call.same_kind ∙ c.sync.ensures.call.same_kind ∙ told in
     let new = c.shown.new.folder in
     let since = elapses_kept o sane c.sync.new.self at new c.pending.ensures.reads.call.time c.shown.ensures.reads.call.time c.shown.ensures.reads.kept in
-    run_read o sane _ (g.C.Operation.nature c.args.operation.now) c.shown.result _ _ c.args.folder.now c.sync.new.self new c.sync.ensures.call.time (c.in-Ok.ensures.done told) since (c.shown.ensures.reads.kept ∙ c.pending.ensures.reads.kept) c.shown.ensures.early
+    run_read o sane _ (g.C.Operation.nature c.args.operation.now) c.shown.result _ _ c.args.folder.now c.sync.new.self new c.sync.ensures.call.time (c.in-Ok.ensures.done told) c.sync.ensures.one_made (no_fewer _ _ (c.shown.ensures.reads.none_made ∙ c.pending.ensures.reads.none_made)) since (c.shown.ensures.reads.kept ∙ c.pending.ensures.reads.kept) c.shown.ensures.early
 
 pub returns-in-Show-clause-comes : goal.returns-in-Show-clause-comes
 returns-in-Show-clause-comes g c = λ told.
@@ -145,7 +144,7 @@ returns-in-Change-clause-run g c = λ told.
     let time = elapses_kept o sane c.args.folder.now c.sync.new.self at c.sync.ensures.call.time c.pending.ensures.reads.call.time c.pending.ensures.reads.kept in
     let is_synced = c.pending.ensures.reads.kept ∙ c.in-Ok.ensures.done told in
     let told_at = c.pending.ensures.reads.call.same_kind ∙ c.sync.ensures.call.same_kind ∙ told in
-    run_asked o sane _ (g.C.Operation.nature c.args.operation.now) c.request.result _ _ c.args.folder.now at c.request.new.folder time is_synced (change_is (g.C.Operation.nature c.args.operation.now) c.in-Ok-pending.found (next_as (g.C.Operation.nature c.args.operation.now) c.nature.result c.in-Ok-pending.found _ c.phase_behind.result c.nature.ensures c.phase_behind.ensures c.in-Change.is))
+    run_asked o sane _ (g.C.Operation.nature c.args.operation.now) c.request.result _ _ c.args.folder.now at c.request.new.folder time is_synced (one_before _ _ _ c.sync.ensures.one_made c.pending.ensures.reads.none_made) c.request.ensures.later (change_is (g.C.Operation.nature c.args.operation.now) c.in-Ok-pending.found (next_as (g.C.Operation.nature c.args.operation.now) c.nature.result c.in-Ok-pending.found _ c.phase_behind.result c.nature.ensures c.phase_behind.ensures c.in-Change.is))
     (c.request.ensures.asked told_at (synced_safe (o.state c.args.folder.now) (o.state at) is_synced))
 
 pub returns-in-Change-clause-comes : goal.returns-in-Change-clause-comes
@@ -174,3 +173,61 @@ returns-in-Change-clause-shows g c = λ is. absurd (clash (shows (g.C.Operation.
 pub returns-in-Change-clause-untouched : goal.returns-in-Change-clause-untouched
 returns-in-Change-clause-untouched g c = λ told there refused.
     absurd (there (ap (λ (s : State). s.held.look gate_name) (sym (c.in-Ok.ensures.done told)) ∙ (changed_of (g.F.Source.outside.state c.sync.new.self).held (g.C.Operation.nature c.args.operation.now) c.in-Ok-pending.found (c.in-Ok-pending.ensures.found (c.sync.ensures.call.same_kind ∙ told)) (next_as (g.C.Operation.nature c.args.operation.now) c.nature.result c.in-Ok-pending.found _ c.phase_behind.result c.nature.ensures c.phase_behind.ensures c.in-Change.is)).0))
+
+pub returns-in_default-clause-shows_kept : goal.returns-in_default-clause-shows_kept
+returns-in_default-clause-shows_kept g c = λ told is. inl c.in_default.ensures.kept
+
+pub returns-in_default-clause-untouched_kept : goal.returns-in_default-clause-untouched_kept
+returns-in_default-clause-untouched_kept g c = λ told there refused. inl c.in_default.ensures.kept
+
+pub returns-in-Err-Bad-clause-shows_kept : goal.returns-in-Err-Bad-clause-shows_kept
+returns-in-Err-Bad-clause-shows_kept g c = λ told is. inr (c.pending.ensures.reads.kept ∙ c.in-Ok.ensures.done told)
+
+pub returns-in-Err-Bad-clause-untouched_kept : goal.returns-in-Err-Bad-clause-untouched_kept
+returns-in-Err-Bad-clause-untouched_kept g c = λ told there refused. inr (c.pending.ensures.reads.kept ∙ c.in-Ok.ensures.done told)
+
+pub returns-in-Err-OutOfMemory-clause-shows_kept : goal.returns-in-Err-OutOfMemory-clause-shows_kept
+returns-in-Err-OutOfMemory-clause-shows_kept g c = λ told is. inr (c.pending.ensures.reads.kept ∙ c.in-Ok.ensures.done told)
+
+pub returns-in-Err-OutOfMemory-clause-untouched_kept : goal.returns-in-Err-OutOfMemory-clause-untouched_kept
+returns-in-Err-OutOfMemory-clause-untouched_kept g c = λ told there refused. inr (c.pending.ensures.reads.kept ∙ c.in-Ok.ensures.done told)
+
+pub returns-in-Refuse-clause-shows_kept : goal.returns-in-Refuse-clause-shows_kept
+returns-in-Refuse-clause-shows_kept g c = λ told is. inr (c.pending.ensures.reads.kept ∙ c.in-Ok.ensures.done told)
+
+pub returns-in-Refuse-clause-untouched_kept : goal.returns-in-Refuse-clause-untouched_kept
+returns-in-Refuse-clause-untouched_kept g c = λ told there refused. inr (c.pending.ensures.reads.kept ∙ c.in-Ok.ensures.done told)
+
+pub returns-in-Show-clause-shows_kept : goal.returns-in-Show-clause-shows_kept
+returns-in-Show-clause-shows_kept g c = λ told is. inr (c.shown.ensures.reads.kept ∙ c.pending.ensures.reads.kept ∙ c.in-Ok.ensures.done told)
+
+pub returns-in-Show-clause-untouched_kept : goal.returns-in-Show-clause-untouched_kept
+returns-in-Show-clause-untouched_kept g c = λ told there refused. inr (c.shown.ensures.reads.kept ∙ c.pending.ensures.reads.kept ∙ c.in-Ok.ensures.done told)
+
+pub returns-in-Recover-clause-shows_kept : goal.returns-in-Recover-clause-shows_kept
+returns-in-Recover-clause-shows_kept g c = λ told is. absurd (clash (shows (g.C.Operation.nature c.args.operation.now)) is (recover_is (g.C.Operation.nature c.args.operation.now) c.in-Ok-pending.found (next_as (g.C.Operation.nature c.args.operation.now) c.nature.result c.in-Ok-pending.found _ c.phase_behind.result c.nature.ensures c.phase_behind.ensures c.in-Recover.is)))
+
+pub returns-in-Recover-clause-untouched_kept : goal.returns-in-Recover-clause-untouched_kept
+returns-in-Recover-clause-untouched_kept g c = λ told there refused.
+    let is_synced = c.pending.ensures.reads.kept ∙ c.in-Ok.ensures.done told in
+    let told_at = c.pending.ensures.reads.call.same_kind ∙ c.sync.ensures.call.same_kind ∙ told in
+    inr (c.recovered.ensures.kept told_at (λ shut. there (ap (λ (s : State). s.held.look gate_name) (sym is_synced) ∙ shut)) refused ∙ is_synced)
+
+pub returns-in-Change-clause-shows_kept : goal.returns-in-Change-clause-shows_kept
+returns-in-Change-clause-shows_kept g c = λ told is. absurd (clash (shows (g.C.Operation.nature c.args.operation.now)) is (change_is (g.C.Operation.nature c.args.operation.now) c.in-Ok-pending.found (next_as (g.C.Operation.nature c.args.operation.now) c.nature.result c.in-Ok-pending.found _ c.phase_behind.result c.nature.ensures c.phase_behind.ensures c.in-Change.is)))
+
+pub returns-in-Change-clause-untouched_kept : goal.returns-in-Change-clause-untouched_kept
+returns-in-Change-clause-untouched_kept g c = λ told there refused.
+    absurd (there (ap (λ (s : State). s.held.look gate_name) (sym (c.in-Ok.ensures.done told)) ∙ (changed_of (g.F.Source.outside.state c.sync.new.self).held (g.C.Operation.nature c.args.operation.now) c.in-Ok-pending.found (c.in-Ok-pending.ensures.found (c.sync.ensures.call.same_kind ∙ told)) (next_as (g.C.Operation.nature c.args.operation.now) c.nature.result c.in-Ok-pending.found _ c.phase_behind.result c.nature.ensures c.phase_behind.ensures c.in-Change.is)).0))
+
+pub returns-in-Change-clause-shows_unasked : goal.returns-in-Change-clause-shows_unasked
+returns-in-Change-clause-shows_unasked g c = λ is. absurd (clash (shows (g.C.Operation.nature c.args.operation.now)) is (change_is (g.C.Operation.nature c.args.operation.now) c.in-Ok-pending.found (next_as (g.C.Operation.nature c.args.operation.now) c.nature.result c.in-Ok-pending.found _ c.phase_behind.result c.nature.ensures c.phase_behind.ensures c.in-Change.is)))
+
+pub returns-in-Change-clause-shows_unspawned : goal.returns-in-Change-clause-shows_unspawned
+returns-in-Change-clause-shows_unspawned g c = λ is. absurd (clash (shows (g.C.Operation.nature c.args.operation.now)) is (change_is (g.C.Operation.nature c.args.operation.now) c.in-Ok-pending.found (next_as (g.C.Operation.nature c.args.operation.now) c.nature.result c.in-Ok-pending.found _ c.phase_behind.result c.nature.ensures c.phase_behind.ensures c.in-Change.is)))
+
+pub returns-in-Show-clause-shows_unasked : goal.returns-in-Show-clause-shows_unasked
+returns-in-Show-clause-shows_unasked g c = λ is. c.shown.ensures.unasked
+
+pub returns-in-Show-clause-shows_unspawned : goal.returns-in-Show-clause-shows_unspawned
+returns-in-Show-clause-shows_unspawned g c = λ is. c.shown.ensures.early.unspawned

@@ -1,9 +1,8 @@
-use Rattle.std.proofs.Common.{◌≡◌, Bool, Err, ap, ◌∙◌, sym}
+use Rattle.std.proofs.Common.{Bool, Err, ap, ◌∙◌}
 use Rattle.ips_text.specs.declared.refusal.Or.{Or}
 use Rattle.ips_text.specs.declared.refusal.Or.TheVariants.{Bad}
 use Rattle.ips_commit.specs.declared.fault.CommitFault.{CommitFault}
-use Rattle.ips_commit.specs.Recovering.{SaysOfRecovery}
-use Rattle.ips_run.proofs.Recoveries.{back, back_fault, back_starved, told_back, bad_of, says_of, starved_of}
+use Rattle.ips_run.proofs.Recoveries.{back, back_fault, back_starved, told_back, kept_back, bad_of, says_of, starved_of}
 use Rattle.ips_run.proofs.recovering.recovered.Goals as goal
 
 pub returns-in-Ok-clause-back : goal.returns-in-Ok-clause-back
@@ -36,3 +35,14 @@ returns-in-Err-Bad-clause-told g c = λ told.
     told_back c.in-Err-Bad.fault c.uncommitted.result (o.state c.args.folder.now) (o.state c.recover.new.folder) _ _ c.uncommitted.ensures
     (says_of Bool c.in-Err-Bad.field-0 c.in-Err-Bad.fault c.in-Err-Bad.field-0-is _ (c.in-Err-Bad.ensures.refused told))
     (λ unchanged. c.in-Err-Bad.ensures.unlaid (ap (λ (e : Or CommitFault). Err e) (c.in-Err-Bad.field-0-is ∙ ap (λ (w : CommitFault). Bad w) unchanged)))
+    (λ none there. (c.recover.ensures.read_first told none there).2)
+
+pub returns-in-Err-Bad-clause-kept : goal.returns-in-Err-Bad-clause-kept
+returns-in-Err-Bad-clause-kept g c = λ told there refused.
+    let o = g.F.Source.outside in
+    kept_back c.in-Err-Bad.fault c.uncommitted.result (o.state c.args.folder.now) (o.state c.recover.new.folder) _ _ c.uncommitted.ensures
+    (says_of Bool c.in-Err-Bad.field-0 c.in-Err-Bad.fault c.in-Err-Bad.field-0-is _ (c.in-Err-Bad.ensures.refused told)) there refused
+
+pub returns-in-Err-OutOfMemory-clause-kept : goal.returns-in-Err-OutOfMemory-clause-kept
+returns-in-Err-OutOfMemory-clause-kept g c = λ told there refused.
+    (starved_of Bool c.in-Err-OutOfMemory.field-0 c.in-Err-OutOfMemory.field-0-is _ c.in-Err-OutOfMemory.ensures.starved).0

@@ -46,4 +46,4 @@ returns-clause-comes g c = λ told to_decide.
 pub returns-clause-begun : goal.returns-clause-begun
 returns-clause-begun g c = λ told left.
     let ready = c.in-Ok.ensures.readied told in
-    record { ready = c.prepare.new.folder; steps = _; after = ready.after; staged = ready.staged; rose = c.carry_out.ensures.folder.rose (left_fault c.carry_out.result left) }
+    record { ready = c.prepare.new.folder; steps = _; after = ready.after; staged = ready.staged; rose = c.carry_out.ensures.folder.rose (left_fault c.carry_out.result left); changed = c.carry_out.ensures.changed left }
