@@ -14,8 +14,6 @@ mod cases;
 #[cfg(test)]
 mod folder;
 #[cfg(test)]
-mod generated;
-#[cfg(test)]
 mod rows;
 #[cfg(test)]
 mod script;
