@@ -13,8 +13,8 @@ use Rattle.ips_meaning.specs.declared.finding.Damage.{Damage}
 use Rattle.ips_meaning.specs.declared.finding.Damage.TheVariants.{Missing, WrongKind, WrongContent, WrongMode, WrongTarget, NotSame}
 use Rattle.ips_syntax.specs.declared.table.Why.{Why}
 use Rattle.ips_syntax.specs.declared.table.Why.TheVariants as why
-use Rattle.ips_report.specs.declared.counts.Counts.{Counts}
-use Rattle.ips_report.specs.declared.counts.Sorts.{Sorts}
+use Rattle.ips_counts.specs.declared.counts.Counts.{Counts}
+use Rattle.ips_counts.specs.declared.sorts.Sorts.{Sorts}
 use Rattle.ips_report.specs.declared.unsolved.Tried.{Tried}
 use Rattle.ips_report.specs.declared.outcome.Outcome.{Outcome}
 use Rattle.ips_report.specs.declared.outcome.Outcome.TheVariants.{Usage, Unfinished, BadJournal, Recovered, NoImage, ImageExists, BadImage, OldFormat, NoIndex, NoRepository, BadCatalog, NoMatch, Ambiguous, ManifestMissing, BadManifest, BadDepend, NoSolution, SearchSpent, NothingToDo, Reserved, Clash, BadAccountLine, IdTaken, UnknownOwner, LicenseNeeded, Unmovable, PayloadMissing, PayloadDamaged, Compressed, TooLarge, ActuatorFailed, SpawnFault, SourceFault, FolderFault, Damaged, Done, Shown, OutOfMemory}

@@ -3,12 +3,12 @@
 ghost use Rattle.std.specs.Prelude.{◌≡◌};
 ghost use Rattle.ips_report.specs.Report.{status_number};
 
-use crate::counts::{Counts, Sorts};
 use crate::unsolved::Tried;
 use ips_accounts::Book;
 use ips_actuate::Words;
 use ips_catalog::CatalogFault;
 use ips_conflict::Clash;
+use ips_counts::{Counts, Sorts};
 use ips_digest::PayloadName;
 use ips_manifest::ManifestFault;
 use ips_meaning::Finding;

@@ -5,9 +5,9 @@ ghost use Rattle.std.specs.Fmt.{decimal};
 ghost use Rattle.ips_report.specs.Report as report;
 ghost use Rattle.ips_report.specs.Report.{behind_blanks, counts_text, line, lines_of, sorts_text, three, why_text};
 
-use crate::counts::{Counts, Sorts};
 use crate::paper::Paper;
 use ips_accounts::Book;
+use ips_counts::{Counts, Sorts};
 use ips_meaning::Damage;
 use ips_text::Text;
 use ips_words::Why;

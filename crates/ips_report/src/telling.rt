@@ -9,7 +9,6 @@ ghost use Rattle.ips_digest.specs.Name.{spelling};
 ghost use Rattle.ips_refute.specs.Text.{entries, refutation_text};
 ghost use Rattle.ips_report.specs.Report.{IsLate, behind_blanks, book_text, done_text, failed_text, finding_text, folder_text, line, recovered_text, report_text, tried_texts, when_text, why_text};
 
-use crate::counts::{Counts, Sorts};
 use crate::outcome::Outcome;
 use crate::paper::Paper;
 use crate::pieces::{
@@ -20,6 +19,7 @@ use crate::pieces::{
 use crate::unsolved::{Tried, put_stems};
 use ips_accounts::Book;
 use ips_conflict::Clash;
+use ips_counts::{Counts, Sorts};
 use ips_digest::PayloadName;
 use ips_meaning::Finding;
 use ips_refute::Refutation;

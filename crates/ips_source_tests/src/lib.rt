@@ -14,6 +14,8 @@ mod cases;
 #[cfg(test)]
 mod folder;
 #[cfg(test)]
+mod generated;
+#[cfg(test)]
 mod rows;
 #[cfg(test)]
 mod script;
