@@ -1,5 +1,5 @@
 -- Numbers of steps, one more at the end.
-use Rattle.std.proofs.Common.{◌≡◌, ℕ, suc, ◌+◌, ◌≤◌, Bool, true, false, cond, List, [], ◌∷◌, ◌++◌, length, refl, sym, ◌∙◌, ap, arith}
+use Rattle.std.proofs.Common.{◌≡◌, ℕ, ◌+◌, ◌≤◌, Bool, true, false, cond, List, [], ◌∷◌, ◌++◌, length, refl, ◌∙◌, ap, arith}
 use Rattle.ips_steps.specs.Steps.{Step}
 use Rattle.ips_steps.specs.View.{sort_of}
 use Rattle.ips_steps.specs.declared.step.Sort.{Sort}
