@@ -103,7 +103,7 @@ account_apart q acc own = elim (or_cases (same_path (codes "etc/passwd") q) _ ac
 ]
 
 -- what is above an account file isn't either
-own_down : (p q : List ℕ) → is_below p q ≡ true → is_own p ≡ true → is_own q ≡ true
+pub own_down : (p q : List ℕ) → is_below p q ≡ true → is_own p ≡ true → is_own q ≡ true
 own_down p q up own =
     let over = (and_parts (covers p q) _ up).0 in
     elim (or_cases (is_below records_name p) (is_below (codes "var/sadm/pkg") p) own) [

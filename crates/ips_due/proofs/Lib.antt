@@ -2,3 +2,4 @@ pub mod Fitting
 pub mod Asking
 pub mod StateDue
 pub mod Examples
+pub mod Standing

@@ -2,22 +2,23 @@
 
 ghost use Rattle.std.specs.Prelude.{◌≡◌, ℕ, List, Option, Some, None, is_some, is_none, codes, Bool, IsTrue, IsFalse};
 ghost use Rattle.ips_text.specs.Ancestry.{is_below};
-ghost use Rattle.ips_outside.specs.Image.{Image, is_dir};
+ghost use Rattle.ips_outside.specs.Image.{Image, IsImage, is_dir};
 ghost use Rattle.ips_steps.specs.Private.{records_name};
 ghost use Rattle.ips_manifest.specs.declared.package.Package.{Package};
 ghost use Rattle.ips_filter.specs.Settings.{Set};
 ghost use Rattle.ips_mediate.specs.declared.set.SetMediator.{SetMediator};
 ghost use Rattle.ips_conflict.specs.Clash.{has_legacy};
 ghost use Rattle.ips_meaning.specs.declared.entry.Entry.{Entry};
+ghost use Rattle.ips_after.specs.After.{IsEmptied, image_after};
 ghost use Rattle.ips_after.specs.Planned.{IsNameable, IsProperRequest};
 ghost use Rattle.ips_wanted.specs.Wanted.{want_of};
 ghost use Rattle.ips_steps.specs.Journal.{may_name};
 ghost use Rattle.ips_after.specs.Lists.{listed};
-ghost use Rattle.ips_after.specs.Request.{IsRequest, IsWant, OverFits, Over, Want};
+ghost use Rattle.ips_after.specs.Request.{IsRequest, IsWant, OverFits, Over, Request, Want};
 ghost use Rattle.ips_state.specs.State.{Recorded};
 ghost use Rattle.ips_due.specs.State.{state_due};
 ghost use Rattle.ips_due.specs.Asked.{AreMeant, request_between};
-ghost use Rattle.ips_due.specs.Due.{account_at, Due, HasProperDue, is_due, FitsAccounts, goes_with, holds_bytes, IsDue, IsOverOf, LeavesOwn, record_at, said};
+ghost use Rattle.ips_due.specs.Due.{account_at, Due, HasProperDue, is_due, FitsAccounts, goes_with, holds_bytes, is_own, IsDue, IsOverOf, LeavesOwn, record_at, said};
 
 /// What account files and records say by what is due fits what is wanted.
 pub fn due_fits_the_want()
@@ -34,6 +35,14 @@ pub fn standing_is_not_spoken_of()
     ensures stands { (due : Due) (t : Image) (q bytes : List ℕ) → account_at due.accounts q ≡ None → record_at due.records q ≡ Some bytes → IsTrue (holds_bytes bytes (t.look q)) → IsFalse (goes_with due q) → said due t q ≡ None }
     ensures absent { (due : Due) (t : Image) (q : List ℕ) → account_at due.accounts q ≡ None → record_at due.records q ≡ None → IsFalse (listed due.renewed q) → IsFalse (listed due.folders q)
         → IsTrue (is_none (t.look q)) → said due t q ≡ None }
+{}
+
+/// So it stands behind the request too, with its bytes: where nothing of the image's own was wanted before, and what is wanted leaves
+/// that to the image.
+pub fn standing_records_stay()
+    ensures { (due : Due) (t : Image) (r : Request) (emptied : List ℕ → Bool) (q bytes : List ℕ) → IsRequest r → IsImage t → IsEmptied r t emptied → IsDue due → IsOverOf due t r.over → LeavesOwn due r.new
+        → ((x : List ℕ) → IsTrue (is_own x) → r.old.at x ≡ None)
+        → account_at due.accounts q ≡ None → record_at due.records q ≡ Some bytes → IsTrue (holds_bytes bytes (t.look q)) → IsFalse (goes_with due q) → IsTrue (holds_bytes bytes ((image_after r t emptied).look q)) }
 {}
 
 /// Between what packages mean, with what is due behind the request, there is a request such as the laws of the image after ask for:

@@ -8,5 +8,5 @@ mod laws;
 
 pub use laws::{
     due_can_be_named, due_fits_the_want, requests_are_lawful, standing_is_not_spoken_of,
-    state_hangs_together,
+    standing_records_stay, state_hangs_together,
 };
