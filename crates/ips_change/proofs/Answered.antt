@@ -17,7 +17,7 @@ use Rattle.ips_wanted.specs.Named.{is_payload_of}
 use Rattle.ips_change.specs.Stands.{has_payload, seen_of, standing_seen, tells_edits, weighs}
 use Rattle.ips_change.specs.Told.{naming}
 
-abbrev case_of : Preserve → Event → Standing → Bool → Case
+abbrev pub case_of : Preserve → Event → Standing → Bool → Case
 case_of preserve event standing changed = record { preserve = preserve; event = event; standing = standing; changed = changed }
 
 -- at an update the bytes count only where they are weighed

@@ -1,2 +1,3 @@
 pub mod Seen
 mod Answered
+mod Ruled

@@ -125,6 +125,24 @@ is_link_seen (stands.File m known fresh) = false
 is_link_seen (stands.Link wanted) = true
 is_link_seen stands.Other = false
 
+-- a symbolic link is seen that says what one that is wanted says
+abbrev pub says_wanted : Stands → Bool
+says_wanted stands.Unasked = false
+says_wanted stands.Absent = false
+says_wanted (stands.Dir m) = false
+says_wanted (stands.File m known fresh) = false
+says_wanted (stands.Link wanted) = wanted
+says_wanted stands.Other = false
+
+-- a file is seen that may go unsaved, where one with this preserve was wanted
+abbrev pub is_spent_seen : Preserve → Stands → Bool
+is_spent_seen preserve stands.Unasked = false
+is_spent_seen preserve stands.Absent = false
+is_spent_seen preserve (stands.Dir m) = false
+is_spent_seen preserve (stands.File m known fresh) = spent known preserve
+is_spent_seen preserve (stands.Link wanted) = false
+is_spent_seen preserve stands.Other = false
+
 -- what is seen, for the table of files
 abbrev pub standing_seen : Stands → Standing
 standing_seen stands.Unasked = NotFile

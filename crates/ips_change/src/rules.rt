@@ -10,13 +10,15 @@ ghost use Rattle.ips_after.specs.Request.{Request, WantLink, Wanted};
 ghost use Rattle.ips_after.specs.Salvage as salvage;
 ghost use Rattle.ips_wanted.specs.Named.{is_payload_of};
 ghost use Rattle.ips_wanted.specs.Wanted.{wanted_of};
-ghost use Rattle.ips_change.specs.Stands.{has_fresh, is_dir_seen, is_file_seen, is_link_seen, is_unasked, seen_of, stands_of};
+ghost use Rattle.ips_change.specs.Stands as spec;
+ghost use Rattle.ips_change.specs.Stands.{has_fresh, is_dir_seen, is_file_seen, is_link_seen, is_spent_seen, is_unasked, seen_of, stands_of};
 ghost use Rattle.ips_change.specs.Told.{beside_for, change_told, naming, side_told};
 
 use crate::answering::{answer, answer_gone};
 use crate::asking::spent;
 use crate::change::{Beside, Change};
 use crate::stands::Stands;
+use ips_action::Preserve;
 use ips_digest::PayloadName;
 use ips_meaning::Entry;
 use ips_preserve::Keep;
@@ -62,7 +64,7 @@ fn new_change<'a>(old: Option<&Entry>, new: &'a Entry, stands: Stands) -> Change
 fn dir_change<'a>(mode: Option<u16>, stands: Stands) -> Change<'a>
     ensures { (bytes : List ℕ → List ℕ) → change_told bytes result ≡ cond (is_dir_seen stands) (after.mode_given mode) (changes.Laid (image.Dir (after.stated mode) false)) }
 {
-    if let Stands::Dir { .. } = stands {
+    if is_dir(stands) {
         return match mode {
             Some(mode) => Change::Mode { mode },
             None => Change::Kept,
@@ -82,11 +84,8 @@ fn file_change<'a>(answer: Keep, payload: &'a PayloadName, mode: u16, stands: St
         Keep::Lay | Keep::SalvageLay | Keep::SaveOld | Keep::SaveLegacy => {
             Change::File { payload, mode }
         }
-        Keep::Stay | Keep::LayNew => match stands {
-            Stands::File { .. } => Change::Mode { mode },
-            _ => Change::Kept,
-        },
-        Keep::Drop | Keep::SalvageDrop => Change::Kept,
+        Keep::Stay | Keep::LayNew if is_file(stands) => Change::Mode { mode },
+        _ => Change::Kept,
     }
 }
 
@@ -95,10 +94,10 @@ fn link_change(target: &Text, stands: Stands) -> Change<'_>
     ensures { (bytes : List ℕ → List ℕ) (holds : List ℕ → List ℕ → Bool) (was : Option Wanted) (e : Option image.Entry) → stands ≡ seen_of holds was (Some (WantLink target.now)) e
         → change_told bytes result ≡ cond (after.links_to target.now e) changes.Kept (changes.Laid (image.Link target.now)) }
 {
-    match stands {
-        Stands::Link { wanted: true } => Change::Kept,
-        _ => Change::Link { target },
+    if says_wanted(stands) {
+        return Change::Kept;
     }
+    Change::Link { target }
 }
 
 // What becomes of a path that is no longer wanted.
@@ -106,14 +105,24 @@ fn old_change<'a>(old: Option<&Entry>, stands: Stands) -> Change<'a>
     ensures { (r : Request) (e : Option image.Entry) → stands ≡ seen_of is_payload_of (option_map (λ x. wanted_of x.now) old.entry) None e
         → change_told r.bytes result ≡ after.by_itself (naming r) (option_map (λ x. wanted_of x.now) old.entry) None e }
 {
-    let goes = match old {
+    if goes(old, stands) {
+        return Change::Removed;
+    }
+    Change::Kept
+}
+
+// Whether what stands at a path that is no longer wanted goes.
+fn goes(old: Option<&Entry>, stands: Stands) -> bool
+    ensures { (r : Request) (e : Option image.Entry) → stands ≡ seen_of is_payload_of (option_map (λ x. wanted_of x.now) old.entry) None e
+        → after.removed_if result ≡ after.by_itself (naming r) (option_map (λ x. wanted_of x.now) old.entry) None e }
+{
+    match old {
         Some(Entry::Dir { mode: Some(_) }) => is_dir(stands),
         Some(Entry::File { preserve, .. }) => drops(answer_gone(*preserve, stands)),
         Some(Entry::Link { .. }) => is_link(stands),
         Some(Entry::Hard { .. }) => is_file(stands),
         _ => false,
-    };
-    if goes { Change::Removed } else { Change::Kept }
+    }
 }
 
 // Whether what stands goes by the table's answer.
@@ -164,10 +173,7 @@ pub fn given_up(old: Option<&Entry>, stands: Stands) -> bool
 {
     match old {
         Some(Entry::Dir { .. }) => is_dir(stands),
-        Some(Entry::File { preserve, .. }) => match stands {
-            Stands::File { known, .. } => spent(known, *preserve),
-            _ => false,
-        },
+        Some(Entry::File { preserve, .. }) => is_spent(*preserve, stands),
         Some(Entry::Link { .. }) => is_link(stands),
         Some(Entry::Hard { .. }) => is_file(stands),
         None => false,
@@ -218,10 +224,38 @@ pub fn drops_edit(old: Option<&Entry>, new: Option<&Entry>, stands: Stands) -> b
     ensures { (r : Request) (e : Option image.Entry) → stands ≡ stands_of is_payload_of (option_map (λ x. wanted_of x.now) old.entry) (option_map (λ x. wanted_of x.now) new.entry) e
         → result ≡ salvage.drops_edit_as (naming r) (option_map (λ x. wanted_of x.now) old.entry) (option_map (λ x. wanted_of x.now) new.entry) e }
 {
-    match (old, new) {
-        (Some(Entry::File { preserve, .. }), None) => {
-            matches!(answer_gone(*preserve, stands), Keep::SalvageDrop)
-        }
+    if new.is_some() {
+        return false;
+    }
+    match old {
+        Some(Entry::File { preserve, .. }) => is_salvage(answer_gone(*preserve, stands)),
+        _ => false,
+    }
+}
+
+// Whether what stands goes and is salvaged.
+fn is_salvage(answer: Keep) -> bool
+    ensures { result ≡ salvage.is_salvage answer }
+{
+    matches!(answer, Keep::SalvageDrop)
+}
+
+// Whether a file stands that may go unsaved, where one with this preserve was wanted.
+fn is_spent(preserve: Preserve, stands: Stands) -> bool
+    ensures { result ≡ is_spent_seen preserve stands }
+{
+    match stands {
+        Stands::File { known, .. } => spent(known, preserve),
+        _ => false,
+    }
+}
+
+// Whether a symbolic link stands that says what one that is wanted says.
+fn says_wanted(stands: Stands) -> bool
+    ensures { result ≡ spec.says_wanted stands }
+{
+    match stands {
+        Stands::Link { wanted } => wanted,
         _ => false,
     }
 }

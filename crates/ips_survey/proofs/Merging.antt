@@ -20,10 +20,10 @@ use Rattle.ips_wanted.proofs.Found.{listed_at}
 use Rattle.ips_survey.specs.Pairs.{Pair, first, lesser, new_alone, old_alone, ranked, taken, together}
 use Rattle.ips_survey.specs.Rows.{AreRows, HasBoth}
 
-abbrev Entries : Type 0
+abbrev pub Entries : Type 0
 Entries = List (List ℕ × Entry)
 
-abbrev keys_of : Entries → List (List ℕ)
+abbrev pub keys_of : Entries → List (List ℕ)
 keys_of entries = map (λ (e : List ℕ × Entry). e.0) entries
 
 abbrev paths_of : List Pair → List (List ℕ)
@@ -34,37 +34,37 @@ abbrev Before : List ℕ → List (List ℕ) → Type 0
 Before p paths = AllByRecursion (λ (q : List ℕ). slice_cmp nat_cmp p q ≡ Less) paths
 
 -- the path comes before the first of these
-abbrev Ahead : List ℕ → Entries → Type 0
+abbrev pub Ahead : List ℕ → Entries → Type 0
 Ahead p [] = Unit {0}
 Ahead p (y ∷ ys) = slice_cmp nat_cmp p y.0 ≡ Less
 
 -- a pair of the first list alone, and what comes then
-record OldFirst (pair : Pair) (xs ys : Entries) (then : Entries → Entries → Type 0) : Type 0 where
-  x : List ℕ × Entry
-  more : Entries
-  is : xs ≡ x ∷ more
-  row : pair ≡ old_alone x
-  ahead : Ahead x.0 ys
-  rest : then more ys
+pub record OldFirst (pair : Pair) (xs ys : Entries) (then : Entries → Entries → Type 0) : Type 0 where
+  pub x : List ℕ × Entry
+  pub more : Entries
+  pub is : xs ≡ x ∷ more
+  pub row : pair ≡ old_alone x
+  pub ahead : Ahead x.0 ys
+  pub rest : then more ys
 
-record NewFirst (pair : Pair) (xs ys : Entries) (then : Entries → Entries → Type 0) : Type 0 where
-  y : List ℕ × Entry
-  more : Entries
-  is : ys ≡ y ∷ more
-  row : pair ≡ new_alone y
-  ahead : Ahead y.0 xs
-  rest : then xs more
+pub record NewFirst (pair : Pair) (xs ys : Entries) (then : Entries → Entries → Type 0) : Type 0 where
+  pub y : List ℕ × Entry
+  pub more : Entries
+  pub is : ys ≡ y ∷ more
+  pub row : pair ≡ new_alone y
+  pub ahead : Ahead y.0 xs
+  pub rest : then xs more
 
-record BothFirst (pair : Pair) (xs ys : Entries) (then : Entries → Entries → Type 0) : Type 0 where
-  x : List ℕ × Entry
-  y : List ℕ × Entry
-  olds : Entries
-  news : Entries
-  is_old : xs ≡ x ∷ olds
-  is_new : ys ≡ y ∷ news
-  row : pair ≡ together x y
-  one : x.0 ≡ y.0
-  rest : then olds news
+pub record BothFirst (pair : Pair) (xs ys : Entries) (then : Entries → Entries → Type 0) : Type 0 where
+  pub x : List ℕ × Entry
+  pub y : List ℕ × Entry
+  pub olds : Entries
+  pub news : Entries
+  pub is_old : xs ≡ x ∷ olds
+  pub is_new : ys ≡ y ∷ news
+  pub row : pair ≡ together x y
+  pub one : x.0 ≡ y.0
+  pub rest : then olds news
 
 -- the pairs are the two lists merged
 abbrev pub Merges : List Pair → Entries → Entries → Type 0
@@ -267,7 +267,7 @@ are_rows pairs xs ys m olds news =
 -- ---- the next of both
 
 -- what stands at a place, and what is left from there on
-At : {A : Type 0} → List A → ℕ → Option A → Type 0
+abbrev At : {A : Type 0} → List A → ℕ → Option A → Type 0
 At {A} xs i (Some x) = (drop i xs ≡ x ∷ drop (i + 1) xs) × (i < length xs)
 At {A} xs i None = drop i xs ≡ []
 
@@ -278,7 +278,7 @@ at (x ∷ xs) zero = (refl, omega arith)
 at (x ∷ xs) (suc i) = go (slice_get xs i) (at xs i)
   where
     go : (o : Option _) → At xs i o → At (x ∷ xs) (suc i) o
-    go (Some y) h = (h.0, let l = h.1 in omega (arith, l))
+    go (Some y) h = let next : suc (i + 1) ≡ suc i + 1 = omega arith in (h.0 ∙ ap (λ (k : ℕ). y ∷ drop k (x ∷ xs)) next, let l = h.1 in omega (arith, l))
     go None h = h
 
 less_back : (p q : List ℕ) → slice_cmp nat_cmp p q ≡ Greater → slice_cmp nat_cmp q p ≡ Less
@@ -315,9 +315,9 @@ merged_more xs ys i j pair is rest = go (slice_get xs i) (slice_get ys j) (at xs
     least x y h k Greater e = new y k (subst (Ahead y.0) (sym h.0) (less_back x.0 y.0 e))
 
     go : (o n : Option (List ℕ × Entry)) → At xs i o → At ys j n → first o n ≡ Some pair → Adds xs ys i j rest pair
-    go (Some x) (Some y) h k e = subst Adds xs ys i j rest (same_Some (lesser x y) pair e) (least x y h k (slice_cmp nat_cmp x.0 y.0) refl)
-    go (Some x) None h k e = subst Adds xs ys i j rest (same_Some (old_alone x) pair e) (old x h (subst (Ahead x.0) (sym k) tt))
-    go None (Some y) h k e = subst Adds xs ys i j rest (same_Some (new_alone y) pair e) (new y k (subst (Ahead y.0) (sym h) tt))
+    go (Some x) (Some y) h k e = subst (Adds xs ys i j rest) (same_Some (lesser x y) pair e) (least x y h k (slice_cmp nat_cmp x.0 y.0) refl)
+    go (Some x) None h k e = subst (Adds xs ys i j rest) (same_Some (old_alone x) pair e) (old x h (subst (Ahead x.0) (sym k) tt))
+    go None (Some y) h k e = subst (Adds xs ys i j rest) (same_Some (new_alone y) pair e) (new y k (subst (Ahead y.0) (sym h) tt))
     go None None h k e = cc
 
 -- and none at the end
