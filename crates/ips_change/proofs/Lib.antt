@@ -1,3 +1,5 @@
 pub mod Seen
 mod Answered
 mod Ruled
+mod Looked
+mod Examples
