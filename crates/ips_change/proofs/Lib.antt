@@ -1,5 +1,4 @@
 pub mod Seen
 mod Answered
 mod Ruled
-mod Looked
 mod Examples
