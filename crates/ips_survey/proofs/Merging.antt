@@ -1,6 +1,7 @@
 -- Lists of entries in order, merged.
 use Rattle.std.proofs.Common.{◌≡◌, ℕ, zero, suc, ◌+◌, ◌-◌, ◌<◌, ◌≤◌, Bool, true, false, cond, ◌||◌, List, [], ◌∷◌, ◌++◌, append_assoc, map, length, drop, Option, Some, None, is_some, refl, sym, ◌∙◌, ap, subst, ◌⊎◌, inl, inr, add-one, arith}
-use Rattle.std.specs.Prelude.{slice_get}
+use Rattle.std.specs.Prelude.{IfNone, IfSome, slice_get}
+use Rattle.std.specs.Option.{option_map}
 use Rattle.std.specs.declared.cmp.Ordering.{Ordering}
 use Rattle.std.specs.declared.cmp.Ordering.TheVariants.{Less, Equal, Greater}
 use Rattle.std.specs.List.{AllByRecursion}
@@ -9,7 +10,8 @@ use Rattle.std.specs.Ordering.{nat_cmp, ordering_reverse}
 use Rattle.std.specs.Cmp.Lexicographic.{slice_cmp, nat_list_cmp_total}
 use Rattle.std.specs.FinMap.{slice_cmp-IsAntisymmetric, nat_cmp-IsAntisymmetric}
 use Rattle.std.proofs.lemmas.Bool.{false_from_ne_true}
-use Rattle.std.proofs.lemmas.Option.{same_Some}
+use Rattle.std.proofs.lemmas.List.{append-nil}
+use Rattle.std.proofs.lemmas.Option.{same_Some, slice_get_past}
 use Rattle.ips_text.specs.Ancestry.{same_path}
 use Rattle.ips_text.proofs.Ancestry.{same_path-true, same_path-self}
 use Rattle.ips_meaning.specs.declared.entry.Entry.{Entry}
@@ -357,3 +359,40 @@ goes xs ys i j pair is = go (slice_get xs i) (slice_get ys j) (at xs i) (at ys j
     go (Some x) None h k e = subst (Goes xs ys i j) (same_Some (old_alone x) pair e) (old x h)
     go None (Some y) h k e = subst (Goes xs ys i j) (same_Some (new_alone y) pair e) (new y k)
     go None None h k e = cc
+
+-- ---- as the code comes to it
+
+at_is : {A B : Type 0} (f : A → B) (xs : List B) (i : ℕ) (o : Option A) → IfNone o (length xs ≤ i) → IfSome o (λ (x : A). slice_get xs i ≡ Some (f x)) → option_map f o ≡ slice_get xs i
+at_is f xs i (Some x) none some = sym some
+at_is f xs i None none some = sym (slice_get_past xs i none)
+
+pub next_pair : {A : Type 0} (f : A → List ℕ × Entry) (xs ys : Entries) (i j : ℕ) (o n : Option A) (found : Option Pair)
+    → IfNone o (length xs ≤ i) → IfSome o (λ (x : A). slice_get xs i ≡ Some (f x)) → IfNone n (length ys ≤ j) → IfSome n (λ (y : A). slice_get ys j ≡ Some (f y))
+    → found ≡ first (option_map f o) (option_map f n) → first (slice_get xs i) (slice_get ys j) ≡ found
+next_pair f xs ys i j o n found no_old old no_new new is =
+    sym (is ∙ ap (λ (x : Option (List ℕ × Entry)). first x (option_map f n)) (at_is f xs i o no_old old) ∙ ap (first (slice_get xs i)) (at_is f ys j n no_new new))
+
+pub taken_map : {A B : Type 0} (f : A → B) (o : Option A) → taken (option_map f o) ≡ taken o
+taken_map f (Some x) = refl
+taken_map f None = refl
+
+pub stays_within : (i k n : ℕ) → k ≤ 1 → k ≡ 0 ⊎ i < n → i ≤ n → i + k ≤ n
+stays_within i k n one some within = elim some [
+  | inl none ↦ omega (arith, none, within)
+  | inr less ↦ omega (arith, one, less)
+]
+
+-- the rows so far, with one more in front of the rest
+pub row_added : (xs ys : Entries) (i j k l : ℕ) (front added rest : List Pair) (pair : Pair) → first (slice_get xs i) (slice_get ys j) ≡ Some pair → taken pair.was ≡ k → taken pair.wanted ≡ l
+    → added ≡ front ++ pair ∷ [] → ((then : List Pair) → Merges then (drop i xs) (drop j ys) → Merges (front ++ then) xs ys)
+    → Merges rest (drop (i + k) xs) (drop (j + l) ys) → Merges (added ++ rest) xs ys
+row_added xs ys i j k l front added rest pair next olds news row so_far m =
+    let old : Merges rest (drop (i + taken pair.was) xs) (drop (j + l) ys) = subst (λ (n : ℕ). Merges rest (drop (i + n) xs) (drop (j + l) ys)) (sym olds) m in
+    let both : Merges rest (drop (i + taken pair.was) xs) (drop (j + taken pair.wanted) ys) = subst (λ (n : ℕ). Merges rest (drop (i + taken pair.was) xs) (drop (j + n) ys)) (sym news) old in
+    subst (λ (all : List Pair). Merges all xs ys) (sym (ap (λ (l : List Pair). l ++ rest) row ∙ append_assoc front (pair ∷ []) rest))
+    (so_far (pair ∷ rest) (merged_more xs ys i j pair next rest both))
+
+pub rows_ended : (xs ys : Entries) (i j : ℕ) (front : List Pair) → first (slice_get xs i) (slice_get ys j) ≡ None → InOrder xs → InOrder ys
+    → ((then : List Pair) → Merges then (drop i xs) (drop j ys) → Merges (front ++ then) xs ys) → AreRows xs ys front
+rows_ended xs ys i j front next olds news so_far =
+    are_rows front xs ys (subst (λ (all : List Pair). Merges all xs ys) (append-nil front) (so_far [] (merged_end xs ys i j next))) olds news
