@@ -1,2 +1,3 @@
 mod Placed
 mod Reached
+mod Topping

@@ -33,13 +33,10 @@ pub record Between (rows : List Row) (path : List ℕ) (low high : ℕ) : Type 0
   pub below : (k : ℕ) → k < low → slice_cmp nat_cmp (at rows k) path ≡ Less
   pub above : (k : ℕ) → high ≤ k → k < length rows → slice_cmp nat_cmp (at rows k) path ≡ Greater
 
-path_at : (rows : List Row) (i : ℕ) (row : Row) → i < length rows → row ≡ get_or rows i row → at rows i ≡ row.path.now.bytes
+pub path_at : (rows : List Row) (i : ℕ) (row : Row) → i < length rows → row ≡ get_or rows i row → at rows i ≡ row.path.now.bytes
 path_at [] i row lt e = absurd (omega arith)
 path_at (x ∷ rows) zero row lt e = ap (λ (r : Row). r.path.now.bytes) (sym e)
 path_at (x ∷ rows) (suc i) row lt e = path_at rows i row (omega (arith, lt)) e
-
-pub path_there : (rows : List Row) (i : ℕ) (row : Row) → i < length rows → row ≡ get_or rows i row → at rows i ≡ (get_or rows i row).path.now.bytes
-path_there rows i row lt e = path_at rows i row lt e ∙ ap (λ (r : Row). r.path.now.bytes) e
 
 pub between_all : (rows : List Row) (path : List ℕ) → Between rows path 0 (length rows)
 between_all rows path = record { ordered = omega arith; within = omega arith; below = λ k lt. absurd (omega (arith, lt)); above = λ k le lt. absurd (omega (arith, le, lt)) }
