@@ -1,7 +1,4 @@
 -- What is found damaged, as the calls tell it.
-use Rattle.std.specs.Prelude.{Result, Ok, Err}
-use Rattle.ips_text.specs.declared.refusal.Or.{Or}
-use Rattle.ips_text.specs.declared.refusal.Or.TheVariants.{Bad, OutOfMemory}
 use Rattle.ips_meaning.specs.declared.finding.Damage.{Damage}
 use Rattle.ips_meaning.specs.declared.finding.Damage.TheVariants as told
 use Rattle.ips_meaning.specs.declared.finding.Finding as told_finding
@@ -20,9 +17,3 @@ damage_told told.NotSame = after.NotSame
 -- a finding as it is told
 abbrev pub finding_told : told_finding.Finding → Finding
 finding_told f = record { path = f.path.bytes; damage = damage_told f.damage }
-
--- A call has failed; memory hasn't run out.
-abbrev pub HasFailed : {T E : Type 0} → Result T (Or E) → Type 0
-HasFailed (Ok x) = ⊥
-HasFailed (Err (Bad fault)) = Unit {0}
-HasFailed (Err OutOfMemory) = ⊥

@@ -12,10 +12,11 @@ ghost use Rattle.ips_after.specs.Findings as after;
 ghost use Rattle.ips_after.specs.Request.{Wanted, WantDir, WantFile, WantHard, WantLink};
 ghost use Rattle.ips_wanted.specs.Wanted.{wanted_of};
 ghost use Rattle.ips_wanted.specs.Named.{is_payload_of};
-ghost use Rattle.ips_verify.specs.Verified.{damage_told, HasFailed};
+ghost use Rattle.ips_content.specs.Failing.{HasFailed};
+ghost use Rattle.ips_verify.specs.Verified.{damage_told};
 
-use crate::content::{has_content, is_same};
 use ips_action::Preserve;
+use ips_content::{has_content, is_same, look_at};
 use ips_digest::PayloadName;
 use ips_folder::{Folder, ListFault};
 use ips_meaning::{Damage, Entry};
@@ -35,7 +36,7 @@ pub fn damage_at<F: Folder>(
     ensures found { IsTrue (F.outside.tells folder.old) → IfOk result (λ damage. option_map damage_told damage ≡ after.finding_as is_payload_of (F.outside.state folder.old).held path.now.bytes (wanted_of entry.now)) }
     ensures reads { Reads F.outside folder.old folder.new (HasFailed result) }
 {
-    let found = look(folder, path)?;
+    let found = look_at(folder, path)?;
     match entry {
         Entry::Dir { mode } => Ok(dir_damage(*mode, found)),
         Entry::File {
@@ -45,17 +46,6 @@ pub fn damage_at<F: Folder>(
         } => file_damage(folder, path, payload, *mode, *preserve, found, buffer),
         Entry::Link { target } => link_damage(alloc, folder, path, target, found),
         Entry::Hard { to } => hard_damage(folder, path, to, found),
-    }
-}
-
-// What stands at the path.
-fn look<F: Folder>(folder: &mut F, path: &RelPath) -> Result<Look, Or<Failed>>
-    ensures found { IsTrue (F.outside.tells folder.old) → IfOk result (λ found. found ≡ look_of ((F.outside.state folder.old).held.look path.now.bytes)) }
-    ensures reads { Reads F.outside folder.old folder.new (HasFailed result) }
-{
-    match folder.look(path) {
-        Ok(found) => Ok(found),
-        Err(Failed) => Err(Or::Bad(Failed)),
     }
 }
 
@@ -198,7 +188,7 @@ fn hard_damage<F: Folder>(
     let Look::File { .. } = found else {
         return Ok(Some(not_there(found)));
     };
-    if !matches!(look(folder, to)?, Look::File { .. }) {
+    if !matches!(look_at(folder, to)?, Look::File { .. }) {
         return Ok(Some(Damage::NotSame));
     }
     match folder.same(path, to) {

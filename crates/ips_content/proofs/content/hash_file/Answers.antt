@@ -4,7 +4,7 @@ use Rattle.ips_outside.specs.Outside.{readable}
 use Rattle.ips_outside.proofs.Reading.{answered, reads_then}
 use Rattle.ips_files.proofs.Parts.{part_more}
 use Rattle.ips_digest.specs.Digest.{Hashing}
-use Rattle.ips_verify.proofs.content.hash_file.Goals as goal
+use Rattle.ips_content.proofs.content.hash_file.Goals as goal
 
 pub loop-at-preserved : goal.loop-at-preserved
 loop-at-preserved g c = record {

@@ -58,8 +58,8 @@ fn hash_file<S: Source>(
     Ok(())
 }
 
-// Whether both names have the same digits.
-fn is_same_name(a: &PayloadName, b: &PayloadName) -> bool
+/// Whether both names have the same digits.
+pub fn is_same_name(a: &PayloadName, b: &PayloadName) -> bool
     ensures same { result ≡ same_path (spelling a.now) (spelling b.now) }
     ensures count { length (spelling a.now) ≡ digit_count a.now }
 {

@@ -1,6 +1,6 @@
 use Rattle.std.proofs.Common.{◌≡◌, ◌≤◌, ◌-◌, IsTrue, take}
 use Rattle.ips_outside.specs.Outside.{Reads, readable}
-use Rattle.ips_verify.proofs.content.hash_file.Given as goal
+use Rattle.ips_content.proofs.content.hash_file.Given as goal
 
 abbrev pub invariant-loop-at : goal.invariant-loop-at
 invariant-loop-at g l = record {

@@ -1,0 +1,4 @@
+pub mod Seen
+mod Answered
+mod Ruled
+mod Examples

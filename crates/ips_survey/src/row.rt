@@ -1,0 +1,34 @@
+//! A path with what stands there.
+
+ghost use Rattle.std.specs.Prelude.{◌≡◌};
+ghost use Rattle.ips_outside.specs.Image.{Image};
+ghost use Rattle.ips_after.specs.After as after;
+ghost use Rattle.ips_after.specs.Request.{Request};
+ghost use Rattle.ips_change.specs.Told.{change_told, naming};
+ghost use Rattle.ips_survey.specs.Rows.{HasLooked, IsRowOf};
+
+use ips_change::{Change, Stands, itself};
+use ips_meaning::Entry;
+use ips_text::RelPath;
+
+/// A path that is or was wanted, with what was and what is, and with what stands there. Path and entries are lent.
+#[derive(Clone, Copy, Drop)]
+pub struct Row<'a> {
+    /// The path.
+    pub path: &'a RelPath,
+    /// What was wanted.
+    pub old: Option<&'a Entry>,
+    /// What is wanted.
+    pub new: Option<&'a Entry>,
+    /// What stands, as far as a rule asks.
+    pub stands: Stands,
+}
+
+impl<'a> Row<'a> {
+    /// What becomes of the path by itself.
+    pub fn itself(&self) -> Change<'a>
+        ensures { (r : Request) (t : Image) → IsRowOf r self.now → HasLooked t self.now → change_told r.bytes result ≡ after.itself (naming r) t self.now.path.now.bytes }
+    {
+        itself(self.old, self.new, self.stands)
+    }
+}
