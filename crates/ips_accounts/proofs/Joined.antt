@@ -149,7 +149,7 @@ taken_joined name id user groups lines = taken_same name id (in_groups user grou
 
 -- ---- members
 
-has : List ℕ → Line → Bool
+pub has : List ℕ → Line → Bool
 has user line = list_any (λ member. is_same member user) (members_of line)
 
 pub some_joined : (x z : List ℕ) → is_nothing (x ++ 44 ∷ z) ≡ false

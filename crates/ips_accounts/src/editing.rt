@@ -1,12 +1,9 @@
 //! The edit.
 
-ghost use Rattle.ips_text.specs.Reading.{◌>>=◌, Gives};
-ghost use Rattle.std.specs.Prelude.{Ok};
-ghost use Rattle.ips_books.specs.Reading.{read_books};
+ghost use Rattle.ips_text.specs.Reading.{Gives};
 ghost use Rattle.ips_books.specs.Seen.{texts};
-ghost use Rattle.ips_turnover.specs.Turnover.{after_gone};
 ghost use Rattle.ips_accounts.specs.Editing.{edited};
-ghost use Rattle.ips_accounts.specs.Seen.{edited_from, tables_seen};
+ghost use Rattle.ips_accounts.specs.Seen.{cleared, edited_from, tables_seen};
 
 use crate::groups::add_groups;
 use crate::tables::Tables;
@@ -45,7 +42,7 @@ fn read(
     old: &[Action],
     new: &[Action],
 ) -> Result<Tables, Or<AccountFault>>
-    ensures { Gives tables_seen result (read_books (texts base.now) >>= (λ books. Ok (after_gone old.now new.now books))) }
+    ensures { Gives tables_seen result (cleared (texts base.now) old.now new.now) }
 {
     let mut files = read_books(alloc, base)?;
     remove_gone(alloc, &mut files, old, new)?;

@@ -5,10 +5,10 @@ use Rattle.ips_accounts.specs.Seen.{tables_seen}
 use Rattle.ips_accounts.proofs.Steps.{read_fails, change_fails, all_done}
 use Rattle.ips_accounts.proofs.editing.edit.Goals as goal
 
-pub returns-in_err-read : goal.returns-in_err-read
-returns-in_err-read c =
-    let p = err_from_is_err_and c.from_residual-in_err-read.result c.from_residual-in_err-read.ensures.1 in
-    rw (p.1, p.2) (read_fails c.in_err-read.field-0.0 (texts c.args.base.now) c.args.old.now c.args.new.now c.in_err-read.ensures)
+pub returns-in_err-tables : goal.returns-in_err-tables
+returns-in_err-tables c =
+    let p = err_from_is_err_and c.from_residual.result c.from_residual.ensures.1 in
+    rw (p.1, p.2) (read_fails c.in_err-tables.field-0.0 (texts c.args.base.now) c.args.old.now c.args.new.now c.in_err-tables.ensures)
 
 pub returns-in_err-change : goal.returns-in_err-change
 returns-in_err-change c =

@@ -7,7 +7,7 @@ use Rattle.ips_accounts.proofs.editing.read.Goals as goal
 
 pub returns-in_err-files : goal.returns-in_err-files
 returns-in_err-files c =
-    let p = err_from_is_err_and c.from_residual-in_err-files.result c.from_residual-in_err-files.ensures.1 in
+    let p = err_from_is_err_and c.from_residual.result c.from_residual.ensures.1 in
     rw (p.1, p.2) (read_first c.in_err-files.field-0.0 (texts c.args.base.now) c.args.old.now c.args.new.now c.in_err-files.ensures)
 
 pub returns : goal.returns
