@@ -1,5 +1,5 @@
 -- The least free number.
-use Rattle.std.proofs.Common.{◌≡◌, ℕ, zero, suc, ◌+◌, ◌-◌, ◌^◌, ◌<◌, ◌≤◌, min, Bool, true, false, cond, List, length, refl, sym, ap, ◌∙◌, arith}
+use Rattle.std.proofs.Common.{◌≡◌, ℕ, zero, suc, ◌+◌, ◌-◌, ◌^◌, ◌<◌, ◌≤◌, min, Bool, true, false, cond, List, length, sym, ap, ◌∙◌, arith}
 use Rattle.ips_books.specs.Lines.{Line}
 use Rattle.ips_entries.specs.Entries.{IsLeastFree}
 use Rattle.ips_accounts.specs.Editing.{is_used, free_from, free_number}

@@ -1,25 +1,23 @@
 -- Members of groups stay members, unless they go.
-use Rattle.std.proofs.Common.{◌≡◌, ℕ, ◌<◌, ◌^◌, Bool, true, false, cond, not, ◌&&◌, ◌||◌, eqb, List, [], ◌∷◌, ◌++◌, length, map, filter, Option, Some, None, option_map, Result, Ok, Err, unwrap_or, slice_get, refl, sym, ap, subst, ◌∙◌, arith}
+use Rattle.std.proofs.Common.{◌≡◌, ℕ, ◌<◌, ◌^◌, Bool, true, false, cond, not, ◌&&◌, ◌||◌, eqb, List, [], ◌∷◌, length, map, filter, Option, Some, None, option_map, Ok, unwrap_or, slice_get, refl, sym, ap, subst, ◌∙◌, arith}
 use lib.Chars.{codes}
 use Rattle.std.specs.List.{list_any, find, slice_split, join_with_byte, AllByRecursion}
 use Rattle.std.specs.Option.{option_map_or}
-use Rattle.std.specs.Fmt.{decimal}
-use Rattle.std.proofs.lemmas.Bool.{or_parts, and_parts, true≢false}
+use Rattle.std.proofs.lemmas.Bool.{and_parts, true≢false}
 use Rattle.ips_text.specs.Path.{is_nothing}
 use Rattle.ips_text.specs.Reading.{◌>>=◌}
-use Rattle.ips_text.proofs.Truths.{not_true, or_true}
+use Rattle.ips_text.proofs.Truths.{or_true}
 use Rattle.ips_action.specs.Attrs.{is_same, values_of}
 use Rattle.ips_action.specs.Check.{IsAccount, IsField}
 use Rattle.ips_action.specs.Action.{Fields}
 use Rattle.ips_action.proofs.KeyOrder.{same_true}
-use Rattle.ips_books.specs.declared.fault.AccountFault.{AccountFault}
 use Rattle.ips_books.specs.Lines.{Line}
-use Rattle.ips_books.specs.Accounts.{is_kept, is_of, field, fields, members_in, members_of, line_at, Accounts}
+use Rattle.ips_books.specs.Accounts.{is_kept, is_of, field, members_in, members_of, line_at, Accounts}
 use Rattle.ips_books.specs.Writing.{at_first, put, with_members}
 use Rattle.ips_turnover.specs.Turnover.{stays, without, left_by, group_name, user_name, groups_in, users_in, name_cmp, is_fresh, fresh_groups, fresh_users, after_gone, number_given}
 use Rattle.ips_accounts.specs.Editing.{joined_by, in_groups, edited_books, if_known, with_group, with_user, standing_members, group_text, each}
 use Rattle.ips_accounts.specs.Laws.{is_gone_user, is_gone_group, is_member_in, MembersStay, text_at}
-use Rattle.ips_accounts.proofs.Lacking.{bind_ok, all_ordered, all_filtered, not_of}
+use Rattle.ips_accounts.proofs.Lacking.{bind_ok, all_ordered, all_filtered}
 use Rattle.ips_accounts.proofs.Others.{each_keeps, known_keeps}
 use Rattle.ips_accounts.proofs.GroupNames.{user_joins}
 use Rattle.ips_accounts.proofs.Members.{cut_none, pieces_back, joined_lack, commas_of, colons_of, standing_lack}

@@ -1,5 +1,5 @@
 -- New groups stand as their actions say.
-use Rattle.std.proofs.Common.{◌≡◌, ℕ, ◌<◌, ◌^◌, Bool, true, false, cond, not, eqb, List, [], ◌∷◌, ◌++◌, filter, Option, Some, option_map, Result, Ok, Err, IfSome, unwrap_or, slice_get, refl, sym, ◌∙◌, ap, subst}
+use Rattle.std.proofs.Common.{◌≡◌, ℕ, ◌<◌, ◌^◌, Bool, true, false, cond, not, eqb, List, [], ◌∷◌, ◌++◌, filter, Some, option_map, Result, Ok, Err, IfSome, unwrap_or, slice_get, refl, sym, ◌∙◌, ap, subst}
 use lib.Chars.{codes}
 use Rattle.std.specs.List.{list_any, find, slice_split, join_with_byte, AllByRecursion}
 use Rattle.std.specs.Fmt.{decimal}

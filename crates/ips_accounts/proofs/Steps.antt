@@ -19,9 +19,6 @@ use Rattle.ips_accounts.specs.Editing.{each, if_known, gid_of, in_groups, number
 use Rattle.ips_accounts.specs.Seen.{edited_from}
 use Rattle.ips_accounts.proofs.Lacking.{ok_value, err_no}
 
-ok_no : {X E : Type 0} (x : X) (f : E) → (let r : Result X E = Ok x in r) ≡ Err f → ⊥
-ok_no x f e = cc
-
 -- what fails first is how the whole fails
 pub fails_first : {X Y E : Type 0} (e : Or E) (r : Result X E) (f : X → Result Y E) (whole : Result Y E) → (r >>= f) ≡ whole → Fails e r → Fails e whole
 fails_first (Bad d) r f whole is fails = sym is ∙ ap (λ x. x >>= f) fails
@@ -123,7 +120,7 @@ read_fails OutOfMemory base old new fails = tt
 read_fails (Bad d) base old new fails = go (read_books base) fails
   where
     go : (r : Result Accounts AccountFault) → (r >>= λ books. Ok (after_gone old new books)) ≡ Err d → (r >>= λ books. edited_books books old new >>= λ done. Ok (texts_of done)) ≡ Err d
-    go (Ok books) is = absurd (ok_no (after_gone old new books) d is)
+    go (Ok books) is = absurd cc
     go (Err f) is = ap (λ (x : Result Accounts AccountFault). x >>= λ books. edited_books books old new >>= λ done. Ok (texts_of done)) is
 
 pub change_fails : (e : Or AccountFault) (base : Texts) (start : Accounts) (old new : List Fields) → (read_books base >>= λ books. Ok (after_gone old new books)) ≡ Ok start → Fails e (edited_from start old new) → Fails e (edited base old new)

@@ -1,15 +1,15 @@
 -- The first line that passes a test, found at a place that is told.
-use Rattle.std.proofs.Common.{◌≡◌, ℕ, zero, suc, ◌+◌, ◌<◌, ◌≤◌, Bool, true, false, not, cond, ◌&&◌, ◌||◌, eqb, ltb, leb, List, [], ◌∷◌, length, get_or, Option, Some, None, option_map, slice_get, refl, sym, ap, subst, ◌∙◌, arith}
+use Rattle.std.proofs.Common.{◌≡◌, ℕ, zero, suc, ◌+◌, ◌<◌, ◌≤◌, Bool, true, false, not, cond, ◌||◌, eqb, ltb, List, [], ◌∷◌, length, get_or, Option, Some, None, slice_get, refl, sym, ap, ◌∙◌, arith}
 use Rattle.std.specs.List.{list_any, find, position, position_or_len}
 use Rattle.std.specs.Option.{option_map_or}
-use Rattle.std.proofs.lemmas.Bool.{true≢false, or_parts, eqb-true, leb-true, lt-ltb}
+use Rattle.std.proofs.lemmas.Bool.{true≢false, or_parts, eqb-true, lt-ltb}
 use Rattle.std.proofs.lemmas.Bool.Decides.{nat_tests}
 use Rattle.std.proofs.lemmas.List.Folds.{find_at}
-use Rattle.std.proofs.lemmas.Option.{none-some, same_Some, cond_some, slice_get-get_or, slice_get_past}
+use Rattle.std.proofs.lemmas.Option.{cond_some, slice_get-get_or, slice_get_past}
 use Rattle.std.proofs.lemmas.List.Quantifiers.{position-Some}
 use Rattle.ips_text.proofs.Truths.{or_true}
 use Rattle.ips_conflict.proofs.Places.{at_index}
-use Rattle.ips_books.proofs.Read.{any_first}
+use Rattle.ips_books.proofs.Read.{any_first, none_first}
 
 first_is : {X : Type 0} (p : X → Bool) (xs : List X) (i : ℕ) (d : X) → i < length xs → p (get_or xs i d) ≡ true → ((k : ℕ) → k < i → p (get_or xs k d) ≡ false) → position_or_len p xs ≡ i
 first_is p [] i d lt passes fails = absurd (omega (arith, lt))
@@ -51,12 +51,8 @@ line_there p xs i x e at = sym (at_index xs i x (position-Some p xs i x e).0 at)
 past : (i n : ℕ) → ltb i n ≡ false → n ≤ i
 past i n e = grind (arith, nat_tests)
 
-no_some : (t : Bool) (i : ℕ) → (let o : Option ℕ = cond t (Some i) None in o) ≡ None → t ≡ false
-no_some true i e = cc
-no_some false i e = refl
-
 pub line_none : {X : Type 0} (p : X → Bool) (xs : List X) → position p xs ≡ None → find p xs ≡ None
-line_none p xs e = find_at p xs ∙ slice_get_past xs (position_or_len p xs) (past (position_or_len p xs) (length xs) (no_some (ltb (position_or_len p xs) (length xs)) (position_or_len p xs) e))
+line_none p xs e = find_at p xs ∙ slice_get_past xs (position_or_len p xs) (past (position_or_len p xs) (length xs) (sym (any_first p xs) ∙ none_first p xs e))
 
 -- ---- whether some line passes, by places
 

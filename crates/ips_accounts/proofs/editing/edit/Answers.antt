@@ -1,4 +1,3 @@
-use Rattle.std.proofs.Common.{sym, ◌∙◌}
 use Rattle.std.proofs.lemmas.Result.{err_from_is_err_and}
 use Rattle.ips_books.specs.Seen.{texts}
 use Rattle.ips_accounts.specs.Seen.{tables_seen}

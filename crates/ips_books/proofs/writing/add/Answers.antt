@@ -1,4 +1,4 @@
-use Rattle.std.proofs.Common.{List, [], ◌∷◌, ◌++◌, ap, arith, ◌∙◌}
+use Rattle.std.proofs.Common.{[], ◌∷◌, ◌++◌, ap, arith, ◌∙◌}
 use Rattle.ips_books.specs.Lines.{Line, last_ended}
 use Rattle.ips_books.proofs.Ended.{ended_before}
 use Rattle.ips_books.proofs.writing.add.Goals as goal

@@ -1,4 +1,4 @@
-use Rattle.std.proofs.Common.{ℕ, List, [], true, false, slice_get, rules, tests, ap, ◌∙◌}
+use Rattle.std.proofs.Common.{ℕ, [], true, false, slice_get, rules, tests, ap, ◌∙◌}
 use Rattle.std.specs.List.{list_any}
 use Rattle.std.specs.Option.{option_map_or}
 use Rattle.std.proofs.lemmas.Iterator.{YieldsList-from_slice}
