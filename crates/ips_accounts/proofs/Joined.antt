@@ -46,7 +46,7 @@ nth_plain (p ∷ parts) (suc i) all = nth_plain parts i all.1
 pub field_plain : (i : ℕ) (line : Line) → IsField (field i line)
 field_plain i line = nth_plain (fields line) i (parts_plain line.text)
 
-with_fields : (members : List (List ℕ)) (line : Line) → fields (with_members members line) ≡ field 0 line ∷ field 1 line ∷ field 2 line ∷ slice_split (λ b. eqb b 58) (join_with_byte 44 members)
+pub with_fields : (members : List (List ℕ)) (line : Line) → fields (with_members members line) ≡ field 0 line ∷ field 1 line ∷ field 2 line ∷ slice_split (λ b. eqb b 58) (join_with_byte 44 members)
 with_fields members line =
     split_at (field 0 line) _ (field_plain 0 line)
     ∙ ap (λ (l : List (List ℕ)). field 0 line ∷ l) (split_at (field 1 line) _ (field_plain 1 line) ∙ ap (λ (l : List (List ℕ)). field 1 line ∷ l) (split_at (field 2 line) _ (field_plain 2 line)))
@@ -60,7 +60,7 @@ pub record SpeaksAs (x y : Line) : Type 0 where
 itself : (x : Line) → SpeaksAs x x
 itself x = record { kept = refl; name = refl; number = refl }
 
-with_speaks : (members : List (List ℕ)) (line : Line) → is_kept line ≡ false → SpeaksAs (with_members members line) line
+pub with_speaks : (members : List (List ℕ)) (line : Line) → is_kept line ≡ false → SpeaksAs (with_members members line) line
 with_speaks members line kept = record {
   kept = kept_front line.text _ line.ended line.ended kept ∙ sym kept;
   name = ap (λ (parts : List (List ℕ)). unwrap_or (slice_get parts 0) []) (with_fields members line);
@@ -149,10 +149,10 @@ taken_joined name id user groups lines = taken_same name id (in_groups user grou
 
 -- ---- members
 
-has : List ℕ → Line → Bool
+pub has : List ℕ → Line → Bool
 has user line = list_any (λ member. is_same member user) (members_of line)
 
-some_joined : (x z : List ℕ) → is_nothing (x ++ 44 ∷ z) ≡ false
+pub some_joined : (x z : List ℕ) → is_nothing (x ++ 44 ∷ z) ≡ false
 some_joined [] z = later (length z)
 some_joined (b ∷ x) z = later (length (x ++ 44 ∷ z))
 
@@ -202,14 +202,14 @@ joined_has user line account = go (list_any (λ member. is_same member user) (me
     go false e = joined_test user user line account ∙ ap (λ (t : Bool). has user line || (t || false)) (same_self user user refl) ∙ or_true (has user line)
 
 -- and who is a member stays one
-joined_keeps : (user name : List ℕ) (line : Line) → IsAccount user → has name line ≡ true → has name (joined_by user line) ≡ true
+pub joined_keeps : (user name : List ℕ) (line : Line) → IsAccount user → has name line ≡ true → has name (joined_by user line) ≡ true
 joined_keeps user name line account e = by_joined (λ x. has name x ≡ true) user line e (joined_test user name line account ∙ ap (λ (t : Bool). t || (is_same user name || false)) e)
 
-unfold_has : (user : List ℕ) (line : Line) → has user line ≡ true → list_any (λ member. is_same member user) (members_of line) ≡ true
+pub unfold_has : (user : List ℕ) (line : Line) → has user line ≡ true → list_any (λ member. is_same member user) (members_of line) ≡ true
 unfolding has
 unfold_has user line e = e
 
-fold_has : (user : List ℕ) (line : Line) → list_any (λ member. is_same member user) (members_of line) ≡ true → has user line ≡ true
+pub fold_has : (user : List ℕ) (line : Line) → list_any (λ member. is_same member user) (members_of line) ≡ true → has user line ≡ true
 unfolding has
 fold_has user line e = e
 

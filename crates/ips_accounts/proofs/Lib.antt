@@ -12,3 +12,5 @@ pub mod OtherGroups
 pub mod NewUsers
 pub mod NewGroups
 pub mod Passwords
+pub mod MembersStay
+pub mod Joins

@@ -220,7 +220,7 @@ numbered_fits lines name id n f e =
     subst (λ (k : ℕ). k < 2 ^ 64) same (wanted_fits lines name id f)
 
 -- the members that stand are those of a line
-standing_lack : (group : List ℕ) (lines : List Line) → Lacks 58 (standing_members lines group)
+pub standing_lack : (group : List ℕ) (lines : List Line) → Lacks 58 (standing_members lines group)
 standing_lack group [] = refl
 standing_lack group (line ∷ lines) = go (is_of group line) (standing_lack group lines)
   where

@@ -1,5 +1,5 @@
 -- New groups stand as their actions say.
-use Rattle.std.proofs.Common.{◌≡◌, ℕ, ◌<◌, ◌^◌, Bool, true, false, cond, not, eqb, List, [], ◌∷◌, ◌++◌, filter, Option, Some, option_map, Result, Ok, Err, IfSome, unwrap_or, slice_get, refl, sym, ◌∙◌, ap, subst}
+use Rattle.std.proofs.Common.{◌≡◌, ℕ, ◌<◌, ◌^◌, Bool, true, false, cond, not, eqb, List, [], ◌∷◌, ◌++◌, filter, Some, option_map, Result, Ok, Err, IfSome, unwrap_or, slice_get, refl, sym, ◌∙◌, ap, subst}
 use lib.Chars.{codes}
 use Rattle.std.specs.List.{list_any, find, slice_split, join_with_byte, AllByRecursion}
 use Rattle.std.specs.Fmt.{decimal}
@@ -27,7 +27,7 @@ use Rattle.ips_books.proofs.Decimals.{number_small}
 
 -- ---- fields of a group's line
 
-group_fields : (name : List ℕ) (gid : ℕ) (members : List ℕ) → IsField name → gid < 2 ^ 32 → slice_split (λ b. eqb b 58) (group_text name gid members) ≡ name ∷ [] ∷ decimal gid ∷ slice_split (λ b. eqb b 58) members
+pub group_fields : (name : List ℕ) (gid : ℕ) (members : List ℕ) → IsField name → gid < 2 ^ 32 → slice_split (λ b. eqb b 58) (group_text name gid members) ≡ name ∷ [] ∷ decimal gid ∷ slice_split (λ b. eqb b 58) members
 group_fields name gid members plain lt =
     split_at name (58 ∷ (decimal gid ++ 58 ∷ members)) plain
     ∙ ap (λ (l : List (List ℕ)). name ∷ l) (split_at [] (decimal gid ++ 58 ∷ members) refl ∙ ap (λ (l : List (List ℕ)). [] ∷ l) (split_at (decimal gid) members (decimal_plain gid lt)))
@@ -83,7 +83,7 @@ pub record GroupLeft (a : Fields) (b c : Accounts) : Type 0 where
   pub number : number_for b.group (group_name a) (number_given (codes "gid") a) ≡ Ok gid
   pub group : c.group ≡ put (group_name a) (group_text (group_name a) gid (standing_members b.group (group_name a))) b.group
 
-group_left : (a : Fields) (b c : Accounts) → with_group a b ≡ Ok c → GroupLeft a b c
+pub group_left : (a : Fields) (b c : Accounts) → with_group a b ≡ Ok c → GroupLeft a b c
 group_left a b c e = go (number_for b.group (group_name a) (number_given (codes "gid") a)) refl e
   where
     go : (r : Result ℕ AccountFault) → number_for b.group (group_name a) (number_given (codes "gid") a) ≡ r

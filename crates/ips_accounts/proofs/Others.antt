@@ -19,7 +19,7 @@ use Rattle.ips_books.specs.Accounts.{is_kept, is_of, field, joined, Accounts}
 use Rattle.ips_books.specs.Writing.{at_first, rewritten, added, put}
 use Rattle.ips_turnover.specs.Turnover.{without, user_name, group_name, users_in, name_cmp, is_fresh, fresh_groups, fresh_users, after_gone, number_given, is_named_in}
 use Rattle.ips_accounts.specs.Editing.{edited_books, standing_members, if_known, with_group, with_user, with_shadow, in_groups, number_for, gid_of, passwd_text, shadow_text, each}
-use Rattle.ips_accounts.specs.Laws.{is_gone_user, is_other_user, bytes_of}
+use Rattle.ips_accounts.specs.Laws.{is_gone_user, is_other_user, bytes_of, UsersStay}
 use Rattle.ips_accounts.proofs.Lacking.{bind_ok, err_no, ok_value, written_name, all_ordered, all_filtered}
 use Rattle.ips_books.proofs.Written.{later}
 
@@ -180,11 +180,6 @@ all_named (a ∷ users) = (ap (λ (t : Bool). t || is_named_in user_name users (
 all_write : (users actions : List Fields) → AllByRecursion (λ a. IsAccount (user_name a)) actions → AllByRecursion (λ a. is_named_in user_name users (user_name a) ≡ true) actions → AllByRecursion (Writes users) actions
 all_write users [] accounts named = tt
 all_write users (a ∷ actions) accounts named = (record { account = accounts.0; named = named.0 }, all_write users actions accounts.1 named.1)
-
--- The lines of passwd and shadow that are about no gone user and none that is written have their bytes and their order.
-pub record UsersStay (old new : List Fields) (before after : Accounts) : Type 0 where
-  pub passwd : bytes_of (is_other_user old new) after.passwd ≡ bytes_of (is_other_user old new) before.passwd
-  pub shadow : bytes_of (is_other_user old new) after.shadow ≡ bytes_of (is_other_user old new) before.shadow
 
 pub users_stay : (before after : Accounts) (old new : List Fields) → AllByRecursion (λ a. IsAccount (user_name a)) (users_in new) → edited_books before old new ≡ Ok after → UsersStay old new before after
 users_stay before after old new accounts e =

@@ -14,7 +14,10 @@ use Rattle.ips_books.specs.Lines.{Line}
 use Rattle.ips_books.specs.Accounts.{Accounts}
 use Rattle.ips_books.specs.Writing.{put}
 use Rattle.ips_turnover.specs.Turnover.{group_name, user_name, number_given, fresh_groups, fresh_users, after_gone}
-use Rattle.ips_accounts.specs.Editing.{each, if_known, gid_of, in_groups, number_for, group_text, standing_members, passwd_text, with_shadow, with_group, with_user, edited_books}
+use Rattle.ips_books.specs.Reading.{Texts, read_books, texts_of}
+use Rattle.ips_accounts.specs.Editing.{each, if_known, gid_of, in_groups, number_for, group_text, standing_members, passwd_text, with_shadow, with_group, with_user, edited_books, edited}
+use Rattle.ips_accounts.specs.Seen.{edited_from}
+use Rattle.ips_accounts.proofs.Lacking.{ok_value, err_no}
 
 -- what fails first is how the whole fails
 pub fails_first : {X Y E : Type 0} (e : Or E) (r : Result X E) (f : X → Result Y E) (whole : Result Y E) → (r >>= f) ≡ whole → Fails e r → Fails e whole
@@ -94,15 +97,44 @@ user_added a books uid passwd shadow group numbered p s g =
 
 -- ---- the whole edit
 
-pub edited_is : (books grouped done : Accounts) (old new : List Fields) → each with_group (fresh_groups old new) (after_gone old new books) ≡ Ok grouped → each with_user (fresh_users old new) grouped ≡ Ok done → edited_books books old new ≡ if_known (fresh_users old new) done
+pub edited_is : (books grouped done : Accounts) (old new : List Fields) → each with_group (fresh_groups old new) books ≡ Ok grouped → each with_user (fresh_users old new) grouped ≡ Ok done → edited_from books old new ≡ if_known (fresh_users old new) done
 edited_is books grouped done old new e f =
-    then_on (each with_group (fresh_groups old new) (after_gone old new books)) grouped (λ grouped. each with_user (fresh_users old new) grouped >>= if_known (fresh_users old new)) e
+    then_on (each with_group (fresh_groups old new) books) grouped (λ grouped. each with_user (fresh_users old new) grouped >>= if_known (fresh_users old new)) e
     ∙ then_on (each with_user (fresh_users old new) grouped) done (if_known (fresh_users old new)) f
 
-pub groups_fail : (e : Or AccountFault) (books : Accounts) (old new : List Fields) → Fails e (each with_group (fresh_groups old new) (after_gone old new books)) → Fails e (edited_books books old new)
-groups_fail e books old new fails = fails_first e (each with_group (fresh_groups old new) (after_gone old new books)) (λ grouped. each with_user (fresh_users old new) grouped >>= if_known (fresh_users old new)) (edited_books books old new) refl fails
+pub groups_fail : (e : Or AccountFault) (books : Accounts) (old new : List Fields) → Fails e (each with_group (fresh_groups old new) books) → Fails e (edited_from books old new)
+groups_fail e books old new fails = fails_first e (each with_group (fresh_groups old new) books) (λ grouped. each with_user (fresh_users old new) grouped >>= if_known (fresh_users old new)) (edited_from books old new) refl fails
 
-pub users_fail : (e : Or AccountFault) (books grouped : Accounts) (old new : List Fields) → each with_group (fresh_groups old new) (after_gone old new books) ≡ Ok grouped → Fails e (each with_user (fresh_users old new) grouped) → Fails e (edited_books books old new)
+pub users_fail : (e : Or AccountFault) (books grouped : Accounts) (old new : List Fields) → each with_group (fresh_groups old new) books ≡ Ok grouped → Fails e (each with_user (fresh_users old new) grouped) → Fails e (edited_from books old new)
 users_fail e books grouped old new is fails =
-    fails_first e (each with_user (fresh_users old new) grouped) (if_known (fresh_users old new)) (edited_books books old new)
-    (sym (then_on (each with_group (fresh_groups old new) (after_gone old new books)) grouped (λ grouped. each with_user (fresh_users old new) grouped >>= if_known (fresh_users old new)) is)) fails
+    fails_first e (each with_user (fresh_users old new) grouped) (if_known (fresh_users old new)) (edited_from books old new)
+    (sym (then_on (each with_group (fresh_groups old new) books) grouped (λ grouped. each with_user (fresh_users old new) grouped >>= if_known (fresh_users old new)) is)) fails
+
+from_cleared : (r : Result Accounts AccountFault) (start : Accounts) (old new : List Fields) → (r >>= λ books. Ok (after_gone old new books)) ≡ Ok start
+    → (r >>= λ books. edited_books books old new >>= λ done. Ok (texts_of done)) ≡ (edited_from start old new >>= λ done. Ok (texts_of done))
+from_cleared (Ok books) start old new e = ap (λ (b : Accounts). edited_from b old new >>= λ done. Ok (texts_of done)) (ok_value (after_gone old new books) start e)
+from_cleared (Err f) start old new e = absurd (err_no f start e)
+
+pub read_fails : (e : Or AccountFault) (base : Texts) (old new : List Fields) → Fails e (read_books base >>= λ books. Ok (after_gone old new books)) → Fails e (edited base old new)
+read_fails OutOfMemory base old new fails = tt
+read_fails (Bad d) base old new fails = go (read_books base) fails
+  where
+    go : (r : Result Accounts AccountFault) → (r >>= λ books. Ok (after_gone old new books)) ≡ Err d → (r >>= λ books. edited_books books old new >>= λ done. Ok (texts_of done)) ≡ Err d
+    go (Ok books) is = absurd cc
+    go (Err f) is = ap (λ (x : Result Accounts AccountFault). x >>= λ books. edited_books books old new >>= λ done. Ok (texts_of done)) is
+
+pub change_fails : (e : Or AccountFault) (base : Texts) (start : Accounts) (old new : List Fields) → (read_books base >>= λ books. Ok (after_gone old new books)) ≡ Ok start → Fails e (edited_from start old new) → Fails e (edited base old new)
+change_fails e base start old new is fails =
+    fails_first e (edited_from start old new) (λ done. Ok (texts_of done)) (edited base old new) (sym (from_cleared (read_books base) start old new is)) fails
+
+pub all_done : (base : Texts) (start done : Accounts) (texts : Texts) (old new : List Fields) → (read_books base >>= λ books. Ok (after_gone old new books)) ≡ Ok start → edited_from start old new ≡ Ok done → texts ≡ texts_of done → edited base old new ≡ Ok texts
+all_done base start done texts old new is changed printed =
+    from_cleared (read_books base) start old new is ∙ then_on (edited_from start old new) done (λ done. Ok (texts_of done)) changed ∙ ap (λ (t : Texts). Ok t) (sym printed)
+
+-- ---- the files, read
+
+pub read_first : (e : Or AccountFault) (base : Texts) (old new : List Fields) → Fails e (read_books base) → Fails e (read_books base >>= λ books. Ok (after_gone old new books))
+read_first e base old new fails = fails_first e (read_books base) (λ books. Ok (after_gone old new books)) (read_books base >>= λ books. Ok (after_gone old new books)) refl fails
+
+pub read_done : (base : Texts) (books next : Accounts) (old new : List Fields) → read_books base ≡ Ok books → next ≡ after_gone old new books → (read_books base >>= λ books. Ok (after_gone old new books)) ≡ Ok next
+read_done base books next old new is e = then_on (read_books base) books (λ books. Ok (after_gone old new books)) is ∙ ap (λ (b : Accounts). Ok b) (sym e)

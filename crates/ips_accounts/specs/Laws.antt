@@ -1,6 +1,7 @@
 -- What an edit leaves, in the terms of users and groups.
-use Rattle.std.specs.Prelude.{◌≡◌, ℕ, Bool, true, false, not, ◌&&◌, ◌||◌, List, [], ◌∷◌, map, filter, Option, Some, option_map, unwrap_or, IfSome, codes}
+use Rattle.std.specs.Prelude.{◌≡◌, ℕ, ◌<◌, Bool, true, false, not, ◌&&◌, ◌||◌, List, [], ◌∷◌, length, map, filter, Option, Some, option_map, unwrap_or, IfSome, codes}
 use Rattle.std.specs.List.{list_any, AllByRecursion}
+use Rattle.std.specs.Option.{option_map_or}
 use Rattle.ips_action.specs.Attrs.{is_same, values_of}
 use Rattle.ips_action.specs.Action.{Fields}
 use Rattle.ips_books.specs.Lines.{Line}
@@ -81,3 +82,18 @@ pub record OthersStay (old new : List Fields) (before after : Accounts) : Type 0
   pub passwd : bytes_of (is_other_user old new) after.passwd ≡ bytes_of (is_other_user old new) before.passwd
   pub shadow : bytes_of (is_other_user old new) after.shadow ≡ bytes_of (is_other_user old new) before.shadow
   pub group : bytes_of (is_other_group old new) after.group ≡ bytes_of (is_other_group old new) (map (left_by (is_gone_user old new)) before.group)
+
+-- Every other line of passwd and shadow stands as before, in the same order.
+pub record UsersStay (old new : List Fields) (before after : Accounts) : Type 0 where
+  pub passwd : bytes_of (is_other_user old new) after.passwd ≡ bytes_of (is_other_user old new) before.passwd
+  pub shadow : bytes_of (is_other_user old new) after.shadow ≡ bytes_of (is_other_user old new) before.shadow
+
+-- ---- members that stay
+
+-- The group of this name has a line, and the user is a member of it.
+abbrev pub is_member_in : List Line → List ℕ → List ℕ → Bool
+is_member_in group user name = option_map_or (λ line. list_any (λ member. is_same member user) (members_of line)) (line_at group name) false
+
+-- Who is a member of a group stays one, unless the user or the group goes.
+abbrev pub MembersStay : List Fields → List Fields → Accounts → Accounts → Type 0
+MembersStay old new before after = (user name : List ℕ) → 0 < length user → is_gone_user old new user ≡ false → is_gone_group old new name ≡ false → is_member_in before.group user name ≡ true → is_member_in after.group user name ≡ true

@@ -1,13 +1,15 @@
 //! The edit.
 
 ghost use Rattle.ips_text.specs.Reading.{Gives};
-ghost use Rattle.ips_books.specs.Seen.{files_seen, texts};
-ghost use Rattle.ips_accounts.specs.Editing.{edited, edited_books};
+ghost use Rattle.ips_books.specs.Seen.{texts};
+ghost use Rattle.ips_accounts.specs.Editing.{edited};
+ghost use Rattle.ips_accounts.specs.Seen.{cleared, edited_from, tables_seen};
 
 use crate::groups::add_groups;
+use crate::tables::Tables;
 use crate::users::{add_users, are_known};
 use ips_action::Action;
-use ips_books::{AccountFault, Books, Files, print_books, read_books};
+use ips_books::{AccountFault, Books, read_books};
 use ips_text::Or;
 use ips_turnover::{fresh, remove_gone};
 use std::alloc::Global;
@@ -28,24 +30,37 @@ pub fn edit(
 ) -> Result<Books, Or<AccountFault>>
     ensures { Gives texts result (edited (texts base.now) old.now new.now) }
 {
-    let mut files = read_books(alloc, base)?;
-    change(alloc, &mut files, old, new)?;
-    Ok(print_books(alloc, &files)?)
+    let mut tables = read(alloc, base, old, new)?;
+    change(alloc, &mut tables, old, new)?;
+    Ok(tables.print(alloc)?)
 }
 
-// Edits the files.
+// The files without gone names.
+fn read(
+    alloc: Global,
+    base: &Books,
+    old: &[Action],
+    new: &[Action],
+) -> Result<Tables, Or<AccountFault>>
+    ensures { Gives tables_seen result (cleared (texts base.now) old.now new.now) }
+{
+    let mut files = read_books(alloc, base)?;
+    remove_gone(alloc, &mut files, old, new)?;
+    Ok(Tables::new(alloc, files)?)
+}
+
+// Adds the new groups and users to files without gone names.
 fn change(
     alloc: Global,
-    files: &mut Files,
+    tables: &mut Tables,
     old: &[Action],
     new: &[Action],
 ) -> Result<(), Or<AccountFault>>
-    ensures { Gives (λ _. files_seen files.new) result (edited_books (files_seen files.old) old.now new.now) }
+    ensures { Gives (λ _. tables_seen tables.new) result (edited_from (tables_seen tables.old) old.now new.now) }
 {
-    remove_gone(alloc, files, old, new)?;
     let groups = fresh(alloc, "group", "groupname", old, new)?;
-    add_groups(alloc, files, &groups)?;
+    add_groups(alloc, tables, &groups)?;
     let users = fresh(alloc, "user", "username", old, new)?;
-    add_users(alloc, files, &users)?;
-    are_known(alloc, files, &users)
+    add_users(alloc, tables, &users)?;
+    are_known(alloc, tables, &users)
 }

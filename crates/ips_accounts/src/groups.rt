@@ -1,20 +1,20 @@
 //! Groups.
 
-ghost use Rattle.std.specs.Prelude.{◌≡◌, map, unwrap_or, IfOk, OnOk};
+ghost use Rattle.std.specs.Prelude.{◌≡◌, ◌<◌, length, map, slice_index_or, slice_set, unwrap_or, IfOk, OnOk};
 ghost use Rattle.std.specs.List.{list_any};
 ghost use Rattle.ips_text.specs.Reading.{Gives};
 ghost use Rattle.ips_action.specs.Attrs.{is_same};
-ghost use Rattle.ips_books.specs.Accounts as lines_spec;
+ghost use Rattle.ips_books.specs.Lines as lines_spec;
+ghost use Rattle.ips_books.specs.Accounts as books_spec;
 ghost use Rattle.ips_accounts.specs.Editing as spec;
 ghost use Rattle.ips_books.specs.Writing as writing_spec;
-ghost use Rattle.ips_books.specs.Seen.{files_seen};
+ghost use Rattle.ips_accounts.specs.Seen.{tables_seen};
 
 use crate::numbers::number_for;
+use crate::tables::Tables;
 use ips_action::Action;
-use ips_books::{
-    AccountFault, Files, Line, field, join, line_at, members_of, place_of, put, replace,
-    with_members,
-};
+use ips_books::{AccountFault, Line, field, join, members_of, with_members};
+use ips_entries::{Named, Numbered};
 use ips_text::{Or, Text};
 use ips_turnover::{number_given, value_of};
 use std::alloc::{AllocError, Global};
@@ -22,35 +22,34 @@ use std::alloc::{AllocError, Global};
 /// Adds each group in turn, or tells the first whose number is another name's.
 pub fn add_groups(
     alloc: Global,
-    files: &mut Files,
+    tables: &mut Tables,
     groups: &[&Action],
 ) -> Result<(), Or<AccountFault>>
-    ensures { Gives (λ _. files_seen files.new) result (spec.each spec.with_group (map (λ a. a.now) groups.now) (files_seen files.old)) }
+    ensures { Gives (λ _. tables_seen tables.new) result (spec.each spec.with_group (map (λ a. a.now) groups.now) (tables_seen tables.old)) }
 {
     for group in groups {
-        add_group(alloc, files, group)?;
+        add_group(alloc, tables, group)?;
     }
     Ok(())
 }
 
 // Adds a group: its line has its number, and the members that stood.
-fn add_group(alloc: Global, files: &mut Files, group: &Action) -> Result<(), Or<AccountFault>>
-    ensures { Gives (λ _. files_seen files.new) result (spec.with_group group.now (files_seen files.old)) }
+fn add_group(alloc: Global, tables: &mut Tables, group: &Action) -> Result<(), Or<AccountFault>>
+    ensures { Gives (λ _. tables_seen tables.new) result (spec.with_group group.now (tables_seen tables.old)) }
 {
     let name = value_of(group, "groupname");
     let gid = number_for(
-        alloc,
-        &files.group,
+        &mut tables.group,
         name.as_bytes(),
         number_given(group, "gid"),
     )?;
-    let text = group_text(alloc, &files.group, name, gid)?;
-    put(&mut files.group, name.as_bytes(), text)?;
+    let text = group_text(alloc, tables.group.named(), name, gid)?;
+    tables.group.put(alloc, name.as_bytes(), text)?;
     Ok(())
 }
 
 // The line of a group, with the members that stand.
-fn group_text(alloc: Global, lines: &[Line], name: &str, gid: u32) -> Result<Vec<u8>, AllocError>
+fn group_text(alloc: Global, lines: &Named, name: &str, gid: u32) -> Result<Vec<u8>, AllocError>
     ensures { IfOk result (λ text. text.items ≡ spec.group_text name.now gid (spec.standing_members lines.now name.now)) }
 {
     let gid = format!(in alloc; "{gid}")?;
@@ -63,10 +62,10 @@ fn group_text(alloc: Global, lines: &[Line], name: &str, gid: u32) -> Result<Vec
 }
 
 // The members of the group as it stands, as they are written.
-fn standing_members<'a>(lines: &'a [Line], name: &str) -> &'a [u8]
+fn standing_members<'a>(lines: &'a Named, name: &str) -> &'a [u8]
     ensures { result.now ≡ spec.standing_members lines.now name.now }
 {
-    match line_at(lines, name.as_bytes()) {
+    match lines.line_at(name.as_bytes()) {
         Some(line) => field(line.text(), 3),
         None => &[],
     }
@@ -75,7 +74,7 @@ fn standing_members<'a>(lines: &'a [Line], name: &str) -> &'a [u8]
 /// Makes the user the last member of each of these groups that has a line, where it isn't a member.
 pub fn join_groups(
     alloc: Global,
-    lines: &mut [Line],
+    lines: &mut Numbered,
     user: &str,
     groups: &[Text],
 ) -> Result<(), AllocError>
@@ -88,15 +87,27 @@ pub fn join_groups(
 }
 
 // Makes the user a member of the group.
-fn join_group(alloc: Global, lines: &mut [Line], user: &str, group: &str) -> Result<(), AllocError>
-    ensures { OnOk result (lines.new ≡ writing_spec.at_first (lines_spec.is_of group.now) (spec.joined_by user.now) lines.old) }
+fn join_group(
+    alloc: Global,
+    lines: &mut Numbered,
+    user: &str,
+    group: &str,
+) -> Result<(), AllocError>
+    ensures { OnOk result (lines.new ≡ writing_spec.at_first (books_spec.is_of group.now) (spec.joined_by user.now) lines.old) }
 {
-    match place_of(lines, group.as_bytes()) {
-        Some(place) => {
-            let next = joined_line(alloc, &lines[place], user)?;
-            replace(lines, place, next);
-            Ok(())
-        }
+    match lines.named().place_of(group.as_bytes()) {
+        Some(place) => join_at(alloc, lines, user, place),
+        None => Ok(()),
+    }
+}
+
+// Makes the user a member of the group whose line stands at the place.
+fn join_at(alloc: Global, lines: &mut Numbered, user: &str, place: usize) -> Result<(), AllocError>
+    requires { place < length lines.old }
+    ensures { OnOk result ((line : lines_spec.Line) → line ≡ slice_index_or lines.old place line → lines.new ≡ slice_set lines.old place (spec.joined_by user.now line)) }
+{
+    match joined_line(alloc, &lines.named().lines()[place], user)? {
+        Some(line) => lines.replace(alloc, place, line),
         None => Ok(()),
     }
 }

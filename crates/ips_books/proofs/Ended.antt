@@ -1,13 +1,14 @@
--- The last line of a text gets its newline.
-use Rattle.std.proofs.Common.{◌≡◌, ℕ, zero, suc, ◌-◌, ◌<◌, List, [], ◌∷◌, length, get_or, set, ap, ◌∙◌, arith}
+-- The last line of a text gets its newline, and another one is added behind it.
+use Rattle.std.proofs.Common.{◌≡◌, ℕ, zero, suc, ◌-◌, ◌<◌, List, [], ◌∷◌, ◌++◌, length, get_or, set, ap, ◌∙◌, arith}
 use Rattle.ips_books.specs.Lines.{Line, ended, last_ended}
 
-ended_at : (lines : List Line) (line : Line) (n : ℕ) → suc n ≡ length lines → line ≡ get_or lines n line → set lines n (ended line) ≡ last_ended lines
-ended_at [] line n e is = absurd (omega (arith, e))
-ended_at (l ∷ []) line zero e is = ap (λ (x : Line). ended x ∷ []) is
-ended_at (l ∷ []) line (suc n) e is = absurd (omega (arith, e))
-ended_at (l ∷ next ∷ lines) line zero e is = absurd (omega (arith, e))
-ended_at (l ∷ next ∷ lines) line (suc n) e is = ap (λ (x : List Line). l ∷ x) (ended_at (next ∷ lines) line n (omega (arith, e)) is)
+ended_at : (lines : List Line) (x line : Line) (n : ℕ) → suc n ≡ length lines → line ≡ get_or (lines ++ x ∷ []) n line → set (lines ++ x ∷ []) n (ended line) ≡ last_ended lines ++ x ∷ []
+ended_at [] x line n e is = absurd (omega (arith, e))
+ended_at (l ∷ []) x line zero e is = ap (λ (y : Line). ended y ∷ x ∷ []) is
+ended_at (l ∷ []) x line (suc n) e is = absurd (omega (arith, e))
+ended_at (l ∷ next ∷ lines) x line zero e is = absurd (omega (arith, e))
+ended_at (l ∷ next ∷ lines) x line (suc n) e is = ap (λ (y : List Line). l ∷ y) (ended_at (next ∷ lines) x line n (omega (arith, e)) is)
 
-pub ended_last : (lines : List Line) (line next : Line) → 0 < length lines → line ≡ get_or lines (length lines - 1) line → next ≡ ended line → set lines (length lines - 1) next ≡ last_ended lines
-ended_last lines line next some is e = ap (set lines (length lines - 1)) e ∙ ended_at lines line (length lines - 1) (omega (arith, some)) is
+pub ended_before : (lines all : List Line) (x line next : Line) (count : ℕ) → all ≡ lines ++ x ∷ [] → count ≡ length lines → 0 < count → line ≡ get_or all (count - 1) line → next ≡ ended line → set all (count - 1) next ≡ last_ended lines ++ x ∷ []
+ended_before lines all x line next count whole is some at e =
+    (λ i. set (whole i) (count - 1) (e i)) ∙ ended_at lines x line (count - 1) (omega (arith, some, is)) (at ∙ ap (λ (l : List Line). get_or l (count - 1) line) whole)

@@ -92,8 +92,8 @@ fn is_numbered(book: Book, line: &[u8]) -> bool
     }
 }
 
-// The lines of a text.
-fn lines_of(alloc: Global, text: &[u8]) -> Result<Vec<Line>, AllocError>
+/// The lines of a text.
+pub fn lines_of(alloc: Global, text: &[u8]) -> Result<Vec<Line>, AllocError>
     ensures { IfOk result (λ lines. lines.items ≡ lines_spec.lines_of text.now) }
 {
     let mut lines = Vec::new(alloc);
@@ -129,12 +129,17 @@ fn newline(text: &[u8]) -> Option<usize>
 }
 
 /// The texts of the files.
-pub fn print_books(alloc: Global, files: &Files) -> Result<Books, AllocError>
-    ensures { IfOk result (λ books. texts books ≡ reading_spec.texts_of (files_seen files.now)) }
+pub fn print_books(
+    alloc: Global,
+    passwd: &[Line],
+    shadow: &[Line],
+    group: &[Line],
+) -> Result<Books, AllocError>
+    ensures { IfOk result (λ books. texts books ≡ reading_spec.texts_of (record { passwd = passwd.now; shadow = shadow.now; group = group.now })) }
 {
-    let passwd = text_of(alloc, &files.passwd)?;
-    let shadow = text_of(alloc, &files.shadow)?;
-    let group = text_of(alloc, &files.group)?;
+    let passwd = text_of(alloc, passwd)?;
+    let shadow = text_of(alloc, shadow)?;
+    let group = text_of(alloc, group)?;
     Ok(Books {
         passwd,
         shadow,

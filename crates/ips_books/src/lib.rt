@@ -17,8 +17,8 @@ mod writing;
 
 pub use books::{Book, Books};
 pub use fault::{AccountFault, Unknown};
-pub use files::{Files, print_books, read_books};
-pub use finding::{gid_at, is_taken, line_at, place_of};
+pub use files::{Files, lines_of, print_books, read_books};
+pub use finding::{is_of_other, place_of};
 pub use line::{Line, field, is_kept, is_of, number_in, number_of};
-pub use resolving::resolve;
-pub use writing::{add, join, members_of, put, replace, with_members};
+pub use resolving::{known_group, known_user, resolve};
+pub use writing::{add, join, members_of, replace, with_members};

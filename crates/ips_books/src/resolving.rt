@@ -42,8 +42,8 @@ fn gid_at(group: &[u8], name: &str) -> Option<u32>
     }
 }
 
-// The number of a user that is known without a line.
-fn known_user(name: &str) -> Option<u32>
+/// The number of a user that is known without a line.
+pub fn known_user(name: &str) -> Option<u32>
     ensures { result ≡ spec.known spec.known_users name.now }
 {
     match name {

@@ -1,48 +1,26 @@
 //! Lines that are written.
 
-ghost use Rattle.std.specs.Prelude.{◌≡◌, ◌==◌, ◌<◌, ◌++◌, ◌∷◌, [], length, map, slice_index_or, slice_set, unwrap_or, if◌then◌else◌, IfOk, OnOk};
+ghost use Rattle.std.specs.Prelude.{◌≡◌, ◌==◌, ◌<◌, ◌++◌, ◌∷◌, [], length, map, slice_index_or, slice_set, unwrap_or, if◌then◌else◌, IfOk, OnOk, OnErr};
 ghost use Rattle.std.specs.List.{join_with_byte, slice_split};
 ghost use Rattle.ips_books.specs.Lines as lines_spec;
-ghost use Rattle.ips_books.specs.Lines.{last_ended};
 ghost use Rattle.ips_books.specs.Accounts as spec;
 ghost use Rattle.ips_books.specs.Writing as writing_spec;
 ghost use Rattle.ips_books.specs.Seen.{as_line};
 
-use crate::finding::place_of;
 use crate::line::{Line, field};
 use std::alloc::{AllocError, Global};
 
-/// Writes the line of a name: its first line is rewritten at its place, or a line is added at the end.
-pub fn put(lines: &mut Vec<Line>, name: &[u8], text: Vec<u8>) -> Result<(), AllocError>
-    ensures { OnOk result (lines.new.items ≡ writing_spec.put name.now text.items lines.old.items) }
-{
-    match place_of(lines, name) {
-        Some(place) => {
-            let ended = lines[place].is_ended();
-            lines[place] = Line::new(text, ended);
-            Ok(())
-        }
-        None => add(lines, text),
-    }
-}
-
-/// Adds a line at the end; a line that lacked its newline gets it.
+/// Adds a line at the end; a line that lacked its newline gets it. Where memory runs out, the lines are as before.
 pub fn add(lines: &mut Vec<Line>, text: Vec<u8>) -> Result<(), AllocError>
-    ensures { OnOk result (lines.new.items ≡ writing_spec.added text.items lines.old.items) }
-{
-    end_last(lines);
-    lines.push(Line::new(text, true))?;
-    Ok(())
-}
-
-// Ends the last line with a newline.
-fn end_last(lines: &mut [Line])
-    ensures { lines.new ≡ last_ended lines.old }
+    ensures added { OnOk result (lines.new.items ≡ writing_spec.added text.items lines.old.items) }
+    ensures same { OnErr result (lines.new.items ≡ lines.old.items) }
 {
     let count = lines.len();
+    lines.push(Line::new(text, true))?;
     if count > 0 {
         lines[count - 1].end();
     }
+    Ok(())
 }
 
 /// Puts the next line at a place, where there is one.

@@ -1,6 +1,6 @@
 use crate::records::actions;
 use crate::table::{Ask, columns, holds, spelled};
-use ips_accounts::{AccountFault, Book, Books, Unknown, edit, resolve};
+use ips_accounts::{AccountFault, Book, Books, Owners, Unknown, edit, resolve};
 use ips_text::Or;
 use std::alloc::Global;
 use std::process::Abort;
@@ -12,13 +12,16 @@ enum Asked {
     Edited,
     // The numbers of a user and a group: `passwd ! shadow ! group | user group`.
     Owned,
+    // The same, looked up in tables of the files.
+    LookedUp,
 }
 
 impl Ask for Asked {
     fn answer(&mut self, rt: &impl Abort, alloc: Global, question: &str) -> String {
         match self {
             Asked::Edited => edited(rt, alloc, question),
-            Asked::Owned => owned(rt, alloc, question),
+            Asked::Owned => owned(rt, alloc, question, false),
+            Asked::LookedUp => owned(rt, alloc, question, true),
         }
     }
 }
@@ -36,11 +39,17 @@ fn edited(rt: &impl Abort, alloc: Global, question: &str) -> String {
     }
 }
 
-fn owned(rt: &impl Abort, alloc: Global, question: &str) -> String {
+fn owned(rt: &impl Abort, alloc: Global, question: &str, by_table: bool) -> String {
     let (base, names) = columns(question);
     let base = books(rt, alloc, base);
     let (user, group) = names.split_once(" ").expect(rt, "two names");
-    match resolve(&base, user, group) {
+    let numbers = if by_table {
+        let owners = Owners::new(alloc, &base).expect(rt, "memory");
+        owners.resolve(user, group)
+    } else {
+        resolve(&base, user, group)
+    };
+    match numbers {
         Ok((uid, gid)) => format!(in alloc; "{uid} {gid}").expect(rt, "memory"),
         Err(Unknown::Owner) => String::from_str(alloc, "no owner").expect(rt, "memory"),
         Err(Unknown::Group) => String::from_str(alloc, "no group").expect(rt, "memory"),
@@ -129,6 +138,12 @@ a:x:1:1::/:¶ !! | | user username=b group=bin; user username=a uid=9 group=bin 
 !! | | user username=c group=bin; user username=a group=bin; user username=b group=bin -> a:x:1:2:& User:/:¶b:x:2:2:& User:/:¶c:x:3:2:& User:/:¶!a:*LK*:::::::¶b:*LK*:::::::¶c:*LK*:::::::¶!
 # Two of one name go by their lines: the later one counts.
 !! | | user username=a uid=3 group=bin; user username=a uid=3 group=bin home-dir=/x -> a:x:3:2:& User:/:¶!a:*LK*:::::::¶!
+# A number falls free below one that is free, and behind all numbers that are used the next is given.
+a:x:1:1::/:¶b:x:2:1::/:¶ !! | | user username=a uid=7 group=bin; user username=c group=bin; user username=d group=bin -> a:x:7:2:& User:/:¶b:x:2:1::/:¶c:x:1:2:& User:/:¶d:x:3:2:& User:/:¶!a:*LK*:::::::¶c:*LK*:::::::¶d:*LK*:::::::¶!
+# Of several lines of a name the first is rewritten.
+a:x:1:1::/:¶a:x:2:1::/:¶ !! | | user username=a group=bin -> a:x:1:2:& User:/:¶a:x:2:1::/:¶!a:*LK*:::::::¶!
+# A group that gets another number keeps its members, and a new user joins behind them.
+!! g::8:a,b¶ | | group groupname=g gid=9; user username=c group=g group-list=g -> c:x:1:9:& User:/:¶!c:*LK*:::::::¶!g::9:a,b,c¶
 # A line that stays asks for nothing.
 !! | user username=a group=none | user username=a group=none -> !!
 # Groups come before users, each by the bytes of their names.
@@ -147,6 +162,7 @@ root:x:7:1::/:¶root:x:8:1::/:¶ !! g::9: | root g -> 7 9
 #[test]
 fn edits_account_files(rt: HostRuntime) {
     let alloc = rt.alloc();
-    holds(&rt, alloc, &mut Asked::Edited, 25, ACCOUNTS_ARE_EDITED);
+    holds(&rt, alloc, &mut Asked::Edited, 28, ACCOUNTS_ARE_EDITED);
     holds(&rt, alloc, &mut Asked::Owned, 6, OWNERS_HAVE_NUMBERS);
+    holds(&rt, alloc, &mut Asked::LookedUp, 6, OWNERS_HAVE_NUMBERS);
 }

@@ -1,13 +1,11 @@
-use Rattle.std.proofs.Common.{◌≡◌, unwrap_or, arith, sym, ap, ◌∙◌}
+use Rattle.std.proofs.Common.{unwrap_or, sym, ap, ◌∙◌}
 use lib.Chars.{codes}
-use Rattle.std.specs.Vec.{with_items}
-use Rattle.std.proofs.lemmas.List.{with_items_is}
 use Rattle.ips_action.specs.Attrs.{values_of}
 use Rattle.ips_action.specs.Action.{Fields}
 use Rattle.ips_books.specs.Accounts.{gid_at}
-use Rattle.ips_books.specs.Seen.{files_seen}
 use Rattle.ips_books.specs.Writing.{put}
 use Rattle.ips_accounts.specs.Editing.{number_for, passwd_text, in_groups}
+use Rattle.ips_accounts.specs.Seen.{tables_seen}
 use Rattle.ips_accounts.proofs.Steps.{user_added}
 use Rattle.ips_accounts.proofs.users.add_user.Goals as goal
 
@@ -17,14 +15,13 @@ returns c =
     let name = c.value_of-name.ensures in
     let for_number = c.as_bytes.ensures.value ∙ name in
     let for_line = c.as_bytes-2.ensures.value ∙ name in
-    let found = c.gid_at.ensures ∙ (λ i. gid_at (c.deref-2.ensures.value i) (c.value_of.ensures i)) in
+    let same = c.in_ok-uid.ensures.same in
+    let found = c.gid_at.ensures ∙ (λ i. gid_at (c.named.ensures i) (c.value_of.ensures i)) in
     let gid = c.unwrap_or-gid.ensures ∙ (λ i. unwrap_or (found i) 0) in
     let text = c.in_ok-text.ensures ∙ (λ i. passwd_text a c.in_ok-uid.uid (gid i)) in
-    let group = with_items c.args.files.now.group c.join_groups.new.lines in
-    let items : group.items ≡ c.join_groups.new.lines = with_items_is c.args.files.now.group c.join_groups.new.lines (omega arith) in
     let asked = c.values.ensures ∙ ap (λ (x : Fields). values_of (codes "group-list") x.attrs) c.user.view_is in
-    user_added a (files_seen c.args.files.now) c.in_ok-uid.uid c.put.new.lines.items c.add_password.new.lines.items group.items
-    (sym (λ i. number_for (c.deref.ensures.value i) (for_number i) (c.number_given.ensures i)) ∙ c.in_ok-uid.ensures)
-    (c.in_ok-put.ensures ∙ (λ i. put (for_line i) (text i) c.args.files.now.passwd.items))
+    user_added a (tables_seen c.args.tables.now) c.in_ok-uid.uid c.put.new.self c.add_password.new.lines c.join_groups.new.lines
+    (sym (λ i. number_for c.args.tables.now.passwd (for_number i) (c.number_given.ensures i)) ∙ c.in_ok-uid.ensures.number)
+    (c.in_ok-put.ensures ∙ (λ i. put (for_line i) (text i) (same i)))
     c.in_ok-add_password.ensures
-    (items ∙ c.in_ok-join_groups.ensures ∙ (λ i. in_groups (name i) (asked i) (c.deref_mut.ensures.value i)))
+    (c.in_ok-join_groups.ensures ∙ (λ i. in_groups (name i) (asked i) c.args.tables.now.group))
