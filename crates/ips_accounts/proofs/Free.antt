@@ -1,7 +1,7 @@
 -- The least free number.
 use Rattle.std.proofs.Common.{◌≡◌, ℕ, zero, suc, ◌+◌, ◌-◌, ◌^◌, ◌<◌, ◌≤◌, min, Bool, true, false, cond, List, length, sym, ap, ◌∙◌, arith}
 use Rattle.ips_books.specs.Lines.{Line}
-use Rattle.ips_entries.specs.Entries.{IsLeastFree}
+use Rattle.ips_passwd.specs.Entries.{IsLeastFree}
 use Rattle.ips_accounts.specs.Editing.{is_used, free_from, free_number}
 
 -- Sought among so many, the number behind those that are used is found, where it is free or behind them all.

@@ -14,7 +14,7 @@ use crate::numbers::number_for;
 use crate::tables::Tables;
 use ips_action::Action;
 use ips_books::{AccountFault, Line, field, join, members_of, with_members};
-use ips_entries::{Named, Numbered};
+use ips_passwd::{Named, Numbered};
 use ips_text::{Or, Text};
 use ips_turnover::{number_given, value_of};
 use std::alloc::{AllocError, Global};

@@ -5,7 +5,7 @@ ghost use Rattle.ips_text.specs.Reading.{Gives};
 ghost use Rattle.ips_accounts.specs.Editing as spec;
 
 use ips_books::{AccountFault, number_of};
-use ips_entries::Numbered;
+use ips_passwd::Numbered;
 use ips_text::Or;
 
 /// The number that a name wants, unless another name has it.

@@ -6,7 +6,7 @@ ghost use Rattle.ips_books.specs.Seen.{files_seen, texts};
 ghost use Rattle.ips_accounts.specs.Seen.{tables_seen};
 
 use ips_books::{Books, Files, print_books};
-use ips_entries::{Named, Numbered};
+use ips_passwd::{Named, Numbered};
 use std::alloc::{AllocError, Global};
 
 /// The three files. The lines of `etc/shadow` have no numbers.

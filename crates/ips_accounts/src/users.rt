@@ -10,7 +10,7 @@ use crate::numbers::number_for;
 use crate::tables::Tables;
 use ips_action::Action;
 use ips_books::{AccountFault, join};
-use ips_entries::{Named, gid_at};
+use ips_passwd::{Named, gid_at};
 use ips_text::{Or, Text};
 use ips_turnover::{given_or, number_given, value_of};
 use std::alloc::{AllocError, Global};
