@@ -44,12 +44,6 @@ between_all rows path = record { ordered = omega arith; within = omega arith; be
 rising : (rows : List Row) (i j : ℕ) → IsStrictlySortedBy (slice_cmp nat_cmp) (row_paths rows) → i < j → j < length rows → slice_cmp nat_cmp (at rows i) (at rows j) ≡ Less
 rising rows i j sorted lt within = Less-from_sorted (slice_cmp nat_cmp) (row_paths rows) i j [] sorted lt (subst (λ (n : ℕ). j < n) (sym (count rows)) within)
 
-turned : (o : Ordering) → o ≡ Greater → ordering_reverse o ≡ Less
-turned o e = ap ordering_reverse e
-
-back : (o : Ordering) → o ≡ Less → ordering_reverse o ≡ Greater
-back o e = ap ordering_reverse e
-
 pub between_less : (rows : List Row) (path : List ℕ) (low high middle : ℕ) → IsStrictlySortedBy (slice_cmp nat_cmp) (row_paths rows) → Between rows path low high → middle < high → slice_cmp nat_cmp (at rows middle) path ≡ Less → Between rows path (middle + 1) high
 between_less rows path low high middle sorted h lt less = record {
   ordered = omega arith;
@@ -68,9 +62,9 @@ between_more rows path low high middle sorted h le lt more = record {
   below = h.below;
   above = λ k big within. elim (cases_lt middle k) [
     | inl behind ↦
-        let first : slice_cmp nat_cmp path (at rows middle) ≡ Less = nat_list_cmp_total.antisymm path (at rows middle) ∙ turned (slice_cmp nat_cmp (at rows middle) path) more in
+        let first : slice_cmp nat_cmp path (at rows middle) ≡ Less = nat_list_cmp_total.antisymm path (at rows middle) ∙ ap ordering_reverse more in
         let all : slice_cmp nat_cmp path (at rows k) ≡ Less = nat_list_cmp_total.trans path (at rows middle) (at rows k) first (rising rows middle k sorted behind within) in
-        nat_list_cmp_total.antisymm (at rows k) path ∙ back (slice_cmp nat_cmp path (at rows k)) all
+        nat_list_cmp_total.antisymm (at rows k) path ∙ ap ordering_reverse all
     | inr not ↦ let same : k ≡ middle = omega (arith, big, not) in subst (λ (n : ℕ). slice_cmp nat_cmp (at rows n) path ≡ Greater) (sym same) more
   ];
 }

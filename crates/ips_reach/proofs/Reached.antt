@@ -2,6 +2,7 @@
 use Rattle.std.proofs.Common.{◌≡◌, ℕ, ◌==◌, Bool, true, false, cond, ◌&&◌, ◌||◌, List, [], ◌∷◌, map, Option, Some, None, slice_get, refl, sym, ◌∙◌, ap, subst}
 use Rattle.std.specs.Option.{option_map}
 use Rattle.ips_text.specs.Ancestry.{behind, parent}
+use Rattle.ips_text.proofs.Truths.{or_false, or_swapped}
 use Rattle.ips_after.specs.Change.{reached}
 
 -- the test holds at the directory or at one above it, if there is one
@@ -9,20 +10,11 @@ abbrev pub reached_at : (List ℕ → Bool) → Option (List ℕ) → Bool
 reached_at test (Some dir) = reached test dir
 reached_at test None = false
 
-or_swap : (a b c : Bool) → (a || (b || c)) ≡ (b || (a || c))
-or_swap true true c = refl
-or_swap true false c = refl
-or_swap false b c = refl
-
 pub reached_by : (test : List ℕ → Bool) (p : List ℕ) → reached test p ≡ (test p || reached_at test (parent p))
-reached_by test [] = go (test [])
-  where
-    go : (b : Bool) → b ≡ (b || false)
-    go true = refl
-    go false = refl
+reached_by test [] = or_false (test [])
 reached_by test (a ∷ p) =
     ap (λ (b : Bool). ((a == 47) && test []) || b) (reached_by (λ (q : List ℕ). test (a ∷ q)) p)
-    ∙ or_swap ((a == 47) && test []) (test (a ∷ p)) (reached_at (λ (q : List ℕ). test (a ∷ q)) (parent p))
+    ∙ or_swapped ((a == 47) && test []) (test (a ∷ p)) (reached_at (λ (q : List ℕ). test (a ∷ q)) (parent p))
     ∙ ap (λ (b : Bool). test (a ∷ p) || b) (go (parent p))
   where
     none : (b c : Bool) → ((b && c) || false) ≡ cond b c false

@@ -14,6 +14,7 @@ use Rattle.std.proofs.lemmas.List.{append-nil}
 use Rattle.std.proofs.lemmas.Option.{same_Some, slice_get_past}
 use Rattle.ips_text.specs.Ancestry.{same_path}
 use Rattle.ips_text.proofs.Ancestry.{same_path-true, same_path-self}
+use Rattle.ips_text.proofs.Truths.{or_assoc, or_swapped}
 use Rattle.ips_meaning.specs.declared.entry.Entry.{Entry}
 use Rattle.ips_after.specs.Lists.{listed}
 use Rattle.ips_after.specs.Request.{Wanted}
@@ -104,22 +105,13 @@ irreflexive p less = go (slice_cmp nat_cmp p p) less (nat_list_cmp_total.antisym
     go Equal h e = cc
     go Greater h e = cc
 
-apart : (p q : List ℕ) → slice_cmp nat_cmp p q ≡ Less → same_path p q ≡ false
-apart p q less = false_from_ne_true _ (λ same. irreflexive p (subst (λ (x : List ℕ). slice_cmp nat_cmp p x ≡ Less) (sym (same_path-true p q same)) less))
+apart : (p q : List ℕ) → slice_cmp nat_cmp p q ≡ Less → false ≡ same_path p q
+apart p q less = sym (false_from_ne_true _ (λ same. irreflexive p (subst (λ (x : List ℕ). slice_cmp nat_cmp p x ≡ Less) (sym (same_path-true p q same)) less)))
 
-apart_back : (p q : List ℕ) → slice_cmp nat_cmp p q ≡ Less → same_path q p ≡ false
-apart_back p q less = false_from_ne_true _ (λ same. irreflexive p (subst (λ (x : List ℕ). slice_cmp nat_cmp p x ≡ Less) (same_path-true q p same) less))
+apart_back : (p q : List ℕ) → slice_cmp nat_cmp p q ≡ Less → false ≡ same_path q p
+apart_back p q less = sym (false_from_ne_true _ (λ same. irreflexive p (subst (λ (x : List ℕ). slice_cmp nat_cmp p x ≡ Less) (same_path-true q p same) less)))
 
 -- ---- the paths are those of both
-
-or_left_more : (a b c : Bool) → (a || (b || c)) ≡ ((a || b) || c)
-or_left_more true b c = refl
-or_left_more false b c = refl
-
-or_right_more : (a b c : Bool) → (a || (b || c)) ≡ (b || (a || c))
-or_right_more true true c = refl
-or_right_more true false c = refl
-or_right_more false b c = refl
 
 or_both_more : (a b c : Bool) → (a || (b || c)) ≡ ((a || b) || (a || c))
 or_both_more true b c = refl
@@ -134,13 +126,13 @@ merged_paths (pair ∷ rest) xs ys m q = elim m [
   | inl f ↦
       ap (λ (r : Pair). same_path r.path q || listed (paths_of rest) q) f.row
       ∙ ap (λ (b : Bool). same_path f.x.0 q || b) (merged_paths rest f.more ys f.rest q)
-      ∙ or_left_more (same_path f.x.0 q) (listed (keys_of f.more) q) (listed (keys_of ys) q)
+      ∙ sym (or_assoc (same_path f.x.0 q) (listed (keys_of f.more) q) (listed (keys_of ys) q))
       ∙ sym (ap (λ (l : Entries). either l ys q) f.is)
   | inr more ↦ elim more [
     | inl f ↦
         ap (λ (r : Pair). same_path r.path q || listed (paths_of rest) q) f.row
         ∙ ap (λ (b : Bool). same_path f.y.0 q || b) (merged_paths rest xs f.more f.rest q)
-        ∙ or_right_more (same_path f.y.0 q) (listed (keys_of xs) q) (listed (keys_of f.more) q)
+        ∙ or_swapped (same_path f.y.0 q) (listed (keys_of xs) q) (listed (keys_of f.more) q)
         ∙ sym (ap (λ (l : Entries). either xs l q) f.is)
     | inr f ↦
         ap (λ (r : Pair). same_path r.path q || listed (paths_of rest) q) f.row
@@ -177,13 +169,13 @@ InOrder xs = IsStrictlySortedBy (slice_cmp nat_cmp) (keys_of xs)
 
 none_behind : (p : List ℕ) (ys : Entries) → Before p (keys_of ys) → None ≡ wanted_among ys p
 none_behind p [] all = refl
-none_behind p (y ∷ ys) all = none_behind p ys all.1 ∙ ap (λ (b : Bool). cond b (Some (wanted_of y.1)) (wanted_among ys p)) (sym (apart_back p y.0 all.0))
+none_behind p (y ∷ ys) all = none_behind p ys all.1 ∙ ap (λ (b : Bool). cond b (Some (wanted_of y.1)) (wanted_among ys p)) (apart_back p y.0 all.0)
 
 at_front : (x : List ℕ × Entry) (xs : Entries) → Some (wanted_of x.1) ≡ wanted_among (x ∷ xs) x.0
 at_front x xs = ap (λ (b : Bool). cond b (Some (wanted_of x.1)) (wanted_among xs x.0)) (sym (same_path-self x.0))
 
 past_front : (x : List ℕ × Entry) (xs : Entries) (q : List ℕ) → slice_cmp nat_cmp x.0 q ≡ Less → wanted_among xs q ≡ wanted_among (x ∷ xs) q
-past_front x xs q less = ap (λ (b : Bool). cond b (Some (wanted_of x.1)) (wanted_among xs q)) (sym (apart x.0 q less))
+past_front x xs q less = ap (λ (b : Bool). cond b (Some (wanted_of x.1)) (wanted_among xs q)) (apart x.0 q less)
 
 with_old : (x : List ℕ × Entry) (xs ys : Entries) (pairs : List Pair) → Before x.0 (paths_of pairs) → AllByRecursion (HasBoth xs ys) pairs → AllByRecursion (HasBoth (x ∷ xs) ys) pairs
 with_old x xs ys [] before all = tt
