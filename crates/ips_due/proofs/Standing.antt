@@ -44,9 +44,10 @@ dir_stays true m e dir = refl
 dir_stays false (Some m) e dir = ap (λ (b : Bool). replaces (cond b (mode_given (Some m)) (Laid (Dir m false)))) dir
 dir_stays false None e dir = ap (λ (b : Bool). replaces (cond b (mode_given None) (Laid (Dir 493 false)))) dir
 
-none_of : {A : Type 0} (o : Option A) → is_some o ≡ false → o ≡ None
-none_of None h = refl
-none_of (Some x) h = absurd cc
+neither : (a : Option Entry) (b : Option (List ℕ)) → is_some a ≡ false → is_some b ≡ false → (a ≡ None) × (b ≡ None)
+neither None None g h = (refl, refl)
+neither None (Some y) g h = absurd cc
+neither (Some x) b g h = absurd cc
 
 -- of a directory that stands no folder is said
 folder_silent : (f : Bool) (e : Option Entry) → is_dir e ≡ true → cond f (said_folder e) None ≡ None
@@ -97,8 +98,9 @@ module _ (due : Due) (t : Image) (r : Request) (emptied : List ℕ → Bool) (go
   silent_above : (x : List ℕ) → is_below x q ≡ true → r.over.at x ≡ None
   silent_above x up =
       let flat = flat_above x up in
+      let none_due = neither (account_at due.accounts x) (record_at due.records x) flat.0 flat.1.0 in
       of.at x
-      ∙ rw (none_of (account_at due.accounts x) flat.0, none_of (record_at due.records x) flat.1.0, not_renewed x (below_covers x q up), flat.1.1) (folder_silent (listed due.folders x) (t.look x) (dir_above x up))
+      ∙ rw (none_due.0, none_due.1, not_renewed x (below_covers x q up), flat.1.1) (folder_silent (listed due.folders x) (t.look x) (dir_above x up))
 
   silent_here : r.over.at q ≡ None
   silent_here = of.at q ∙ rw (none, at, stands, keeps) refl

@@ -175,10 +175,6 @@ record Required (v : Verb) (given : List Given) : Type 0 where
   once : again (role_of v word) given ≡ false
   stand : (x : Value) → lacks (required_of v) (given ++ valued (role_of v word) x ∷ []) ≡ false
 
-not_true : (b : Bool) → not b ≡ true → b ≡ false
-not_true true e = absurd cc
-not_true false e = refl
-
 or_true : (a b : Bool) → b ≡ true → a || b ≡ true
 or_true true b e = refl
 or_true false b e = e
