@@ -10,3 +10,6 @@ mod head;
 mod heading;
 #[cfg(test)]
 mod lists;
+
+#[cfg(test)]
+mod whole;
