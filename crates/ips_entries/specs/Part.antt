@@ -1,12 +1,11 @@
 -- The records of a state, each by its part of it.
-use Rattle.std.specs.Prelude.{◌≡◌, ℕ, ◌<◌, ◌==◌, Bool, true, false, if◌then◌else◌, List, [], ◌∷◌, map, length, Option, Some, None, is_some, IsTrue}
-use Rattle.std.specs.Prelude.{slice_get}
+use Rattle.std.specs.Prelude.{ℕ, ◌+◌, ◌<◌, ◌==◌, Bool, true, false, List, [], ◌∷◌, ◌++◌, map, length, slice_get, Option, Some, None, is_some, IsTrue}
 use Rattle.ips_manifest.specs.Manifest.{manifest_text}
 use Rattle.ips_index.specs.Rows.{Row, index_text}
 use Rattle.ips_records.specs.Lines.{lines_text}
 use Rattle.ips_state.specs.State.{Installed, Recorded, head_of}
 use Rattle.ips_state.specs.Text.{head_lines, versioned_stem, name_lines, mediator_line, package_text}
-use Rattle.ips_state.specs.Records.{Entry}
+use Rattle.ips_state.specs.Records.{Entry, avoid_path, freeze_path, history_path, image_path, index_path, installed_path, mediators_path, package_place}
 use Rattle.ips_entries.specs.declared.part.Part.{Part}
 use Rattle.ips_entries.specs.declared.part.Part.TheVariants as part
 use Rattle.ips_entries.specs.declared.part.Place.{Place}
@@ -42,3 +41,40 @@ part_text r (part.Package n) = text_of_package (r.format == 1) (slice_get r.inst
 -- The record of a part that stands at a place.
 abbrev pub entry_at : Recorded → Place → Entry
 entry_at r place = (place.path.bytes, part_text r place.part)
+
+-- ---- where the records of a state stand
+
+-- A path, and the part whose record stands there.
+abbrev pub Owned : Type 0
+Owned = List ℕ × Part
+
+-- What a place shows.
+abbrev pub owned : Place → Owned
+owned place = (place.path.bytes, place.part)
+
+-- The parts that each state has.
+abbrev pub common_parts : List Owned
+common_parts = (image_path, part.Image) ∷ (avoid_path, part.Avoid) ∷ (freeze_path, part.Freeze) ∷ (mediators_path, part.Mediators) ∷ (history_path, part.History) ∷ []
+
+-- The part of an index, where there is one.
+abbrev pub index_parts : Option (List Row) → List Owned
+index_parts None = []
+index_parts (Some rows) = (index_path, part.Index) ∷ []
+
+-- The part of a package with this number, in the format that the flag tells.
+abbrev pub owned_package : Bool → ℕ → Installed → Owned
+owned_package first n p = (package_place first p.stem, part.Package n)
+
+-- The parts of packages, of which the first has this number, in the format that the flag tells.
+abbrev pub numbered : Bool → ℕ → List Installed → List Owned
+numbered first n [] = []
+numbered first n (p ∷ packages) = owned_package first n p ∷ numbered first (n + 1) packages
+
+-- The parts of all packages, in the format that the flag tells: in the first they are also listed.
+abbrev pub package_parts : Bool → List Installed → List Owned
+package_parts true packages = (installed_path, part.Installed) ∷ numbered true 0 packages
+package_parts false packages = numbered false 0 packages
+
+-- The parts of a state, in no order.
+abbrev pub parts_of : Recorded → List Owned
+parts_of r = (common_parts ++ index_parts r.index) ++ package_parts (r.format == 1) r.installed

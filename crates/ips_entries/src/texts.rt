@@ -43,11 +43,7 @@ fn installed_text(alloc: Global, packages: &[Package]) -> Result<Vec<u8>, AllocE
 }
 
 // Writes the line of each package.
-fn push_installed(
-    alloc: Global,
-    out: &mut Vec<u8>,
-    packages: &[Package],
-) -> Result<(), AllocError>
+fn push_installed(alloc: Global, out: &mut Vec<u8>, packages: &[Package]) -> Result<(), AllocError>
     ensures { OnOk result (out.new.items ≡ out.old.items ++ flat_map (λ p. ended (fmri_text (versioned_stem (installed p)))) packages.now) }
 {
     for package in packages {
@@ -57,11 +53,11 @@ fn push_installed(
 }
 
 // Writes the line of a package: its stem and its version.
-fn push_named(alloc: Global, out: &mut Vec<u8>, package: &Package) -> Result<(), AllocError>
-    ensures { OnOk result (out.new.items ≡ out.old.items ++ ended (fmri_text (versioned_stem (installed package.now)))) }
+fn push_named(alloc: Global, out: &mut Vec<u8>, held: &Package) -> Result<(), AllocError>
+    ensures { OnOk result (out.new.items ≡ out.old.items ++ ended (fmri_text (versioned_stem (installed held.now)))) }
 {
-    let version = package.version.print(alloc)?;
-    out.extend_from_slice(package.stem.as_str().as_bytes())?;
+    let version = held.version.print(alloc)?;
+    out.extend_from_slice(held.stem.as_str().as_bytes())?;
     out.push(b'@')?;
     out.extend_from_slice(version.as_str().as_bytes())?;
     out.push(b'\n')?;
@@ -79,13 +75,13 @@ fn index_bytes(alloc: Global, index: &Option<Index>) -> Result<Vec<u8>, AllocErr
 }
 
 // What stands of a package: its manifest in format 1, which the flag tells, and else its record.
-fn package_bytes(alloc: Global, first: bool, package: &Package) -> Result<Vec<u8>, AllocError>
-    ensures { IfOk result (λ bytes. bytes.items ≡ text_of_package first (Some (installed package.now))) }
+fn package_bytes(alloc: Global, first: bool, held: &Package) -> Result<Vec<u8>, AllocError>
+    ensures { IfOk result (λ bytes. bytes.items ≡ text_of_package first (Some (installed held.now))) }
 {
     if first {
-        manifest_bytes(alloc, &package.manifest)
+        manifest_bytes(alloc, &held.manifest)
     } else {
-        package_record(alloc, package)
+        package_record(alloc, held)
     }
 }
 

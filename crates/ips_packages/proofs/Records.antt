@@ -51,13 +51,13 @@ version_is_text v bytes h is = subst IsUtf8 is (low_text (version_text v) (low_v
 -- ---- the place of a record
 
 -- a stem can stand quoted
-stem_is_word : (stem : List ℕ) → IsStem false stem → IsWord stem
-stem_is_word stem h = record { some = go stem (stem_name stem h).some; text = low_text stem (low_stem stem h) }
-  where
-    go : (bytes : List ℕ) → 0 < length (quoted bytes) → 0 < length bytes
-    unfolding quoted
-    go [] some = some
-    go (b ∷ bytes) some = omega arith
+some_quoted : (bytes : List ℕ) → 0 < length (quoted bytes) → 0 < length bytes
+unfolding quoted
+some_quoted [] some = some
+some_quoted (b ∷ bytes) some = omega arith
+
+pub stem_is_word : (stem : List ℕ) → IsStem false stem → IsWord stem
+stem_is_word stem h = record { some = some_quoted stem (stem_name stem h).some; text = low_text stem (low_stem stem h) }
 
 quoted_behind : (path name stem : List ℕ) → path ≡ codes "var/pkg/packages/" ++ name → path ≡ package_path stem → quoted stem ≡ name
 quoted_behind path name stem is place = append_cancel_left (codes "var/pkg/packages/") (quoted stem) name (sym place ∙ is)

@@ -10,6 +10,5 @@ mod head;
 mod heading;
 #[cfg(test)]
 mod lists;
-
 #[cfg(test)]
 mod whole;

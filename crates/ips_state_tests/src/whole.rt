@@ -1,6 +1,6 @@
 //! The whole state of an image, loaded in both formats.
 
-use ips_folder::{MemFolder};
+use ips_folder::MemFolder;
 use ips_image::load;
 use ips_load::StateFault;
 use ips_outside::Tree;
@@ -10,7 +10,9 @@ use std::alloc::Global;
 use std::process::Abort;
 
 // The records of an image of each format, in which nothing is installed, avoided, kept, set or done.
-const FIRST: &str = "image=image 1¶publisher test¶; installed=; avoid=; freeze=; mediators=; history=; manifests=/";
+const FIRST: &str =
+    "image=image 1¶publisher test¶; installed=; avoid=; freeze=; mediators=; history=; manifests=/";
+
 const SECOND: &str =
     "image=image 2¶publisher test¶; avoid=; freeze=; mediators=; history=; packages=/";
 
@@ -103,9 +105,10 @@ fn add(rt: &impl Abort, alloc: Global, tree: &mut Tree, name: &str, text: &str) 
 
 // Whether one of the columns tells of the name.
 fn tells(columns: &str, name: &str) -> bool {
-    columns
-        .split(';')
-        .any(|column| column.trim().split_once('=').is_some_and(|(other, _)| other == name))
+    columns.split(';').any(|column| column
+        .trim()
+        .split_once('=')
+        .is_some_and(|(other, _)| other == name))
 }
 
 // The image of a question: its format, and the columns behind it.
