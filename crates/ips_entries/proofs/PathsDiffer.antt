@@ -17,6 +17,7 @@ use Rattle.std.proofs.lemmas.Map.Keys.{apart_from_distinct, IsDistinct-IsPermuta
 use Rattle.std.proofs.lemmas.Simd.{map-map}
 use Rattle.std.proofs.lemmas.Slice.Eq.{bytes_eq-Decides}
 use Rattle.ips_text.specs.Quote.{quoted}
+use Rattle.ips_text.proofs.Lists.{all_append}
 use Rattle.ips_fmri.specs.Name.{IsStem}
 use Rattle.ips_index.specs.Rows.{Row}
 use Rattle.ips_records.proofs.WordForms.{word_one}
@@ -94,49 +95,51 @@ not_again first n stem [] h all below = tt
 not_again first n stem (p ∷ packages) h all below = (λ e. not_before_itself stem p.stem below.0 (place_one first stem p.stem h all.0.stem e), not_again first (n + 1) stem packages h all.1 below.1)
 
 packages_differ : (first : Bool) (n : ℕ) (packages : List Installed) → AllByRecursion IsPackage packages → Ascend (stems_of packages) → Differ (paths_in (numbered first n packages))
+unfolding IsStrictlySortedBy
 packages_differ first n [] all order = tt
 packages_differ first n (p ∷ packages) all order = (not_again first (n + 1) p.stem packages all.0.stem all.1 order.0, packages_differ first (n + 1) packages all.1 order.1)
 
 -- ---- all paths
 
-listed_off : AllByRecursion (IsOff true) (image_path ∷ avoid_path ∷ freeze_path ∷ mediators_path ∷ history_path ∷ index_path ∷ installed_path ∷ [])
-listed_off = (
+abbrev common_paths : List (List ℕ)
+common_paths = image_path ∷ avoid_path ∷ freeze_path ∷ mediators_path ∷ history_path ∷ []
+
+common_off : (first : Bool) → AllByRecursion (IsOff first) common_paths
+common_off true = (
   λ s. differ_by image_path (manifest_path s) refl,
   λ s. differ_by avoid_path (manifest_path s) refl,
   λ s. differ_by freeze_path (manifest_path s) refl,
   λ s. differ_by mediators_path (manifest_path s) refl,
   λ s. differ_by history_path (manifest_path s) refl,
-  λ s. differ_by index_path (manifest_path s) refl,
-  λ s. differ_by installed_path (manifest_path s) refl,
   tt,
 )
-
-recorded_off : AllByRecursion (IsOff false) (image_path ∷ avoid_path ∷ freeze_path ∷ mediators_path ∷ history_path ∷ index_path ∷ [])
-recorded_off = (
+common_off false = (
   λ s. differ_by image_path (package_path s) refl,
   λ s. differ_by avoid_path (package_path s) refl,
   λ s. differ_by freeze_path (package_path s) refl,
   λ s. differ_by mediators_path (package_path s) refl,
   λ s. differ_by history_path (package_path s) refl,
-  λ s. differ_by index_path (package_path s) refl,
   tt,
 )
 
+index_off : (first : Bool) → IsOff first index_path
+index_off true s = differ_by index_path (manifest_path s) refl
+index_off false s = differ_by index_path (package_path s) refl
+
+installed_off : IsOff true installed_path
+installed_off s = differ_by installed_path (manifest_path s) refl
+
+-- the paths in front of those of packages, and those of packages
+behind_fronts : (first : Bool) (more : List (List ℕ)) (packages : List Installed) → ArePackages packages → are_apart (common_paths ++ more) ≡ true → AllByRecursion (IsOff first) more
+    → Differ ((common_paths ++ more) ++ paths_in (numbered first 0 packages))
+behind_fronts first more packages h test off =
+    front_differs (common_paths ++ more) (paths_in (numbered first 0 packages)) test (all_off first 0 packages (common_paths ++ more) (all_append (IsOff first) common_paths more (common_off first) off)) (packages_differ first 0 packages h.each h.order)
+
 all_differ : (first : Bool) (index : Option (List Row)) (packages : List Installed) → ArePackages packages → Differ (paths_in ((common_parts ++ index_parts index) ++ package_parts first packages))
-all_differ true (Some rows) packages h =
-    let front = image_path ∷ avoid_path ∷ freeze_path ∷ mediators_path ∷ history_path ∷ index_path ∷ installed_path ∷ [] in
-    front_differs front (paths_in (numbered true 0 packages)) refl (all_off true 0 packages front listed_off) (packages_differ true 0 packages h.each h.order)
-all_differ true None packages h =
-    let front = image_path ∷ avoid_path ∷ freeze_path ∷ mediators_path ∷ history_path ∷ installed_path ∷ [] in
-    let o = listed_off in
-    front_differs front (paths_in (numbered true 0 packages)) refl (all_off true 0 packages front (o.0, o.1.0, o.1.1.0, o.1.1.1.0, o.1.1.1.1.0, o.1.1.1.1.1.1)) (packages_differ true 0 packages h.each h.order)
-all_differ false (Some rows) packages h =
-    let front = image_path ∷ avoid_path ∷ freeze_path ∷ mediators_path ∷ history_path ∷ index_path ∷ [] in
-    front_differs front (paths_in (numbered false 0 packages)) refl (all_off false 0 packages front recorded_off) (packages_differ false 0 packages h.each h.order)
-all_differ false None packages h =
-    let front = image_path ∷ avoid_path ∷ freeze_path ∷ mediators_path ∷ history_path ∷ [] in
-    let o = recorded_off in
-    front_differs front (paths_in (numbered false 0 packages)) refl (all_off false 0 packages front (o.0, o.1.0, o.1.1.0, o.1.1.1.0, o.1.1.1.1.0, tt)) (packages_differ false 0 packages h.each h.order)
+all_differ true (Some rows) packages h = behind_fronts true (index_path ∷ installed_path ∷ []) packages h refl (index_off true, installed_off, tt)
+all_differ true None packages h = behind_fronts true (installed_path ∷ []) packages h refl (installed_off, tt)
+all_differ false (Some rows) packages h = behind_fronts false (index_path ∷ []) packages h refl (index_off false, tt)
+all_differ false None packages h = behind_fronts false [] packages h refl tt
 
 -- ---- in order
 
@@ -172,6 +175,7 @@ abbrev paths_at : List Place → List (List ℕ)
 paths_at places = map (λ (p : Place). p.path.bytes) places
 
 paths_ascend : (places : List Place) → IsSortedBy before_place places → IsDistinct (eq_by_cmp cmp_paths) (paths_at places) → Ascend (paths_at places)
+unfolding IsStrictlySortedBy
 paths_ascend [] up apart = tt
 paths_ascend (p ∷ places) up apart = sorted_from_all_adjacent nat_list_cmp_total (paths_at (p ∷ places)) p.path.bytes (λ k lt.
     let within : k + 1 < length (p ∷ places) = omega (arith, lt, length-map (p ∷ places) (λ (q : Place). q.path.bytes)) in

@@ -15,11 +15,11 @@ use Rattle.ips_load.specs.Held.{HoldsFolder, HoldsListed, HoldsManifest, HoldsPa
 use Rattle.ips_load.specs.Fault as files
 use Rattle.ips_load.specs.Fault.{IsBadText, IsFileFault, IsFolderFault, IsListFault, IsManifestsFault, IsNamesFile, IsRestFault}
 use Rattle.ips_load.specs.declared.fault.StateFault.{StateFault}
-use Rattle.ips_packages.specs.Placed.{HasRecords}
+use Rattle.ips_packages.specs.Placed.{HasRecords, IsPackagesFault}
 use Rattle.ips_image.specs.declared.lists.Lists.{Lists}
 use Rattle.ips_image.specs.Held.{AreLists, HoldsLists}
 use Rattle.ips_image.specs.Fault.{IsIndexFault}
-use Rattle.ips_image.specs.Whole.{HoldsRest, IsBehindFault, IsNamedFault}
+use Rattle.ips_image.specs.Whole.{HoldsRest, IsBehindFault, IsFilesFault, IsNamedFault}
 
 -- the lists that are read stand as files of their kinds
 pub lists_stand : (t : Image) (l : Lists) → AreLists l → HoldsLists t l → files.HoldsLists t
@@ -61,3 +61,13 @@ rest_held first t packages l fit held are stand = ((packages, fit, held), lists_
 
 pub packages_kept : (first : Bool) (t u : Image) (packages : List Installed) → t ≡ u → HoldsPackages first t packages → HoldsPackages first u packages
 packages_kept first t u packages same held = subst (λ (x : Image). HoldsPackages first x packages) same held
+
+-- ---- faults
+
+-- those of the packages of format 2
+pub packages_fault : (t : Image) (f : StateFault) → IsPackagesFault t f → IsFilesFault false t f
+packages_fault t f (inl failed) = inl failed
+packages_fault t f (inr bad) = inr (inl bad)
+
+pub lists_fault : (t : Image) (f : StateFault) → HasRecords t → IsListFault t f → IsFilesFault false t f
+lists_fault t f records bad = inr (inr (records, bad))

@@ -13,6 +13,7 @@ use Rattle.ips_load.specs.Held.{HoldsIndex, HoldsPackages, Stands}
 use Rattle.ips_load.specs.Fault as files
 use Rattle.ips_load.specs.Fault.{IsHeadFault, IsListFault, IsManifestsFault, IsRestFault}
 use Rattle.ips_load.specs.declared.fault.StateFault.{StateFault}
+use Rattle.ips_load.specs.declared.fault.StateFault.TheVariants.{FolderFault}
 use Rattle.ips_image.specs.declared.lists.Lists.{Lists}
 use Rattle.ips_image.specs.Held.{AreLists, HoldsLists}
 use Rattle.ips_image.specs.Fault.{IsIndexFault}
@@ -33,10 +34,15 @@ IsNamedFault names t f = IsListFault t f ⊎ (files.HoldsLists t × IsManifestsF
 abbrev pub HoldsRest : Bool → Image → Type 0
 HoldsRest first t = ((packages : List Installed) × ArePackages packages × HoldsPackages first t packages) × files.HoldsLists t
 
+-- Why the packages, in the format that the flag tells, or the lists can't be read: a call failed, which says nothing of them, or a
+-- file is at fault.
+abbrev pub IsFilesFault : Bool → Image → StateFault → Type 0
+IsFilesFault first t f = (f ≡ FolderFault) ⊎ IsRestFault first t f
+
 -- Why what stands behind the file `image` can't be read, in the format that the flag tells: the packages and the lists, and the
 -- index last.
 abbrev pub IsBehindFault : Bool → Image → StateFault → Type 0
-IsBehindFault first t f = IsRestFault first t f ⊎ (HoldsRest first t × IsIndexFault t f)
+IsBehindFault first t f = IsFilesFault first t f ⊎ (HoldsRest first t × IsIndexFault t f)
 
 -- Why the state of an image can't be loaded: the fault of the first file that has one.
 abbrev pub IsStateFault : Image → StateFault → Type 0

@@ -16,7 +16,7 @@ ghost use Rattle.ips_load.specs.Held.{Holds, HoldsFolder, HoldsListed, HoldsMani
 ghost use Rattle.ips_load.specs.Fault.{IsRestFault};
 ghost use Rattle.ips_load.specs.declared.fault.StateFault.TheVariants as fault;
 ghost use Rattle.ips_image.specs.Held.{AreLists, HoldsLists};
-ghost use Rattle.ips_image.specs.Whole.{AreBehind, HoldsBehind, IsBehindFault, IsNamedFault, IsStateFault};
+ghost use Rattle.ips_image.specs.Whole.{AreBehind, HoldsBehind, IsBehindFault, IsFilesFault, IsNamedFault, IsStateFault};
 
 use crate::heading::load_heading;
 use crate::index::index_of;
@@ -114,7 +114,7 @@ fn load_files<F: Folder>(
     ensures lists { IfOk result AreLists }
     ensures held { IsTrue (F.outside.tells folder.old) → OnOk result (HoldsPackages first (F.outside.state folder.old).held (map installed packages.new.items)) }
     ensures found { IsTrue (F.outside.tells folder.old) → IfOk result (HoldsLists (F.outside.state folder.old).held) }
-    ensures fault { IsTrue (F.outside.tells folder.old) → IfBad result (IsRestFault first (F.outside.state folder.old).held) }
+    ensures fault { IsTrue (F.outside.tells folder.old) → IfBad result (IsFilesFault first (F.outside.state folder.old).held) }
     ensures reads { Reads F.outside folder.old folder.new (result ≡ Err (Bad fault.FolderFault)) }
 {
     if first {
@@ -182,7 +182,7 @@ fn load_second<F: Folder>(
     ensures lists { IfOk result AreLists }
     ensures held { IsTrue (F.outside.tells folder.old) → OnOk result (HoldsFolder (F.outside.state folder.old).held (map installed packages.new.items)) }
     ensures found { IsTrue (F.outside.tells folder.old) → IfOk result (HoldsLists (F.outside.state folder.old).held) }
-    ensures fault { IsTrue (F.outside.tells folder.old) → IfBad result (IsRestFault false (F.outside.state folder.old).held) }
+    ensures fault { IsTrue (F.outside.tells folder.old) → IfBad result (IsFilesFault false (F.outside.state folder.old).held) }
     ensures reads { Reads F.outside folder.old folder.new (result ≡ Err (Bad fault.FolderFault)) }
 {
     match load_folder(alloc, folder, packages) {

@@ -1,14 +1,17 @@
 -- The folder of packages: what it holds, and why it can't be read.
-use Rattle.std.proofs.Common.{◌≡◌, ◌↔◌, ℕ, Bool, true, false, ◌||◌, not, IsTrue, List, map, inl, inr, Result, Err, refl, sym, ◌∙◌, ap, subst}
+use Rattle.std.proofs.Common.{◌≡◌, ◌↔◌, ℕ, Bool, true, false, ◌||◌, not, IsTrue, List, [], ◌∷◌, map, arith, inl, inr, Result, Err, refl, sym, ◌∙◌, ap, subst}
 use Rattle.std.specs.List.{AllByRecursion, list_any}
 use Rattle.std.specs.List.Sorted.{IsPermutation}
 use Rattle.std.proofs.lemmas.Bool.{false≢true, true≢false}
+use Rattle.std.specs.Prelude.{codes}
 use Rattle.ips_text.specs.Ancestry.{same_path}
+use Rattle.ips_text.specs.Path.{IsPath}
 use Rattle.ips_text.specs.declared.refusal.Or.{Or}
 use Rattle.ips_text.specs.Reading.{IfBad}
 use Rattle.ips_manifest.specs.declared.package.Package.{Package}
 use Rattle.ips_outside.specs.Image.{Image, is_dir}
 use Rattle.ips_outside.specs.Children.{AreChildren, is_foreign}
+use Rattle.ips_records.proofs.Joined.{joined_path, pkg_name}
 use Rattle.ips_state.specs.State.{Ascend, Installed, installed}
 use Rattle.ips_state.specs.Form.{IsPackage}
 use Rattle.ips_state.specs.Lawful.{ArePackages}
@@ -18,7 +21,7 @@ use Rattle.ips_load.specs.Fault.{IfFault, IsChildrenFault, IsFolderFault, IsNoFi
 use Rattle.ips_load.specs.declared.fault.StateFault.{StateFault}
 use Rattle.ips_load.specs.declared.fault.StateFault.TheVariants.{NoImage, BadImage, TooLarge, FolderFault}
 use Rattle.ips_load.proofs.Unread.{as_bad, fault_weaker}
-use Rattle.ips_packages.specs.Placed.{HasRecords, places}
+use Rattle.ips_packages.specs.Placed.{HasRecords, IsPackagesFault, places}
 use Rattle.ips_packages.proofs.Loaded.{all_records}
 use Rattle.ips_packages.proofs.Sorting.{all_moved, any_moved, stems_shown}
 
@@ -60,13 +63,13 @@ foreign_there t dir f at foreign h = inl (
   subst (λ (d : List ℕ). IsNoFile d f) at (nothing_told dir f h),
 )
 
-pub directory_missing : (X : Type 0) (t : Image) (dir : List ℕ) (e : Or StateFault) → dir ≡ packages_path → is_dir (t.look dir) ≡ false → IfFault e (TellsLine dir 0) → (let r : Result X (Or StateFault) = Err e in IfBad r (IsFolderFault t))
-directory_missing X t dir e at none h = as_bad X e (IsFolderFault t) (fault_weaker e (TellsLine dir 0) (IsFolderFault t) (λ f told. no_directory t dir f at none told) h)
+pub directory_missing : (X : Type 0) (t : Image) (dir : List ℕ) (e : Or StateFault) → dir ≡ packages_path → is_dir (t.look dir) ≡ false → IfFault e (TellsLine dir 0) → (let r : Result X (Or StateFault) = Err e in IfBad r (IsPackagesFault t))
+directory_missing X t dir e at none h = as_bad X e (IsPackagesFault t) (fault_weaker e (TellsLine dir 0) (IsPackagesFault t) (λ f told. inr (no_directory t dir f at none told)) h)
 
 -- a folder that tells what it holds lists its children in order, so that none but a foreign child is left
 pub listing_refused : (X : Type 0) (t : Image) (dir : List ℕ) (children : List (List ℕ)) (foreign ordered : Bool) (e : Or StateFault) → dir ≡ packages_path → foreign ≡ is_foreign (t.look dir) → AreChildren t dir children
-    → IsTrue ordered ↔ Ascend children → (foreign || not ordered) ≡ true → IfFault e (TellsLine dir 0) → (let r : Result X (Or StateFault) = Err e in IfBad r (IsFolderFault t))
-listing_refused X t dir children true ordered e at is are tells refused h = as_bad X e (IsFolderFault t) (fault_weaker e (TellsLine dir 0) (IsFolderFault t) (λ f told. foreign_there t dir f at (sym is) told) h)
+    → IsTrue ordered ↔ Ascend children → (foreign || not ordered) ≡ true → IfFault e (TellsLine dir 0) → (let r : Result X (Or StateFault) = Err e in IfBad r (IsPackagesFault t))
+listing_refused X t dir children true ordered e at is are tells refused h = as_bad X e (IsPackagesFault t) (fault_weaker e (TellsLine dir 0) (IsPackagesFault t) (λ f told. inr (foreign_there t dir f at (sym is) told)) h)
 listing_refused X t dir children false true e at is are tells refused h = absurd (false≢true refused)
 listing_refused X t dir children false false e at is are tells refused h = absurd (false≢true (tells.1 are.order))
 
@@ -75,8 +78,16 @@ native_order true ordered e = absurd (true≢false e)
 native_order false true e = (refl, refl)
 native_order false false e = absurd (true≢false e)
 
-pub children_fault : (t : Image) (dir : List ℕ) (children : List (List ℕ)) (f : StateFault) → dir ≡ packages_path → IsTrue (is_dir (t.look dir)) → is_foreign (t.look dir) ≡ false → AreChildren t dir children → IsChildrenFault t children f → IsFolderFault t f
-children_fault t dir children f at is native are bad = inr (
+pub children_fault : (t : Image) (dir : List ℕ) (children : List (List ℕ)) (f : StateFault) → dir ≡ packages_path → IsTrue (is_dir (t.look dir)) → is_foreign (t.look dir) ≡ false → AreChildren t dir children → IsChildrenFault t children f → IsPackagesFault t f
+children_fault t dir children f at is native are bad = inr (inr (
   (subst (λ (d : List ℕ). IsTrue (is_dir (t.look d))) at is, subst (λ (d : List ℕ). is_foreign (t.look d) ≡ false) at native),
   (children, subst (λ (d : List ℕ). AreChildren t d children) at are, bad),
-)
+))
+
+pub call_failed : (t : Image) → IsPackagesFault t FolderFault
+call_failed t = inl refl
+
+-- ---- its path
+
+pub packages_is_path : IsPath packages_path
+packages_is_path = joined_path (codes "var" ∷ codes "pkg" ∷ codes "packages" ∷ []) (record { bytes = refl; some = omega arith; few = omega arith; no_dots = refl }, (pkg_name, record { bytes = refl; some = omega arith; few = omega arith; no_dots = refl })) (omega arith)

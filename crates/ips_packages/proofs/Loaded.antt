@@ -19,6 +19,13 @@ use Rattle.ips_load.specs.Fault.{IsBadManifest, IsChildFault, IsChildrenFault, I
 use Rattle.ips_load.specs.declared.fault.StateFault.{StateFault}
 use Rattle.ips_packages.specs.Placed.{places}
 
+-- equal lists begin and go on alike
+head_same : {A : Type 0} {x y : A} {xs ys : List A} → x ∷ xs ≡ y ∷ ys → x ≡ y
+head_same e = cc
+
+tail_same : {A : Type 0} {x y : A} {xs ys : List A} → x ∷ xs ≡ y ∷ ys → xs ≡ ys
+tail_same e = cc
+
 -- one more package
 shown_more : (old new : List Package) (p : Package) → new ≡ old ++ p ∷ [] → map installed new ≡ map installed old ++ installed p ∷ []
 shown_more old new p e = ap (map installed) e ∙ map-append installed old (p ∷ [])
@@ -39,7 +46,7 @@ manifest_fault t [] i name packages f lt at all held bad = absurd (omega (arith,
 manifest_fault t (n ∷ names) zero name packages f lt at all held bad = inl (subst (λ (m : Fmri). IsFileFault IsBadManifest t (manifest_path m.stem) f) at bad)
 manifest_fault t (n ∷ names) (suc i) name [] f lt at all held bad = absurd cc
 manifest_fault t (n ∷ names) (suc i) name (p ∷ packages) f lt at all held bad =
-    inr ((p, cc, held.0), manifest_fault t names i name packages f (omega (arith, lt)) at cc held.1 bad)
+    inr ((p, head_same all, held.0), manifest_fault t names i name packages f (omega (arith, lt)) at (tail_same all) held.1 bad)
 
 -- ---- by the places of their records
 
@@ -52,7 +59,7 @@ places_more children i child old new p lt at e all one =
 pub all_records : (t : Image) (paths : List (List ℕ)) (packages : List Installed) → places packages ≡ paths → AllByRecursion IsPackage packages → AllByRecursion (HoldsPackage t) packages → AllByRecursion (IsPackageChild t) paths
 all_records t [] packages all fit held = tt
 all_records t (path ∷ paths) [] all fit held = absurd cc
-all_records t (path ∷ paths) (p ∷ packages) all fit held = ((p, fit.0.stem, fit.0.version, cc, held.0), all_records t paths packages cc fit.1 held.1)
+all_records t (path ∷ paths) (p ∷ packages) all fit held = ((p, fit.0.stem, fit.0.version, sym (head_same all), held.0), all_records t paths packages (tail_same all) fit.1 held.1)
 
 pub child_fault : (t : Image) (children : List Kept) (i : ℕ) (child : Kept) (packages : List Installed) (f : StateFault) → i < length children → child ≡ get_or children i child → places packages ≡ map (λ (c : Kept). c.bytes) (take i children)
     → AllByRecursion IsPackage packages → AllByRecursion (HoldsPackage t) packages → IsChildFault t child.bytes f → IsChildrenFault t (map (λ (c : Kept). c.bytes) children) f
@@ -60,7 +67,7 @@ child_fault t [] i child packages f lt at all fit held bad = absurd (omega (arit
 child_fault t (c ∷ children) zero child packages f lt at all fit held bad = inl (subst (λ (k : Kept). IsChildFault t k.bytes f) at bad)
 child_fault t (c ∷ children) (suc i) child [] f lt at all fit held bad = absurd cc
 child_fault t (c ∷ children) (suc i) child (p ∷ packages) f lt at all fit held bad =
-    inr ((p, fit.0.stem, fit.0.version, cc, held.0), child_fault t children i child packages f (omega (arith, lt)) at cc fit.1 held.1 bad)
+    inr ((p, fit.0.stem, fit.0.version, sym (head_same all), held.0), child_fault t children i child packages f (omega (arith, lt)) at (tail_same all) fit.1 held.1 bad)
 
 -- ---- a package of a name
 

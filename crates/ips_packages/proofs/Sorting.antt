@@ -33,7 +33,9 @@ next_above : (keys : List (List ℕ)) (k : ℕ) (d : List ℕ) → Ascend keys �
 next_above [] k d up lt = absurd (omega (arith, lt))
 next_above (x ∷ []) k d up lt = absurd (omega (arith, lt))
 next_above (x ∷ y ∷ keys) zero d up lt = (sorted_head cmp_bytes x (y ∷ keys) up).0
-next_above (x ∷ y ∷ keys) (suc k) d up lt = next_above (y ∷ keys) k d (sorted_tail cmp_bytes x (y ∷ keys) up) (omega (arith, lt))
+next_above (x ∷ y ∷ keys) (suc k) d up lt =
+    let one : suc (k + 1) ≡ suc k + 1 = omega arith in
+    subst (λ (n : ℕ). cmp_bytes (get_or (y ∷ keys) k d) (get_or (x ∷ y ∷ keys) n d) ≡ Less) one (next_above (y ∷ keys) k d (sorted_tail cmp_bytes x (y ∷ keys) up) (omega (arith, lt)))
 
 less_is : (o : Ordering) → true ≡ is_lt o → o ≡ Less
 less_is Less e = refl
@@ -50,6 +52,7 @@ at_path : (paths : List Kept) (k : ℕ) (d : Kept) → k < length paths → get_
 at_path paths k d lt = get_or-map (λ (p : Kept). p.bytes) paths k d d.bytes lt
 
 pub order_told : (paths : List Kept) (r : Bool) → IsAllAdjacentAnswer (λ (x y : Kept) (b : Bool). b ≡ is_lt (cmp_bytes x.bytes y.bytes)) paths r → IsTrue r ↔ Ascend (bytes_in paths)
+unfolding IsStrictlySortedBy
 order_told [] true h = (λ is. tt, λ up. refl)
 order_told [] false h = absurd (omega (arith, h.1))
 order_told (p ∷ paths) true h = (
@@ -96,6 +99,7 @@ place_at : (packages : List Package) (k : ℕ) (d : Package) → k < length pack
 place_at packages k d lt = ap (λ (l : List (List ℕ)). get_or l k (package_path d.stem)) (map-map (λ (p : Installed). package_path p.stem) installed packages) ∙ get_or-map (λ (p : Package). package_path p.stem) packages k d (package_path d.stem) lt
 
 stems_ascend : (packages : List Package) → IsSortedBy before packages → IsDistinct (eq_by_cmp cmp_bytes) (places (map installed packages)) → Ascend (stems_shown packages)
+unfolding IsStrictlySortedBy
 stems_ascend [] up apart = tt
 stems_ascend (p ∷ packages) up apart = sorted_from_all_adjacent nat_list_cmp_total (stems_shown (p ∷ packages)) p.stem (λ k lt.
     let all = p ∷ packages in

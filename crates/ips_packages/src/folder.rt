@@ -13,9 +13,9 @@ ghost use Rattle.ips_state.specs.Form.{IsPackage};
 ghost use Rattle.ips_state.specs.Lawful.{ArePackages};
 ghost use Rattle.ips_state.specs.Records.{packages_path};
 ghost use Rattle.ips_load.specs.Held.{HoldsPackage, HoldsFolder};
-ghost use Rattle.ips_load.specs.Fault.{IsChildrenFault, IsFolderFault};
+ghost use Rattle.ips_load.specs.Fault.{IsChildrenFault};
 ghost use Rattle.ips_load.specs.declared.fault.StateFault.TheVariants as fault;
-ghost use Rattle.ips_packages.specs.Placed.{places, HasRecords};
+ghost use Rattle.ips_packages.specs.Placed.{HasRecords, IsPackagesFault, places};
 
 use crate::child::load_child;
 use ips_folder::{Folder, ListFault, Listing};
@@ -35,7 +35,7 @@ pub fn load_folder<F: Folder>(
     ensures lawful { OnOk result (ArePackages (map installed packages.new.items)) }
     ensures found { IsTrue (F.outside.tells folder.old) → OnOk result (HoldsFolder (F.outside.state folder.old).held (map installed packages.new.items)) }
     ensures children { IsTrue (F.outside.tells folder.old) → OnOk result (HasRecords (F.outside.state folder.old).held) }
-    ensures fault { IsTrue (F.outside.tells folder.old) → IfBad result (IsFolderFault (F.outside.state folder.old).held) }
+    ensures fault { IsTrue (F.outside.tells folder.old) → IfBad result (IsPackagesFault (F.outside.state folder.old).held) }
     ensures reads { Reads F.outside folder.old folder.new (result ≡ Err (Bad fault.FolderFault)) }
 {
     let path = path_of(alloc, b"var/pkg/packages")?;
@@ -71,7 +71,7 @@ fn load_directory<F: Folder>(
     ensures lawful { OnOk result (ArePackages (map installed packages.new.items)) }
     ensures found { IsTrue (F.outside.tells folder.old) → OnOk result (HoldsFolder (F.outside.state folder.old).held (map installed packages.new.items)) }
     ensures children { IsTrue (F.outside.tells folder.old) → OnOk result (HasRecords (F.outside.state folder.old).held) }
-    ensures fault { IsTrue (F.outside.tells folder.old) → IfBad result (IsFolderFault (F.outside.state folder.old).held) }
+    ensures fault { IsTrue (F.outside.tells folder.old) → IfBad result (IsPackagesFault (F.outside.state folder.old).held) }
     ensures reads { Reads F.outside folder.old folder.new (result ≡ Err (Bad fault.FolderFault)) }
 {
     match folder.list(alloc, path) {
@@ -96,7 +96,7 @@ fn load_listing<F: Folder>(
     ensures lawful { OnOk result (ArePackages (map installed packages.new.items)) }
     ensures found { IsTrue (F.outside.tells folder.old) → OnOk result (HoldsFolder (F.outside.state folder.old).held (map installed packages.new.items)) }
     ensures children { IsTrue (F.outside.tells folder.old) → OnOk result (HasRecords (F.outside.state folder.old).held) }
-    ensures fault { IsTrue (F.outside.tells folder.old) → IfBad result (IsFolderFault (F.outside.state folder.old).held) }
+    ensures fault { IsTrue (F.outside.tells folder.old) → IfBad result (IsPackagesFault (F.outside.state folder.old).held) }
     ensures reads { Reads F.outside folder.old folder.new (result ≡ Err (Bad fault.FolderFault)) }
 {
     let children = listing.names.as_slice();

@@ -6,4 +6,4 @@ use Rattle.ips_packages.proofs.folder.by_stem.Goals as goal
 pub returns-clause-order : goal.returns-clause-order
 returns-clause-order c =
     let up = c.in_ok-sort_by.ensures.sorted before before_ranks (answers_always _ _ _ (λ f a r q k. search rules)) in
-    sorted_stems c.args.packages.now.items c.sort_by.new.self.items c.requires c.in_ok-sort_by.ensures.permutation up
+    sorted_stems c.args.packages.now.items c.sort_by.new.self.items c.requires.order c.in_ok-sort_by.ensures.permutation up

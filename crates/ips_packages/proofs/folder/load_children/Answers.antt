@@ -2,6 +2,7 @@ use Rattle.std.proofs.Common.{◌≡◌, [], ◌∷◌, ◌∙◌, Global, Vec, 
 use Rattle.std.specs.List.{AllByRecursion}
 use Rattle.std.proofs.lemmas.Result.{err_from_is_err_and}
 use Rattle.ips_text.specs.declared.refusal.Or.TheVariants.{Bad}
+use Rattle.ips_text.specs.Kept.{Kept}
 use Rattle.ips_manifest.specs.declared.package.Package.{Package}
 use Rattle.ips_outside.specs.Image.{Image}
 use Rattle.ips_outside.specs.State.{State}
@@ -9,7 +10,7 @@ use Rattle.ips_outside.proofs.Reading.{handed_on, no_fault, reads_none, reads_th
 use Rattle.ips_state.specs.State.{installed}
 use Rattle.ips_state.specs.Form.{IsPackage}
 use Rattle.ips_load.specs.Held.{HoldsPackage}
-use Rattle.ips_load.specs.Fault.{IsChildFault}
+use Rattle.ips_load.specs.Fault.{IsChildFault, IsChildrenFault}
 use Rattle.ips_load.specs.declared.fault.StateFault.TheVariants as fault
 use Rattle.ips_packages.proofs.Loaded.{all_more, places_more, child_fault}
 use Rattle.ips_packages.proofs.Handed.{bad_told}
@@ -44,7 +45,7 @@ returns-in-Err-clause-fault g c = λ told.
     let o = g.F.Source.outside in
     let inv = c.loop-child.invariant in
     let same = ap (λ (s : State). s.held) inv.reads.kept in
-    bad_told Package _ c.in-Err.fault _ _ (λ f bad. child_fault (o.state c.args.folder.now).held c.args.children.now c.loop-child.child-index c.child-item.result (map installed c.loop-child.packages.items) f c.loop-child-test.true c.child-item.is inv.places inv.lawful (inv.found told)
+    bad_told Package (Unit {0}) c.in-Err.fault (IsChildFault (o.state c.loop-child.folder).held c.child-item.result.bytes) (IsChildrenFault (o.state c.args.folder.now).held (map (λ (p : Kept). p.bytes) c.args.children.now)) (λ f bad. child_fault (o.state c.args.folder.now).held c.args.children.now c.loop-child.child-index c.child-item.result (map installed c.loop-child.packages.items) f c.loop-child-test.true c.child-item.is inv.places inv.lawful (inv.found told)
     (subst (λ (t : Image). IsChildFault t c.child-item.result.bytes f) same bad)) (c.in-Err.ensures.fault (inv.reads.call.same_kind ∙ told))
 
 pub returns-in-Err-clause-reads : goal.returns-in-Err-clause-reads

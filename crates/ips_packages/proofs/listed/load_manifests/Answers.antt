@@ -46,7 +46,7 @@ returns-in-Err-clause-fault g c = λ told.
     let o = g.F.Source.outside in
     let inv = c.loop-name.invariant in
     let same = ap (λ (s : State). s.held) inv.reads.kept in
-    bad_told Package _ c.in-Err.fault _ _ (λ f bad. manifest_fault (o.state c.args.folder.now).held c.args.names.now c.loop-name.name-index c.name-item.result (map installed c.loop-name.packages.items) f c.loop-name-test.true c.name-item.is inv.names (inv.found told)
+    bad_told Package (Unit {0}) c.in-Err.fault _ _ (λ f bad. manifest_fault (o.state c.args.folder.now).held c.args.names.now c.loop-name.name-index c.name-item.result (map installed c.loop-name.packages.items) f c.loop-name-test.true c.name-item.is inv.names (inv.found told)
     (subst (λ (t : Image). IsFileFault IsBadManifest t (manifest_path c.name-item.result.stem) f) same bad)) (c.in-Err.ensures.fault (inv.reads.call.same_kind ∙ told))
 
 pub returns-in-Err-clause-reads : goal.returns-in-Err-clause-reads
