@@ -97,7 +97,7 @@ parts_moved r old new all moved =
 
 -- ---- one more package
 
-numbered_append : (first : Bool) (n : ℕ) (packages : List Installed) (p : Installed) → numbered first n (packages ++ p ∷ []) ≡ numbered first n packages ++ owned_package first (n + length packages) p ∷ []
+pub numbered_append : (first : Bool) (n : ℕ) (packages : List Installed) (p : Installed) → numbered first n (packages ++ p ∷ []) ≡ numbered first n packages ++ owned_package first (n + length packages) p ∷ []
 numbered_append first n [] p = let same : n ≡ n + 0 = omega arith in ap (λ (k : ℕ). owned_package first k p ∷ []) same
 numbered_append first n (q ∷ packages) p =
     let count : n + 1 + length packages ≡ n + suc (length packages) = omega arith in

@@ -12,3 +12,5 @@ mod heading;
 mod lists;
 #[cfg(test)]
 mod whole;
+#[cfg(test)]
+mod written;

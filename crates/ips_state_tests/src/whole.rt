@@ -112,7 +112,7 @@ fn tells(columns: &str, name: &str) -> bool {
 }
 
 // The image of a question: its format, and the columns behind it.
-fn image(rt: &impl Abort, alloc: Global, question: &str) -> Tree {
+pub fn image(rt: &impl Abort, alloc: Global, question: &str) -> Tree {
     let (format, columns) = question.split_once(';').expect(rt, "columns");
     let mut tree = Tree::new(alloc);
     for folder in ["var", "var/pkg"] {
