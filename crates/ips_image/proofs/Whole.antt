@@ -1,8 +1,10 @@
 -- The whole state, file by file.
-use Rattle.std.proofs.Common.{◌≡◌, ℕ, Bool, true, false, List, map, Option, inl, inr, refl, sym, ◌∙◌, ap, subst}
+use Rattle.std.proofs.Common.{◌≡◌, ℕ, Bool, true, false, List, [], ◌∷◌, map, Result, Ok, Err, OnOk, arith, codes, Option, inl, inr, refl, sym, ◌∙◌, ap, subst}
 use Rattle.std.specs.List.{AllByRecursion}
 use Rattle.std.proofs.lemmas.Simd.{map-map}
+use Rattle.ips_text.specs.Path.{IsPath}
 use Rattle.ips_outside.specs.Image.{Image}
+use Rattle.ips_records.proofs.Joined.{joined_path, pkg_name}
 use Rattle.ips_fmri.specs.declared.fmri.Fmri.{Fmri}
 use Rattle.ips_mediate.specs.declared.set.SetMediator.{SetMediator}
 use Rattle.ips_records.specs.Lines.{lines_text}
@@ -71,3 +73,18 @@ packages_fault t f (inr bad) = inr (inl bad)
 
 pub lists_fault : (t : Image) (f : StateFault) → HasRecords t → IsListFault t f → IsFilesFault false t f
 lists_fault t f records bad = inr (inr (records, bad))
+
+-- ---- answers
+
+pub on_both : {X E : Type 0} (r : Result X E) (A B C : Type 0) → (A → B → C) → OnOk r A → OnOk r B → OnOk r C
+on_both (Ok x) A B C to a b = to a b
+on_both (Err e) A B C to a b = tt
+
+pub on_weaker : {X E : Type 0} (r : Result X E) (A B : Type 0) → (A → B) → OnOk r A → OnOk r B
+on_weaker (Ok x) A B to a = to a
+on_weaker (Err e) A B to a = tt
+
+-- ---- the path of the list of packages
+
+pub installed_is_path : IsPath installed_path
+installed_is_path = joined_path (codes "var" ∷ codes "pkg" ∷ codes "installed" ∷ []) (record { bytes = refl; some = omega arith; few = omega arith; no_dots = refl }, (pkg_name, record { bytes = refl; some = omega arith; few = omega arith; no_dots = refl })) (omega arith)
