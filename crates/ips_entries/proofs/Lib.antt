@@ -1,3 +1,3 @@
 pub mod Parts
 pub mod PathsDiffer
-pub mod Texts
+pub mod Written

@@ -78,7 +78,7 @@ has_index r None is = tt
 has_index r (Some rows) is = (rw is refl, tt)
 
 has_parts : (r : Recorded) → AllByRecursion (λ (s : Owned). HasPart r s.1) (parts_of r)
-has_parts r = all_append (λ (s : Owned). HasPart r s.1) (common_parts ++ index_parts r.index) (package_parts (r.format == 1) r.installed) (tt, tt, tt, tt, tt, has_index r r.index refl) (has_package r (r.format == 1))
+has_parts r = all_append (λ (s : Owned). HasPart r s.1) (common_parts ++ index_parts r.index) (package_parts (r.format == 1) r.installed) (tt, (tt, (tt, (tt, (tt, has_index r r.index refl))))) (has_package r (r.format == 1))
 
 -- ---- in another order
 

@@ -7,7 +7,7 @@ use Rattle.std.specs.Ordering.{nat_cmp, is_eq, is_lt, eq_by_cmp, ordering_revers
 use Rattle.std.specs.Cmp.Lexicographic.{slice_cmp}
 use Rattle.std.specs.FinMap.{slice_cmp-IsAntisymmetric, nat_cmp-IsAntisymmetric}
 use Rattle.std.specs.List.{AllByRecursion, IsDistinct, list_all}
-use Rattle.std.specs.List.Sorted.{IsPermutation, IsSortedBy}
+use Rattle.std.specs.List.Sorted.{IsPermutation, IsSortedBy, IsStrictlySortedBy}
 use Rattle.std.specs.Str.{bytes_eq}
 use Rattle.std.proofs.lemmas.Bool.{and_parts, false≢true}
 use Rattle.std.proofs.lemmas.Cmp.{nat_list_cmp_total, eq_by_cmp_equiv}
@@ -105,22 +105,8 @@ abbrev common_paths : List (List ℕ)
 common_paths = image_path ∷ avoid_path ∷ freeze_path ∷ mediators_path ∷ history_path ∷ []
 
 common_off : (first : Bool) → AllByRecursion (IsOff first) common_paths
-common_off true = (
-  λ s. differ_by image_path (manifest_path s) refl,
-  λ s. differ_by avoid_path (manifest_path s) refl,
-  λ s. differ_by freeze_path (manifest_path s) refl,
-  λ s. differ_by mediators_path (manifest_path s) refl,
-  λ s. differ_by history_path (manifest_path s) refl,
-  tt,
-)
-common_off false = (
-  λ s. differ_by image_path (package_path s) refl,
-  λ s. differ_by avoid_path (package_path s) refl,
-  λ s. differ_by freeze_path (package_path s) refl,
-  λ s. differ_by mediators_path (package_path s) refl,
-  λ s. differ_by history_path (package_path s) refl,
-  tt,
-)
+common_off true = (λ s. differ_by image_path (manifest_path s) refl, (λ s. differ_by avoid_path (manifest_path s) refl, (λ s. differ_by freeze_path (manifest_path s) refl, (λ s. differ_by mediators_path (manifest_path s) refl, (λ s. differ_by history_path (manifest_path s) refl, tt)))))
+common_off false = (λ s. differ_by image_path (package_path s) refl, (λ s. differ_by avoid_path (package_path s) refl, (λ s. differ_by freeze_path (package_path s) refl, (λ s. differ_by mediators_path (package_path s) refl, (λ s. differ_by history_path (package_path s) refl, tt)))))
 
 index_off : (first : Bool) → IsOff first index_path
 index_off true s = differ_by index_path (manifest_path s) refl
@@ -136,7 +122,7 @@ behind_fronts first more packages h test off =
     front_differs (common_paths ++ more) (paths_in (numbered first 0 packages)) test (all_off first 0 packages (common_paths ++ more) (all_append (IsOff first) common_paths more (common_off first) off)) (packages_differ first 0 packages h.each h.order)
 
 all_differ : (first : Bool) (index : Option (List Row)) (packages : List Installed) → ArePackages packages → Differ (paths_in ((common_parts ++ index_parts index) ++ package_parts first packages))
-all_differ true (Some rows) packages h = behind_fronts true (index_path ∷ installed_path ∷ []) packages h refl (index_off true, installed_off, tt)
+all_differ true (Some rows) packages h = behind_fronts true (index_path ∷ installed_path ∷ []) packages h refl (index_off true, (installed_off, tt))
 all_differ true None packages h = behind_fronts true (installed_path ∷ []) packages h refl (installed_off, tt)
 all_differ false (Some rows) packages h = behind_fronts false (index_path ∷ []) packages h refl (index_off false, tt)
 all_differ false None packages h = behind_fronts false [] packages h refl tt
@@ -152,6 +138,7 @@ told_apart x y off = go (cmp_paths x y) refl
     go Greater e = refl
 
 distinct_from : (texts : List (List ℕ)) → Differ texts → IsDistinct (eq_by_cmp cmp_paths) texts
+unfolding IsDistinct
 distinct_from [] h = tt
 distinct_from (x ∷ texts) h = (each texts h.0, distinct_from texts h.1)
   where

@@ -1,13 +1,13 @@
 //! The records of a state: where each stands, and what it holds, one at a time.
 //!
 //! All places of a state are told at once, by the bytes of their paths, and the text of each is made when it is asked for, so
-//! that no more than one is held. In reading order: parts of a state (`part`), their places (`places`), their texts (`texts`).
+//! that no more than one is held. In reading order: parts of a state (`part`), their places (`placing`), their texts (`texts`).
 #![tactic(auto)]
 
 mod part;
-mod places;
+mod placing;
 mod texts;
 
 pub use part::{Part, Place};
-pub use places::places;
+pub use placing::places;
 pub use texts::text_of;

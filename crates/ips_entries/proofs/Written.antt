@@ -1,12 +1,14 @@
 -- The texts of lists, and places of packages one after another.
-use Rattle.std.proofs.Common.{◌≡◌, ℕ, zero, suc, ◌+◌, ◌<◌, Bool, false, List, [], ◌∷◌, ◌++◌, length, map, take, get_or, sym, ◌∙◌, ap, subst, arith, append_assoc}
+use Rattle.std.proofs.Common.{◌≡◌, ℕ, zero, suc, ◌+◌, ◌<◌, Bool, false, Result, Ok, Err, OnOk, codes, refl, List, [], ◌∷◌, ◌++◌, length, map, take, get_or, sym, ◌∙◌, ap, subst, arith, append_assoc}
 use Rattle.std.specs.List.{AllByRecursion, flat_map}
 use Rattle.std.specs.Cmp.{IsStrictWeakOrder}
 use Rattle.std.proofs.lemmas.Cmp.{nat_list_cmp_total}
 use Rattle.std.proofs.lemmas.List.{length-map, length-take-le}
 use Rattle.std.proofs.lemmas.List.Folds.{flat_map-map}
 use Rattle.std.proofs.lemmas.List.MinMax.{ranks_by}
+use Rattle.ips_text.specs.Path.{IsPath}
 use Rattle.ips_text.proofs.Lists.{map_item}
+use Rattle.ips_records.proofs.Joined.{IsFileName, joined_path, pkg_name}
 use Rattle.ips_fmri.specs.Fmri.{fmri_text}
 use Rattle.ips_fmri.specs.Name.{IsStem}
 use Rattle.ips_fmri.specs.declared.fmri.Fmri.{Fmri}
@@ -51,3 +53,14 @@ placed_more first packages i p old before now lt at b n =
     let more : numbered first 0 (map installed (take (i + 1) packages)) ≡ numbered first 0 (map installed (take i packages)) ++ owned_package first i (installed p) ∷ []
     = ap (numbered first 0) (map_item installed packages i p lt at) ∙ numbered_append first 0 (map installed (take i packages)) (installed p) ∙ ap (λ (k : ℕ). numbered first 0 (map installed (take i packages)) ++ owned_package first k (installed p) ∷ []) count in
     n ∙ ap (λ (l : List Owned). l ++ owned_package first i (installed p) ∷ []) b ∙ append_assoc old (numbered first 0 (map installed (take i packages))) (owned_package first i (installed p) ∷ []) ∙ ap (λ (l : List Owned). old ++ l) (sym more)
+
+-- ---- paths
+
+pub path_in : (name : List ℕ) → IsFileName name → IsPath (codes "var/pkg/" ++ name)
+path_in name n = joined_path (codes "var" ∷ codes "pkg" ∷ name ∷ []) (record { bytes = refl; some = omega arith; few = omega arith; no_dots = refl }, (pkg_name, n)) (omega (arith, n.few))
+
+-- ---- answers
+
+pub on_told : {X E : Type 0} (r : Result X E) (A B : Type 0) → (A → B) → OnOk r A → OnOk r B
+on_told (Ok x) A B to a = to a
+on_told (Err e) A B to a = tt

@@ -6,8 +6,8 @@ use Rattle.ips_state.specs.Records.{Entry}
 use Rattle.ips_entries.specs.Part.{entry_at}
 use Rattle.ips_entries.proofs.Parts.{entries_told, parts_moved}
 use Rattle.ips_entries.proofs.PathsDiffer.{before_place, entries_ascend}
-use Rattle.ips_entries.proofs.Texts.{ranks_places}
-use Rattle.ips_entries.proofs.places.places.Goals as goal
+use Rattle.ips_entries.proofs.Written.{ranks_places}
+use Rattle.ips_entries.proofs.placing.places.Goals as goal
 
 pub returns-clause-records : goal.returns-clause-records
 returns-clause-records c =

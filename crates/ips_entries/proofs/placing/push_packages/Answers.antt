@@ -1,10 +1,10 @@
 use Rattle.std.proofs.Common.{map}
 use Rattle.ips_entries.specs.Part.{owned}
-use Rattle.ips_entries.proofs.Texts.{placed_more, stem_numbered}
-use Rattle.ips_entries.proofs.places.push_packages.Goals as goal
+use Rattle.ips_entries.proofs.Written.{placed_more, stem_numbered}
+use Rattle.ips_entries.proofs.placing.push_packages.Goals as goal
 
 pub push_package-requires : goal.push_package-requires
-push_package-requires c = stem_numbered c.args.packages.now c.loop-number.number c.index-packages-number.result c.requires c.loop-number-test.true c.index-packages-number.is
+push_package-requires c = stem_numbered c.args.packages.now c.loop-number.number c.index-packages-number.result c.requires.packages c.loop-number-test.true c.index-packages-number.is
 
 pub loop-number-preserved : goal.loop-number-preserved
 loop-number-preserved c =
