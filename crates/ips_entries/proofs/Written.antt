@@ -3,7 +3,7 @@ use Rattle.std.proofs.Common.{◌≡◌, ℕ, zero, suc, ◌+◌, ◌<◌, Bool,
 use Rattle.std.specs.List.{AllByRecursion, flat_map}
 use Rattle.std.specs.Cmp.{IsStrictWeakOrder}
 use Rattle.std.proofs.lemmas.Cmp.{nat_list_cmp_total}
-use Rattle.std.proofs.lemmas.List.{length-map, length-take-le}
+use Rattle.std.proofs.lemmas.List.{length-map, length-take-le, map-append}
 use Rattle.std.proofs.lemmas.List.Folds.{flat_map-map}
 use Rattle.std.proofs.lemmas.List.MinMax.{ranks_by}
 use Rattle.ips_text.specs.Path.{IsPath}
@@ -15,11 +15,13 @@ use Rattle.ips_fmri.specs.declared.fmri.Fmri.{Fmri}
 use Rattle.ips_manifest.specs.declared.package.Package.{Package}
 use Rattle.ips_mediate.specs.declared.set.SetMediator.{SetMediator}
 use Rattle.ips_records.specs.Lines.{ended, lines_text}
-use Rattle.ips_state.specs.State.{Installed, installed}
+use Rattle.ips_state.specs.State.{Installed, Recorded, installed}
+use Rattle.ips_state.specs.Records.{entry_of}
+use Rattle.ips_state.specs.declared.state.Record.{Record}
 use Rattle.ips_state.specs.Form.{IsPackage}
 use Rattle.ips_state.specs.Text.{mediator_line, name_lines, versioned_stem}
 use Rattle.ips_entries.specs.declared.part.Place.{Place}
-use Rattle.ips_entries.specs.Part.{Owned, numbered, owned_package}
+use Rattle.ips_entries.specs.Part.{Owned, entry_at, numbered, owned_package}
 use Rattle.ips_entries.proofs.Parts.{numbered_append}
 use Rattle.ips_entries.proofs.PathsDiffer.{before_place}
 
@@ -64,3 +66,15 @@ path_in name n = joined_path (codes "var" ∷ codes "pkg" ∷ name ∷ []) (reco
 pub on_told : {X E : Type 0} (r : Result X E) (A B : Type 0) → (A → B) → OnOk r A → OnOk r B
 on_told (Ok x) A B to a = to a
 on_told (Err e) A B to a = tt
+
+-- ---- records
+
+pub one_of : {A : Type 0} (P : A → Type 0) (xs : List A) (i : ℕ) (x : A) → AllByRecursion P xs → i < length xs → x ≡ get_or xs i x → P x
+one_of P [] i x all lt at = absurd (omega (arith, lt))
+one_of P (y ∷ xs) zero x all lt at = subst P (sym at) all.0
+one_of P (y ∷ xs) (suc i) x all lt at = one_of P xs i x all.1 (omega (arith, lt)) at
+
+pub record_more : (r : Recorded) (places : List Place) (i : ℕ) (place : Place) (old new : List Record) (one : Record) → i < length places → place ≡ get_or places i place → new ≡ old ++ one ∷ []
+    → map entry_of old ≡ map (entry_at r) (take i places) → entry_of one ≡ entry_at r place → map entry_of new ≡ map (entry_at r) (take (i + 1) places)
+record_more r places i place old new one lt at e all same =
+    ap (map entry_of) e ∙ map-append entry_of old (one ∷ []) ∙ (λ j. all j ++ same j ∷ []) ∙ sym (map_item (entry_at r) places i place lt at)

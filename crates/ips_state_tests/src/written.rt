@@ -1,7 +1,10 @@
 //! The records of a state, written in both formats: what was loaded is written as it stood.
 
+ghost use Rattle.ips_state.specs.State.{recorded};
+ghost use Rattle.ips_state.specs.Lawful.{IsLawful};
+
 use crate::whole::image;
-use ips_entries::{places, text_of};
+use ips_entries::records;
 use ips_folder::MemFolder;
 use ips_image::load;
 use ips_state::State;
@@ -28,16 +31,18 @@ fn push_spelled(rt: &impl Abort, told: &mut String, bytes: &[u8]) {
 }
 
 // The state's format and its records, in the form of a case.
-fn written(rt: &impl Abort, alloc: Global, state: &State) -> String {
+fn written(rt: &impl Abort, alloc: Global, state: &State) -> String
+    requires { IsLawful (recorded state.now) }
+{
     let mut told = format!(in alloc; "{}", state.format).expect(rt, "memory");
-    for place in &places(alloc, state).expect(rt, "memory") {
-        let path = str::from_utf8(place.path.bytes()).ok().expect(rt, "text");
+    let list = records(alloc, state).expect(rt, "memory");
+    for one in &list {
+        let path = str::from_utf8(one.path.bytes()).ok().expect(rt, "text");
         let name = path.strip_prefix("var/pkg/").expect(rt, "a record");
         told.push_str("; ").expect(rt, "memory");
         told.push_str(name).expect(rt, "memory");
         told.push_str("=").expect(rt, "memory");
-        let bytes = text_of(alloc, state, place.part).expect(rt, "memory");
-        push_spelled(rt, &mut told, &bytes);
+        push_spelled(rt, &mut told, &one.bytes);
     }
     told
 }
