@@ -9,14 +9,15 @@ use Rattle.std.proofs.lemmas.Simd.{map-map}
 use Rattle.ips_text.proofs.Lists.{all_append, take_item}
 use Rattle.ips_index.specs.Rows.{Row}
 use Rattle.ips_state.specs.State.{Installed, Recorded}
-use Rattle.ips_state.specs.Records.{Entry, common_records, index_path, index_records, installed_path, package_place, records_by, records_of}
+use Rattle.ips_state.specs.Records.{common_records, index_path, index_records, installed_path, package_place, records_by, records_of}
+use Rattle.ips_packages.proofs.Sorting.{to_all}
 use Rattle.ips_entries.specs.declared.part.Part.{Part}
 use Rattle.ips_entries.specs.declared.part.Part.TheVariants as part
 use Rattle.ips_entries.specs.declared.part.Place.{Place}
 use Rattle.ips_entries.specs.Part.{HasPart, Owned, common_parts, entry_at, index_parts, numbered, owned, owned_package, package_parts, part_text, parts_of, text_of_index, text_of_package}
 
 -- the record of a part that stands at its path
-abbrev pub entry_in : Recorded → Owned → Entry
+abbrev pub entry_in : Recorded → Owned → List ℕ × List ℕ
 entry_in r s = (s.0, part_text r s.1)
 
 entries_shown : (r : Recorded) (places : List Place) → map (entry_at r) places ≡ map (entry_in r) (map owned places)
@@ -28,7 +29,7 @@ behind_front : {A : Type 0} (front : List A) (x : A) (more : List A) → slice_g
 behind_front [] x more = refl
 behind_front (y ∷ front) x more = behind_front front x more
 
-abbrev entry_of_package : Bool → Installed → Entry
+abbrev entry_of_package : Bool → Installed → List ℕ × List ℕ
 entry_of_package first p = (package_place first p.stem, text_of_package first (Some p))
 
 numbered_entries : (r : Recorded) (first : Bool) (front packages : List Installed) → (r.format == 1) ≡ first → r.installed ≡ front ++ packages
@@ -41,7 +42,7 @@ numbered_entries r first front (p ∷ packages) is all =
     λ j. (package_place first p.stem, text_of_package (is j) (at j)) ∷ more j
 
 by_format : (r : Recorded) (first : Bool) → (r.format == 1) ≡ first → map (entry_in r) (package_parts first r.installed) ≡ records_by first r.installed
-by_format r true is = ap (λ (l : List Entry). entry_in r (installed_path, part.Installed) ∷ l) (numbered_entries r true [] r.installed is refl)
+by_format r true is = ap (λ (l : List (List ℕ × List ℕ)). entry_in r (installed_path, part.Installed) ∷ l) (numbered_entries r true [] r.installed is refl)
 by_format r false is = numbered_entries r false [] r.installed is refl
 
 -- ---- the rest
@@ -51,7 +52,7 @@ of_index r None is = refl
 of_index r (Some rows) is = λ j. (index_path, text_of_index (is j)) ∷ []
 
 of_common : (r : Recorded) → map (entry_in r) (common_parts ++ index_parts r.index) ≡ common_records r
-of_common r = map-append (entry_in r) common_parts (index_parts r.index) ∙ ap (λ (l : List Entry). map (entry_in r) common_parts ++ l) (of_index r r.index refl)
+of_common r = map-append (entry_in r) common_parts (index_parts r.index) ∙ ap (λ (l : List (List ℕ × List ℕ)). map (entry_in r) common_parts ++ l) (of_index r r.index refl)
 
 parts_told : (r : Recorded) → map (entry_in r) (parts_of r) ≡ records_of r
 parts_told r = map-append (entry_in r) (common_parts ++ index_parts r.index) (package_parts (r.format == 1) r.installed) ∙ (λ j. of_common r j ++ by_format r (r.format == 1) refl j)
@@ -82,14 +83,9 @@ has_parts r = all_append (λ (s : Owned). HasPart r s.1) (common_parts ++ index_
 
 -- ---- in another order
 
-each_at : {X : Type 0} (P : X → Type 0) (xs : List X) → AllByRecursion P xs → All P xs
-each_at P [] h k d lt = absurd (omega (arith, lt))
-each_at P (x ∷ xs) h zero d lt = h.0
-each_at P (x ∷ xs) h (suc k) d lt = each_at P xs h.1 k d (omega (arith, lt))
-
 pub parts_moved : (r : Recorded) (old new : List Place) → map owned old ≡ parts_of r → IsPermutation old new → AllByRecursion (λ (p : Place). HasPart r p.part) new
 parts_moved r old new all moved =
-    back new (All-map-IsPermutation owned (λ (s : Owned). HasPart r s.1) old new moved (each_at (λ (s : Owned). HasPart r s.1) (map owned old) (subst (AllByRecursion (λ (s : Owned). HasPart r s.1)) (sym all) (has_parts r))))
+    back new (All-map-IsPermutation owned (λ (s : Owned). HasPart r s.1) old new moved (to_all (λ (s : Owned). HasPart r s.1) (map owned old) (subst (AllByRecursion (λ (s : Owned). HasPart r s.1)) (sym all) (has_parts r))))
   where
     back : (places : List Place) → All (λ (s : Owned). HasPart r s.1) (map owned places) → AllByRecursion (λ (p : Place). HasPart r p.part) places
     back [] h = tt

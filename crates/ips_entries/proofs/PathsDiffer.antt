@@ -18,13 +18,14 @@ use Rattle.std.proofs.lemmas.Simd.{map-map}
 use Rattle.std.proofs.lemmas.Slice.Eq.{bytes_eq-Decides}
 use Rattle.ips_text.specs.Quote.{quoted}
 use Rattle.ips_text.proofs.Lists.{all_append}
+use Rattle.ips_text.proofs.Truths.{not_true}
 use Rattle.ips_fmri.specs.Name.{IsStem}
 use Rattle.ips_index.specs.Rows.{Row}
 use Rattle.ips_records.proofs.WordForms.{word_one}
 use Rattle.ips_state.specs.State.{Ascend, Installed, Recorded}
 use Rattle.ips_state.specs.Form.{IsPackage}
 use Rattle.ips_state.specs.Lawful.{ArePackages, Differ}
-use Rattle.ips_state.specs.Records.{Entry, avoid_path, freeze_path, history_path, image_path, index_path, installed_path, manifest_path, mediators_path, package_path, package_place}
+use Rattle.ips_state.specs.Records.{avoid_path, freeze_path, history_path, image_path, index_path, installed_path, manifest_path, mediators_path, package_path, package_place}
 use Rattle.ips_packages.proofs.Records.{stem_is_word}
 use Rattle.ips_entries.specs.declared.part.Place.{Place}
 use Rattle.ips_entries.specs.Part.{Owned, common_parts, entry_at, index_parts, numbered, owned, package_parts, parts_of}
@@ -40,10 +41,6 @@ differ_by x y off e = false≢true (sym off ∙ (bytes_eq-Decides x y).1 e)
 -- the path isn't among these
 abbrev Without : List ℕ → List (List ℕ) → Type 0
 Without path others = AllByRecursion (λ other. path ≡ other → ⊥) others
-
-not_true : (b : Bool) → not b ≡ true → b ≡ false
-not_true true e = absurd (false≢true e)
-not_true false e = refl
 
 without_front : (x : List ℕ) (front rest : List (List ℕ)) → list_all (λ y. not (bytes_eq x y)) front ≡ true → Without x rest → Without x (front ++ rest)
 without_front x [] rest test off = off
@@ -172,9 +169,9 @@ paths_ascend (p ∷ places) up apart = sorted_from_all_adjacent nat_list_cmp_tot
     let other = apart_from_distinct (eq_by_cmp cmp_paths) (paths_at (p ∷ places)) k (k + 1) p.path.bytes apart (omega arith) lt in
     (λ j. cmp_paths (first j) (second j)) ∙ rises_to (get_or (p ∷ places) k p).path.bytes (get_or (p ∷ places) (k + 1) p).path.bytes (up k p (omega arith) within) ((λ j. eq_by_cmp cmp_paths (sym first j) (sym second j)) ∙ other))
 
-pub entries_ascend : (r : Recorded) (old new : List Place) → ArePackages r.installed → map owned old ≡ parts_of r → IsPermutation old new → IsSortedBy before_place new → Ascend (map (λ (e : Entry). e.0) (map (entry_at r) new))
+pub entries_ascend : (r : Recorded) (old new : List Place) → ArePackages r.installed → map owned old ≡ parts_of r → IsPermutation old new → IsSortedBy before_place new → Ascend (map (λ (e : List ℕ × List ℕ). e.0) (map (entry_at r) new))
 entries_ascend r old new h all moved up =
     let paths = sym (map-map (λ (s : Owned). s.0) owned old) ∙ ap paths_in all in
     let distinct = subst (IsDistinct (eq_by_cmp cmp_paths)) (sym paths) (distinct_from (paths_in (parts_of r)) (all_differ (r.format == 1) r.index r.installed h)) in
     let apart = IsDistinct-IsPermutation (eq_by_cmp cmp_paths) (eq_by_cmp_equiv nat_list_cmp_total).symm (paths_at old) (paths_at new) (IsPermutation-map (λ (p : Place). p.path.bytes) old new moved) distinct in
-    subst Ascend (sym (map-map (λ (e : Entry). e.0) (entry_at r) new)) (paths_ascend new up apart)
+    subst Ascend (sym (map-map (λ (e : List ℕ × List ℕ). e.0) (entry_at r) new)) (paths_ascend new up apart)

@@ -5,7 +5,7 @@ use Rattle.ips_index.specs.Rows.{Row, index_text}
 use Rattle.ips_records.specs.Lines.{lines_text}
 use Rattle.ips_state.specs.State.{Installed, Recorded, head_of}
 use Rattle.ips_state.specs.Text.{head_lines, versioned_stem, name_lines, mediator_line, package_text}
-use Rattle.ips_state.specs.Records.{Entry, avoid_path, freeze_path, history_path, image_path, index_path, installed_path, mediators_path, package_place}
+use Rattle.ips_state.specs.Records.{avoid_path, freeze_path, history_path, image_path, index_path, installed_path, mediators_path, package_place}
 use Rattle.ips_entries.specs.declared.part.Part.{Part}
 use Rattle.ips_entries.specs.declared.part.Part.TheVariants as part
 use Rattle.ips_entries.specs.declared.part.Place.{Place}
@@ -39,7 +39,7 @@ part_text r part.Index = text_of_index r.index
 part_text r (part.Package n) = text_of_package (r.format == 1) (slice_get r.installed n)
 
 -- The record of a part that stands at a place.
-abbrev pub entry_at : Recorded → Place → Entry
+abbrev pub entry_at : Recorded → Place → List ℕ × List ℕ
 entry_at r place = (place.path.bytes, part_text r place.part)
 
 -- ---- where the records of a state stand

@@ -80,10 +80,6 @@ pub on_both : {X E : Type 0} (r : Result X E) (A B C : Type 0) → (A → B → 
 on_both (Ok x) A B C to a b = to a b
 on_both (Err e) A B C to a b = tt
 
-pub on_weaker : {X E : Type 0} (r : Result X E) (A B : Type 0) → (A → B) → OnOk r A → OnOk r B
-on_weaker (Ok x) A B to a = to a
-on_weaker (Err e) A B to a = tt
-
 -- ---- the path of the list of packages
 
 pub installed_is_path : IsPath installed_path

@@ -72,10 +72,10 @@ order_told (p ∷ paths) false h = (
 
 -- ---- sorted by stems
 
-abbrev pub before : Package → Package → Bool
-before a b = is_lt (cmp_bytes a.stem b.stem)
+abbrev pub before_stem : Package → Package → Bool
+before_stem a b = is_lt (cmp_bytes a.stem b.stem)
 
-pub before_ranks : IsStrictWeakOrder before
+pub before_ranks : IsStrictWeakOrder before_stem
 before_ranks = ranks_by nat_list_cmp_total (λ (q : Package). q.stem)
 
 -- a stem that isn't above the next one, and has another place, is below it
@@ -98,7 +98,7 @@ stem_at_place packages k d lt = ap (λ (l : List (List ℕ)). get_or l k d.stem)
 place_at : (packages : List Package) (k : ℕ) (d : Package) → k < length packages → get_or (places (map installed packages)) k (package_path d.stem) ≡ package_path (get_or packages k d).stem
 place_at packages k d lt = ap (λ (l : List (List ℕ)). get_or l k (package_path d.stem)) (map-map (λ (p : Installed). package_path p.stem) installed packages) ∙ get_or-map (λ (p : Package). package_path p.stem) packages k d (package_path d.stem) lt
 
-stems_ascend : (packages : List Package) → IsSortedBy before packages → IsDistinct (eq_by_cmp cmp_bytes) (places (map installed packages)) → Ascend (stems_shown packages)
+stems_ascend : (packages : List Package) → IsSortedBy before_stem packages → IsDistinct (eq_by_cmp cmp_bytes) (places (map installed packages)) → Ascend (stems_shown packages)
 unfolding IsStrictlySortedBy
 stems_ascend [] up apart = tt
 stems_ascend (p ∷ packages) up apart = sorted_from_all_adjacent nat_list_cmp_total (stems_shown (p ∷ packages)) p.stem (λ k lt.
@@ -111,7 +111,7 @@ stems_ascend (p ∷ packages) up apart = sorted_from_all_adjacent nat_list_cmp_t
     (λ j. cmp_bytes (stem_at_place (p ∷ packages) k p here j) (stem_at_place (p ∷ packages) (k + 1) p within j))
     ∙ below_next (get_or (p ∷ packages) k p).stem (get_or (p ∷ packages) (k + 1) p).stem (up k p (omega arith) within) places_apart)
 
-pub sorted_stems : (old new : List Package) → Ascend (places (map installed old)) → IsPermutation old new → IsSortedBy before new → Ascend (stems_shown new)
+pub sorted_stems : (old new : List Package) → Ascend (places (map installed old)) → IsPermutation old new → IsSortedBy before_stem new → Ascend (stems_shown new)
 sorted_stems old new order moved up =
     let apart = IsDistinct-from_sorted cmp_bytes (places (map installed old)) order in
     let changed = IsPermutation-map (λ (p : Installed). package_path p.stem) (map installed old) (map installed new) (IsPermutation-map installed old new moved) in
@@ -119,7 +119,7 @@ sorted_stems old new order moved up =
 
 -- ---- what the same packages have in another order
 
-to_all : {X : Type 0} (P : X → Type 0) (xs : List X) → AllByRecursion P xs → All P xs
+pub to_all : {X : Type 0} (P : X → Type 0) (xs : List X) → AllByRecursion P xs → All P xs
 to_all P [] h k d lt = absurd (omega (arith, lt))
 to_all P (x ∷ xs) h zero d lt = h.0
 to_all P (x ∷ xs) h (suc k) d lt = to_all P xs h.1 k d (omega (arith, lt))

@@ -1,7 +1,6 @@
 use Rattle.std.proofs.Common.{◌∙◌, sym}
-use Rattle.std.proofs.lemmas.Result.{IfOk-weaker}
+use Rattle.ips_records.proofs.Found.{found_none}
 use Rattle.ips_packages.proofs.Records.{not_below, not_quoted, not_stem}
-use Rattle.ips_packages.proofs.Handed.{none_weaker}
 use Rattle.ips_packages.proofs.child.stem_at.Goals as goal
 
 pub returns-in_default-clause-none : goal.returns-in_default-clause-none
@@ -12,6 +11,6 @@ returns-in_default-2-clause-none c = not_quoted c.args.path.now.bytes c.in-Some.
 
 pub returns-clause-none : goal.returns-clause-none
 returns-clause-none c =
-    IfOk-weaker c.stem.result _ _ (λ found h. none_weaker found _ _ (λ none.
+    found_none c.stem.result _ _ (λ none.
     not_stem c.args.path.now.bytes c.in-Some.name.now c.in-Some-2.word (sym c.bytes.ensures.value ∙ c.in-Some.ensures.some) (rw c.in-Some-2.is at c.in_ok-word.ensures.sole).fits (rw c.in-Some-2.is at c.in_ok-word.ensures.of_bytes)
-    (λ s is e. none s is (e ∙ sym (c.as_bytes.ensures.value ∙ c.as_str.ensures)))) h) c.stem.ensures.none
+    (λ s is e. none s is (e ∙ sym (c.as_bytes.ensures.value ∙ c.as_str.ensures)))) c.stem.ensures.none
