@@ -1,0 +1,6 @@
+pub mod LineNumbers
+pub mod Records
+pub mod Loaded
+pub mod Sorting
+pub mod Handed
+pub mod Folders
