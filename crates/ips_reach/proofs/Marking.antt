@@ -1,8 +1,9 @@
 -- Marks that are set at a path, and at those above it.
-use Rattle.std.proofs.Common.{◌≡◌, ℕ, zero, suc, ◌+◌, ◌<◌, Bool, true, false, not, ◌&&◌, ◌||◌, List, [], ◌∷◌, ◌++◌, map, take, length, get_or, set, Option, Some, None, slice_get, refl, sym, ◌∙◌, ap, subst, arith}
+use Rattle.std.proofs.Common.{◌≡◌, ℕ, zero, suc, ◌+◌, Bool, true, false, not, ◌&&◌, ◌||◌, List, [], ◌∷◌, ◌++◌, map, take, get_or, set, Some, None, slice_get, inl, inr, refl, sym, ◌∙◌, ap, subst}
 use Rattle.std.specs.List.{list_any}
 use Rattle.std.proofs.lemmas.Bool.{and_parts, not-true, cases_Bool, false_from_ne_true}
-use Rattle.std.proofs.lemmas.Option.{same_Some}
+use Rattle.std.specs.Option.{option_map}
+use Rattle.std.proofs.lemmas.Option.{get_or_from_slice_get, same_Some, slice_get-map, slice_get_within}
 use Rattle.ips_text.specs.Ancestry.{covers, is_below, parent, same_path}
 use Rattle.ips_text.proofs.Ancestry.{at_parent_of, covers_trans, parent_covers, same_covers, same_path-self, same_path-true}
 use Rattle.ips_text.proofs.Lists.{take_item}
@@ -140,8 +141,15 @@ any_more : (f : Test) (paths : List (List ℕ)) (p : List ℕ) → list_any f (p
 any_more f [] p = sym (or_false (f p))
 any_more f (q ∷ paths) p = ap (λ (b : Bool). f q || b) (any_more f paths p) ∙ sym (or_assoc (f q) (list_any f paths) (f p))
 
-pub below_more : (test : Test) (paths : List (List ℕ)) (i : ℕ) (path : List ℕ) (marked : Bool) → i < length paths → path ≡ get_or paths i path → marked ≡ test path
+pub below_more : (test : Test) (paths : List (List ℕ)) (i : ℕ) (path : List ℕ) (marked : Bool) → slice_get paths i ≡ Some path → marked ≡ test path
     → map (λ p. holds_below test (take i paths) p || (is_below p path && marked)) paths ≡ map (holds_below test (take (i + 1) paths)) paths
-below_more test paths i path marked lt is mark = map_same (λ p. holds_below test (take i paths) p || (is_below p path && marked)) (holds_below test (take (i + 1) paths)) paths
+below_more test paths i path marked there mark = map_same (λ p. holds_below test (take i paths) p || (is_below p path && marked)) (holds_below test (take (i + 1) paths)) paths
     (λ p. ap (λ (b : Bool). holds_below test (take i paths) p || (is_below p path && b)) mark
-    ∙ sym (ap (λ (l : List (List ℕ)). holds_below test l p) (take_item paths i path lt is) ∙ any_more (λ q. is_below p q && test q) (take i paths) path))
+    ∙ sym (ap (λ (l : List (List ℕ)). holds_below test l p) (take_item paths i path (slice_get_within paths i path there) (sym (get_or_from_slice_get paths i path path there)))
+    ∙ any_more (λ q. is_below p q && test q) (take i paths) path))
+
+-- the mark of a path
+pub mark_there : (test : Test) (paths : List (List ℕ)) (marks : List Bool) (i : ℕ) (path : List ℕ) (otherwise : Bool) → marks ≡ map test paths → slice_get paths i ≡ Some path → get_or marks i otherwise ≡ test path
+mark_there test paths marks i path otherwise are there =
+    ap (λ (l : List Bool). get_or l i otherwise) are
+    ∙ get_or_from_slice_get (map test paths) i (test path) otherwise (slice_get-map test paths i ∙ ap (option_map test) there)

@@ -4,7 +4,6 @@ use Rattle.std.specs.List.{list_any}
 use Rattle.ips_text.specs.Ancestry.{is_below}
 use Rattle.ips_after.specs.Lists.{listed}
 use Rattle.ips_survey.specs.declared.row.Row.{Row}
-use Rattle.ips_survey.specs.Pairs.{Pair}
 use Rattle.ips_survey.specs.Rows.{row_pair}
 
 -- the paths of rows

@@ -1,6 +1,6 @@
 //! Marks below paths.
 
-ghost use Rattle.std.specs.Prelude.{◌≡◌, ℕ, Bool, ◌||◌, ◌&&◌, IfOk, List, length, map};
+ghost use Rattle.std.specs.Prelude.{◌≡◌, ℕ, Bool, false, ◌||◌, ◌&&◌, IfOk, List, length, map};
 ghost use Rattle.std.specs.List.Sorted.{IsStrictlySortedBy};
 ghost use Rattle.std.specs.Ordering.{nat_cmp};
 ghost use Rattle.std.specs.Cmp.Lexicographic.{slice_cmp};
@@ -23,10 +23,21 @@ pub fn marked_below(
     ensures { IfOk result (λ found. (test : List ℕ → Bool) → IsMarkOf test (row_paths rows.now) marks.now → found.items ≡ map (holds_below test (row_paths rows.now)) (row_paths rows.now)) }
 {
     let mut found = vec![in alloc; false; rows.len()]?;
-    for i in 0..rows.len() {
-        add(rows, &mut found, rows[i].path.bytes(), marks[i]);
-    }
+    mark_all(rows, marks, &mut found);
     Ok(found)
+}
+
+// Marks the rows above each path that is marked, where none is yet.
+fn mark_all(rows: &[Row<'_>], marks: &[bool], found: &mut [bool])
+    requires order { IsStrictlySortedBy (slice_cmp nat_cmp) (row_paths rows.now) }
+    requires marks { length marks.now ≡ length rows.now }
+    requires found { length found.old ≡ length rows.now }
+    requires none { found.old ≡ map (λ p. false) (row_paths rows.now) }
+    ensures { (test : List ℕ → Bool) → IsMarkOf test (row_paths rows.now) marks.now → found.new ≡ map (holds_below test (row_paths rows.now)) (row_paths rows.now) }
+{
+    for i in 0..rows.len() {
+        add(rows, found, rows[i].path.bytes(), marks[i]);
+    }
 }
 
 // Marks the rows above the path, if that is marked.
