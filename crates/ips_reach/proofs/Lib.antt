@@ -1,3 +1,4 @@
 mod Placed
 mod Reached
 mod Topping
+mod Marking

@@ -1,6 +1,5 @@
 -- What is reached at a path or above it, by the path's parent.
-use Rattle.std.proofs.Common.{◌≡◌, ℕ, ◌==◌, Bool, true, false, cond, ◌&&◌, ◌||◌, List, [], ◌∷◌, map, Option, Some, None, slice_get, refl, sym, ◌∙◌, ap, subst}
-use Rattle.std.specs.Option.{option_map}
+use Rattle.std.proofs.Common.{◌≡◌, ℕ, ◌==◌, Bool, true, false, cond, ◌&&◌, ◌||◌, List, [], ◌∷◌, Option, Some, None, refl, sym, ◌∙◌, ap}
 use Rattle.ips_text.specs.Ancestry.{behind, parent}
 use Rattle.ips_text.proofs.Truths.{or_false, or_swapped}
 use Rattle.ips_after.specs.Change.{reached}

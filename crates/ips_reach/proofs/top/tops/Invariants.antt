@@ -1,7 +1,6 @@
 use Rattle.std.proofs.Common.{◌≡◌, map, take}
 use Rattle.std.specs.List.{AllByRecursion}
 use Rattle.ips_outside.specs.Image.{Image}
-use Rattle.ips_after.specs.After as after
 use Rattle.ips_after.specs.Request.{Request}
 use Rattle.ips_survey.specs.Rows.{HasLooked, IsRowOf}
 use Rattle.ips_reach.proofs.Topping.{top_at}
