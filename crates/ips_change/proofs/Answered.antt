@@ -1,15 +1,14 @@
 -- What the keep table answers by what is seen.
-use Rattle.std.proofs.Common.{◌≡◌, ℕ, Bool, true, false, cond, not, ◌||◌, List, Option, Some, None, refl, sym, ◌∙◌, ap}
+use Rattle.std.proofs.Common.{◌≡◌, ℕ, Bool, true, false, cond, not, ◌||◌, List, Option, Some, None, refl}
 use Rattle.ips_text.specs.Ancestry.{same_path}
 use Rattle.ips_outside.specs.Image.{Entry, Dir, File, Link, Other}
 use Rattle.ips_action.specs.declared.action.Preserve.{Preserve}
 use Rattle.ips_action.specs.declared.action.Preserve.TheVariants as preserves
 use Rattle.ips_preserve.specs.declared.case.Case.{Case}
 use Rattle.ips_preserve.specs.declared.case.Event.{Event}
-use Rattle.ips_preserve.specs.declared.case.Event.TheVariants.{First, Update, Removal}
+use Rattle.ips_preserve.specs.declared.case.Event.TheVariants.{Update, Removal}
 use Rattle.ips_preserve.specs.declared.case.Standing.{Standing}
-use Rattle.ips_preserve.specs.declared.case.Standing.TheVariants.{Absent, Same, Different, NotFile}
-use Rattle.ips_preserve.specs.declared.keep.Keep.{Keep}
+use Rattle.ips_preserve.specs.declared.case.Standing.TheVariants.{Same, Different}
 use Rattle.ips_preserve.specs.Keep.{keep}
 use Rattle.ips_after.specs.After as after
 use Rattle.ips_after.specs.Request.{Request, WantDir, WantFile, WantHard, WantLink, Wanted}

@@ -1,9 +1,9 @@
 -- What is learned of what stands, in small cases that compute. Bytes are the payload that is spelled as they are.
-use Rattle.std.proofs.Common.{◌≡◌, ℕ, Bool, true, false, List, [], ◌∷◌, Option, Some, None, refl}
+use Rattle.std.proofs.Common.{◌≡◌, ℕ, true, false, List, [], ◌∷◌, Option, Some, None, refl}
 use Rattle.ips_text.specs.Ancestry.{same_path}
-use Rattle.ips_outside.specs.Image.{Entry, Dir, File, Link, Other}
+use Rattle.ips_outside.specs.Image.{Entry, File, Link}
 use Rattle.ips_action.specs.declared.action.Preserve.TheVariants as preserves
-use Rattle.ips_after.specs.Request.{WantDir, WantFile, WantHard, WantLink, Wanted}
+use Rattle.ips_after.specs.Request.{WantDir, WantFile, WantLink, Wanted}
 use Rattle.ips_change.specs.declared.stands.Stands.{Stands}
 use Rattle.ips_change.specs.declared.stands.Stands.TheVariants as stands
 use Rattle.ips_change.specs.Stands.{stands_of}

@@ -5,8 +5,7 @@ use Rattle.ips_action.specs.declared.action.Preserve.{Preserve}
 use Rattle.ips_action.specs.declared.action.Preserve.TheVariants as preserves
 use Rattle.ips_preserve.specs.declared.case.Event.{Event}
 use Rattle.ips_preserve.specs.declared.case.Event.TheVariants.{First, Update, Removal}
-use Rattle.ips_preserve.specs.declared.case.Standing.{Standing}
-use Rattle.ips_preserve.specs.declared.case.Standing.TheVariants.{Absent, Same, Different, NotFile}
+use Rattle.ips_preserve.specs.declared.case.Standing.TheVariants.{Absent, NotFile}
 use Rattle.ips_preserve.specs.declared.keep.Keep.{Keep}
 use Rattle.ips_preserve.specs.declared.keep.Keep.TheVariants as keeps
 use Rattle.ips_preserve.specs.Keep.{keep}
@@ -17,7 +16,7 @@ use Rattle.ips_after.specs.Salvage.{Side, copied, copies, has_bytes, legacy_suff
 use Rattle.ips_wanted.specs.Named.{is_payload_of}
 use Rattle.ips_change.specs.declared.stands.Stands.{Stands}
 use Rattle.ips_change.specs.declared.stands.Stands.TheVariants as stands
-use Rattle.ips_change.specs.Stands.{fresh_payload, first_payload, has_fresh, has_payload, is_file_seen, is_unasked, known_payload, seen_file, seen_of, stands_of, tells_edits, weighs}
+use Rattle.ips_change.specs.Stands.{fresh_payload, has_fresh, has_payload, is_unasked, known_payload, seen_of, stands_of, weighs}
 use Rattle.ips_change.specs.declared.change.Beside.{Beside}
 use Rattle.ips_change.specs.Told.{beside_for, naming, side_told}
 use Rattle.ips_change.proofs.Answered.{case_of}

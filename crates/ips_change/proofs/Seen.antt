@@ -1,10 +1,10 @@
 -- What is seen tells what stands.
-use Rattle.std.proofs.Common.{◌≡◌, ℕ, Bool, true, false, cond, ◌||◌, List, Option, Some, None, refl, sym, ◌∙◌, ap, subst}
+use Rattle.std.proofs.Common.{◌≡◌, ℕ, Bool, true, false, cond, ◌||◌, List, Option, Some, None, refl}
 use Rattle.ips_outside.specs.Image.{Entry, Dir, File, Link, Other, is_dir, is_file}
 use Rattle.ips_action.specs.declared.action.Preserve.{Preserve}
 use Rattle.ips_action.specs.declared.action.Preserve.TheVariants as preserves
 use Rattle.ips_after.specs.After.{file_given_up, is_link, links_to, spent}
-use Rattle.ips_after.specs.Request.{WantDir, WantFile, WantHard, WantLink, Wanted}
+use Rattle.ips_after.specs.Request.{WantFile, WantLink, Wanted}
 use Rattle.ips_change.specs.declared.stands.Stands.{Stands}
 use Rattle.ips_change.specs.declared.stands.Stands.TheVariants as stands
 use Rattle.ips_change.specs.Stands.{has_payload, is_dir_seen, is_file_seen, is_link_seen, is_spent_seen, is_unasked, says_wanted, seen_of, stands_of, tells_edits, weighs_wanted}

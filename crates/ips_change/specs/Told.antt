@@ -1,6 +1,5 @@
 -- What becomes of a path, as the calls tell it.
 use Rattle.std.specs.Prelude.{ℕ, false, List, Option, Some, None}
-use Rattle.std.specs.Option.{option_map}
 use Rattle.ips_outside.specs.Image.{Entry, Dir, File, Link}
 use Rattle.ips_digest.specs.Name.{spelling}
 use Rattle.ips_preserve.specs.declared.keep.Keep.{Keep}

@@ -1,5 +1,5 @@
 -- Lists of entries in order, merged.
-use Rattle.std.proofs.Common.{◌≡◌, ℕ, zero, suc, ◌+◌, ◌-◌, ◌<◌, ◌≤◌, Bool, true, false, cond, ◌||◌, List, [], ◌∷◌, ◌++◌, append_assoc, map, length, drop, Option, Some, None, is_some, refl, sym, ◌∙◌, ap, subst, ◌⊎◌, inl, inr, add-one, arith}
+use Rattle.std.proofs.Common.{◌≡◌, ℕ, zero, suc, ◌+◌, ◌<◌, ◌≤◌, Bool, true, false, cond, ◌||◌, List, [], ◌∷◌, ◌++◌, append_assoc, map, length, drop, Option, Some, None, is_some, refl, sym, ◌∙◌, ap, subst, ◌⊎◌, inl, inr, arith}
 use Rattle.std.specs.Prelude.{IfNone, IfSome, slice_get}
 use Rattle.std.specs.Option.{option_map}
 use Rattle.std.specs.declared.cmp.Ordering.{Ordering}
@@ -17,8 +17,7 @@ use Rattle.ips_text.proofs.Ancestry.{same_path-true, same_path-self}
 use Rattle.ips_text.proofs.Truths.{or_assoc, or_swapped}
 use Rattle.ips_meaning.specs.declared.entry.Entry.{Entry}
 use Rattle.ips_after.specs.Lists.{listed}
-use Rattle.ips_after.specs.Request.{Wanted}
-use Rattle.ips_wanted.specs.Wanted.{want_of, wanted_among, wanted_of}
+use Rattle.ips_wanted.specs.Wanted.{wanted_among, wanted_of}
 use Rattle.ips_wanted.proofs.Found.{listed_at}
 use Rattle.ips_survey.specs.Pairs.{Pair, first, lesser, new_alone, old_alone, ranked, taken, together}
 use Rattle.ips_survey.specs.Rows.{AreRows, HasBoth}

@@ -1,5 +1,5 @@
 -- The paths that are or were wanted, with what stands there.
-use Rattle.std.specs.Prelude.{◌≡◌, ℕ, ◌||◌, List, map, Option, is_some}
+use Rattle.std.specs.Prelude.{◌≡◌, ℕ, ◌||◌, List, map, is_some}
 use Rattle.std.specs.Option.{option_map}
 use Rattle.std.specs.List.{AllByRecursion}
 use Rattle.std.specs.List.Sorted.{IsStrictlySortedBy}

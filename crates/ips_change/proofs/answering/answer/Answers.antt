@@ -1,4 +1,4 @@
-use Rattle.std.proofs.Common.{Bool, Option, ◌∙◌, ap, Bor}
+use Rattle.std.proofs.Common.{Bool, ◌∙◌, ap, Bor}
 use Rattle.std.specs.Option.{option_map}
 use Rattle.ips_preserve.specs.declared.case.Event.{Event}
 use Rattle.ips_preserve.specs.declared.case.Standing.{Standing}

@@ -1,4 +1,4 @@
-use Rattle.std.proofs.Common.{Option, Some, sym, ◌∙◌, ap, Bor}
+use Rattle.std.proofs.Common.{Some, sym, ◌∙◌, ap, Bor}
 use Rattle.std.specs.Option.{option_map}
 use Rattle.ips_outside.specs.Image.{File}
 use Rattle.ips_preserve.specs.declared.keep.Keep.{Keep}

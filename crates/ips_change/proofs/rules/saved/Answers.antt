@@ -1,4 +1,4 @@
-use Rattle.std.proofs.Common.{rules, ◌≡◌, Bool, false, ◌||◌, Option, Some, None, sym, ◌∙◌, ap, Bor}
+use Rattle.std.proofs.Common.{rules, ◌≡◌, Bool, ◌||◌, Option, Some, sym, ◌∙◌, ap, Bor}
 use Rattle.std.specs.Option.{option_map}
 use Rattle.ips_digest.specs.Name.{spelling}
 use Rattle.ips_meaning.specs.declared.entry.Entry.{Entry}

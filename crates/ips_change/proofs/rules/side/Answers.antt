@@ -1,4 +1,4 @@
-use Rattle.std.proofs.Common.{rules, ◌≡◌, Option, Some, None, is_some, sym, ◌∙◌, ap, subst, Bor}
+use Rattle.std.proofs.Common.{rules, ◌≡◌, Option, Some, is_some, sym, ◌∙◌, ap, subst, Bor}
 use Rattle.std.specs.Option.{option_map}
 use Rattle.ips_digest.specs.Name.{spelling}
 use Rattle.ips_meaning.specs.declared.entry.Entry.{Entry}

@@ -1,4 +1,4 @@
-use Rattle.std.proofs.Common.{ℕ, ◌<◌, ◌≤◌, ◌+◌, ◌-◌, ◌++◌, IsTrue, List, length, map, drop}
+use Rattle.std.proofs.Common.{◌<◌, ◌≤◌, ◌+◌, ◌-◌, ◌++◌, IsTrue, List, length, map, drop}
 use Rattle.std.specs.List.{AllByRecursion}
 use Rattle.ips_outside.specs.Outside.{Reads}
 use Rattle.ips_survey.specs.Pairs.{Pair}
