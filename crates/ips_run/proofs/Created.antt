@@ -30,6 +30,7 @@ use Rattle.ips_run.specs.Phases.{IsAsked}
 use Rattle.ips_run.specs.Creating.{IsMissing, IsBlockedBy, HasMade, IsAsBefore, IsMaking, AreMade, AreUnmade, SaysOfDirectories, ended_as, IsCreated, Standing, Uncreated, Made, Failed}
 use Rattle.ips_run.proofs.Opened.{creates_unfixed}
 use Rattle.ips_run.proofs.Told.{none_run}
+use Rattle.ips_run.proofs.Performed.{early_fault}
 use Rattle.ips_run.proofs.Directories.{made_dir, records_below, free_of, on_ok, none_to_make, records_to_make, both_to_make, can_have_still, directories_stand, gate_with, nothing_in_the_way, shut_now, shut_on, shut_then}
 
 -- ---- the directories aren't made
@@ -52,9 +53,6 @@ pub ended_spawn : (T : Type 0) (why : DirectoryFault) (var records : RelPath) �
 ended_spawn T fault.Failed var records = refl
 ended_spawn T fault.Var var records = refl
 ended_spawn T fault.Records var records = refl
-
-early_fault : {T : Type 0} → IsEarly {T = T} (ending.FolderFault false)
-early_fault = record { refused = refl; undone = refl; unrecovered = refl; finished = refl; readable = refl; unspawned = refl }
 
 module _ {F T : Type 0} (o : Outside F) (means : Image → Image → Type 0) (before : List Carrier) (old new : F) where
   pub created_unmade : (x : Ending T) → AreUnmade o old new x → IsCreated o means x before before old new

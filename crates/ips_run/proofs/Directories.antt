@@ -59,12 +59,15 @@ var_gate = refl
 abbrev pub made_dir : Option Entry
 made_dir = Some (Dir 493 false)
 
-stands : (e : Option Entry) → is_dir e ≡ true → is_none e ≡ false
-stands None is = cc
-stands (Some e) is = refl
+with_there : (p : List ℕ) (t : Image) (e : Entry) → t.look p ≡ Some e → with_dir p t ≡ t
+with_there p t e is = ap (λ (x : Option Entry). cond (is_none x) (placed p made_dir t) t) is
 
-with_old : (p : List ℕ) (t : Image) → is_none (t.look p) ≡ false → with_dir p t ≡ t
-with_old p t is = rw is refl
+with_old : (p : List ℕ) (t : Image) → is_dir (t.look p) ≡ true → with_dir p t ≡ t
+with_old p t dir = go (t.look p) refl dir
+  where
+    go : (e : Option Entry) → t.look p ≡ e → is_dir e ≡ true → with_dir p t ≡ t
+    go None is dir = cc
+    go (Some e) is dir = with_there p t e is
 
 with_new : (p : List ℕ) (t : Image) → t.look p ≡ None → with_dir p t ≡ placed p made_dir t
 with_new p t is = ap (λ (e : Option Entry). cond (is_none e) (placed p made_dir t) t) is
@@ -74,7 +77,7 @@ dir_made p t free = go (t.look p) refl free
   where
     go : (e : Option Entry) → t.look p ≡ e → is_dir_or_free e ≡ true → is_dir ((with_dir p t).look p) ≡ true
     go None is f = ap (λ (u : Image). is_dir (u.look p)) (with_new p t is) ∙ ap (λ (b : Bool). is_dir (cond b made_dir (cond (covers p p) None (t.look p)))) (same_path-self p)
-    go (Some e) is f = ap (λ (u : Image). is_dir (u.look p)) (with_old p t (ap is_none is)) ∙ ap is_dir is ∙ f
+    go (Some e) is f = ap (λ (u : Image). is_dir (u.look p)) (with_there p t e is) ∙ ap is_dir is ∙ f
 
 dir_apart : (p q : List ℕ) (t : Image) → covers p q ≡ false → (with_dir p t).look q ≡ t.look q
 dir_apart p q t off = go (is_none (t.look p))
@@ -106,10 +109,10 @@ can_have_still t can =
     and_from _ _ (or_right (is_none ((with_directories t).look var_name)) _ both.0) (or_right (is_none ((with_directories t).look records_name)) _ both.1)
 
 pub none_to_make : (t : Image) → is_dir (t.look var_name) ≡ true → is_dir (t.look records_name) ≡ true → with_directories t ≡ t
-none_to_make t var records = ap (with_dir records_name) (with_old var_name t (stands (t.look var_name) var)) ∙ with_old records_name t (stands (t.look records_name) records)
+none_to_make t var records = ap (with_dir records_name) (with_old var_name t var) ∙ with_old records_name t records
 
 pub records_to_make : (t : Image) → is_dir (t.look var_name) ≡ true → t.look records_name ≡ None → with_directories t ≡ placed records_name made_dir t
-records_to_make t var records = ap (with_dir records_name) (with_old var_name t (stands (t.look var_name) var)) ∙ with_new records_name t records
+records_to_make t var records = ap (with_dir records_name) (with_old var_name t var) ∙ with_new records_name t records
 
 pub both_to_make : (t : Image) → t.look var_name ≡ None → with_directories t ≡ placed records_name made_dir (placed var_name made_dir t)
 both_to_make t var = ap (with_dir records_name) (with_new var_name t var) ∙ with_new records_name (placed var_name made_dir t) (below_new t)
