@@ -1,7 +1,7 @@
 -- What a history owes, and what is seen where its gate is closed.
-use Rattle.std.proofs.Common.{◌≡◌, ◌≢◌, ◌⊎◌, inl, inr, ⊎_elim, Bool, true, false, Option, Some, None, IfSome, refl, sym, ◌∙◌, ap, subst}
+use Rattle.std.proofs.Common.{◌≡◌, ◌≢◌, ◌⊎◌, inl, inr, ⊎_elim, Bool, true, false, cond, List, is_some, Option, Some, None, IfSome, refl, sym, ◌∙◌, ap, subst, arith}
 use Rattle.ips_text.proofs.Ancestry.{covers-self}
-use Rattle.ips_outside.specs.Image.{Image}
+use Rattle.ips_outside.specs.Image.{Entry, Image}
 use Rattle.ips_outside.specs.State.{State, IsSettled, MayLeave, untouched}
 use Rattle.ips_outside.specs.Outside.{Outside, IsOutside}
 use Rattle.ips_steps.specs.Private.{gate_name, visible}
@@ -9,10 +9,13 @@ use Rattle.ips_steps.specs.Owed.{Owes, Old, Open, New, FolderOwes, IsPrivate}
 use Rattle.ips_steps.proofs.Lists.{clash}
 use Rattle.ips_steps.proofs.PrivateNames.{gate_private}
 use Rattle.ips_steps.proofs.Owing.{owes_crashed, folder_old, folder_new}
+use Rattle.ips_kinds.specs.Tallies.{Carrier}
 use Rattle.ips_journal.specs.Text.{journal_text}
 use Rattle.ips_history.specs.Due.{HasEnded}
-use Rattle.ips_history.specs.Course.{founds, StillOwes, IsRequest, Course, Kept, Asked, Founded, Lost}
-use Rattle.ips_history.specs.declared.nature.Nature.{Nature}
+use Rattle.ips_history.specs.Directories.{creates, with_directories, image_for}
+use Rattle.ips_history.specs.Transition.{StillOwes, IsRequest, Transition, Kept, Asked, Created, CreatedInPart}
+use Rattle.ips_history.specs.Run.{Claim, IsRecovered, IsRun}
+use Rattle.ips_history.specs.declared.effect.Effect.{Effect}
 use Rattle.ips_history.specs.History.{Last, asked_at, LeftSince, Undue, Due, Ended, LeftAt, History, First, Then, Crash, IsMeantBy, IsRestored}
 
 -- ---- what a closed gate shows of what is owed
@@ -48,13 +51,13 @@ module _ {F R : Type 0} (o : Outside F) (sane : IsOutside o) (means : R → Imag
 
   module _ (is_done : Bool) (r : R) (at new : F) (q : IsRequest o (means r) is_done at new) where
     since : (s : State) (l : Last R) → LeftSince o (means r) is_done r at new q s l → OwedBy s l
-    since s l (Undue was) = q.owed.each s was
+    since s l (Undue was) = ⊎_elim (λ moment. q.owed.each s moment) (λ owes. owes) was
     since s l (Due {a = a} d is was) = subst (λ (x : Option Image). FolderOwes journal_text (visible (o.state at).held) x true s) (sym is) (d.owed.each s was)
     since s l (Ended is) = ended_owes (visible (o.state at).held) q.after true (o.state new) (q.done is)
 
     meant_by : (a : Option Image) (due : Bool) → IfSome a (means r (visible (o.state at).held)) → MeansSo (asked_at r (o.state at) a due)
     meant_by None due is = is
-    meant_by (Some a) due is = (r, refl, is)
+    meant_by (Some a) due is = (refl, (r, refl, is))
 
     since_means : (s : State) (l : Last R) → LeftSince o (means r) is_done r at new q s l → MeansSo l
     since_means s l (Undue was) = meant_by q.after false q.is_meant
@@ -74,14 +77,16 @@ module _ {F R : Type 0} (o : Outside F) (sane : IsOutside o) (means : R → Imag
   nothing : (w : Option (Last R)) (s : State) → w ≡ None → Knows s w
   nothing w s is = subst (Knows s) (sym is) tt
 
-  left_at : (nature : Nature) (is_done : Bool) (r : R) (old new : F) (course : Course o (means r) nature is_done old new) (w now : Option (Last R)) (s : State)
-      → LeftAt o (means r) nature is_done r old new course w s now → Knows (o.state old) w → Knows s now
-  left_at nature is_done r old new (Kept none why k) w now s (was, is) knows = subst (Knows s) (sym is) (still w old new k s was knows)
-  left_at nature is_done r old new (Asked at changes synced k q) w now s (inl (was, is)) knows = subst (Knows s) (sym is) (still w old at k s was knows)
-  left_at nature is_done r old new (Asked at changes synced k q) w now s (inr (l, is, left)) knows = anew now s l is (since is_done r at new q s l left) (since_means is_done r at new q s l left)
-  left_at nature is_done r old new (Founded at is_founding f q) w now s (inl (was, is)) knows = nothing now s is
-  left_at nature is_done r old new (Founded at is_founding f q) w now s (inr (l, is, left)) knows = anew now s l is (since is_done r at new q s l left) (since_means is_done r at new q s l left)
-  left_at nature is_done r old new (Lost is_founding none f) w now s (was, is) knows = nothing now s is
+  left_at : (effect : Effect) (is_done : Bool) (r : R) (old new : F) (transition : Transition o (means r) effect is_done old new) (w now : Option (Last R)) (s : State)
+      → LeftAt o (means r) effect is_done r old new transition w s now → Knows (o.state old) w → Knows s now
+  left_at effect is_done r old new (Kept none why k) w now s (was, is) knows = subst (Knows s) (sym is) (still w old new k s was knows)
+  left_at effect is_done r old new (Asked at later changes synced same k q) w now s (inl (was, is)) knows = subst (Knows s) (sym is) (still w old at k s was knows)
+  left_at effect is_done r old new (Asked at later changes synced same k q) w now s (inr (l, is, left)) knows = anew now s l is (since is_done r at new q s l left) (since_means is_done r at new q s l left)
+  left_at effect is_done r old new (Created at is_creating c made q) w now s (inl (was, is)) knows = subst (Knows s) (sym is) (still w old c.from c.still s was knows)
+  left_at effect is_done r old new (Created at is_creating c made q) w now s (inr (inl (was, is))) knows = nothing now s is
+  left_at effect is_done r old new (Created at is_creating c made q) w now s (inr (inr (l, is, left))) knows = anew now s l is (since is_done r at new q s l left) (since_means is_done r at new q s l left)
+  left_at effect is_done r old new (CreatedInPart is_creating none c) w now s (inl (was, is)) knows = subst (Knows s) (sym is) (still w old c.from c.still s was knows)
+  left_at effect is_done r old new (CreatedInPart is_creating none c) w now s (inr (was, is)) knows = nothing now s is
 
   crashed : (w : Option (Last R)) (s : State) (left : Image) → MayLeave s left → Knows s w → Knows (untouched left) w
   crashed None s left may knows = knows
@@ -89,7 +94,7 @@ module _ {F R : Type 0} (o : Outside F) (sane : IsOutside o) (means : R → Imag
 
   pub known : (w : Option (Last R)) (s : State) → History o means w s → Knows s w
   known w s (First held clean shut) = (folder_old journal_text held (settled_private held clean) shut (clean.whole gate_name) None, tt)
-  known w s (Then {w = earlier} r nature is_done old new course so_far left) = left_at nature is_done r old new course earlier w s left (known earlier (o.state old) so_far)
+  known w s (Then {w = earlier} r effect is_done old new transition so_far left) = left_at effect is_done r old new transition earlier w s left (known earlier (o.state old) so_far)
   known w s (Crash {s = held} left so_far may) = crashed w held left may (known w held so_far)
 
   -- ---- what is restored
@@ -124,11 +129,55 @@ module _ {F R : Type 0} (o : Outside F) (sane : IsOutside o) (means : R → Imag
   meant_at b None t P so is = cc
   meant_at b (Some a) t P so is = let same : a ≡ t = cc in subst (P b) same so
 
-  pub done_meant : (r : R) (nature : Nature) (is_done : Bool) (old new : F) → Course o (means r) nature is_done old new → is_done ≡ true → founds nature ≡ false
-      → means r (visible (o.state old).held) (visible (o.state new).held)
-  done_meant r nature is_done old new (Kept none why k) done unfounded = clash is_done done none
-  done_meant r nature is_done old new (Asked at changes synced k q) done unfounded =
+  pub done_meant : (r : R) (effect : Effect) (is_done : Bool) (old new : F) → Transition o (means r) effect is_done old new → is_done ≡ true
+      → means r (visible (image_for effect (o.state old).held)) (visible (o.state new).held)
+  done_meant r effect is_done old new (Kept none why k) done = clash is_done done none
+  done_meant r effect is_done old new (Asked at later changes synced same k q) done =
       let here = meant_at (visible (o.state at).held) q.after (visible (o.state new).held) (means r) q.is_meant (q.done done).seen in
-      subst (λ (s : State). means r (visible s.held) (visible (o.state new).held)) synced here
-  done_meant r nature is_done old new (Founded at is f q) done unfounded = clash (founds nature) is unfounded
-  done_meant r nature is_done old new (Lost is none f) done unfounded = clash (founds nature) is unfounded
+      let since = subst (λ (s : State). means r (visible s.held) (visible (o.state new).held)) synced here in
+      subst (λ (t : Image). means r (visible t) (visible (o.state new).held)) (sym (same done)) since
+  done_meant r effect is_done old new (Created at is c made q) done =
+      let here = meant_at (visible (o.state at).held) q.after (visible (o.state new).held) (means r) q.is_meant (q.done done).seen in
+      let since = subst (λ (s : State). means r (visible s.held) (visible (o.state new).held)) made here in
+      subst (λ (b : Bool). means r (visible (cond b (with_directories (o.state old).held) (o.state old).held)) (visible (o.state new).held)) (sym is) since
+  done_meant r effect is_done old new (CreatedInPart is none c) done = clash is_done done none
+
+  -- ---- a run behind a history
+
+  module _ (l : Last R) (old new : F) (knows : Knows (o.state old) (Some l)) where
+    pub done_restored : (r : R) (effect : Effect) (is_done : Bool) → Transition o (means r) effect is_done old new → is_done ≡ true → creates effect ≡ false
+        → IsRestored means l (visible (o.state old).held)
+    done_restored r effect is_done (Kept none why k) done other = clash is_done done none
+    done_restored r effect is_done (Asked at later changes synced same k q) done other =
+        subst (λ (s : State). IsRestored means l (visible s.held)) synced (restored l (o.state at) (kept_until l old at k knows) q.shut)
+    done_restored r effect is_done (Created at is c made q) done other = clash (creates effect) is other
+    done_restored r effect is_done (CreatedInPart is none c) done other = clash is_done done none
+
+    pub recovered_restored : (before now : List Carrier) (claimed : Option Bool) (way : Bool) → claimed ≡ Some way → IfSome claimed (λ way. IsRecovered o way before now old new)
+        → IsRestored means l (visible (o.state new).held) × (way ≡ true → IsMeantBy means l (visible (o.state new).held))
+    recovered_restored before now None way is says = cc
+    recovered_restored before now (Some other) way is says =
+        let same : other ≡ way = cc in
+        let r = subst (λ (b : Bool). IsRecovered o b before now old new) same says in
+        let there : way ≡ true → (o.state old).held.look gate_name ≢ None = λ yes none. clash way yes (r.is ∙ ap (λ (e : Option Entry). is_some e) none) in (
+          restored l (o.state new) (kept_until l old new r.still knows) (r.bare gate_name (gate_private gate_name (covers-self gate_name))),
+          λ yes. forward l old new knows (there yes) (λ b a due owes. r.on yes b a due owes),
+        )
+
+-- ---- a run is left somewhere
+
+module _ {F R : Type 0} (o : Outside F) (means : Image → Image → Type 0) (effect : Effect) (is_done : Bool) (r : R) (old new : F) (w : Option (Last R)) (s : State) (was : o.states new (o.clock old) s) where
+  pub left_somewhere : (t : Transition o means effect is_done old new) → (now : Option (Last R)) × LeftAt o means effect is_done r old new t w s now
+  left_somewhere (Kept none why k) = (w, (was, refl))
+  left_somewhere (Asked at later changes synced same k q) = ⊎_elim
+      (λ before. (w, inl (before, refl)))
+      (λ owes. (Some (asked_at r (o.state at) q.after false), inr (asked_at r (o.state at) q.after false, refl, Undue (inr owes))))
+      (q.owed.before (o.clock old) s later was)
+  left_somewhere (Created at is c made q) = ⊎_elim
+      (λ before. ⊎_elim (λ older. (w, inl (older, refl))) (λ within. (None, inr (inl (inr within, refl)))) (c.moments.before (o.clock old) s c.later before))
+      (λ owes. (Some (asked_at r (o.state at) q.after false), inr (inr (asked_at r (o.state at) q.after false, refl, Undue (inr owes)))))
+      (q.owed.before (o.clock old) s (omega (arith, c.later, c.moments.later)) was)
+  left_somewhere (CreatedInPart is none c) = ⊎_elim
+      (λ older. (w, inl (older, refl)))
+      (λ within. (None, inr (inr within, refl)))
+      (c.moments.before (o.clock old) s c.later was)

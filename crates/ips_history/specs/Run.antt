@@ -12,19 +12,21 @@ use Rattle.ips_journal.specs.Text.{journal_text}
 use Rattle.ips_commit.specs.Pending.{IsBare}
 use Rattle.ips_commit.specs.Recovering.{IsJournalled, CanRollForward, CanResume, IsUnfinished}
 use Rattle.ips_history.specs.Due.{HasEnded}
-use Rattle.ips_history.specs.Course.{founds, StillOwes, Founds, Course}
-use Rattle.ips_history.specs.declared.nature.Nature.{Nature}
+use Rattle.ips_history.specs.Directories.{creates, fixes, with_directories}
+use Rattle.ips_history.specs.Transition.{StillOwes, Creating, Transition}
+use Rattle.ips_history.specs.declared.effect.Effect.{Effect}
 
--- What an outcome claims of the image: that a request has come to its end; that what is seen is as before; that what was
--- stopped is brought to its end, forward or back; that a change is left unfinished; that the journal is bad; that memory ran
--- out; or that a call failed, with nothing left unfinished.
+-- What an outcome claims of the image: that a request has come to its end; that what is seen is as before; that nothing is to
+-- do; that what was stopped is brought to its end, forward or back; that a change is left unfinished; that the journal is bad; that
+-- memory ran out; or that a call failed, with nothing left unfinished.
 pub record Claim : Type 0 where
   pub done : Bool
   pub refused : Bool
+  pub nothing : Bool
   pub recovered : Option Bool
   pub unfinished : Bool
   pub bad_journal : Bool
-  pub starved : Bool
+  pub out_of_memory : Bool
   pub failed : Bool
 
 -- What was stopped is brought to its end: what is owed stays owed, nothing stands at the updater's own names any more, and
@@ -62,17 +64,23 @@ pub record HasOpened {F : Type 0} (o : Outside F) (old new : F) : Type 0 where
   pub one : OneMore (o.changes old) (o.changes at)
   pub later : o.changes at ≤ o.changes new
 
--- A run: its course; what it recovered; an outcome that refuses leaves what is seen as before, and a closed gate closed, but
--- where the folder of the records was made what is at or below that; the journal is never bad where something is owed; memory
+-- what a refusal of a command that makes an image may leave: just the directories of the records, where nothing stood at them;
+-- or, where a call failed, anything at or below the first of them
+abbrev pub LeavesDirectories : {F : Type 0} → Outside F → Bool → F → F → Type 0
+LeavesDirectories o failed old new = (visible (o.state new).held ≡ visible (with_directories (o.state old).held)) ⊎ (IsTrue failed × Creating o old new)
+
+-- A run: what it does to what is owed; what it recovered; an outcome that refuses leaves what is seen as before, and a closed gate
+-- closed, but for the directories of the records that a command makes which makes an image; nothing is to do only behind a closed
+-- gate, and for a command that recovers only where nothing is left; the journal is never bad where something is owed; memory
 -- runs out only where nothing but the opening sync has happened, or before the gate's call; what is left unfinished can be
--- resumed; and unless the opening sync failed, with nothing changed, it has answered, but where the folder of the records may
--- be made.
-pub record IsRun {F : Type 0} (o : Outside F) (means : Image → Image → Type 0) (nature : Nature) (claim : Claim) (before now : List Carrier) (old new : F) : Type 0 where
-  pub course : Course o means nature claim.done old new
+-- resumed; and unless the opening sync failed, with nothing changed, it has answered.
+pub record IsRun {F : Type 0} (o : Outside F) (means : Image → Image → Type 0) (effect : Effect) (claim : Claim) (before now : List Carrier) (old new : F) : Type 0 where
+  pub transition : Transition o means effect claim.done old new
   pub recovered : IfSome claim.recovered (λ forward. IsRecovered o forward before now old new)
-  pub unseen : IsTrue claim.refused → (visible (o.state new).held ≡ visible (o.state old).held) ⊎ (IsTrue (founds nature) × Founds o old new)
-  pub unopened : IsTrue claim.refused → (o.state old).held.look gate_name ≡ None → StaysShut o old new ⊎ (IsTrue (founds nature) × Founds o old new)
+  pub unseen : IsTrue claim.refused → (visible (o.state new).held ≡ visible (o.state old).held) ⊎ (IsTrue (creates effect) × LeavesDirectories o claim.failed old new)
+  pub unopened : IsTrue claim.refused → (o.state old).held.look gate_name ≡ None → StaysShut o old new ⊎ (IsTrue (creates effect) × (IsTrue claim.failed × Creating o old new))
+  pub unneeded : IsTrue claim.nothing → ((o.state old).held.look gate_name ≡ None) × (IsTrue (fixes effect) → IsBare (o.state old).held)
   pub readable : IsTrue claim.bad_journal → (b : Image) (a : Option Image) (due : Bool) → FolderOwes journal_text b a due (o.state old) → ⊥
-  pub starved : IsTrue claim.starved → (o.state new ≡ settled (o.state old)) ⊎ StaysShut o old new
+  pub out_of_memory : IsTrue claim.out_of_memory → (o.state new ≡ settled (o.state old)) ⊎ StaysShut o old new
   pub resumes : IsTrue claim.unfinished → IsLeft o before now old new
-  pub opened : IsFalse (founds nature) → (IsTrue claim.failed × (o.state new ≡ o.state old)) ⊎ HasOpened o old new
+  pub opened : (IsTrue claim.failed × (o.state new ≡ o.state old)) ⊎ HasOpened o old new

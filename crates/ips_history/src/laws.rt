@@ -1,15 +1,18 @@
 //! Laws of histories, each the contract of a function that does nothing.
 
-ghost use Rattle.std.specs.Prelude.{◌≡◌, ◌≢◌, Bool, Option, Some, None, IsTrue, IsFalse};
+ghost use Rattle.std.specs.Prelude.{◌≡◌, ◌≢◌, Bool, true, List, Option, Some, None, IsTrue, IsFalse};
 ghost use Rattle.ips_outside.specs.Image.{Image};
 ghost use Rattle.ips_outside.specs.State.{State};
 ghost use Rattle.ips_steps.specs.Private.{gate_name, visible};
 ghost use Rattle.ips_steps.specs.Owed.{FolderOwes};
+ghost use Rattle.ips_kinds.specs.Tallies.{Carrier};
 ghost use Rattle.ips_journal.specs.Text.{journal_text};
 ghost use Rattle.ips_history.specs.Due.{HasEnded};
-ghost use Rattle.ips_history.specs.Course.{founds, StillOwes, IsRequest, Course};
-ghost use Rattle.ips_history.specs.declared.nature.Nature.{Nature};
-ghost use Rattle.ips_history.specs.History.{Last, History, IsMeantBy, IsRestored};
+ghost use Rattle.ips_history.specs.Directories.{creates, image_for};
+ghost use Rattle.ips_history.specs.Transition.{StillOwes, IsRequest, Transition};
+ghost use Rattle.ips_history.specs.Run.{Claim, IsRun};
+ghost use Rattle.ips_history.specs.declared.effect.Effect.{Effect};
+ghost use Rattle.ips_history.specs.History.{Last, LeftAt, History, IsMeantBy, IsRestored};
 
 use ips_folder::Folder;
 use ips_outside::Source;
@@ -39,9 +42,28 @@ pub fn restored<F: Folder, R: Requests>()
         → IsMeantBy R.means l (visible (F.outside.state new).held) }
 {}
 
-/// A run that is done leaves what its command means of the image that was seen as it began, but where it makes the folder of
-/// the records.
+/// A run that is done leaves what its command means of the image that was seen as it began, for a command that makes an image
+/// with the directories of its records.
 pub fn done_is_meant<F: Folder, R: Requests>()
-    ensures { (r : R) (nature : Nature) (is_done : Bool) (old new : F) → Course F.outside (R.means r) nature is_done old new
-        → IsTrue is_done → IsFalse (founds nature) → R.means r (visible (F.outside.state old).held) (visible (F.outside.state new).held) }
+    ensures { (r : R) (effect : Effect) (is_done : Bool) (old new : F) → Transition F.outside (R.means r) effect is_done old new
+        → IsTrue is_done → R.means r (visible (image_for effect (F.outside.state old).held)) (visible (F.outside.state new).held) }
+{}
+
+/// A run behind a history. Where it is done, or says that nothing is to do, the image on which it began was restored; where it
+/// recovers, the image that it leaves is; and where it recovers forward, that is the one that the last request means.
+pub fn run_restores<F: Folder, R: Requests>()
+    ensures done { (l : Last R) (r : R) (effect : Effect) (claim : Claim) (before now : List Carrier) (old new : F) → History F.outside R.means (Some l) (F.outside.state old)
+        → IsRun F.outside (R.means r) effect claim before now old new → IsTrue claim.done → IsFalse (creates effect) → IsRestored R.means l (visible (F.outside.state old).held) }
+    ensures nothing { (l : Last R) (r : R) (effect : Effect) (claim : Claim) (before now : List Carrier) (old new : F) → History F.outside R.means (Some l) (F.outside.state old)
+        → IsRun F.outside (R.means r) effect claim before now old new → IsTrue claim.nothing → IsRestored R.means l (visible (F.outside.state old).held) }
+    ensures recovered { (l : Last R) (r : R) (effect : Effect) (claim : Claim) (before now : List Carrier) (old new : F) → History F.outside R.means (Some l) (F.outside.state old)
+        → IsRun F.outside (R.means r) effect claim before now old new → (forward : Bool) → claim.recovered ≡ Some forward → IsRestored R.means l (visible (F.outside.state new).held) }
+    ensures forward { (l : Last R) (r : R) (effect : Effect) (claim : Claim) (before now : List Carrier) (old new : F) → History F.outside R.means (Some l) (F.outside.state old)
+        → IsRun F.outside (R.means r) effect claim before now old new → claim.recovered ≡ Some true → IsMeantBy R.means l (visible (F.outside.state new).held) }
+{}
+
+/// Each moment of a run is one at which a history may be left.
+pub fn each_moment_is_left<F: Folder, R: Requests>()
+    ensures { (r : R) (effect : Effect) (is_done : Bool) (old new : F) (t : Transition F.outside (R.means r) effect is_done old new) (w : Option (Last R)) (s : State)
+        → F.outside.states new (F.outside.clock old) s → (now : Option (Last R)) × LeftAt F.outside (R.means r) effect is_done r old new t w s now }
 {}

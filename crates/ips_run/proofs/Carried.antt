@@ -22,7 +22,7 @@ use Rattle.ips_commit.specs.declared.fault.CommitFault.TheVariants as commit_fau
 use Rattle.ips_history.specs.Due.{NeverOpen, HasEnded}
 use Rattle.ips_run.specs.declared.ending.Ending.{Ending}
 use Rattle.ips_run.specs.declared.ending.Ending.TheVariants as ending
-use Rattle.ips_run.specs.Ending.{is_done, is_starved, IsEarly}
+use Rattle.ips_run.specs.Ending.{is_done, is_out_of_memory, IsEarly}
 use Rattle.ips_run.specs.Phases.{uncommitted_as, IsUnrun, Failed, Spawn, IsResumable, IsCarried, IsAsked}
 use Rattle.ips_run.proofs.Opened.{owes_seen, always_shut, never_open, stays_owed, withdrawn}
 
@@ -96,23 +96,23 @@ module _ {F : Type 0} (o : Outside F) (sane : IsOutside o) where
         never = started o old (λ s. IsSafelyOpen s → ⊥) (sane.only_now old) (λ is. is.stands staged.shut)
 
         go : (why : ActFault) (x : Ending T) → IsUnrun list false why x → IsCarried o a x before before old old
-        go why x (Failed at) = record { owed = here; due = inl never; done = λ is. cc; kept = λ is. refl; resumes = λ is. cc; unrecovered = refl; readable = refl; fed = refl }
-        go why x Spawn = record { owed = here; due = inl never; done = λ is. cc; kept = λ is. refl; resumes = λ is. cc; unrecovered = refl; readable = refl; fed = refl }
+        go why x (Failed at) = record { owed = here; due = inl never; done = λ is. cc; kept = λ is. refl; resumes = λ is. cc; unrecovered = refl; readable = refl; has_memory = refl }
+        go why x Spawn = record { owed = here; due = inl never; done = λ is. cc; kept = λ is. refl; resumes = λ is. cc; unrecovered = refl; readable = refl; has_memory = refl }
 
     module _ (new : F) (now : List Carrier) (owed : Throughout o old new (FolderOwes journal_text (visible (o.state old).held) (Some a) false)) (due : DueOnceOpen o (visible (o.state old).held) a old new) where
       -- the commit wasn't
       pub carried_part : (why : CommitFault) (x : Ending T) → why ≡ commit_fault.Unfinished → x ≡ uncommitted_as why → IsResumable o before now new → IsCarried o a x before now old new
       carried_part why x unfinished is resumable = subst (λ (r : Ending T). IsCarried o a r before now old new) (sym (is ∙ ap (λ (w : CommitFault). uncommitted_as w) unfinished))
-          (record { owed = owed; due = due; done = λ is. cc; kept = λ is. cc; resumes = λ is. resumable; unrecovered = refl; readable = refl; fed = refl })
+          (record { owed = owed; due = due; done = λ is. cc; kept = λ is. cc; resumes = λ is. resumable; unrecovered = refl; readable = refl; has_memory = refl })
 
       module _ (done : IsDone a (o.state new)) where
         -- an actuator after it wasn't
         pub carried_but : (list : List (List (List ℕ))) (why : ActFault) (x : Ending T) → IsUnrun list true why x → IsCarried o a x before now old new
-        carried_but list why x (Failed at) = record { owed = owed; due = due; done = λ is. ended a (o.state new) done; kept = λ is. cc; resumes = λ is. cc; unrecovered = refl; readable = refl; fed = refl }
-        carried_but list why x Spawn = record { owed = owed; due = due; done = λ is. ended a (o.state new) done; kept = λ is. cc; resumes = λ is. cc; unrecovered = refl; readable = refl; fed = refl }
+        carried_but list why x (Failed at) = record { owed = owed; due = due; done = λ is. ended a (o.state new) done; kept = λ is. cc; resumes = λ is. cc; unrecovered = refl; readable = refl; has_memory = refl }
+        carried_but list why x Spawn = record { owed = owed; due = due; done = λ is. ended a (o.state new) done; kept = λ is. cc; resumes = λ is. cc; unrecovered = refl; readable = refl; has_memory = refl }
 
         pub carried_all : (told : T) → IsCarried o a (ending.Done told) before now old new
-        carried_all told = record { owed = owed; due = due; done = λ is. ended a (o.state new) done; kept = λ is. cc; resumes = λ is. cc; unrecovered = refl; readable = refl; fed = refl }
+        carried_all told = record { owed = owed; due = due; done = λ is. ended a (o.state new) done; kept = λ is. cc; resumes = λ is. cc; unrecovered = refl; readable = refl; has_memory = refl }
 
   -- ---- the whole
 
@@ -127,7 +127,7 @@ module _ {F : Type 0} (o : Outside F) (sane : IsOutside o) where
       resumes = λ is. absurd (clash _ is early.finished);
       unrecovered = early.unrecovered;
       readable = early.readable;
-      starved = λ is. always_shut o sane (visible (o.state old).held) old new owed;
+      out_of_memory = λ is. always_shut o sane (visible (o.state old).held) old new owed;
     }
 
     pub asked_ready : (mid new : F) (now : List Carrier) (x : Ending T) (a : Image) → means (visible (o.state old).held) a → ((c : Option Image) → Throughout o old mid (FolderOwes journal_text (visible (o.state old).held) c false))
@@ -151,5 +151,5 @@ module _ {F : Type 0} (o : Outside F) (sane : IsOutside o) where
           resumes = carried.resumes;
           unrecovered = carried.unrecovered;
           readable = carried.readable;
-          starved = λ is. absurd (clash (is_starved x) is carried.fed);
+          out_of_memory = λ is. absurd (clash (is_out_of_memory x) is carried.has_memory);
         }

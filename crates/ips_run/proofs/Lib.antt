@@ -1,6 +1,9 @@
 mod Opened
+mod Directories
+mod Created
 mod Carried
 mod Told
 mod Recoveries
 mod Nexts
 mod Performed
+mod Exclusive

@@ -27,7 +27,7 @@ use Rattle.ips_commit.specs.declared.fault.CommitFault.TheVariants.{Unchanged, U
 use Rattle.ips_commit.proofs.Owing.{swept_seen}
 use Rattle.ips_commit.proofs.OwnNames.{gate_unswept}
 use Rattle.ips_history.specs.Due.{HasEnded}
-use Rattle.ips_history.specs.Course.{StillOwes}
+use Rattle.ips_history.specs.Transition.{StillOwes}
 use Rattle.ips_history.specs.Run.{IsRecovered, StaysShut}
 use Rattle.ips_run.specs.declared.ending.Ending.{Ending}
 use Rattle.ips_run.specs.declared.ending.Ending.TheVariants as ending
@@ -55,11 +55,12 @@ module _ {F : Type 0} (o : Outside F) (before now : List Carrier) (old new : F) 
   back forward is meant on cleared uncounted = record {
     still = still;
     undone = refl;
+    needed = refl;
     recovered = go (t.look gate_name) refl;
     unseen = λ is. cc;
     unopened = λ is. cc;
     readable = λ is. cc;
-    starved = λ is. cc;
+    out_of_memory = λ is. cc;
     resumes = λ is. cc;
   }
     where
@@ -123,43 +124,47 @@ module _ {F : Type 0} (o : Outside F) (before now : List Carrier) (old new : F) 
       go Unchanged says meant stopped = record {
         still = still;
         undone = refl;
+        needed = refl;
         recovered = tt;
         unseen = λ is. seen says (t.look gate_name) refl;
         unopened = λ is. shut_still;
         readable = λ is. cc;
-        starved = λ is. cc;
+        out_of_memory = λ is. cc;
         resumes = λ is. cc;
       }
       go Unfinished says meant stopped = record {
         still = still;
         undone = refl;
+        needed = refl;
         recovered = tt;
         unseen = λ is. cc;
         unopened = λ is. cc;
         readable = λ is. cc;
-        starved = λ is. cc;
+        out_of_memory = λ is. cc;
         resumes = λ is. (says, stopped refl);
       }
       go (BadJournal line) says meant stopped = record {
         still = still;
         undone = refl;
+        needed = refl;
         recovered = tt;
         unseen = λ is. cc;
         unopened = λ is. cc;
         readable = λ is b a due owes. let (steps, count, x, is_open) = owed_some b a due owes.now says.0 in meant steps count x is_open line refl;
-        starved = λ is. cc;
+        out_of_memory = λ is. cc;
         resumes = λ is. cc;
       }
 
-  pub back_starved : {T : Type 0} → o.state new ≡ o.state old → (t.look gate_name ≡ None → Keeps o is_swept nowhere old new) → IsBack {T = T} o ending.OutOfMemory before now old new
-  back_starved kept closed = record {
+  pub back_out_of_memory : {T : Type 0} → o.state new ≡ o.state old → (t.look gate_name ≡ None → Keeps o is_swept nowhere old new) → IsBack {T = T} o ending.OutOfMemory before now old new
+  back_out_of_memory kept closed = record {
     still = still;
     undone = refl;
+    needed = refl;
     recovered = tt;
     unseen = λ is. ap (λ (s : State). visible s.held) kept;
     unopened = λ is shut. weaker o old new (Within is_swept nowhere (o.state old)) (λ s. s.held.look gate_name ≡ None) (λ s within. swept_shut (o.state old) s shut within) (closed shut).moments;
     readable = λ is. cc;
-    starved = λ is. kept;
+    out_of_memory = λ is. kept;
     resumes = λ is. cc;
   }
 
@@ -173,6 +178,12 @@ told_back {T = T} why x old new before now is says unlaid unread = subst (λ (r 
     go Unchanged says unlaid = (λ yes. cc, λ no. unlaid refl)
     go Unfinished says unlaid = (λ yes. says, λ no. cc)
     go (BadJournal line) says unlaid = (says.0, says.1, λ bad. (ap (λ (s : State). s.held) (says.2 bad), unread (λ steps lists text. none_bad steps line lists (subst (λ (l : List ℕ). IsBadLine l line) text bad)) says.0))
+
+-- what a recovery that answered is told of
+pub told_on : (s : State) (t : Image) (before now : List Carrier) (forward : Bool) → forward ≡ is_some (t.look gate_name)
+    → (t.look gate_name ≢ None → (steps : List Step) × (count : ℕ) × CanRollForward t steps count × IsDone (visible (after (steps_left count steps) t)) s × (now ≡ all_counted (steps_left count steps) before))
+    → (forward ≡ is_some (t.look gate_name)) × (forward ≡ true → (steps : List Step) × (count : ℕ) × CanRollForward t steps count)
+told_on s t before now forward is done = (is, λ on. let (steps, count, can, ended, counted) = done (λ none. clash forward on (is ∙ ap (λ (e : Option Entry). is_some e) none)) in (steps, count, can))
 
 -- a fault that is refused behind an open gate leaves everything as it was
 pub kept_back : {T : Type 0} (why : CommitFault) (x : Ending T) (old new : State) (before now : List Carrier) → x ≡ uncommitted_as why → SaysOfRecovery old new before now why
@@ -191,5 +202,5 @@ bad_of {T = T} result why line is bad none = subst (λ (r : Result T (Or CommitF
 pub says_of : (T : Type 0) (e : Or CommitFault) (why : CommitFault) → e ≡ Bad why → (P : CommitFault → Type 0) → IfBad {X = T} {E = CommitFault} (Err e) P → P why
 says_of T e why is P says = subst (λ (x : Or CommitFault). IfBad {X = T} {E = CommitFault} (Err x) P) is says
 
-pub starved_of : (T : Type 0) (e : Or CommitFault) → e ≡ OutOfMemory → (P : Type 0) → IfStarved {T = T} {E = CommitFault} (Err e) P → P
-starved_of T e is P starved = subst (λ (x : Or CommitFault). IfStarved {T = T} {E = CommitFault} (Err x) P) is starved
+pub out_of_memory_of : (T : Type 0) (e : Or CommitFault) → e ≡ OutOfMemory → (P : Type 0) → IfStarved {T = T} {E = CommitFault} (Err e) P → P
+out_of_memory_of T e is P out_of_memory = subst (λ (x : Or CommitFault). IfStarved {T = T} {E = CommitFault} (Err x) P) is out_of_memory

@@ -13,11 +13,12 @@ use Rattle.ips_kinds.specs.Tallies.{Carrier, all_counted}
 use Rattle.ips_actuate.specs.Running.{succeeded, Ends, IsFaultOf, IsSpawn}
 use Rattle.ips_actuate.specs.declared.running.ActFault.{ActFault}
 use Rattle.ips_actuate.specs.declared.running.ActFault.TheVariants as act_fault
+use Rattle.ips_commit.specs.Contents.{AreIntact}
 use Rattle.ips_commit.specs.Staging.{HasStaged}
 use Rattle.ips_commit.specs.declared.fault.CommitFault.{CommitFault}
 use Rattle.ips_commit.specs.declared.fault.CommitFault.TheVariants as commit_fault
-use Rattle.ips_history.specs.Course.{shows}
-use Rattle.ips_history.specs.declared.nature.Nature.{Nature}
+use Rattle.ips_history.specs.Directories.{shows}
+use Rattle.ips_history.specs.declared.effect.Effect.{Effect}
 use Rattle.ips_run.specs.declared.operation.Change.{Change}
 use Rattle.ips_run.specs.declared.operation.Decision.{Decision}
 use Rattle.ips_run.specs.declared.operation.Decision.TheVariants as decision
@@ -34,21 +35,22 @@ pub none_run : {P : Type 0} (r : Running P) (p : P) → HasRun r p p []
 none_run r p = λ tells. sym (append-nil (r.ran p))
 
 -- a payload, or a call, of a change that was decided on
-pub unready_from : {T : Type 0} (nature : Nature) (decides : Decision T → Type 0) (tells : Bool) (repository : Image) (c : Change T) (x : Ending T) → shows nature ≡ false → decides (decision.Change c)
-    → IsUnstaged tells repository c x → IsUnready nature decides tells repository x
-unready_from nature decides tells repository c (ending.BadPayload name fault) changes decided says = (changes, (c, decided, says))
-unready_from nature decides tells repository c ending.SourceFault changes decided says = changes
-unready_from nature decides tells repository c (ending.FolderFault unfinished) changes decided says = says
-unready_from nature decides tells repository c ending.OutOfMemory changes decided says = tt
-unready_from nature decides tells repository c (ending.Done told) changes decided says = absurd says
-unready_from nature decides tells repository c (ending.Shown told) changes decided says = absurd says
-unready_from nature decides tells repository c (ending.Refused told) changes decided says = absurd says
-unready_from nature decides tells repository c ending.NothingToDo changes decided says = absurd says
-unready_from nature decides tells repository c ending.Unfinished changes decided says = absurd says
-unready_from nature decides tells repository c (ending.BadJournal line) changes decided says = absurd says
-unready_from nature decides tells repository c (ending.Recovered forward) changes decided says = absurd says
-unready_from nature decides tells repository c (ending.ActuatorFailed after words status) changes decided says = absurd says
-unready_from nature decides tells repository c (ending.SpawnFault after) changes decided says = absurd says
+pub unready_from : {T : Type 0} (effect : Effect) (decides : Decision T → Type 0) (tells : Bool) (repository : Image) (c : Change T) (x : Ending T) → shows effect ≡ false → decides (decision.Change c)
+    → IsUnstaged tells repository c x → IsUnready effect decides tells repository x
+unready_from effect decides tells repository c (ending.BadPayload name fault) changes decided says = (changes, (c, decided, says))
+unready_from effect decides tells repository c ending.SourceFault changes decided says = changes
+unready_from effect decides tells repository c (ending.FolderFault unfinished) changes decided says = says
+unready_from effect decides tells repository c ending.OutOfMemory changes decided says = tt
+unready_from effect decides tells repository c (ending.Done told) changes decided says = absurd says
+unready_from effect decides tells repository c (ending.Shown told) changes decided says = absurd says
+unready_from effect decides tells repository c (ending.Refused told) changes decided says = absurd says
+unready_from effect decides tells repository c ending.NothingToDo changes decided says = absurd says
+unready_from effect decides tells repository c ending.Unfinished changes decided says = absurd says
+unready_from effect decides tells repository c (ending.BadJournal line) changes decided says = absurd says
+unready_from effect decides tells repository c (ending.Recovered forward) changes decided says = absurd says
+unready_from effect decides tells repository c (ending.ActuatorFailed after words status) changes decided says = absurd says
+unready_from effect decides tells repository c (ending.SpawnFault after) changes decided says = absurd says
+unready_from effect decides tells repository c (ending.NotDirectory path) changes decided says = absurd says
 
 module _ {P : Type 0} (r : Running P) (steps : List Step) (before behind : List (List (List ℕ))) (start : List Carrier) {T : Type 0} (told : T) where
   -- what was run of a list, where one of it had a fault
@@ -155,18 +157,19 @@ unrun_cause {T = T} list after why x a b (Spawn {index = index}) h =
     cause_as a b (IsSpawn (Err (act_fault.Spawn index))) (is_spawn_fault {T = T} (ending.SpawnFault after) ≡ true) h (λ p. refl) (λ q. tt)
 
 -- the same, where the repository was read until then
-pub unready_behind : {T : Type 0} (nature : Nature) (decides : Decision T → Type 0) (tells now_tells : Bool) (repository now_repository : State) (c : Change T) (x : Ending T) → shows nature ≡ false
-    → decides (decision.Change c) → now_tells ≡ tells → now_repository ≡ repository → IsUnstaged now_tells now_repository.held c x → IsUnready nature decides tells repository.held x
-unready_behind nature decides tells now_tells repository now_repository c x changes decided same_tells same says =
+pub unready_behind : {T : Type 0} (effect : Effect) (decides : Decision T → Type 0) (tells now_tells : Bool) (repository now_repository : State) (c : Change T) (x : Ending T) → shows effect ≡ false
+    → decides (decision.Change c) → now_tells ≡ tells → now_repository ≡ repository → IsUnstaged now_tells now_repository.held c x → IsUnready effect decides tells repository.held x
+unready_behind effect decides tells now_tells repository now_repository c x changes decided same_tells same says =
     let a = subst (λ (b : Bool). IsUnstaged b now_repository.held c x) same_tells says in
-    unready_from nature decides tells repository.held c x changes decided (subst (λ (s : State). IsUnstaged tells s.held c x) same a)
+    unready_from effect decides tells repository.held c x changes decided (subst (λ (s : State). IsUnstaged tells s.held c x) same a)
 
 -- a change that stands ready is one that was decided on
 pub readied : {T : Type 0} (means : Bool → Image → Image → Image → Type 0) (decides : Decision T → Type 0) (tells now_tells : Bool) (repository now_repository old mid new : State) (c : Change T) (p : Prepared T)
     → now_tells ≡ tells → now_repository ≡ repository → mid ≡ old → decides (decision.Change c) → IsPlanned means tells repository.held old.held c
     → p.before.items ≡ c.before.items → p.after.items ≡ c.after.items → p.told ≡ c.told
-    → HasStaged now_tells now_repository.held c.publisher (map step_of c.steps.items) c.staged.items mid.held new → IsReadied (means tells repository.held) decides old new p
-readied means decides tells now_tells repository now_repository old mid new c p same_tells same_repository kept decided planned before behind told has =
+    → HasStaged now_tells now_repository.held c.publisher (map step_of c.steps.items) c.staged.items mid.held new → (IsTrue now_tells → AreIntact now_repository.held c.publisher c.staged.items)
+    → IsReadied (means tells repository.held) decides tells repository.held old new p
+readied means decides tells now_tells repository now_repository old mid new c p same_tells same_repository kept decided planned before behind told has intact =
     let a = subst (λ (b : Bool). HasStaged b now_repository.held c.publisher (map step_of c.steps.items) c.staged.items mid.held new) same_tells has in
     let b = subst (λ (s : State). HasStaged tells s.held c.publisher (map step_of c.steps.items) c.staged.items mid.held new) same_repository a in
     let all : HasStaged tells repository.held c.publisher (map step_of c.steps.items) c.staged.items old.held new =
@@ -180,6 +183,7 @@ readied means decides tells now_tells repository now_repository old mid new c p 
       after = visible (all_laid all.contents (map step_of c.steps.items) old.held);
       staged = all.is;
       is_meant = planned.is_meant all.contents all.are;
+      intact = λ is. subst (λ (s : State). AreIntact s.held c.publisher c.staged.items) same_repository (intact (same_tells ∙ is));
     }
 
 -- a change that was decided on is carried out with its own lists, by its own telling

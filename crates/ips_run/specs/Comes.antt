@@ -1,5 +1,6 @@
 -- Under which cause each ending comes.
 use Rattle.std.specs.Prelude.{◌≡◌, ◌≢◌, ◌⊎◌, ℕ, ◌<◌, ◌≤◌, Bool, cond, IsTrue, IsFalse, List, [], ◌∷◌, ◌++◌, length, map, take, slice_get, Some, None, is_some}
+use Rattle.ips_text.specs.declared.path.RelPath.{RelPath}
 use Rattle.ips_outside.specs.Image.{Image}
 use Rattle.ips_outside.specs.Running.{Run, Running}
 use Rattle.ips_steps.specs.Steps.{Step}
@@ -10,12 +11,12 @@ use Rattle.ips_journal.specs.Bad.{IsBadLine}
 use Rattle.ips_journal.specs.Reading.{journal_of}
 use Rattle.ips_actuate.specs.Running.{succeeded}
 use Rattle.ips_commit.specs.Pending.{IsBare, IsPending}
-use Rattle.ips_commit.specs.Contents.{SaysOfStage}
-use Rattle.ips_commit.specs.Recovering.{IsBadJournal}
+use Rattle.ips_commit.specs.Contents.{AreIntact, SaysOfStage}
+use Rattle.ips_commit.specs.Recovering.{CanRollForward, IsBadJournal}
 use Rattle.ips_commit.specs.declared.found.Pending.TheVariants as pending
 use Rattle.ips_commit.specs.declared.fault.StageFault.TheVariants as stage
-use Rattle.ips_history.specs.Course.{shows, fixes}
-use Rattle.ips_history.specs.declared.nature.Nature.{Nature}
+use Rattle.ips_history.specs.Directories.{shows, creates, fixes, CanHaveDirectories, IsInTheWay}
+use Rattle.ips_history.specs.declared.effect.Effect.{Effect}
 use Rattle.ips_run.specs.declared.operation.Change.{Change}
 use Rattle.ips_run.specs.declared.operation.Decision.{Decision}
 use Rattle.ips_run.specs.declared.operation.Decision.TheVariants as decision
@@ -30,9 +31,10 @@ HasRun r old new ran = IsTrue (r.tells old) → r.ran new ≡ r.ran old ++ ran
 abbrev pub IsStopped : Image → Type 0
 IsStopped t = IsPending t pending.Open ⊎ IsPending t pending.Leftover
 
--- the operation is to decide: the gate is closed, and for one that recovers nothing is left behind it
-abbrev pub IsToDecide : Nature → Image → Type 0
-IsToDecide nature t = (t.look gate_name ≡ None) × (IsTrue (fixes nature) → IsBare t)
+-- the operation is to decide: the gate is closed; for one that recovers nothing is left behind it; and for one that makes an image
+-- nothing is in the way of the directories of its records
+abbrev pub IsToDecide : Effect → Image → Type 0
+IsToDecide effect t = (t.look gate_name ≡ None) × (IsTrue (fixes effect) → IsBare t) × (IsTrue (creates effect) → CanHaveDirectories t)
 
 -- the folder couldn't be made safe, or the gate not be looked at
 abbrev pub IsUnopened : {T : Type 0} → Ending T → Type 0
@@ -42,16 +44,16 @@ IsUnopened other = ⊥
 
 -- Nothing is to be committed: the operation decides so; or the first payload that has a fault is this one, in a change that it
 -- decides on; or a call failed.
-abbrev pub IsUnready : {T : Type 0} → Nature → (Decision T → Type 0) → Bool → Image → Ending T → Type 0
-IsUnready nature decides tells repository (ending.Shown told) = IsTrue (shows nature) × decides (decision.Shown told)
-IsUnready nature decides tells repository (ending.Refused told) = decides (decision.Refused told)
-IsUnready nature decides tells repository ending.NothingToDo = IsFalse (shows nature) × decides decision.Nothing
-IsUnready nature decides tells repository (ending.BadPayload name fault) = IsFalse (shows nature) × ((c : Change _) × decides (decision.Change c)
+abbrev pub IsUnready : {T : Type 0} → Effect → (Decision T → Type 0) → Bool → Image → Ending T → Type 0
+IsUnready effect decides tells repository (ending.Shown told) = IsTrue (shows effect) × decides (decision.Shown told)
+IsUnready effect decides tells repository (ending.Refused told) = decides (decision.Refused told)
+IsUnready effect decides tells repository ending.NothingToDo = IsFalse (shows effect) × decides decision.Nothing
+IsUnready effect decides tells repository (ending.BadPayload name fault) = IsFalse (shows effect) × ((c : Change _) × decides (decision.Change c)
     × SaysOfStage tells repository c.publisher c.staged.items (stage.Payload name fault))
-IsUnready nature decides tells repository ending.SourceFault = IsFalse (shows nature)
-IsUnready nature decides tells repository (ending.FolderFault unfinished) = IsFalse unfinished
-IsUnready nature decides tells repository ending.OutOfMemory = Unit {0}
-IsUnready nature decides tells repository other = ⊥
+IsUnready effect decides tells repository ending.SourceFault = IsFalse (shows effect)
+IsUnready effect decides tells repository (ending.FolderFault unfinished) = IsFalse unfinished
+IsUnready effect decides tells repository ending.OutOfMemory = Unit {0}
+IsUnready effect decides tells repository other = ⊥
 
 -- the actuators of the list before were run, where the change was committed, and so were so many of that list in which one had a fault
 abbrev pub front_run : Bool → List (List (List ℕ)) → List (List (List ℕ)) → ℕ → List Run
@@ -94,22 +96,25 @@ IsCarriedTo steps before behind told old now Ran (ending.SpawnFault after) = Has
 IsCarriedTo steps before behind told old now Ran (ending.FolderFault unfinished) = IsTrue unfinished × IsCommittedPartly steps before old now Ran
 IsCarriedTo steps before behind told old now Ran other = ⊥
 
--- how far what was stopped is brought to its end: forward where something stands at the gate. The journal behind it is bad, and
+-- how far what was stopped is brought to its end: forward where something stands at the gate, and then the steps that its marks
+-- leave could be laid. The journal behind it is bad, and
 -- where it isn't of the grammar nothing is changed or counted. An open gate alone leaves something unfinished.
 abbrev pub IsBackTo : {T : Type 0} → Image → Image → List Carrier → List Carrier → Ending T → Type 0
-IsBackTo held left old now (ending.Recovered forward) = forward ≡ is_some (held.look gate_name)
+IsBackTo held left old now (ending.Recovered forward) = (forward ≡ is_some (held.look gate_name)) × (IsTrue forward → (steps : List Step) × (count : ℕ) × CanRollForward held steps count)
 IsBackTo held left old now (ending.BadJournal line) = (held.look gate_name ≢ None) × IsBadJournal held left old now line × (IsBadLine (journal_of held) line → (left ≡ held) × (now ≡ old))
 IsBackTo held left old now (ending.FolderFault unfinished) = (IsTrue unfinished → held.look gate_name ≢ None) × (IsFalse unfinished → now ≡ old)
 IsBackTo held left old now ending.OutOfMemory = now ≡ old
 IsBackTo held left old now other = ⊥
 
 -- Each ending comes under its cause, phase by phase: a call failed before the gate was looked at; something stands at the gate, and
--- the operation doesn't recover; it does, and something was stopped; nothing is to be committed; or a change that was decided on
--- was carried out as far as the ending says. No actuator is run but by a change that is carried out.
-pub data Comes {T : Type 0} (nature : Nature) (decides : Decision T → Type 0) (tells : Bool) (repository held left : Image) (old now : List Carrier) (Ran : List Run → Type 0) : Ending T → Type 0 where
-  Unopened : {x : Ending T} → IsUnopened x → now ≡ old → Ran [] → Comes nature decides tells repository held left old now Ran x
-  Unfinished : IsFalse (fixes nature) → held.look gate_name ≢ None → now ≡ old → Ran [] → Comes nature decides tells repository held left old now Ran ending.Unfinished
-  Back : {x : Ending T} → IsTrue (fixes nature) → IsStopped held → IsBackTo held left old now x → Ran [] → Comes nature decides tells repository held left old now Ran x
-  Unready : {x : Ending T} → IsToDecide nature held → IsUnready nature decides tells repository x → now ≡ old → Ran [] → Comes nature decides tells repository held left old now Ran x
-  Carried : {x : Ending T} (c : Change T) → IsFalse (shows nature) → IsToDecide nature held → decides (decision.Change c)
-      → IsCarriedTo (map step_of c.steps.items) c.before.items c.after.items c.told old now Ran x → Comes nature decides tells repository held left old now Ran x
+-- the operation doesn't recover; it does, and something was stopped; it makes an image, and something else than a directory is in
+-- the way; nothing is to be committed; or a change that was decided on, whose payloads have no fault, was carried out as far as the
+-- ending says. No actuator is run but by a change that is carried out.
+pub data Comes {T : Type 0} (effect : Effect) (decides : Decision T → Type 0) (tells : Bool) (repository held left : Image) (old now : List Carrier) (Ran : List Run → Type 0) : Ending T → Type 0 where
+  Unopened : {x : Ending T} → IsUnopened x → now ≡ old → Ran [] → Comes effect decides tells repository held left old now Ran x
+  Unfinished : IsFalse (fixes effect) → held.look gate_name ≢ None → now ≡ old → Ran [] → Comes effect decides tells repository held left old now Ran ending.Unfinished
+  Back : {x : Ending T} → IsTrue (fixes effect) → IsStopped held → IsBackTo held left old now x → Ran [] → Comes effect decides tells repository held left old now Ran x
+  NotDirectory : {path : RelPath} → IsTrue (creates effect) → held.look gate_name ≡ None → IsInTheWay held path.bytes → left ≡ held → now ≡ old → Ran [] → Comes effect decides tells repository held left old now Ran (ending.NotDirectory path)
+  Unready : {x : Ending T} → IsToDecide effect held → IsUnready effect decides tells repository x → now ≡ old → Ran [] → Comes effect decides tells repository held left old now Ran x
+  Carried : {x : Ending T} (c : Change T) → IsFalse (shows effect) → IsToDecide effect held → decides (decision.Change c) → (IsTrue tells → AreIntact repository c.publisher c.staged.items)
+      → IsCarriedTo (map step_of c.steps.items) c.before.items c.after.items c.told old now Ran x → Comes effect decides tells repository held left old now Ran x

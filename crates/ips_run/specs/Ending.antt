@@ -26,6 +26,11 @@ abbrev pub recovery : {T : Type 0} → Ending T → Option Bool
 recovery (ending.Recovered forward) = Some forward
 recovery other = None
 
+-- there is nothing to change
+abbrev pub is_unneeded : {T : Type 0} → Ending T → Bool
+is_unneeded ending.NothingToDo = true
+is_unneeded other = false
+
 -- a change is left to be brought to its end
 abbrev pub is_left : {T : Type 0} → Ending T → Bool
 is_left (ending.FolderFault unfinished) = unfinished
@@ -37,9 +42,9 @@ is_bad_journal (ending.BadJournal line) = true
 is_bad_journal other = false
 
 -- memory ran out
-abbrev pub is_starved : {T : Type 0} → Ending T → Bool
-is_starved ending.OutOfMemory = true
-is_starved other = false
+abbrev pub is_out_of_memory : {T : Type 0} → Ending T → Bool
+is_out_of_memory ending.OutOfMemory = true
+is_out_of_memory other = false
 
 -- a call on the image failed, with nothing left unfinished
 abbrev pub is_failed : {T : Type 0} → Ending T → Bool
@@ -48,7 +53,7 @@ is_failed other = false
 
 -- all that an ending claims
 abbrev pub claim_of : {T : Type 0} → Ending T → Claim
-claim_of x = record { done = is_done x; refused = is_refused x; recovered = recovery x; unfinished = is_left x; bad_journal = is_bad_journal x; starved = is_starved x; failed = is_failed x }
+claim_of x = record { done = is_done x; refused = is_refused x; nothing = is_unneeded x; recovered = recovery x; unfinished = is_left x; bad_journal = is_bad_journal x; out_of_memory = is_out_of_memory x; failed = is_failed x }
 
 -- a call on the image failed
 abbrev pub is_folder_fault : {T : Type 0} → Ending T → Bool

@@ -2,3 +2,5 @@ pub mod Planned
 pub mod Ending
 pub mod Comes
 pub mod Phases
+pub mod Creating
+pub mod Exclusive

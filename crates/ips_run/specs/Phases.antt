@@ -12,7 +12,7 @@ use Rattle.ips_kinds.specs.Tallies.{Carrier, all_counted}
 use Rattle.ips_journal.specs.Text.{journal_text}
 use Rattle.ips_actuate.specs.declared.running.ActFault.{ActFault}
 use Rattle.ips_actuate.specs.declared.running.ActFault.TheVariants as act_fault
-use Rattle.ips_commit.specs.Contents.{SaysOfStage}
+use Rattle.ips_commit.specs.Contents.{AreIntact, SaysOfStage}
 use Rattle.ips_commit.specs.Staging.{IsStaged}
 use Rattle.ips_commit.specs.Due.{DueOnceOpen}
 use Rattle.ips_commit.specs.Recovering.{IsJournalled, CanResume, IsUnfinished}
@@ -22,10 +22,11 @@ use Rattle.ips_commit.specs.declared.fault.CommitFault.TheVariants as commit_fau
 use Rattle.ips_commit.specs.declared.found.Pending.{Pending}
 use Rattle.ips_commit.specs.declared.found.Pending.TheVariants as pending
 use Rattle.ips_history.specs.Due.{HasEnded}
-use Rattle.ips_history.specs.Course.{fixes, StillOwes, IsRequest}
+use Rattle.ips_history.specs.Directories.{fixes}
+use Rattle.ips_history.specs.Transition.{StillOwes, IsRequest}
 use Rattle.ips_history.specs.Run.{IsRecovered, StaysShut}
-use Rattle.ips_history.specs.declared.nature.Nature.{Nature}
-use Rattle.ips_history.specs.declared.nature.Nature.TheVariants as nature
+use Rattle.ips_history.specs.declared.effect.Effect.{Effect}
+use Rattle.ips_history.specs.declared.effect.Effect.TheVariants as effect
 use Rattle.ips_run.specs.declared.operation.Change.{Change}
 use Rattle.ips_run.specs.declared.operation.Decision.{Decision}
 use Rattle.ips_run.specs.declared.operation.Decision.TheVariants as decision
@@ -34,20 +35,20 @@ use Rattle.ips_run.specs.declared.next.Next.{Next}
 use Rattle.ips_run.specs.declared.next.Next.TheVariants as next
 use Rattle.ips_run.specs.declared.ending.Ending.{Ending}
 use Rattle.ips_run.specs.declared.ending.Ending.TheVariants as ending
-use Rattle.ips_run.specs.Ending.{is_done, is_refused, recovery, is_left, is_bad_journal, is_starved}
+use Rattle.ips_run.specs.Ending.{is_done, is_refused, is_unneeded, recovery, is_left, is_bad_journal, is_out_of_memory}
 
 -- what comes behind a closed gate at which nothing is to be recovered
-abbrev pub decided_next : Nature → Next
-decided_next nature.Shows = next.Show
-decided_next nature.Changes = next.Change
-decided_next nature.Founds = next.Change
-decided_next nature.Fixes = next.Change
+abbrev pub decided_next : Effect → Next
+decided_next effect.Shows = next.Show
+decided_next effect.Changes = next.Change
+decided_next effect.Creates = next.Create
+decided_next effect.Fixes = next.Change
 
 -- what comes behind the look at the gate
-abbrev pub next_of : Nature → Pending → Next
-next_of nature pending.Nothing = decided_next nature
-next_of nature pending.Leftover = cond (fixes nature) next.Recover (decided_next nature)
-next_of nature pending.Open = cond (fixes nature) next.Recover next.Refuse
+abbrev pub next_of : Effect → Pending → Next
+next_of effect pending.Nothing = decided_next effect
+next_of effect pending.Leftover = cond (fixes effect) next.Recover (decided_next effect)
+next_of effect pending.Open = cond (fixes effect) next.Recover next.Refuse
 
 -- how a run ends where a change isn't committed
 abbrev pub uncommitted_as : {T : Type 0} → CommitFault → Ending T
@@ -55,8 +56,9 @@ uncommitted_as commit_fault.Unchanged = ending.FolderFault false
 uncommitted_as commit_fault.Unfinished = ending.FolderFault true
 uncommitted_as (commit_fault.BadJournal line) = ending.BadJournal line
 
--- A change stands ready, and means so: it is one that was decided on, with its actuators and what it tells.
-pub record IsReadied {T : Type 0} (means : Image → Image → Type 0) (decides : Decision T → Type 0) (old new : State) (p : Prepared T) : Type 0 where
+-- A change stands ready, and means so: it is one that was decided on, with its actuators and what it tells, and its payloads have no
+-- fault.
+pub record IsReadied {T : Type 0} (means : Image → Image → Type 0) (decides : Decision T → Type 0) (tells : Bool) (repository : Image) (old new : State) (p : Prepared T) : Type 0 where
   pub change : Change T
   pub decided : decides (decision.Change change)
   pub before : p.before.items ≡ change.before.items
@@ -65,6 +67,7 @@ pub record IsReadied {T : Type 0} (means : Image → Image → Type 0) (decides 
   pub after : Image
   pub staged : IsStaged (map step_of change.steps.items) after new
   pub is_meant : means (visible old.held) after
+  pub intact : IsTrue tells → AreIntact repository change.publisher change.staged.items
 
 -- why a change isn't staged: the first payload that has a fault is this one, or a call failed
 abbrev pub IsUnstaged : {T : Type 0} → Bool → Image → Change T → Ending T → Type 0
@@ -93,7 +96,7 @@ pub record IsCarried {F T : Type 0} (o : Outside F) (a : Image) (x : Ending T) (
   pub resumes : IsTrue (is_left x) → IsResumable o before now new
   pub unrecovered : recovery x ≡ None
   pub readable : IsFalse (is_bad_journal x)
-  pub fed : IsFalse (is_starved x)
+  pub has_memory : IsFalse (is_out_of_memory x)
 
 -- A request from a closed gate on: the image before it is owed, or one that it means; a refusal leaves what is seen as before and
 -- the gate closed; and memory runs out only before the gate's call.
@@ -104,17 +107,18 @@ pub record IsAsked {F T : Type 0} (o : Outside F) (means : Image → Image → T
   pub resumes : IsTrue (is_left x) → IsResumable o before now new
   pub unrecovered : recovery x ≡ None
   pub readable : IsFalse (is_bad_journal x)
-  pub starved : IsTrue (is_starved x) → StaysShut o at new
+  pub out_of_memory : IsTrue (is_out_of_memory x) → StaysShut o at new
 
 -- A run that brings to its end what was stopped, or changes nothing that is owed.
 pub record IsBack {F T : Type 0} (o : Outside F) (x : Ending T) (before now : List Carrier) (at new : F) : Type 0 where
   pub still : StillOwes o at new
   pub undone : IsFalse (is_done x)
+  pub needed : IsFalse (is_unneeded x)
   pub recovered : IfSome (recovery x) (λ forward. IsRecovered o forward before now at new)
   pub unseen : IsTrue (is_refused x) → visible (o.state new).held ≡ visible (o.state at).held
   pub unopened : IsTrue (is_refused x) → (o.state at).held.look gate_name ≡ None → StaysShut o at new
   pub readable : IsTrue (is_bad_journal x) → (b : Image) (a : Option Image) (due : Bool) → FolderOwes journal_text b a due (o.state at) → ⊥
-  pub starved : IsTrue (is_starved x) → o.state new ≡ o.state at
+  pub out_of_memory : IsTrue (is_out_of_memory x) → o.state new ≡ o.state at
   pub resumes : IsTrue (is_left x) → ((o.state at).held.look gate_name ≢ None)
       × ((steps : List Step) (count : ℕ) → IsJournalled (o.state at).held steps count → IsUnfinished (o.state at).held (o.state new) steps count before now)
 

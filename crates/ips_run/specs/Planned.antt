@@ -7,8 +7,8 @@ use Rattle.ips_steps.specs.Journal.{IsJournal}
 use Rattle.ips_steps.specs.View.{step_of}
 use Rattle.ips_commit.specs.Contents.{AreContents, AreSeen}
 use Rattle.ips_commit.specs.Staging.{CanStage}
-use Rattle.ips_history.specs.Course.{shows}
-use Rattle.ips_history.specs.declared.nature.Nature.{Nature}
+use Rattle.ips_history.specs.Directories.{shows}
+use Rattle.ips_history.specs.declared.effect.Effect.{Effect}
 use Rattle.ips_run.specs.declared.operation.Change.{Change}
 use Rattle.ips_run.specs.declared.operation.Decision.{Decision}
 use Rattle.ips_run.specs.declared.operation.Decision.TheVariants as decision
@@ -21,11 +21,11 @@ IfChange P (decision.Shown told) = Unit {0}
 IfChange P (decision.Refused told) = Unit {0}
 
 -- an operation that shows decides on what is to be shown, and no other does; each may refuse
-abbrev pub IsOfNature : {T : Type 0} → Nature → Decision T → Type 0
-IsOfNature nature (decision.Change c) = IsFalse (shows nature)
-IsOfNature nature decision.Nothing = IsFalse (shows nature)
-IsOfNature nature (decision.Shown told) = IsTrue (shows nature)
-IsOfNature nature (decision.Refused told) = Unit {0}
+abbrev pub IsOfEffect : {T : Type 0} → Effect → Decision T → Type 0
+IsOfEffect effect (decision.Change c) = IsFalse (shows effect)
+IsOfEffect effect decision.Nothing = IsFalse (shows effect)
+IsOfEffect effect (decision.Shown told) = IsTrue (shows effect)
+IsOfEffect effect (decision.Refused told) = Unit {0}
 
 -- A journal can list the steps, and nothing is put from the updater's own names.
 pub record IsListed {T : Type 0} (c : Change T) : Type 0 where

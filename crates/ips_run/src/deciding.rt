@@ -2,8 +2,9 @@
 
 ghost use Rattle.std.specs.Prelude.{◌≡◌, None, IsTrue, IsFalse, IfOk, IfErr};
 ghost use Rattle.ips_outside.specs.Outside.{Reads};
-ghost use Rattle.ips_steps.specs.Private.{gate_name};
-ghost use Rattle.ips_history.specs.Course.{shows};
+ghost use Rattle.ips_outside.specs.Image.{is_dir};
+ghost use Rattle.ips_steps.specs.Private.{records_name, gate_name};
+ghost use Rattle.ips_history.specs.Directories.{shows, creates};
 ghost use Rattle.ips_run.specs.declared.operation.Decision.TheVariants as decision;
 ghost use Rattle.ips_run.specs.Planned.{IsListed, IsPlanned};
 ghost use Rattle.ips_run.specs.Ending.{EndsAs, IsEarly, is_folder_fault, is_source_fault};
@@ -23,18 +24,19 @@ pub(crate) fn decided<T: Drop, S: Source, F: Folder, C: Operation<T>>(
     source: &mut S,
     folder: &mut F,
 ) -> Result<Change<T>, Ending<T>>
-    requires { IsTrue (F.outside.tells folder.old) → (F.outside.state folder.old).held.look gate_name ≡ None }
+    requires shut { IsTrue (F.outside.tells folder.old) → (F.outside.state folder.old).held.look gate_name ≡ None }
+    requires records { IsTrue (F.outside.tells folder.old) → IsTrue (creates (C.effect operation.now)) → IsTrue (is_dir ((F.outside.state folder.old).held.look records_name)) }
     ensures decided { IsTrue (F.outside.tells folder.old)
         → IfOk result (λ c. C.decides operation.now (S.outside.tells source.old) (S.outside.state source.old).held (F.outside.state folder.old).held (decision.Change c)) }
-    ensures changes { IfOk result (λ _. IsFalse (shows (C.nature operation.now))) }
+    ensures changes { IfOk result (λ _. IsFalse (shows (C.effect operation.now))) }
     ensures listed { IfOk result IsListed }
     ensures planned { IsTrue (F.outside.tells folder.old)
         → IfOk result (IsPlanned (C.means operation.now) (S.outside.tells source.old) (S.outside.state source.old).held (F.outside.state folder.old).held) }
     ensures early { IfErr result IsEarly }
-    ensures unready { IsTrue (F.outside.tells folder.old) → IfErr result (IsUnready (C.nature operation.now)
+    ensures unready { IsTrue (F.outside.tells folder.old) → IfErr result (IsUnready (C.effect operation.now)
         (C.decides operation.now (S.outside.tells source.old) (S.outside.state source.old).held (F.outside.state folder.old).held)
         (S.outside.tells source.old) (S.outside.state source.old).held) }
-    ensures unasked { IsTrue (shows (C.nature operation.now)) → IfErr result (λ x. IsFalse (is_source_fault x)) }
+    ensures unasked { IsTrue (shows (C.effect operation.now)) → IfErr result (λ x. IsFalse (is_source_fault x)) }
     ensures reads { Reads F.outside folder.old folder.new (EndsAs is_folder_fault result) }
     ensures source { Reads S.outside source.old source.new (EndsAs is_source_fault result) }
 {
@@ -56,10 +58,10 @@ pub(crate) fn shown<T: Drop, S: Source, F: Folder, C: Operation<T>>(
     source: &mut S,
     folder: &mut F,
 ) -> Ending<T>
-    requires shows { IsTrue (shows (C.nature operation.now)) }
+    requires shows { IsTrue (shows (C.effect operation.now)) }
     requires shut { IsTrue (F.outside.tells folder.old) → (F.outside.state folder.old).held.look gate_name ≡ None }
     ensures early { IsEarly result }
-    ensures unready { IsTrue (F.outside.tells folder.old) → IsUnready (C.nature operation.now)
+    ensures unready { IsTrue (F.outside.tells folder.old) → IsUnready (C.effect operation.now)
         (C.decides operation.now (S.outside.tells source.old) (S.outside.state source.old).held (F.outside.state folder.old).held)
         (S.outside.tells source.old) (S.outside.state source.old).held result }
     ensures unasked { IsFalse (is_source_fault result) }

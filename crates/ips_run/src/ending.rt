@@ -3,6 +3,7 @@
 use ips_actuate::Words;
 use ips_digest::PayloadName;
 use ips_repo::RepoFault;
+use ips_text::RelPath;
 
 /// How a run ends, with what the operation tells of it.
 #[derive(Drop)]
@@ -24,6 +25,10 @@ pub enum Ending<T> {
     /// A change that was stopped is brought to its end; or, where `forward` is false, what it left is taken away.
     Recovered {
         forward: bool,
+    },
+    /// Something else than a directory stands at this path, at which a directory of the image's records is to be made.
+    NotDirectory {
+        path: RelPath,
     },
     /// A payload is missing, too large or damaged.
     BadPayload {

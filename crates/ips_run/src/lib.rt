@@ -8,8 +8,10 @@
 #![tactic(auto)]
 
 mod carrying;
+mod creating;
 mod deciding;
 mod ending;
+mod laws;
 mod next;
 mod operation;
 mod performing;
@@ -18,5 +20,6 @@ mod recovering;
 mod requesting;
 
 pub use ending::Ending;
+pub use laws::one_way;
 pub use operation::{Change, DecideFault, Decision, Operation};
 pub use performing::perform;

@@ -4,7 +4,7 @@ ghost use Rattle.std.specs.Prelude.{◌≡◌};
 ghost use Rattle.ips_run.specs.Phases.{next_of, decided_next};
 
 use ips_commit::Pending;
-use ips_history::Nature;
+use ips_history::Effect;
 
 // What comes behind the look at the gate.
 #[derive(Drop)]
@@ -17,23 +17,26 @@ pub(crate) enum Next {
     Show,
     // The operation decides on a change.
     Change,
+    // The directories of the records are made, and then the operation decides on a change.
+    Create,
 }
 
-pub(crate) fn phase_behind(nature: Nature, found: Pending) -> Next
-    ensures { result ≡ next_of nature found }
+pub(crate) fn phase_behind(effect: Effect, found: Pending) -> Next
+    ensures { result ≡ next_of effect found }
 {
-    match (found, nature) {
-        (Pending::Open | Pending::Leftover, Nature::Fixes) => Next::Recover,
+    match (found, effect) {
+        (Pending::Open | Pending::Leftover, Effect::Fixes) => Next::Recover,
         (Pending::Open, _) => Next::Refuse,
-        (Pending::Nothing | Pending::Leftover, _) => decided_next(nature),
+        (Pending::Nothing | Pending::Leftover, _) => decided_next(effect),
     }
 }
 
-fn decided_next(nature: Nature) -> Next
-    ensures { result ≡ decided_next nature }
+fn decided_next(effect: Effect) -> Next
+    ensures { result ≡ decided_next effect }
 {
-    match nature {
-        Nature::Shows => Next::Show,
-        Nature::Changes | Nature::Founds | Nature::Fixes => Next::Change,
+    match effect {
+        Effect::Shows => Next::Show,
+        Effect::Changes | Effect::Fixes => Next::Change,
+        Effect::Creates => Next::Create,
     }
 }

@@ -5,12 +5,13 @@ ghost use Rattle.ips_outside.specs.Outside.{HasCause, OneMore, Reads};
 ghost use Rattle.ips_steps.specs.Private.{gate_name};
 ghost use Rattle.ips_steps.specs.declared.step.Sort.{Sort};
 ghost use Rattle.ips_kinds.specs.Tallies.{seen_by, taken};
-ghost use Rattle.ips_history.specs.Course.{founds, shows};
+ghost use Rattle.ips_history.specs.Directories.{shows, image_for};
 ghost use Rattle.ips_history.specs.Run.{IsRun};
 ghost use Rattle.ips_run.specs.Ending.{claim_of, is_left, is_refused, is_folder_fault, is_source_fault, is_spawn_fault};
 ghost use Rattle.ips_run.specs.Comes.{Comes, HasRun};
 ghost use Rattle.ips_run.specs.Phases.{HasFailedInCommit, HasFailedInRecovery, IsKeptOrSettled};
 
+use crate::creating::create;
 use crate::deciding::shown;
 use crate::ending::Ending;
 use crate::next::{Next, phase_behind};
@@ -26,8 +27,8 @@ use std::alloc::Global;
 
 /// Carries out an operation on an image: makes safe what was written before and looks at the gate; then it brings to an end what
 /// was stopped, or shows what is asked for, or decides on a change, stages it, runs the actuators before it, commits it and runs
-/// the actuators after it. Each sort of step has to have a kind that takes it, and the operation may not be one that makes an
-/// image.
+/// the actuators after it. An operation that makes an image gets the directories of its records first, where nothing stands. Each
+/// sort of step has to have a kind that takes it.
 pub fn perform<T: Drop, S: Source, F: Folder, P: Spawner, C: Operation<T>>(
     alloc: Global,
     operation: &C,
@@ -37,15 +38,14 @@ pub fn perform<T: Drop, S: Source, F: Folder, P: Spawner, C: Operation<T>>(
     kinds: &mut Vec<Box<dyn Kind>>,
 ) -> Ending<T>
     requires takers { (s : Sort) → IsTrue (taken (seen_by sorts finished kinds.old.items) s) }
-    requires founded { IsFalse (founds (C.nature operation.now)) }
 
     // What it claims of the image, at every moment and at its end, and what is left to be resumed.
     ensures run { IsTrue (F.outside.tells folder.old) → IsRun F.outside (C.means operation.now (S.outside.tells source.old) (S.outside.state source.old).held)
-        (C.nature operation.now) (claim_of result) (seen_by sorts finished kinds.old.items) (seen_by sorts finished kinds.new.items) folder.old folder.new }
+        (C.effect operation.now) (claim_of result) (seen_by sorts finished kinds.old.items) (seen_by sorts finished kinds.new.items) folder.old folder.new }
 
     // Each ending has its cause, and these actuators and no others were run.
-    ensures comes { IsTrue (F.outside.tells folder.old) → Comes (C.nature operation.now)
-        (C.decides operation.now (S.outside.tells source.old) (S.outside.state source.old).held (F.outside.state folder.old).held)
+    ensures comes { IsTrue (F.outside.tells folder.old) → Comes (C.effect operation.now)
+        (C.decides operation.now (S.outside.tells source.old) (S.outside.state source.old).held (image_for (C.effect operation.now) (F.outside.state folder.old).held))
         (S.outside.tells source.old) (S.outside.state source.old).held (F.outside.state folder.old).held (F.outside.state folder.new).held
         (seen_by sorts finished kinds.old.items) (seen_by sorts finished kinds.new.items) (HasRun P.running spawner.old spawner.new) result }
 
@@ -55,18 +55,18 @@ pub fn perform<T: Drop, S: Source, F: Folder, P: Spawner, C: Operation<T>>(
     ensures spawner { HasCause (P.running.faults spawner.old) (P.running.faults spawner.new) (IsTrue (is_spawn_fault result)) }
 
     // Where something is shown, no fault is the repository's or a spawner's, whether or not the folder tells its image.
-    ensures shows_unasked { IsTrue (shows (C.nature operation.now)) → IsFalse (is_source_fault result) }
-    ensures shows_unspawned { IsTrue (shows (C.nature operation.now)) → IsFalse (is_spawn_fault result) }
+    ensures shows_unasked { IsTrue (shows (C.effect operation.now)) → IsFalse (is_source_fault result) }
+    ensures shows_unspawned { IsTrue (shows (C.effect operation.now)) → IsFalse (is_spawn_fault result) }
 
     // Unfinished: in the gate's call or later, or in a recovery from an open gate behind a call that may have changed something.
     ensures begun { IsTrue (F.outside.tells folder.old) → IsTrue (is_left result) → HasFailedInCommit F.outside folder.new ⊎ HasFailedInRecovery F.outside folder.new }
 
     // The opening sync is the only call that may change something, where something is shown, and where an open gate is left as it
     // was; and nothing but that has happened to the image.
-    ensures shows { IsTrue (shows (C.nature operation.now)) → OneMore (F.outside.changes folder.old) (F.outside.changes folder.new) }
+    ensures shows { IsTrue (shows (C.effect operation.now)) → OneMore (F.outside.changes folder.old) (F.outside.changes folder.new) }
     ensures untouched { IsTrue (F.outside.tells folder.old) → (F.outside.state folder.old).held.look gate_name ≢ None → IsTrue (is_refused result)
         → OneMore (F.outside.changes folder.old) (F.outside.changes folder.new) }
-    ensures shows_kept { IsTrue (F.outside.tells folder.old) → IsTrue (shows (C.nature operation.now)) → IsKeptOrSettled F.outside folder.old folder.new }
+    ensures shows_kept { IsTrue (F.outside.tells folder.old) → IsTrue (shows (C.effect operation.now)) → IsKeptOrSettled F.outside folder.old folder.new }
     ensures untouched_kept { IsTrue (F.outside.tells folder.old) → (F.outside.state folder.old).held.look gate_name ≢ None → IsTrue (is_refused result)
         → IsKeptOrSettled F.outside folder.old folder.new }
     ensures same_kind { F.outside.tells folder.new ≡ F.outside.tells folder.old }
@@ -79,10 +79,11 @@ pub fn perform<T: Drop, S: Source, F: Folder, P: Spawner, C: Operation<T>>(
         Err(Or::Bad(Failed)) => return Ending::FolderFault { unfinished: false },
         Err(Or::OutOfMemory) => return Ending::OutOfMemory,
     };
-    match phase_behind(operation.nature(), found) {
+    match phase_behind(operation.effect(), found) {
         Next::Refuse => Ending::Unfinished,
         Next::Recover => recovered(alloc, folder, kinds),
         Next::Show => shown(alloc, operation, source, folder),
         Next::Change => request(alloc, operation, source, folder, spawner, kinds),
+        Next::Create => create(alloc, operation, source, folder, spawner, kinds),
     }
 }

@@ -1,16 +1,17 @@
 //! A change made ready.
 
 ghost use Rattle.std.specs.Prelude.{◌≡◌, ◌≤◌, Option, None, false, IsTrue, IsFalse, IfOk, OnOk, IfErr, map};
-ghost use Rattle.ips_outside.specs.Image.{Image};
+ghost use Rattle.ips_outside.specs.Image.{Image, is_dir};
 ghost use Rattle.ips_outside.specs.State.{IsSettled};
 ghost use Rattle.ips_outside.specs.Outside.{HasCause, Reads};
 ghost use Rattle.ips_folder.specs.Calls.{Throughout};
-ghost use Rattle.ips_steps.specs.Private.{gate_name, visible};
+ghost use Rattle.ips_steps.specs.Private.{records_name, gate_name, visible};
 ghost use Rattle.ips_steps.specs.Owed.{FolderOwes};
 ghost use Rattle.ips_steps.specs.View.{step_of};
 ghost use Rattle.ips_journal.specs.Text.{journal_text};
+ghost use Rattle.ips_commit.specs.Contents.{AreIntact};
 ghost use Rattle.ips_commit.specs.Staging.{CanStage, HasStaged};
-ghost use Rattle.ips_history.specs.Course.{shows};
+ghost use Rattle.ips_history.specs.Directories.{shows, creates};
 ghost use Rattle.ips_run.specs.Planned.{IsListed};
 ghost use Rattle.ips_run.specs.Ending.{EndsAs, IsEarly, is_folder_fault, is_source_fault};
 ghost use Rattle.ips_run.specs.Comes.{IsUnready};
@@ -42,16 +43,17 @@ pub(crate) fn prepare<T: Drop, S: Source, F: Folder, C: Operation<T>>(
     source: &mut S,
     folder: &mut F,
 ) -> Result<Prepared<T>, Ending<T>>
-    requires { IsTrue (F.outside.tells folder.old) → (F.outside.state folder.old).held.look gate_name ≡ None }
+    requires shut { IsTrue (F.outside.tells folder.old) → (F.outside.state folder.old).held.look gate_name ≡ None }
+    requires records { IsTrue (F.outside.tells folder.old) → IsTrue (creates (C.effect operation.now)) → IsTrue (is_dir ((F.outside.state folder.old).held.look records_name)) }
     ensures owed { IsTrue (F.outside.tells folder.old) → IsSettled (F.outside.state folder.old) → (a : Option Image)
         → Throughout F.outside folder.old folder.new (FolderOwes journal_text (visible (F.outside.state folder.old).held) a false) }
     ensures seen { IsTrue (F.outside.tells folder.old) → visible (F.outside.state folder.new).held ≡ visible (F.outside.state folder.old).held }
     ensures readied { IsTrue (F.outside.tells folder.old) → IfOk result (IsReadied (C.means operation.now (S.outside.tells source.old) (S.outside.state source.old).held)
         (C.decides operation.now (S.outside.tells source.old) (S.outside.state source.old).held (F.outside.state folder.old).held)
-        (F.outside.state folder.old) (F.outside.state folder.new)) }
-    ensures changes { IfOk result (λ _. IsFalse (shows (C.nature operation.now))) }
+        (S.outside.tells source.old) (S.outside.state source.old).held (F.outside.state folder.old) (F.outside.state folder.new)) }
+    ensures changes { IfOk result (λ _. IsFalse (shows (C.effect operation.now))) }
     ensures early { IfErr result IsEarly }
-    ensures unready { IsTrue (F.outside.tells folder.old) → IfErr result (IsUnready (C.nature operation.now)
+    ensures unready { IsTrue (F.outside.tells folder.old) → IfErr result (IsUnready (C.effect operation.now)
         (C.decides operation.now (S.outside.tells source.old) (S.outside.state source.old).held (F.outside.state folder.old).held)
         (S.outside.tells source.old) (S.outside.state source.old).held) }
     ensures later { F.outside.changes folder.old ≤ F.outside.changes folder.new }
@@ -97,6 +99,7 @@ fn ready_for<T: Drop, S: Source, F: Folder>(
     ensures seen { IsTrue (F.outside.tells folder.old) → visible (F.outside.state folder.new).held ≡ visible (F.outside.state folder.old).held }
     ensures staged { IsTrue (F.outside.tells folder.old) → OnOk result
         (HasStaged (S.outside.tells source.old) (S.outside.state source.old).held change.now.publisher (map step_of change.now.steps.items) change.now.staged.items (F.outside.state folder.old).held (F.outside.state folder.new)) }
+    ensures intact { IsTrue (S.outside.tells source.old) → OnOk result (AreIntact (S.outside.state source.old).held change.now.publisher change.now.staged.items) }
     ensures early { IfErr result IsEarly }
     ensures unstaged { IfErr result (IsUnstaged (S.outside.tells source.old) (S.outside.state source.old).held change.now) }
     ensures later { F.outside.changes folder.old ≤ F.outside.changes folder.new }

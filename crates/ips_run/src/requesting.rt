@@ -3,9 +3,11 @@
 ghost use Rattle.std.specs.Prelude.{◌≡◌, ◌≤◌, None, IsTrue, IsFalse};
 ghost use Rattle.ips_outside.specs.State.{IsSettled};
 ghost use Rattle.ips_outside.specs.Outside.{HasCause, Reads};
-ghost use Rattle.ips_steps.specs.Private.{gate_name};
+ghost use Rattle.ips_outside.specs.Image.{is_dir};
+ghost use Rattle.ips_steps.specs.Private.{records_name, gate_name};
 ghost use Rattle.ips_steps.specs.declared.step.Sort.{Sort};
 ghost use Rattle.ips_kinds.specs.Tallies.{seen_by, taken};
+ghost use Rattle.ips_history.specs.Directories.{creates};
 ghost use Rattle.ips_run.specs.Ending.{is_left, is_folder_fault, is_source_fault, is_spawn_fault};
 ghost use Rattle.ips_run.specs.Comes.{Comes, HasRun, IsToDecide};
 ghost use Rattle.ips_run.specs.Phases.{HasFailedInCommit, IsAsked};
@@ -29,11 +31,12 @@ pub(crate) fn request<T: Drop, S: Source, F: Folder, P: Spawner, C: Operation<T>
     kinds: &mut Vec<Box<dyn Kind>>,
 ) -> Ending<T>
     requires shut { IsTrue (F.outside.tells folder.old) → (F.outside.state folder.old).held.look gate_name ≡ None }
+    requires records { IsTrue (F.outside.tells folder.old) → IsTrue (creates (C.effect operation.now)) → IsTrue (is_dir ((F.outside.state folder.old).held.look records_name)) }
     requires takers { (s : Sort) → IsTrue (taken (seen_by sorts finished kinds.old.items) s) }
     ensures asked { IsTrue (F.outside.tells folder.old) → IsSettled (F.outside.state folder.old)
         → IsAsked F.outside (C.means operation.now (S.outside.tells source.old) (S.outside.state source.old).held) result
         (seen_by sorts finished kinds.old.items) (seen_by sorts finished kinds.new.items) folder.old folder.new }
-    ensures comes { IsTrue (F.outside.tells folder.old) → IsToDecide (C.nature operation.now) (F.outside.state folder.old).held → Comes (C.nature operation.now)
+    ensures comes { IsTrue (F.outside.tells folder.old) → IsToDecide (C.effect operation.now) (F.outside.state folder.old).held → Comes (C.effect operation.now)
         (C.decides operation.now (S.outside.tells source.old) (S.outside.state source.old).held (F.outside.state folder.old).held)
         (S.outside.tells source.old) (S.outside.state source.old).held (F.outside.state folder.old).held (F.outside.state folder.new).held
         (seen_by sorts finished kinds.old.items) (seen_by sorts finished kinds.new.items) (HasRun P.running spawner.old spawner.new) result }

@@ -4,45 +4,48 @@ use Rattle.ips_outside.proofs.Faults.{one_before}
 use Rattle.ips_outside.specs.Image.{Image}
 use Rattle.ips_steps.specs.Private.{gate_name}
 use Rattle.ips_steps.proofs.Lists.{clash}
-use Rattle.ips_commit.specs.Pending.{IsPending}
-use Rattle.ips_history.specs.Course.{shows}
+use Rattle.ips_commit.specs.Pending.{IsBare, IsPending}
+use Rattle.ips_history.specs.Directories.{shows, with_directories}
 use Rattle.ips_run.specs.declared.ending.Ending.TheVariants as ending
-use Rattle.ips_run.proofs.Opened.{no_fewer, synced_safe, elapses_kept, run_unopened, run_read, run_back, run_asked}
-use Rattle.ips_run.proofs.Nexts.{shown_of, changed_of, show_is, change_is, recover_is}
-use Rattle.ips_run.proofs.Performed.{fault_of, starved_of, unfinished_of, early_fault, early_starved, early_unfinished, left_fault, comes_unopened, comes_refused, comes_back, comes_shown, comes_asked, next_as}
+use Rattle.ips_run.proofs.Opened.{no_fewer, synced_safe, as_settled, elapses_kept, opened, run_unopened, run_read, run_back, run_asked, run_created}
+use Rattle.ips_run.proofs.Nexts.{shown_of, changed_of, created_of, show_is, change_is, recover_is, create_is}
+use Rattle.ips_run.proofs.Performed.{fault_of, out_of_memory_of, unfinished_of, early_fault, early_out_of_memory, early_unfinished, left_fault, comes_unopened, comes_refused, comes_back, comes_shown, comes_asked, comes_created, image_same, next_as}
 use Rattle.ips_run.proofs.performing.perform.Goals as goal
 
 pub returns-in_default-clause-run : goal.returns-in_default-clause-run
 returns-in_default-clause-run g c = λ told.
-    run_unopened g.F.Source.outside g.met.F.Source.sane _ (g.C.Operation.nature c.args.operation.now) (fault_of (g.C.Operation.decides c.args.operation.now (g.S.Source.outside.tells c.args.source.now) (g.S.Source.outside.state c.args.source.now).held)) _ _ c.args.folder.now c.sync.new.self c.sync.ensures.call.time c.in_default.ensures.kept early_fault refl refl
+    run_unopened g.F.Source.outside g.met.F.Source.sane _ (g.C.Operation.effect c.args.operation.now) (fault_of (g.C.Operation.decides c.args.operation.now (g.S.Source.outside.tells c.args.source.now) (g.S.Source.outside.state c.args.source.now).held)) _ _ c.args.folder.now c.sync.new.self c.sync.ensures.call.time c.in_default.ensures.kept early_fault refl refl refl
 
 pub returns-in_default-clause-comes : goal.returns-in_default-clause-comes
 returns-in_default-clause-comes g c = λ told.
-    comes_unopened g.P.Spawner.running c.args.spawner.now (g.C.Operation.nature c.args.operation.now) (g.C.Operation.decides c.args.operation.now (g.S.Source.outside.tells c.args.source.now) (g.S.Source.outside.state c.args.source.now).held) _ _ _ _ _ (ending.FolderFault false) refl
+    comes_unopened g.P.Spawner.running c.args.spawner.now (g.C.Operation.effect c.args.operation.now) (g.C.Operation.decides c.args.operation.now (g.S.Source.outside.tells c.args.source.now) (g.S.Source.outside.state c.args.source.now).held) _ _ _ _ _ (ending.FolderFault false) refl
 
 pub returns-in-Err-Bad-clause-run : goal.returns-in-Err-Bad-clause-run
 returns-in-Err-Bad-clause-run g c = λ told.
-    run_read g.F.Source.outside g.met.F.Source.sane _ (g.C.Operation.nature c.args.operation.now) (fault_of (g.C.Operation.decides c.args.operation.now (g.S.Source.outside.tells c.args.source.now) (g.S.Source.outside.state c.args.source.now).held)) _ _ c.args.folder.now c.sync.new.self c.pending.new.folder c.sync.ensures.call.time (c.in-Ok.ensures.done told) c.sync.ensures.one_made (no_fewer _ _ c.pending.ensures.reads.none_made) c.pending.ensures.reads.call.time c.pending.ensures.reads.kept early_fault
+    run_read g.F.Source.outside g.met.F.Source.sane _ (g.C.Operation.effect c.args.operation.now) (fault_of (g.C.Operation.decides c.args.operation.now (g.S.Source.outside.tells c.args.source.now) (g.S.Source.outside.state c.args.source.now).held)) _ _ c.args.folder.now c.sync.new.self c.pending.new.folder c.sync.ensures.call.time (c.in-Ok.ensures.done told)
+    (opened g.F.Source.outside g.met.F.Source.sane c.args.folder.now c.sync.new.self c.pending.new.folder c.sync.ensures.call.time (c.in-Ok.ensures.done told) c.sync.ensures.one_made (no_fewer _ _ c.pending.ensures.reads.none_made)) c.pending.ensures.reads.call.time c.pending.ensures.reads.kept early_fault (λ none. cc)
 
 pub returns-in-Err-Bad-clause-comes : goal.returns-in-Err-Bad-clause-comes
 returns-in-Err-Bad-clause-comes g c = λ told.
-    comes_unopened g.P.Spawner.running c.args.spawner.now (g.C.Operation.nature c.args.operation.now) (g.C.Operation.decides c.args.operation.now (g.S.Source.outside.tells c.args.source.now) (g.S.Source.outside.state c.args.source.now).held) _ _ _ _ _ (ending.FolderFault false) refl
+    comes_unopened g.P.Spawner.running c.args.spawner.now (g.C.Operation.effect c.args.operation.now) (g.C.Operation.decides c.args.operation.now (g.S.Source.outside.tells c.args.source.now) (g.S.Source.outside.state c.args.source.now).held) _ _ _ _ _ (ending.FolderFault false) refl
 
 pub returns-in-Err-OutOfMemory-clause-run : goal.returns-in-Err-OutOfMemory-clause-run
 returns-in-Err-OutOfMemory-clause-run g c = λ told.
-    run_read g.F.Source.outside g.met.F.Source.sane _ (g.C.Operation.nature c.args.operation.now) (starved_of (g.C.Operation.decides c.args.operation.now (g.S.Source.outside.tells c.args.source.now) (g.S.Source.outside.state c.args.source.now).held)) _ _ c.args.folder.now c.sync.new.self c.pending.new.folder c.sync.ensures.call.time (c.in-Ok.ensures.done told) c.sync.ensures.one_made (no_fewer _ _ c.pending.ensures.reads.none_made) c.pending.ensures.reads.call.time c.pending.ensures.reads.kept early_starved
+    run_read g.F.Source.outside g.met.F.Source.sane _ (g.C.Operation.effect c.args.operation.now) (out_of_memory_of (g.C.Operation.decides c.args.operation.now (g.S.Source.outside.tells c.args.source.now) (g.S.Source.outside.state c.args.source.now).held)) _ _ c.args.folder.now c.sync.new.self c.pending.new.folder c.sync.ensures.call.time (c.in-Ok.ensures.done told)
+    (opened g.F.Source.outside g.met.F.Source.sane c.args.folder.now c.sync.new.self c.pending.new.folder c.sync.ensures.call.time (c.in-Ok.ensures.done told) c.sync.ensures.one_made (no_fewer _ _ c.pending.ensures.reads.none_made)) c.pending.ensures.reads.call.time c.pending.ensures.reads.kept early_out_of_memory (λ none. cc)
 
 pub returns-in-Err-OutOfMemory-clause-comes : goal.returns-in-Err-OutOfMemory-clause-comes
 returns-in-Err-OutOfMemory-clause-comes g c = λ told.
-    comes_unopened g.P.Spawner.running c.args.spawner.now (g.C.Operation.nature c.args.operation.now) (g.C.Operation.decides c.args.operation.now (g.S.Source.outside.tells c.args.source.now) (g.S.Source.outside.state c.args.source.now).held) _ _ _ _ _ ending.OutOfMemory tt
+    comes_unopened g.P.Spawner.running c.args.spawner.now (g.C.Operation.effect c.args.operation.now) (g.C.Operation.decides c.args.operation.now (g.S.Source.outside.tells c.args.source.now) (g.S.Source.outside.state c.args.source.now).held) _ _ _ _ _ ending.OutOfMemory tt
 
 pub returns-in-Refuse-clause-run : goal.returns-in-Refuse-clause-run
 returns-in-Refuse-clause-run g c = λ told.
-    run_read g.F.Source.outside g.met.F.Source.sane _ (g.C.Operation.nature c.args.operation.now) (unfinished_of (g.C.Operation.decides c.args.operation.now (g.S.Source.outside.tells c.args.source.now) (g.S.Source.outside.state c.args.source.now).held)) _ _ c.args.folder.now c.sync.new.self c.pending.new.folder c.sync.ensures.call.time (c.in-Ok.ensures.done told) c.sync.ensures.one_made (no_fewer _ _ c.pending.ensures.reads.none_made) c.pending.ensures.reads.call.time c.pending.ensures.reads.kept early_unfinished
+    run_read g.F.Source.outside g.met.F.Source.sane _ (g.C.Operation.effect c.args.operation.now) (unfinished_of (g.C.Operation.decides c.args.operation.now (g.S.Source.outside.tells c.args.source.now) (g.S.Source.outside.state c.args.source.now).held)) _ _ c.args.folder.now c.sync.new.self c.pending.new.folder c.sync.ensures.call.time (c.in-Ok.ensures.done told)
+    (opened g.F.Source.outside g.met.F.Source.sane c.args.folder.now c.sync.new.self c.pending.new.folder c.sync.ensures.call.time (c.in-Ok.ensures.done told) c.sync.ensures.one_made (no_fewer _ _ c.pending.ensures.reads.none_made)) c.pending.ensures.reads.call.time c.pending.ensures.reads.kept early_unfinished (λ none. cc)
 
 pub returns-in-Refuse-clause-comes : goal.returns-in-Refuse-clause-comes
 returns-in-Refuse-clause-comes g c = λ told.
-    comes_refused g.P.Spawner.running c.args.spawner.now (g.C.Operation.nature c.args.operation.now) (g.C.Operation.decides c.args.operation.now (g.S.Source.outside.tells c.args.source.now) (g.S.Source.outside.state c.args.source.now).held) _ _ _ _ (g.F.Source.outside.state c.sync.new.self).held _ (ap (λ (s : State). s.held) (c.in-Ok.ensures.done told)) c.in-Ok-pending.found (c.in-Ok-pending.ensures.found (c.sync.ensures.call.same_kind ∙ told)) (next_as (g.C.Operation.nature c.args.operation.now) c.nature.result c.in-Ok-pending.found _ c.phase_behind.result c.nature.ensures c.phase_behind.ensures c.in-Refuse.is)
+    comes_refused g.P.Spawner.running c.args.spawner.now (g.C.Operation.effect c.args.operation.now) (g.C.Operation.decides c.args.operation.now (g.S.Source.outside.tells c.args.source.now) (g.S.Source.outside.state c.args.source.now).held) _ _ _ _ (g.F.Source.outside.state c.sync.new.self).held _ (ap (λ (s : State). s.held) (c.in-Ok.ensures.done told)) c.in-Ok-pending.found (c.in-Ok-pending.ensures.found (c.sync.ensures.call.same_kind ∙ told)) (next_as (g.C.Operation.effect c.args.operation.now) c.effect.result c.in-Ok-pending.found _ c.phase_behind.result c.effect.ensures c.phase_behind.ensures c.in-Refuse.is)
 
 pub recovered-requires-clause-safe : goal.recovered-requires-clause-safe
 recovered-requires-clause-safe g c = λ told.
@@ -57,7 +60,8 @@ returns-in-Recover-clause-run g c = λ told.
     let time = elapses_kept o sane c.args.folder.now c.sync.new.self at c.sync.ensures.call.time c.pending.ensures.reads.call.time c.pending.ensures.reads.kept in
     let is_synced = c.pending.ensures.reads.kept ∙ c.in-Ok.ensures.done told in
     let told_at = c.pending.ensures.reads.call.same_kind ∙ c.sync.ensures.call.same_kind ∙ told in
-    run_back o sane _ (g.C.Operation.nature c.args.operation.now) c.recovered.result _ _ c.args.folder.now at c.recovered.new.folder time is_synced (one_before _ _ _ c.sync.ensures.one_made c.pending.ensures.reads.none_made) c.recovered.ensures.later (c.recovered.ensures.back told_at)
+    run_back o sane _ (g.C.Operation.effect c.args.operation.now) c.recovered.result _ _ c.args.folder.now at c.recovered.new.folder time is_synced
+    (opened o sane c.args.folder.now at c.recovered.new.folder time is_synced (one_before _ _ _ c.sync.ensures.one_made c.pending.ensures.reads.none_made) c.recovered.ensures.later) (c.recovered.ensures.back told_at)
 
 pub returns-in-Recover-clause-comes : goal.returns-in-Recover-clause-comes
 returns-in-Recover-clause-comes g c = λ told.
@@ -67,7 +71,7 @@ returns-in-Recover-clause-comes g c = λ told.
     let time = elapses_kept o sane c.args.folder.now c.sync.new.self at c.sync.ensures.call.time c.pending.ensures.reads.call.time c.pending.ensures.reads.kept in
     let is_synced = c.pending.ensures.reads.kept ∙ c.in-Ok.ensures.done told in
     let told_at = c.pending.ensures.reads.call.same_kind ∙ c.sync.ensures.call.same_kind ∙ told in
-    comes_back g.P.Spawner.running c.args.spawner.now (g.C.Operation.nature c.args.operation.now) (g.C.Operation.decides c.args.operation.now (g.S.Source.outside.tells c.args.source.now) (g.S.Source.outside.state c.args.source.now).held) _ _ _ _ (g.F.Source.outside.state c.pending.new.folder).held _ ((ap (λ (s : State). s.held) c.pending.ensures.reads.kept) ∙ (ap (λ (s : State). s.held) (c.in-Ok.ensures.done told))) c.in-Ok-pending.found (subst (λ (t : Image). IsPending t c.in-Ok-pending.found) (sym (ap (λ (s : State). s.held) c.pending.ensures.reads.kept)) (c.in-Ok-pending.ensures.found (c.sync.ensures.call.same_kind ∙ told))) _ c.recovered.result (next_as (g.C.Operation.nature c.args.operation.now) c.nature.result c.in-Ok-pending.found _ c.phase_behind.result c.nature.ensures c.phase_behind.ensures c.in-Recover.is) (c.recovered.ensures.told told_at)
+    comes_back g.P.Spawner.running c.args.spawner.now (g.C.Operation.effect c.args.operation.now) (g.C.Operation.decides c.args.operation.now (g.S.Source.outside.tells c.args.source.now) (g.S.Source.outside.state c.args.source.now).held) _ _ _ _ (g.F.Source.outside.state c.pending.new.folder).held _ ((ap (λ (s : State). s.held) c.pending.ensures.reads.kept) ∙ (ap (λ (s : State). s.held) (c.in-Ok.ensures.done told))) c.in-Ok-pending.found (subst (λ (t : Image). IsPending t c.in-Ok-pending.found) (sym (ap (λ (s : State). s.held) c.pending.ensures.reads.kept)) (c.in-Ok-pending.ensures.found (c.sync.ensures.call.same_kind ∙ told))) _ c.recovered.result (next_as (g.C.Operation.effect c.args.operation.now) c.effect.result c.in-Ok-pending.found _ c.phase_behind.result c.effect.ensures c.phase_behind.ensures c.in-Recover.is) (c.recovered.ensures.told told_at)
 
 pub returns-in-Recover-clause-begun : goal.returns-in-Recover-clause-begun
 returns-in-Recover-clause-begun g c = λ told left.
@@ -86,7 +90,7 @@ returns-in-Recover-clause-begun g c = λ told left.
     })
 
 pub returns-in-Recover-clause-shows : goal.returns-in-Recover-clause-shows
-returns-in-Recover-clause-shows g c = λ is. absurd (clash (shows (g.C.Operation.nature c.args.operation.now)) is (recover_is (g.C.Operation.nature c.args.operation.now) c.in-Ok-pending.found (next_as (g.C.Operation.nature c.args.operation.now) c.nature.result c.in-Ok-pending.found _ c.phase_behind.result c.nature.ensures c.phase_behind.ensures c.in-Recover.is)))
+returns-in-Recover-clause-shows g c = λ is. absurd (clash (shows (g.C.Operation.effect c.args.operation.now)) is (recover_is (g.C.Operation.effect c.args.operation.now) c.in-Ok-pending.found (next_as (g.C.Operation.effect c.args.operation.now) c.effect.result c.in-Ok-pending.found _ c.phase_behind.result c.effect.ensures c.phase_behind.ensures c.in-Recover.is)))
 
 pub returns-in-Recover-clause-untouched : goal.returns-in-Recover-clause-untouched
 returns-in-Recover-clause-untouched g c = λ told there refused.
@@ -100,13 +104,13 @@ returns-in-Recover-clause-untouched g c = λ told there refused.
     (c.recovered.ensures.untouched told_at (λ shut. there (ap (λ (s : State). s.held.look gate_name) (sym is_synced) ∙ shut)) refused ∙ c.pending.ensures.reads.none_made)
 
 pub shown-requires-clause-shows : goal.shown-requires-clause-shows
-shown-requires-clause-shows g c = show_is (g.C.Operation.nature c.args.operation.now) c.in-Ok-pending.found (next_as (g.C.Operation.nature c.args.operation.now) c.nature.result c.in-Ok-pending.found _ c.phase_behind.result c.nature.ensures c.phase_behind.ensures c.in-Show.is)
+shown-requires-clause-shows g c = (show_is (g.C.Operation.effect c.args.operation.now) c.in-Ok-pending.found (next_as (g.C.Operation.effect c.args.operation.now) c.effect.result c.in-Ok-pending.found _ c.phase_behind.result c.effect.ensures c.phase_behind.ensures c.in-Show.is)).0
 
 pub shown-requires-clause-shut : goal.shown-requires-clause-shut
 shown-requires-clause-shut g c = λ told.
     let told_at = sym c.pending.ensures.reads.call.same_kind ∙ told in
     let found = c.in-Ok-pending.ensures.found told_at in
-    ap (λ (s : State). s.held.look gate_name) c.pending.ensures.reads.kept ∙ (shown_of (g.F.Source.outside.state c.sync.new.self).held (g.C.Operation.nature c.args.operation.now) c.in-Ok-pending.found found (next_as (g.C.Operation.nature c.args.operation.now) c.nature.result c.in-Ok-pending.found _ c.phase_behind.result c.nature.ensures c.phase_behind.ensures c.in-Show.is)).0
+    ap (λ (s : State). s.held.look gate_name) c.pending.ensures.reads.kept ∙ (shown_of (g.F.Source.outside.state c.sync.new.self).held (g.C.Operation.effect c.args.operation.now) c.in-Ok-pending.found found (next_as (g.C.Operation.effect c.args.operation.now) c.effect.result c.in-Ok-pending.found _ c.phase_behind.result c.effect.ensures c.phase_behind.ensures c.in-Show.is)).0
 
 pub returns-in-Show-clause-run : goal.returns-in-Show-clause-run
 returns-in-Show-clause-run g c = λ told.
@@ -118,7 +122,9 @@ returns-in-Show-clause-run g c = λ told.
     let told_at = c.pending.ensures.reads.call.same_kind ∙ c.sync.ensures.call.same_kind ∙ told in
     let new = c.shown.new.folder in
     let since = elapses_kept o sane c.sync.new.self at new c.pending.ensures.reads.call.time c.shown.ensures.reads.call.time c.shown.ensures.reads.kept in
-    run_read o sane _ (g.C.Operation.nature c.args.operation.now) c.shown.result _ _ c.args.folder.now c.sync.new.self new c.sync.ensures.call.time (c.in-Ok.ensures.done told) c.sync.ensures.one_made (no_fewer _ _ (c.shown.ensures.reads.none_made ∙ c.pending.ensures.reads.none_made)) since (c.shown.ensures.reads.kept ∙ c.pending.ensures.reads.kept) c.shown.ensures.early
+    run_read o sane _ (g.C.Operation.effect c.args.operation.now) c.shown.result _ _ c.args.folder.now c.sync.new.self new c.sync.ensures.call.time (c.in-Ok.ensures.done told)
+    (opened o sane c.args.folder.now c.sync.new.self new c.sync.ensures.call.time (c.in-Ok.ensures.done told) c.sync.ensures.one_made (no_fewer _ _ (c.shown.ensures.reads.none_made ∙ c.pending.ensures.reads.none_made))) since (c.shown.ensures.reads.kept ∙ c.pending.ensures.reads.kept) c.shown.ensures.early
+    (λ none. let decide = (shown_of (g.F.Source.outside.state c.sync.new.self).held (g.C.Operation.effect c.args.operation.now) c.in-Ok-pending.found (c.in-Ok-pending.ensures.found (c.sync.ensures.call.same_kind ∙ told)) (next_as (g.C.Operation.effect c.args.operation.now) c.effect.result c.in-Ok-pending.found _ c.phase_behind.result c.effect.ensures c.phase_behind.ensures c.in-Show.is)) in (decide.0, decide.1))
 
 pub returns-in-Show-clause-comes : goal.returns-in-Show-clause-comes
 returns-in-Show-clause-comes g c = λ told.
@@ -128,13 +134,13 @@ returns-in-Show-clause-comes g c = λ told.
     let time = elapses_kept o sane c.args.folder.now c.sync.new.self at c.sync.ensures.call.time c.pending.ensures.reads.call.time c.pending.ensures.reads.kept in
     let is_synced = c.pending.ensures.reads.kept ∙ c.in-Ok.ensures.done told in
     let told_at = c.pending.ensures.reads.call.same_kind ∙ c.sync.ensures.call.same_kind ∙ told in
-    comes_shown g.P.Spawner.running c.args.spawner.now (g.C.Operation.nature c.args.operation.now) (g.C.Operation.decides c.args.operation.now (g.S.Source.outside.tells c.args.source.now) (g.S.Source.outside.state c.args.source.now).held) _ _ _ _ (g.F.Source.outside.state c.pending.new.folder).held _ ((ap (λ (s : State). s.held) c.pending.ensures.reads.kept) ∙ (ap (λ (s : State). s.held) (c.in-Ok.ensures.done told))) c.in-Ok-pending.found (subst (λ (t : Image). IsPending t c.in-Ok-pending.found) (sym (ap (λ (s : State). s.held) c.pending.ensures.reads.kept)) (c.in-Ok-pending.ensures.found (c.sync.ensures.call.same_kind ∙ told))) c.shown.result (next_as (g.C.Operation.nature c.args.operation.now) c.nature.result c.in-Ok-pending.found _ c.phase_behind.result c.nature.ensures c.phase_behind.ensures c.in-Show.is) (c.shown.ensures.unready told_at)
+    comes_shown g.P.Spawner.running c.args.spawner.now (g.C.Operation.effect c.args.operation.now) (g.C.Operation.decides c.args.operation.now (g.S.Source.outside.tells c.args.source.now) (g.S.Source.outside.state c.args.source.now).held) _ _ _ _ (g.F.Source.outside.state c.pending.new.folder).held _ ((ap (λ (s : State). s.held) c.pending.ensures.reads.kept) ∙ (ap (λ (s : State). s.held) (c.in-Ok.ensures.done told))) c.in-Ok-pending.found (subst (λ (t : Image). IsPending t c.in-Ok-pending.found) (sym (ap (λ (s : State). s.held) c.pending.ensures.reads.kept)) (c.in-Ok-pending.ensures.found (c.sync.ensures.call.same_kind ∙ told))) c.shown.result (next_as (g.C.Operation.effect c.args.operation.now) c.effect.result c.in-Ok-pending.found _ c.phase_behind.result c.effect.ensures c.phase_behind.ensures c.in-Show.is) (c.shown.ensures.unready told_at)
 
 pub request-requires-clause-shut : goal.request-requires-clause-shut
 request-requires-clause-shut g c = λ told.
     let told_at = sym c.pending.ensures.reads.call.same_kind ∙ told in
     let found = c.in-Ok-pending.ensures.found told_at in
-    ap (λ (s : State). s.held.look gate_name) c.pending.ensures.reads.kept ∙ (changed_of (g.F.Source.outside.state c.sync.new.self).held (g.C.Operation.nature c.args.operation.now) c.in-Ok-pending.found found (next_as (g.C.Operation.nature c.args.operation.now) c.nature.result c.in-Ok-pending.found _ c.phase_behind.result c.nature.ensures c.phase_behind.ensures c.in-Change.is)).0
+    ap (λ (s : State). s.held.look gate_name) c.pending.ensures.reads.kept ∙ (changed_of (g.F.Source.outside.state c.sync.new.self).held (g.C.Operation.effect c.args.operation.now) c.in-Ok-pending.found found (next_as (g.C.Operation.effect c.args.operation.now) c.effect.result c.in-Ok-pending.found _ c.phase_behind.result c.effect.ensures c.phase_behind.ensures c.in-Change.is)).0
 
 pub returns-in-Change-clause-run : goal.returns-in-Change-clause-run
 returns-in-Change-clause-run g c = λ told.
@@ -144,7 +150,11 @@ returns-in-Change-clause-run g c = λ told.
     let time = elapses_kept o sane c.args.folder.now c.sync.new.self at c.sync.ensures.call.time c.pending.ensures.reads.call.time c.pending.ensures.reads.kept in
     let is_synced = c.pending.ensures.reads.kept ∙ c.in-Ok.ensures.done told in
     let told_at = c.pending.ensures.reads.call.same_kind ∙ c.sync.ensures.call.same_kind ∙ told in
-    run_asked o sane _ (g.C.Operation.nature c.args.operation.now) c.request.result _ _ c.args.folder.now at c.request.new.folder time is_synced (one_before _ _ _ c.sync.ensures.one_made c.pending.ensures.reads.none_made) c.request.ensures.later (change_is (g.C.Operation.nature c.args.operation.now) c.in-Ok-pending.found (next_as (g.C.Operation.nature c.args.operation.now) c.nature.result c.in-Ok-pending.found _ c.phase_behind.result c.nature.ensures c.phase_behind.ensures c.in-Change.is))
+    let changes = change_is (g.C.Operation.effect c.args.operation.now) c.in-Ok-pending.found (next_as (g.C.Operation.effect c.args.operation.now) c.effect.result c.in-Ok-pending.found _ c.phase_behind.result c.effect.ensures c.phase_behind.ensures c.in-Change.is) in
+    let decide = (changed_of (g.F.Source.outside.state c.sync.new.self).held (g.C.Operation.effect c.args.operation.now) c.in-Ok-pending.found (c.in-Ok-pending.ensures.found (c.sync.ensures.call.same_kind ∙ told)) (next_as (g.C.Operation.effect c.args.operation.now) c.effect.result c.in-Ok-pending.found _ c.phase_behind.result c.effect.ensures c.phase_behind.ensures c.in-Change.is)) in
+    run_asked o sane _ (g.C.Operation.effect c.args.operation.now) c.request.result _ _ c.args.folder.now at c.request.new.folder time is_synced
+    (opened o sane c.args.folder.now at c.request.new.folder time is_synced (one_before _ _ _ c.sync.ensures.one_made c.pending.ensures.reads.none_made) c.request.ensures.later)
+    changes.0 (image_same (g.C.Operation.effect c.args.operation.now) (o.state c.args.folder.now).held changes.1) (λ fixing. subst (λ (s : State). IsBare s.held) (sym c.pending.ensures.reads.kept) (decide.1 fixing))
     (c.request.ensures.asked told_at (synced_safe (o.state c.args.folder.now) (o.state at) is_synced))
 
 pub returns-in-Change-clause-comes : goal.returns-in-Change-clause-comes
@@ -155,7 +165,7 @@ returns-in-Change-clause-comes g c = λ told.
     let time = elapses_kept o sane c.args.folder.now c.sync.new.self at c.sync.ensures.call.time c.pending.ensures.reads.call.time c.pending.ensures.reads.kept in
     let is_synced = c.pending.ensures.reads.kept ∙ c.in-Ok.ensures.done told in
     let told_at = c.pending.ensures.reads.call.same_kind ∙ c.sync.ensures.call.same_kind ∙ told in
-    comes_asked g.P.Spawner.running c.args.spawner.now (g.C.Operation.nature c.args.operation.now) (g.C.Operation.decides c.args.operation.now (g.S.Source.outside.tells c.args.source.now) (g.S.Source.outside.state c.args.source.now).held) _ _ _ _ (g.F.Source.outside.state c.pending.new.folder).held _ ((ap (λ (s : State). s.held) c.pending.ensures.reads.kept) ∙ (ap (λ (s : State). s.held) (c.in-Ok.ensures.done told))) c.in-Ok-pending.found (subst (λ (t : Image). IsPending t c.in-Ok-pending.found) (sym (ap (λ (s : State). s.held) c.pending.ensures.reads.kept)) (c.in-Ok-pending.ensures.found (c.sync.ensures.call.same_kind ∙ told))) _ _ c.request.result (next_as (g.C.Operation.nature c.args.operation.now) c.nature.result c.in-Ok-pending.found _ c.phase_behind.result c.nature.ensures c.phase_behind.ensures c.in-Change.is) (c.request.ensures.comes told_at)
+    comes_asked g.P.Spawner.running c.args.spawner.now (g.C.Operation.effect c.args.operation.now) (g.C.Operation.decides c.args.operation.now (g.S.Source.outside.tells c.args.source.now) (g.S.Source.outside.state c.args.source.now).held) _ _ _ _ (g.F.Source.outside.state c.pending.new.folder).held _ ((ap (λ (s : State). s.held) c.pending.ensures.reads.kept) ∙ (ap (λ (s : State). s.held) (c.in-Ok.ensures.done told))) c.in-Ok-pending.found (subst (λ (t : Image). IsPending t c.in-Ok-pending.found) (sym (ap (λ (s : State). s.held) c.pending.ensures.reads.kept)) (c.in-Ok-pending.ensures.found (c.sync.ensures.call.same_kind ∙ told))) _ _ c.request.result (next_as (g.C.Operation.effect c.args.operation.now) c.effect.result c.in-Ok-pending.found _ c.phase_behind.result c.effect.ensures c.phase_behind.ensures c.in-Change.is) (c.request.ensures.comes told_at)
 
 pub returns-in-Change-clause-begun : goal.returns-in-Change-clause-begun
 returns-in-Change-clause-begun g c = λ told left.
@@ -168,11 +178,11 @@ returns-in-Change-clause-begun g c = λ told left.
     inl (c.request.ensures.begun told_at left)
 
 pub returns-in-Change-clause-shows : goal.returns-in-Change-clause-shows
-returns-in-Change-clause-shows g c = λ is. absurd (clash (shows (g.C.Operation.nature c.args.operation.now)) is (change_is (g.C.Operation.nature c.args.operation.now) c.in-Ok-pending.found (next_as (g.C.Operation.nature c.args.operation.now) c.nature.result c.in-Ok-pending.found _ c.phase_behind.result c.nature.ensures c.phase_behind.ensures c.in-Change.is)))
+returns-in-Change-clause-shows g c = λ is. absurd (clash (shows (g.C.Operation.effect c.args.operation.now)) is (change_is (g.C.Operation.effect c.args.operation.now) c.in-Ok-pending.found (next_as (g.C.Operation.effect c.args.operation.now) c.effect.result c.in-Ok-pending.found _ c.phase_behind.result c.effect.ensures c.phase_behind.ensures c.in-Change.is)).0)
 
 pub returns-in-Change-clause-untouched : goal.returns-in-Change-clause-untouched
 returns-in-Change-clause-untouched g c = λ told there refused.
-    absurd (there (ap (λ (s : State). s.held.look gate_name) (sym (c.in-Ok.ensures.done told)) ∙ (changed_of (g.F.Source.outside.state c.sync.new.self).held (g.C.Operation.nature c.args.operation.now) c.in-Ok-pending.found (c.in-Ok-pending.ensures.found (c.sync.ensures.call.same_kind ∙ told)) (next_as (g.C.Operation.nature c.args.operation.now) c.nature.result c.in-Ok-pending.found _ c.phase_behind.result c.nature.ensures c.phase_behind.ensures c.in-Change.is)).0))
+    absurd (there (ap (λ (s : State). s.held.look gate_name) (sym (c.in-Ok.ensures.done told)) ∙ (changed_of (g.F.Source.outside.state c.sync.new.self).held (g.C.Operation.effect c.args.operation.now) c.in-Ok-pending.found (c.in-Ok-pending.ensures.found (c.sync.ensures.call.same_kind ∙ told)) (next_as (g.C.Operation.effect c.args.operation.now) c.effect.result c.in-Ok-pending.found _ c.phase_behind.result c.effect.ensures c.phase_behind.ensures c.in-Change.is)).0))
 
 pub returns-in_default-clause-shows_kept : goal.returns-in_default-clause-shows_kept
 returns-in_default-clause-shows_kept g c = λ told is. inl c.in_default.ensures.kept
@@ -205,7 +215,7 @@ pub returns-in-Show-clause-untouched_kept : goal.returns-in-Show-clause-untouche
 returns-in-Show-clause-untouched_kept g c = λ told there refused. inr (c.shown.ensures.reads.kept ∙ c.pending.ensures.reads.kept ∙ c.in-Ok.ensures.done told)
 
 pub returns-in-Recover-clause-shows_kept : goal.returns-in-Recover-clause-shows_kept
-returns-in-Recover-clause-shows_kept g c = λ told is. absurd (clash (shows (g.C.Operation.nature c.args.operation.now)) is (recover_is (g.C.Operation.nature c.args.operation.now) c.in-Ok-pending.found (next_as (g.C.Operation.nature c.args.operation.now) c.nature.result c.in-Ok-pending.found _ c.phase_behind.result c.nature.ensures c.phase_behind.ensures c.in-Recover.is)))
+returns-in-Recover-clause-shows_kept g c = λ told is. absurd (clash (shows (g.C.Operation.effect c.args.operation.now)) is (recover_is (g.C.Operation.effect c.args.operation.now) c.in-Ok-pending.found (next_as (g.C.Operation.effect c.args.operation.now) c.effect.result c.in-Ok-pending.found _ c.phase_behind.result c.effect.ensures c.phase_behind.ensures c.in-Recover.is)))
 
 pub returns-in-Recover-clause-untouched_kept : goal.returns-in-Recover-clause-untouched_kept
 returns-in-Recover-clause-untouched_kept g c = λ told there refused.
@@ -214,20 +224,80 @@ returns-in-Recover-clause-untouched_kept g c = λ told there refused.
     inr (c.recovered.ensures.kept told_at (λ shut. there (ap (λ (s : State). s.held.look gate_name) (sym is_synced) ∙ shut)) refused ∙ is_synced)
 
 pub returns-in-Change-clause-shows_kept : goal.returns-in-Change-clause-shows_kept
-returns-in-Change-clause-shows_kept g c = λ told is. absurd (clash (shows (g.C.Operation.nature c.args.operation.now)) is (change_is (g.C.Operation.nature c.args.operation.now) c.in-Ok-pending.found (next_as (g.C.Operation.nature c.args.operation.now) c.nature.result c.in-Ok-pending.found _ c.phase_behind.result c.nature.ensures c.phase_behind.ensures c.in-Change.is)))
+returns-in-Change-clause-shows_kept g c = λ told is. absurd (clash (shows (g.C.Operation.effect c.args.operation.now)) is (change_is (g.C.Operation.effect c.args.operation.now) c.in-Ok-pending.found (next_as (g.C.Operation.effect c.args.operation.now) c.effect.result c.in-Ok-pending.found _ c.phase_behind.result c.effect.ensures c.phase_behind.ensures c.in-Change.is)).0)
 
 pub returns-in-Change-clause-untouched_kept : goal.returns-in-Change-clause-untouched_kept
 returns-in-Change-clause-untouched_kept g c = λ told there refused.
-    absurd (there (ap (λ (s : State). s.held.look gate_name) (sym (c.in-Ok.ensures.done told)) ∙ (changed_of (g.F.Source.outside.state c.sync.new.self).held (g.C.Operation.nature c.args.operation.now) c.in-Ok-pending.found (c.in-Ok-pending.ensures.found (c.sync.ensures.call.same_kind ∙ told)) (next_as (g.C.Operation.nature c.args.operation.now) c.nature.result c.in-Ok-pending.found _ c.phase_behind.result c.nature.ensures c.phase_behind.ensures c.in-Change.is)).0))
+    absurd (there (ap (λ (s : State). s.held.look gate_name) (sym (c.in-Ok.ensures.done told)) ∙ (changed_of (g.F.Source.outside.state c.sync.new.self).held (g.C.Operation.effect c.args.operation.now) c.in-Ok-pending.found (c.in-Ok-pending.ensures.found (c.sync.ensures.call.same_kind ∙ told)) (next_as (g.C.Operation.effect c.args.operation.now) c.effect.result c.in-Ok-pending.found _ c.phase_behind.result c.effect.ensures c.phase_behind.ensures c.in-Change.is)).0))
 
 pub returns-in-Change-clause-shows_unasked : goal.returns-in-Change-clause-shows_unasked
-returns-in-Change-clause-shows_unasked g c = λ is. absurd (clash (shows (g.C.Operation.nature c.args.operation.now)) is (change_is (g.C.Operation.nature c.args.operation.now) c.in-Ok-pending.found (next_as (g.C.Operation.nature c.args.operation.now) c.nature.result c.in-Ok-pending.found _ c.phase_behind.result c.nature.ensures c.phase_behind.ensures c.in-Change.is)))
+returns-in-Change-clause-shows_unasked g c = λ is. absurd (clash (shows (g.C.Operation.effect c.args.operation.now)) is (change_is (g.C.Operation.effect c.args.operation.now) c.in-Ok-pending.found (next_as (g.C.Operation.effect c.args.operation.now) c.effect.result c.in-Ok-pending.found _ c.phase_behind.result c.effect.ensures c.phase_behind.ensures c.in-Change.is)).0)
 
 pub returns-in-Change-clause-shows_unspawned : goal.returns-in-Change-clause-shows_unspawned
-returns-in-Change-clause-shows_unspawned g c = λ is. absurd (clash (shows (g.C.Operation.nature c.args.operation.now)) is (change_is (g.C.Operation.nature c.args.operation.now) c.in-Ok-pending.found (next_as (g.C.Operation.nature c.args.operation.now) c.nature.result c.in-Ok-pending.found _ c.phase_behind.result c.nature.ensures c.phase_behind.ensures c.in-Change.is)))
+returns-in-Change-clause-shows_unspawned g c = λ is. absurd (clash (shows (g.C.Operation.effect c.args.operation.now)) is (change_is (g.C.Operation.effect c.args.operation.now) c.in-Ok-pending.found (next_as (g.C.Operation.effect c.args.operation.now) c.effect.result c.in-Ok-pending.found _ c.phase_behind.result c.effect.ensures c.phase_behind.ensures c.in-Change.is)).0)
 
 pub returns-in-Show-clause-shows_unasked : goal.returns-in-Show-clause-shows_unasked
 returns-in-Show-clause-shows_unasked g c = λ is. c.shown.ensures.unasked
 
 pub returns-in-Show-clause-shows_unspawned : goal.returns-in-Show-clause-shows_unspawned
 returns-in-Show-clause-shows_unspawned g c = λ is. c.shown.ensures.early.unspawned
+
+pub create-requires-clause-safe : goal.create-requires-clause-safe
+create-requires-clause-safe g c = λ told.
+    let is_synced = c.pending.ensures.reads.kept ∙ c.in-Ok.ensures.done (sym c.sync.ensures.call.same_kind ∙ sym c.pending.ensures.reads.call.same_kind ∙ told) in
+    as_settled (g.F.Source.outside.state c.args.folder.now) (g.F.Source.outside.state c.pending.new.folder) is_synced
+
+pub create-requires-clause-shut : goal.create-requires-clause-shut
+create-requires-clause-shut g c = λ told.
+    let told_at = sym c.pending.ensures.reads.call.same_kind ∙ told in
+    ap (λ (s : State). s.held.look gate_name) c.pending.ensures.reads.kept ∙ (created_of (g.F.Source.outside.state c.sync.new.self).held (g.C.Operation.effect c.args.operation.now) c.in-Ok-pending.found (c.in-Ok-pending.ensures.found told_at) (next_as (g.C.Operation.effect c.args.operation.now) c.effect.result c.in-Ok-pending.found _ c.phase_behind.result c.effect.ensures c.phase_behind.ensures c.in-Create.is)).1
+
+pub create-requires-clause-creates : goal.create-requires-clause-creates
+create-requires-clause-creates g c = (create_is (g.C.Operation.effect c.args.operation.now) c.in-Ok-pending.found (next_as (g.C.Operation.effect c.args.operation.now) c.effect.result c.in-Ok-pending.found _ c.phase_behind.result c.effect.ensures c.phase_behind.ensures c.in-Create.is)).0
+
+pub returns-in-Create-clause-run : goal.returns-in-Create-clause-run
+returns-in-Create-clause-run g c = λ told.
+    let o = g.F.Source.outside in
+    let sane = g.met.F.Source.sane in
+    let at = c.pending.new.folder in
+    let time = elapses_kept o sane c.args.folder.now c.sync.new.self at c.sync.ensures.call.time c.pending.ensures.reads.call.time c.pending.ensures.reads.kept in
+    let is_synced = c.pending.ensures.reads.kept ∙ c.in-Ok.ensures.done told in
+    let told_at = c.pending.ensures.reads.call.same_kind ∙ c.sync.ensures.call.same_kind ∙ told in
+    let creates = (create_is (g.C.Operation.effect c.args.operation.now) c.in-Ok-pending.found (next_as (g.C.Operation.effect c.args.operation.now) c.effect.result c.in-Ok-pending.found _ c.phase_behind.result c.effect.ensures c.phase_behind.ensures c.in-Create.is)) in
+    let gate = ap (λ (s : State). s.held.look gate_name) c.pending.ensures.reads.kept ∙ (created_of (g.F.Source.outside.state c.sync.new.self).held (g.C.Operation.effect c.args.operation.now) c.in-Ok-pending.found (c.in-Ok-pending.ensures.found (c.sync.ensures.call.same_kind ∙ told)) (next_as (g.C.Operation.effect c.args.operation.now) c.effect.result c.in-Ok-pending.found _ c.phase_behind.result c.effect.ensures c.phase_behind.ensures c.in-Create.is)).1 in
+    run_created o sane _ (g.C.Operation.effect c.args.operation.now) c.create.result _ _ creates.0 creates.1 c.args.folder.now at c.create.new.folder time is_synced
+    (opened o sane c.args.folder.now at c.create.new.folder time is_synced (one_before _ _ _ c.sync.ensures.one_made c.pending.ensures.reads.none_made) c.create.ensures.later) gate (c.create.ensures.created told_at)
+
+pub returns-in-Create-clause-comes : goal.returns-in-Create-clause-comes
+returns-in-Create-clause-comes g c = λ told.
+    let o = g.F.Source.outside in
+    let sane = g.met.F.Source.sane in
+    let at = c.pending.new.folder in
+    let time = elapses_kept o sane c.args.folder.now c.sync.new.self at c.sync.ensures.call.time c.pending.ensures.reads.call.time c.pending.ensures.reads.kept in
+    let is_synced = c.pending.ensures.reads.kept ∙ c.in-Ok.ensures.done told in
+    let told_at = c.pending.ensures.reads.call.same_kind ∙ c.sync.ensures.call.same_kind ∙ told in
+    comes_created g.P.Spawner.running c.args.spawner.now (g.C.Operation.effect c.args.operation.now) (g.C.Operation.decides c.args.operation.now (g.S.Source.outside.tells c.args.source.now) (g.S.Source.outside.state c.args.source.now).held) _ _ _ _ (o.state at).held _ (ap (λ (s : State). s.held) is_synced) c.in-Ok-pending.found
+    (subst (λ (t : Image). IsPending t c.in-Ok-pending.found) (sym (ap (λ (s : State). s.held) c.pending.ensures.reads.kept)) (c.in-Ok-pending.ensures.found (c.sync.ensures.call.same_kind ∙ told))) _ _ c.create.result (next_as (g.C.Operation.effect c.args.operation.now) c.effect.result c.in-Ok-pending.found _ c.phase_behind.result c.effect.ensures c.phase_behind.ensures c.in-Create.is) (c.create.ensures.comes told_at)
+
+pub returns-in-Create-clause-begun : goal.returns-in-Create-clause-begun
+returns-in-Create-clause-begun g c = λ told left. inl (c.create.ensures.begun (c.pending.ensures.reads.call.same_kind ∙ c.sync.ensures.call.same_kind ∙ told) left)
+
+pub returns-in-Create-clause-shows : goal.returns-in-Create-clause-shows
+returns-in-Create-clause-shows g c = λ is. absurd (clash (shows (g.C.Operation.effect c.args.operation.now)) is (create_is (g.C.Operation.effect c.args.operation.now) c.in-Ok-pending.found (next_as (g.C.Operation.effect c.args.operation.now) c.effect.result c.in-Ok-pending.found _ c.phase_behind.result c.effect.ensures c.phase_behind.ensures c.in-Create.is)).1)
+
+pub returns-in-Create-clause-shows_unasked : goal.returns-in-Create-clause-shows_unasked
+returns-in-Create-clause-shows_unasked g c = λ is. absurd (clash (shows (g.C.Operation.effect c.args.operation.now)) is (create_is (g.C.Operation.effect c.args.operation.now) c.in-Ok-pending.found (next_as (g.C.Operation.effect c.args.operation.now) c.effect.result c.in-Ok-pending.found _ c.phase_behind.result c.effect.ensures c.phase_behind.ensures c.in-Create.is)).1)
+
+pub returns-in-Create-clause-shows_unspawned : goal.returns-in-Create-clause-shows_unspawned
+returns-in-Create-clause-shows_unspawned g c = λ is. absurd (clash (shows (g.C.Operation.effect c.args.operation.now)) is (create_is (g.C.Operation.effect c.args.operation.now) c.in-Ok-pending.found (next_as (g.C.Operation.effect c.args.operation.now) c.effect.result c.in-Ok-pending.found _ c.phase_behind.result c.effect.ensures c.phase_behind.ensures c.in-Create.is)).1)
+
+pub returns-in-Create-clause-shows_kept : goal.returns-in-Create-clause-shows_kept
+returns-in-Create-clause-shows_kept g c = λ told is. absurd (clash (shows (g.C.Operation.effect c.args.operation.now)) is (create_is (g.C.Operation.effect c.args.operation.now) c.in-Ok-pending.found (next_as (g.C.Operation.effect c.args.operation.now) c.effect.result c.in-Ok-pending.found _ c.phase_behind.result c.effect.ensures c.phase_behind.ensures c.in-Create.is)).1)
+
+pub returns-in-Create-clause-untouched : goal.returns-in-Create-clause-untouched
+returns-in-Create-clause-untouched g c = λ told there refused.
+    absurd (there (ap (λ (s : State). s.held.look gate_name) (sym (c.in-Ok.ensures.done told)) ∙ (created_of (g.F.Source.outside.state c.sync.new.self).held (g.C.Operation.effect c.args.operation.now) c.in-Ok-pending.found (c.in-Ok-pending.ensures.found (c.sync.ensures.call.same_kind ∙ told)) (next_as (g.C.Operation.effect c.args.operation.now) c.effect.result c.in-Ok-pending.found _ c.phase_behind.result c.effect.ensures c.phase_behind.ensures c.in-Create.is)).1))
+
+pub returns-in-Create-clause-untouched_kept : goal.returns-in-Create-clause-untouched_kept
+returns-in-Create-clause-untouched_kept g c = λ told there refused.
+    absurd (there (ap (λ (s : State). s.held.look gate_name) (sym (c.in-Ok.ensures.done told)) ∙ (created_of (g.F.Source.outside.state c.sync.new.self).held (g.C.Operation.effect c.args.operation.now) c.in-Ok-pending.found (c.in-Ok-pending.ensures.found (c.sync.ensures.call.same_kind ∙ told)) (next_as (g.C.Operation.effect c.args.operation.now) c.effect.result c.in-Ok-pending.found _ c.phase_behind.result c.effect.ensures c.phase_behind.ensures c.in-Create.is)).1))

@@ -8,24 +8,24 @@ use Rattle.ips_run.proofs.preparing.prepare.Goals as goal
 pub returns-in-Err-clause-owed : goal.returns-in-Err-clause-owed
 returns-in-Err-clause-owed g c = λ told clean a.
     let o = g.F.Source.outside in
-    stays_owed o g.met.F.Source.sane c.args.folder.now c.decided.new.folder c.decided.ensures.reads.call.time c.decided.ensures.reads.kept _ a _ (owes_seen (o.state c.args.folder.now) a clean (c.requires told))
+    stays_owed o g.met.F.Source.sane c.args.folder.now c.decided.new.folder c.decided.ensures.reads.call.time c.decided.ensures.reads.kept _ a _ (owes_seen (o.state c.args.folder.now) a clean (c.requires.shut told))
 
 pub returns-in-Err-ready_for-clause-owed : goal.returns-in-Err-ready_for-clause-owed
 returns-in-Err-ready_for-clause-owed g c = λ told clean a.
     let o = g.F.Source.outside in
-    owed_from o g.met.F.Source.sane c.args.folder.now c.decided.new.folder c.ready_for.new.folder a c.decided.ensures.reads.call.time c.decided.ensures.reads.kept clean (c.requires told)
+    owed_from o g.met.F.Source.sane c.args.folder.now c.decided.new.folder c.ready_for.new.folder a c.decided.ensures.reads.call.time c.decided.ensures.reads.kept clean (c.requires.shut told)
     (c.ready_for.ensures.owed (c.decided.ensures.reads.call.same_kind ∙ told) (subst (λ (s : State). IsSettled s) (sym c.decided.ensures.reads.kept) clean) a)
 
 pub returns-in-Err-ready_for-clause-unready : goal.returns-in-Err-ready_for-clause-unready
 returns-in-Err-ready_for-clause-unready g c = λ told.
     let r = g.S.Source.outside in
-    unready_behind (g.C.Operation.nature c.args.operation.now) (g.C.Operation.decides c.args.operation.now (r.tells c.args.source.now) (r.state c.args.source.now).held (g.F.Source.outside.state c.args.folder.now).held) (r.tells c.args.source.now) (r.tells c.decided.new.source) (r.state c.args.source.now) (r.state c.decided.new.source) c.in-Ok.change c.in-Err-ready_for.ending c.in-Ok.ensures.changes (c.in-Ok.ensures.decided told)
+    unready_behind (g.C.Operation.effect c.args.operation.now) (g.C.Operation.decides c.args.operation.now (r.tells c.args.source.now) (r.state c.args.source.now).held (g.F.Source.outside.state c.args.folder.now).held) (r.tells c.args.source.now) (r.tells c.decided.new.source) (r.state c.args.source.now) (r.state c.decided.new.source) c.in-Ok.change c.in-Err-ready_for.ending c.in-Ok.ensures.changes (c.in-Ok.ensures.decided told)
     c.decided.ensures.source.call.same_kind c.decided.ensures.source.kept c.in-Err-ready_for.ensures.unstaged
 
 pub returns-clause-owed : goal.returns-clause-owed
 returns-clause-owed g c = λ told clean a.
     let o = g.F.Source.outside in
-    owed_from o g.met.F.Source.sane c.args.folder.now c.decided.new.folder c.ready_for.new.folder a c.decided.ensures.reads.call.time c.decided.ensures.reads.kept clean (c.requires told)
+    owed_from o g.met.F.Source.sane c.args.folder.now c.decided.new.folder c.ready_for.new.folder a c.decided.ensures.reads.call.time c.decided.ensures.reads.kept clean (c.requires.shut told)
     (c.ready_for.ensures.owed (c.decided.ensures.reads.call.same_kind ∙ told) (subst (λ (s : State). IsSettled s) (sym c.decided.ensures.reads.kept) clean) a)
 
 pub returns-clause-readied : goal.returns-clause-readied
@@ -35,4 +35,4 @@ returns-clause-readied g c = λ told.
     readied (g.C.Operation.means c.args.operation.now) (g.C.Operation.decides c.args.operation.now (r.tells c.args.source.now) (r.state c.args.source.now).held (o.state c.args.folder.now).held) (r.tells c.args.source.now) (r.tells c.decided.new.source) (r.state c.args.source.now) (r.state c.decided.new.source)
     (o.state c.args.folder.now) (o.state c.decided.new.folder) (o.state c.ready_for.new.folder) c.in-Ok.change _
     c.decided.ensures.source.call.same_kind c.decided.ensures.source.kept c.decided.ensures.reads.kept (c.in-Ok.ensures.decided told) (c.in-Ok.ensures.planned told)
-    refl refl refl (c.in-Ok-ready_for.ensures.staged (c.decided.ensures.reads.call.same_kind ∙ told))
+    refl refl refl (c.in-Ok-ready_for.ensures.staged (c.decided.ensures.reads.call.same_kind ∙ told)) (λ is. c.in-Ok-ready_for.ensures.intact is)

@@ -2,7 +2,7 @@ use Rattle.std.proofs.Common.{Bool, Err, ap, ◌∙◌}
 use Rattle.ips_text.specs.declared.refusal.Or.{Or}
 use Rattle.ips_text.specs.declared.refusal.Or.TheVariants.{Bad}
 use Rattle.ips_commit.specs.declared.fault.CommitFault.{CommitFault}
-use Rattle.ips_run.proofs.Recoveries.{back, back_fault, back_starved, told_back, kept_back, bad_of, says_of, starved_of}
+use Rattle.ips_run.proofs.Recoveries.{back, back_fault, back_out_of_memory, told_back, told_on, kept_back, bad_of, says_of, out_of_memory_of}
 use Rattle.ips_run.proofs.recovering.recovered.Goals as goal
 
 pub returns-in-Ok-clause-back : goal.returns-in-Ok-clause-back
@@ -15,6 +15,11 @@ returns-in-Ok-clause-back g c = λ told.
     (λ shut. c.in-Ok.ensures.cleared told shut)
     (λ shut. c.recover.ensures.uncounted told shut)
 
+pub returns-in-Ok-clause-told : goal.returns-in-Ok-clause-told
+returns-in-Ok-clause-told g c = λ told.
+    let o = g.F.Source.outside in
+    told_on (o.state c.recover.new.folder) (o.state c.args.folder.now).held _ _ c.in-Ok.forward (c.in-Ok.ensures.forward told) (λ there. c.in-Ok.ensures.done told there)
+
 pub returns-in-Err-Bad-clause-back : goal.returns-in-Err-Bad-clause-back
 returns-in-Err-Bad-clause-back g c = λ told.
     back_fault g.F.Source.outside _ _ c.args.folder.now c.recover.new.folder (λ b a due owes. c.recover.ensures.owed told b a due owes) c.in-Err-Bad.fault c.uncommitted.result c.uncommitted.ensures
@@ -25,8 +30,8 @@ returns-in-Err-Bad-clause-back g c = λ told.
 
 pub returns-in-Err-OutOfMemory-clause-back : goal.returns-in-Err-OutOfMemory-clause-back
 returns-in-Err-OutOfMemory-clause-back g c = λ told.
-    back_starved g.F.Source.outside _ _ c.args.folder.now c.recover.new.folder (λ b a due owes. c.recover.ensures.owed told b a due owes)
-    (starved_of Bool c.in-Err-OutOfMemory.field-0 c.in-Err-OutOfMemory.field-0-is _ c.in-Err-OutOfMemory.ensures.starved).0
+    back_out_of_memory g.F.Source.outside _ _ c.args.folder.now c.recover.new.folder (λ b a due owes. c.recover.ensures.owed told b a due owes)
+    (out_of_memory_of Bool c.in-Err-OutOfMemory.field-0 c.in-Err-OutOfMemory.field-0-is _ c.in-Err-OutOfMemory.ensures.starved).0
     (λ shut. c.recover.ensures.closed told shut)
 
 pub returns-in-Err-Bad-clause-told : goal.returns-in-Err-Bad-clause-told
@@ -45,4 +50,4 @@ returns-in-Err-Bad-clause-kept g c = λ told there refused.
 
 pub returns-in-Err-OutOfMemory-clause-kept : goal.returns-in-Err-OutOfMemory-clause-kept
 returns-in-Err-OutOfMemory-clause-kept g c = λ told there refused.
-    (starved_of Bool c.in-Err-OutOfMemory.field-0 c.in-Err-OutOfMemory.field-0-is _ c.in-Err-OutOfMemory.ensures.starved).0
+    (out_of_memory_of Bool c.in-Err-OutOfMemory.field-0 c.in-Err-OutOfMemory.field-0-is _ c.in-Err-OutOfMemory.ensures.starved).0

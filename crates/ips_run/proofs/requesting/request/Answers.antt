@@ -39,7 +39,7 @@ returns-clause-asked g c = λ told clean.
 pub returns-clause-comes : goal.returns-clause-comes
 returns-clause-comes g c = λ told to_decide.
     let ready = c.in-Ok.ensures.readied told in
-    Carried ready.change c.in-Ok.ensures.changes to_decide ready.decided
+    Carried ready.change c.in-Ok.ensures.changes to_decide ready.decided ready.intact
     (carried_as _ _ _ _ c.carry_out.result _ _ _ _ _ _ ready.before ready.behind ready.told
     (c.carry_out.ensures.told (c.prepare.ensures.same_kind ∙ told) _ ready.after ready.staged))
 

@@ -1,0 +1,46 @@
+use Rattle.std.proofs.Common.{sym, ◌∙◌, ap}
+use Rattle.ips_outside.specs.State.{State}
+use Rattle.ips_history.specs.Directories.{with_directories}
+use Rattle.ips_run.proofs.Created.{created_unmade, created_made, unmade_finished, comes_unmade, comes_made, comes_at, made_safe, made_shut, made_records}
+use Rattle.ips_run.proofs.creating.create.Goals as goal
+
+pub request-requires-clause-shut : goal.request-requires-clause-shut
+request-requires-clause-shut g c = λ told.
+    made_shut g.F.Source.outside g.met.F.Source.sane c.args.folder.now c.make_directories.new.folder (c.in-Ok.ensures.made (sym c.make_directories.ensures.same_kind ∙ told))
+
+pub request-requires-clause-records : goal.request-requires-clause-records
+request-requires-clause-records g c = λ told creates.
+    made_records g.F.Source.outside g.met.F.Source.sane c.args.folder.now c.make_directories.new.folder (c.in-Ok.ensures.made (sym c.make_directories.ensures.same_kind ∙ told))
+
+pub returns-in-Ok-clause-created : goal.returns-in-Ok-clause-created
+returns-in-Ok-clause-created g c = λ told.
+    let o = g.F.Source.outside in
+    let at = c.make_directories.new.folder in
+    let made = c.in-Ok.ensures.made told in
+    created_made o _ _ c.args.folder.now c.request.new.folder _ c.request.result at made
+    (c.request.ensures.asked (c.make_directories.ensures.same_kind ∙ told) (made_safe _ (o.state at) made.made))
+
+pub returns-in-Ok-clause-comes : goal.returns-in-Ok-clause-comes
+returns-in-Ok-clause-comes g c = λ told.
+    let o = g.F.Source.outside in
+    let r = g.S.Source.outside in
+    let at = c.make_directories.new.folder in
+    let made = c.in-Ok.ensures.made told in
+    let n = g.C.Operation.effect c.args.operation.now in
+    let D = g.C.Operation.decides c.args.operation.now (r.tells c.args.source.now) (r.state c.args.source.now).held in
+    let held = (o.state c.args.folder.now).held in
+    comes_made g.P.Spawner.running c.args.spawner.now n (D (with_directories held)) _ _ _ held _ c.requires.creates (c.requires.shut told) made.can _ _ c.request.result
+    (comes_at n D _ _ _ _ _ _ c.request.result (o.state at).held (with_directories held) (ap (λ (s : State). s.held) made.made) (c.request.ensures.comes (c.make_directories.ensures.same_kind ∙ told)))
+
+pub returns-in-Ok-clause-begun : goal.returns-in-Ok-clause-begun
+returns-in-Ok-clause-begun g c = λ told left. c.request.ensures.begun (c.make_directories.ensures.same_kind ∙ told) left
+
+pub returns-in-Err-clause-created : goal.returns-in-Err-clause-created
+returns-in-Err-clause-created g c = λ told. created_unmade g.F.Source.outside _ _ c.args.folder.now c.make_directories.new.folder c.in-Err.ending (c.in-Err.ensures.unmade told)
+
+pub returns-in-Err-clause-comes : goal.returns-in-Err-clause-comes
+returns-in-Err-clause-comes g c = λ told.
+    comes_unmade g.P.Spawner.running c.args.spawner.now (g.C.Operation.effect c.args.operation.now) _ _ _ _ g.F.Source.outside c.args.folder.now c.make_directories.new.folder c.in-Err.ending c.requires.creates (c.requires.shut told) (c.in-Err.ensures.unmade told)
+
+pub returns-in-Err-clause-begun : goal.returns-in-Err-clause-begun
+returns-in-Err-clause-begun g c = λ told left. absurd (unmade_finished g.F.Source.outside c.args.folder.now c.make_directories.new.folder c.in-Err.ending (c.in-Err.ensures.unmade told) left)

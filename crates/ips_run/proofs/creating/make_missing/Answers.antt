@@ -1,0 +1,44 @@
+use Rattle.std.proofs.Common.{◌≡◌, sym, ◌∙◌, subst, refl}
+use Rattle.ips_run.specs.declared.creating.Missing.{Missing}
+use Rattle.ips_run.specs.declared.creating.Missing.TheVariants as missing
+use Rattle.ips_run.specs.Creating.{IsMissing, HasMade}
+use Rattle.ips_run.proofs.Directories.{can_make_records, shut_now}
+use Rattle.ips_run.proofs.Created.{made_nothing, made_records_alone, made_both}
+use Rattle.ips_run.proofs.creating.make_missing.Goals as goal
+
+pub make_records-requires-clause-can : goal.make_records-requires-clause-can
+make_records-requires-clause-can g c = λ told.
+    let both = subst (λ (m : Missing). IsMissing (g.F.Source.outside.state c.args.folder.now).held m) c.in-Records.is (c.requires.missing told) in
+    can_make_records (g.F.Source.outside.state c.args.folder.now).held both.0 both.1
+
+pub make_both-requires-clause-absent : goal.make_both-requires-clause-absent
+make_both-requires-clause-absent g c = λ told. subst (λ (m : Missing). IsMissing (g.F.Source.outside.state c.args.folder.now).held m) c.in-Both.is (c.requires.missing told)
+
+pub returns-in-Nothing-clause-made : goal.returns-in-Nothing-clause-made
+returns-in-Nothing-clause-made g c = λ told. made_nothing g.F.Source.outside g.met.F.Source.sane c.args.folder.now told c.args.missing c.in-Nothing.is (c.requires.missing told) (c.requires.safe told)
+
+pub returns-in-Nothing-clause-shut : goal.returns-in-Nothing-clause-shut
+returns-in-Nothing-clause-shut g c = λ told. shut_now g.F.Source.outside g.met.F.Source.sane c.args.folder.now (c.requires.shut told)
+
+pub returns-in-Nothing-clause-kept : goal.returns-in-Nothing-clause-kept
+returns-in-Nothing-clause-kept g c = λ told. subst (λ (m : Missing). HasMade g.F.Source.outside m c.args.folder.now c.args.folder.now) (sym c.in-Nothing.is) refl
+
+pub returns-in-Records-clause-made : goal.returns-in-Records-clause-made
+returns-in-Records-clause-made g c = λ told.
+    made_records_alone g.F.Source.outside g.met.F.Source.sane c.args.folder.now told c.make_records.new.folder c.make_records.result c.args.missing (c.requires.missing told) c.in-Records.is (c.make_records.ensures.made told)
+
+pub returns-in-Records-clause-kept : goal.returns-in-Records-clause-kept
+returns-in-Records-clause-kept g c = λ told. subst (λ (m : Missing). HasMade g.F.Source.outside m c.args.folder.now c.make_records.new.folder) (sym c.in-Records.is) (c.make_records.ensures.kept told)
+
+pub returns-in-Both-clause-made : goal.returns-in-Both-clause-made
+returns-in-Both-clause-made g c = λ told.
+    made_both g.F.Source.outside g.met.F.Source.sane c.args.folder.now told c.make_both.new.folder c.make_both.result c.args.missing (c.requires.missing told) c.in-Both.is (c.make_both.ensures.made told)
+
+pub returns-in-Both-clause-kept : goal.returns-in-Both-clause-kept
+returns-in-Both-clause-kept g c = λ told. subst (λ (m : Missing). HasMade g.F.Source.outside m c.args.folder.now c.make_both.new.folder) (sym c.in-Both.is) (c.make_both.ensures.kept told)
+
+pub returns-in-Records-clause-some : goal.returns-in-Records-clause-some
+returns-in-Records-clause-some g c = λ failed none. let bad : missing.Records ≡ missing.Nothing = sym c.in-Records.is ∙ none in cc
+
+pub returns-in-Both-clause-some : goal.returns-in-Both-clause-some
+returns-in-Both-clause-some g c = λ failed none. let bad : missing.Both ≡ missing.Nothing = sym c.in-Both.is ∙ none in cc
