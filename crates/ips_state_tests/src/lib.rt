@@ -10,7 +10,3 @@ mod head;
 mod heading;
 #[cfg(test)]
 mod lists;
-#[cfg(test)]
-mod whole;
-#[cfg(test)]
-mod written;
