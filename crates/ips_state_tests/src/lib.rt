@@ -10,3 +10,7 @@ mod head;
 mod heading;
 #[cfg(test)]
 mod lists;
+#[cfg(test)]
+mod whole;
+#[cfg(test)]
+mod written;
