@@ -14,7 +14,7 @@ use Rattle.ips_journal.specs.Text.{journal_text}
 use Rattle.ips_history.specs.Due.{HasEnded}
 use Rattle.ips_history.specs.Directories.{creates, with_directories, image_for}
 use Rattle.ips_history.specs.Transition.{StillOwes, IsRequest, Transition, Kept, Asked, Created, CreatedInPart}
-use Rattle.ips_history.specs.Run.{Claim, IsRecovered, IsRun}
+use Rattle.ips_history.specs.Run.{IsRecovered}
 use Rattle.ips_history.specs.declared.effect.Effect.{Effect}
 use Rattle.ips_history.specs.History.{Last, asked_at, LeftSince, Undue, Due, Ended, LeftAt, History, First, Then, Crash, IsMeantBy, IsRestored}
 

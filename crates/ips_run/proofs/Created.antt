@@ -14,7 +14,7 @@ use Rattle.ips_text.specs.Ancestry.{covers}
 use Rattle.ips_steps.specs.Private.{records_name, gate_name}
 use Rattle.ips_steps.proofs.Lists.{clash}
 use Rattle.ips_kinds.specs.Tallies.{Carrier}
-use Rattle.ips_history.specs.Directories.{creates, fixes, shows, var_name, with_directories, is_dir_or_free, CanHaveDirectories, IsInTheWay}
+use Rattle.ips_history.specs.Directories.{creates, fixes, var_name, with_directories, is_dir_or_free, CanHaveDirectories, IsInTheWay}
 use Rattle.ips_history.specs.Run.{StaysShut}
 use Rattle.ips_history.specs.declared.effect.Effect.{Effect}
 use Rattle.ips_run.specs.declared.creating.Missing.{Missing}
@@ -24,7 +24,7 @@ use Rattle.ips_run.specs.declared.creating.DirectoryFault.TheVariants as fault
 use Rattle.ips_run.specs.declared.operation.Decision.{Decision}
 use Rattle.ips_run.specs.declared.ending.Ending.{Ending}
 use Rattle.ips_run.specs.declared.ending.Ending.TheVariants as ending
-use Rattle.ips_run.specs.Ending.{is_source_fault, is_spawn_fault, is_left, IsEarly}
+use Rattle.ips_run.specs.Ending.{is_source_fault, is_spawn_fault, is_left}
 use Rattle.ips_run.specs.Comes.{HasRun, IsToDecide, Comes, Unopened, Unfinished, Back, NotDirectory, Unready, Carried}
 use Rattle.ips_run.specs.Phases.{IsAsked}
 use Rattle.ips_run.specs.Creating.{IsMissing, IsBlockedBy, HasMade, IsAsBefore, IsMaking, AreMade, AreUnmade, SaysOfDirectories, ended_as, IsCreated, Standing, Uncreated, Made, Failed}

@@ -1,5 +1,5 @@
 -- The directories of an image's records: what stands once they are made, and what is so at every moment until then.
-use Rattle.std.proofs.Common.{◌≡◌, ◌⊎◌, inl, inr, ⊎_elim, ℕ, Bool, true, false, cond, ◌||◌, ◌==◌, List, [], ◌∷◌, Option, Some, None, is_none, Result, Ok, Err, OnOk, codes, refl, sym, ◌∙◌, ap, subst, arith}
+use Rattle.std.proofs.Common.{◌≡◌, ⊎_elim, ℕ, Bool, true, false, cond, List, [], ◌∷◌, Option, Some, None, is_none, Result, Ok, Err, OnOk, codes, refl, sym, ◌∙◌, ap, subst, arith}
 use Rattle.std.proofs.lemmas.Bool.{and_parts, and_from, or_right}
 use Rattle.ips_text.specs.Path.{IsPath}
 use Rattle.ips_text.specs.Ancestry.{covers, same_path, parent}
@@ -9,7 +9,7 @@ use Rattle.ips_outside.specs.Change.{placed}
 use Rattle.ips_outside.specs.State.{State, nowhere, written, settled, untouched}
 use Rattle.ips_outside.specs.Outside.{Outside, IsOutside, Elapses}
 use Rattle.ips_outside.proofs.Moments.{placed_within}
-use Rattle.ips_folder.specs.Calls.{CanMake, Writes, Syncs, Keeps, Throughout}
+use Rattle.ips_folder.specs.Calls.{CanMake, Writes, Syncs, Keeps}
 use Rattle.ips_folder.proofs.Runs.{started, goes_on, joins, one_write, one_sync, keeps_then, keeps_wider}
 use Rattle.ips_steps.specs.Private.{records_name, gate_name}
 use Rattle.ips_steps.proofs.Lists.{clash}

@@ -1,12 +1,12 @@
 -- An ending that comes tells what was so before the run, and of two such one alone is.
-use Rattle.std.proofs.Common.{◌≡◌, ◌≢◌, ◌⊎◌, inl, inr, ⊎_elim, ℕ, ◌<◌, ◌≤◌, Bool, true, false, IsTrue, IsFalse, List, map, Option, Some, None, length, refl, sym, ◌∙◌, ap, subst, arith}
+use Rattle.std.proofs.Common.{◌≡◌, ◌≢◌, inl, inr, ⊎_elim, ℕ, ◌<◌, ◌≤◌, true, false, List, map, Option, Some, None, length, refl, sym, ◌∙◌, ap, subst, arith}
 use Rattle.std.proofs.lemmas.Bool.{and_parts}
 use Rattle.ips_outside.specs.Image.{Image}
 use Rattle.ips_outside.specs.Running.{Run}
 use Rattle.ips_digest.specs.declared.name.PayloadName.{PayloadName}
 use Rattle.ips_repo.specs.Files.{file_at, HasSize}
 use Rattle.ips_repo.specs.Places.{payload_place}
-use Rattle.ips_repo.specs.Payload.{payload_limit, digest_by, is_gzip}
+use Rattle.ips_repo.specs.Payload.{payload_limit, digest_by}
 use Rattle.ips_repo.specs.declared.fault.RepoFault.{RepoFault}
 use Rattle.ips_repo.specs.declared.fault.RepoFault.TheVariants as fault
 use Rattle.ips_steps.specs.Steps.{Step}
@@ -14,10 +14,9 @@ use Rattle.ips_steps.specs.Private.{gate_name}
 use Rattle.ips_steps.specs.View.{step_of}
 use Rattle.ips_steps.proofs.Lists.{clash}
 use Rattle.ips_kinds.specs.Tallies.{Carrier}
-use Rattle.ips_commit.specs.Pending.{IsBare}
 use Rattle.ips_commit.specs.Contents.{AreIntact, IsIntact, IsFaultOf, SaysOfStage}
 use Rattle.ips_commit.specs.declared.fault.StageFault.TheVariants as stage
-use Rattle.ips_history.specs.Directories.{creates, fixes, var_name, is_dir_or_free, CanHaveDirectories, IsInTheWay}
+use Rattle.ips_history.specs.Directories.{creates, fixes, var_name, is_dir_or_free, IsInTheWay}
 use Rattle.ips_history.specs.declared.effect.Effect.{Effect}
 use Rattle.ips_run.specs.declared.operation.Change.{Change}
 use Rattle.ips_run.specs.declared.operation.Decision.{Decision}

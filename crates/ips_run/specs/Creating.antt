@@ -1,5 +1,5 @@
 -- The directories of an image's records, made before a request that makes the image.
-use Rattle.std.specs.Prelude.{◌≡◌, ◌⊎◌, ℕ, Bool, true, false, IsTrue, IsFalse, List, None}
+use Rattle.std.specs.Prelude.{◌≡◌, ◌⊎◌, ℕ, false, IsTrue, IsFalse, List, None}
 use Rattle.ips_text.specs.Ancestry.{covers}
 use Rattle.ips_text.specs.declared.path.RelPath.{RelPath}
 use Rattle.ips_outside.specs.Image.{Image, is_dir}

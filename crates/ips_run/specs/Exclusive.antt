@@ -1,5 +1,5 @@
 -- Which endings exclude each other.
-use Rattle.std.specs.Prelude.{◌≡◌, Bool, true, false, IsFalse}
+use Rattle.std.specs.Prelude.{◌≡◌, Bool, true, false}
 use Rattle.ips_run.specs.declared.operation.Decision.{Decision}
 use Rattle.ips_run.specs.declared.ending.Ending.{Ending}
 use Rattle.ips_run.specs.declared.ending.Ending.TheVariants as ending

@@ -1,6 +1,5 @@
 use Rattle.std.proofs.Common.{◌≡◌, sym, ◌∙◌, ap, subst, refl}
 use Rattle.ips_outside.specs.State.{State, settled}
-use Rattle.ips_outside.specs.Image.{Image}
 use Rattle.ips_steps.specs.Private.{gate_name}
 use Rattle.ips_run.specs.Creating.{IsMissing}
 use Rattle.ips_run.proofs.Created.{failed_of, made_of, blocked_of}
