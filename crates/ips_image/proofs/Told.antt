@@ -1,5 +1,5 @@
 -- What stands at a path, and what is told of it.
-use Rattle.std.proofs.Common.{◌≡◌, ◌≤◌, length, ℕ, Bool, true, false, List, [], ◌∷◌, Option, Some, None, is_some, Result, Ok, Err, IfOk, IsTrue, refl, sym, ◌∙◌, ap, subst, arith, codes}
+use Rattle.std.proofs.Common.{◌≡◌, ◌≤◌, length, ℕ, true, false, List, [], ◌∷◌, Option, Some, None, is_some, Result, Ok, Err, IfOk, IsTrue, refl, sym, ap, subst, arith, codes}
 use Rattle.std.specs.List.{join_with_byte}
 use Rattle.std.proofs.lemmas.Bool.{true≢false, false≢true}
 use Rattle.ips_text.specs.Path.{IsPath}
@@ -14,7 +14,6 @@ use Rattle.ips_state.specs.State.{Head}
 use Rattle.ips_state.specs.Lawful.{IsHead}
 use Rattle.ips_state.specs.Text.{head_lines}
 use Rattle.ips_load.specs.Held.{Stands}
-use Rattle.ips_outside.specs.declared.outside.Look.{Look}
 use Rattle.ips_outside.specs.declared.outside.Look.TheVariants as look
 use Rattle.ips_records.proofs.Joined.{IsFileName, joined_path, pkg_name}
 use Rattle.ips_index.specs.Text.{IsIndexFile}

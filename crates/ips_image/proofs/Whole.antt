@@ -1,27 +1,25 @@
 -- The whole state, file by file.
-use Rattle.std.proofs.Common.{◌≡◌, ℕ, Bool, true, false, List, [], ◌∷◌, map, Result, Ok, Err, OnOk, arith, codes, Option, inl, inr, refl, sym, ◌∙◌, ap, subst}
+use Rattle.std.proofs.Common.{◌≡◌, ℕ, Bool, true, false, List, [], ◌∷◌, map, Result, Ok, Err, OnOk, arith, codes, inl, inr, refl, sym, ◌∙◌, ap, subst}
 use Rattle.std.specs.List.{AllByRecursion}
 use Rattle.std.proofs.lemmas.Simd.{map-map}
 use Rattle.ips_text.specs.Path.{IsPath}
 use Rattle.ips_outside.specs.Image.{Image}
 use Rattle.ips_records.proofs.Joined.{joined_path, pkg_name}
 use Rattle.ips_fmri.specs.declared.fmri.Fmri.{Fmri}
-use Rattle.ips_mediate.specs.declared.set.SetMediator.{SetMediator}
 use Rattle.ips_records.specs.Lines.{lines_text}
-use Rattle.ips_state.specs.State.{Ascend, Head, Installed}
+use Rattle.ips_state.specs.State.{Ascend, Installed}
 use Rattle.ips_state.specs.Form.{IsPackage}
-use Rattle.ips_state.specs.Text.{head_lines, mediator_line, name_lines, versioned_stem}
-use Rattle.ips_state.specs.Lawful.{ArePackages, AreVersioned, IsHead}
-use Rattle.ips_state.specs.Records.{image_path, installed_path}
-use Rattle.ips_load.specs.Held.{HoldsFolder, HoldsListed, HoldsManifest, HoldsPackages, Stands}
+use Rattle.ips_state.specs.Text.{mediator_line, name_lines, versioned_stem}
+use Rattle.ips_state.specs.Lawful.{ArePackages, AreVersioned}
+use Rattle.ips_state.specs.Records.{installed_path}
+use Rattle.ips_load.specs.Held.{HoldsListed, HoldsManifest, HoldsPackages, Stands}
 use Rattle.ips_load.specs.Fault as files
 use Rattle.ips_load.specs.Fault.{IsBadText, IsFileFault, IsFolderFault, IsListFault, IsManifestsFault, IsNamesFile, IsRestFault}
 use Rattle.ips_load.specs.declared.fault.StateFault.{StateFault}
 use Rattle.ips_packages.specs.Placed.{HasRecords, IsPackagesFault}
 use Rattle.ips_image.specs.declared.lists.Lists.{Lists}
 use Rattle.ips_image.specs.Held.{AreLists, HoldsLists}
-use Rattle.ips_image.specs.Fault.{IsIndexFault}
-use Rattle.ips_image.specs.Whole.{HoldsRest, IsBehindFault, IsFilesFault, IsNamedFault}
+use Rattle.ips_image.specs.Whole.{HoldsRest, IsFilesFault, IsNamedFault}
 
 -- the lists that are read stand as files of their kinds
 pub lists_stand : (t : Image) (l : Lists) → AreLists l → HoldsLists t l → files.HoldsLists t

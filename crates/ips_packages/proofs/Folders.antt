@@ -12,10 +12,10 @@ use Rattle.ips_manifest.specs.declared.package.Package.{Package}
 use Rattle.ips_outside.specs.Image.{Image, is_dir}
 use Rattle.ips_outside.specs.Children.{AreChildren, is_foreign}
 use Rattle.ips_records.proofs.Joined.{joined_path, pkg_name}
-use Rattle.ips_state.specs.State.{Ascend, Installed, installed}
+use Rattle.ips_state.specs.State.{Ascend, installed}
 use Rattle.ips_state.specs.Form.{IsPackage}
 use Rattle.ips_state.specs.Lawful.{ArePackages}
-use Rattle.ips_state.specs.Records.{package_path, packages_path}
+use Rattle.ips_state.specs.Records.{packages_path}
 use Rattle.ips_load.specs.Held.{HoldsFolder, HoldsPackage}
 use Rattle.ips_load.specs.Fault.{IfFault, IsChildrenFault, IsFolderFault, IsNoFile, TellsLine}
 use Rattle.ips_load.specs.declared.fault.StateFault.{StateFault}

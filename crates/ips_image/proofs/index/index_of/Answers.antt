@@ -1,4 +1,4 @@
-use Rattle.std.proofs.Common.{◌≡◌, ℕ, List, Option, None, true, false, is_some, IsErr, sym, ◌∙◌, ap, subst}
+use Rattle.std.proofs.Common.{◌≡◌, ℕ, List, Option, true, false, is_some, IsErr, sym, ◌∙◌, ap}
 use Rattle.ips_index.specs.Rows.{Row, index_text}
 use Rattle.ips_index.specs.Text.{IsIndexFile}
 use Rattle.ips_state.specs.Records.{index_path}

@@ -1,4 +1,4 @@
-use Rattle.std.proofs.Common.{◌≡◌, inr, Err, ap, subst}
+use Rattle.std.proofs.Common.{◌≡◌, inr, Err, subst}
 use Rattle.ips_text.specs.declared.refusal.Or.TheVariants.{Bad}
 use Rattle.ips_outside.specs.Image.{Image}
 use Rattle.ips_load.specs.HeadLines.{head_read}

@@ -1,13 +1,7 @@
-use Rattle.std.proofs.Common.{◌≡◌, ◌==◌, inr, Err, ap, subst}
-use Rattle.std.proofs.lemmas.Result.{IfOk-weaker}
+use Rattle.std.proofs.Common.{◌≡◌, ◌==◌, inr, Err, subst}
 use Rattle.ips_text.specs.declared.refusal.Or.TheVariants.{Bad}
 use Rattle.ips_outside.specs.Image.{Image}
-use Rattle.ips_records.specs.Lines.{lines_text}
-use Rattle.ips_state.specs.State.{recorded}
-use Rattle.ips_state.specs.Text.{head_lines}
-use Rattle.ips_state.specs.Records.{image_path}
 use Rattle.ips_load.specs.HeadLines.{head_read}
-use Rattle.ips_load.specs.Held.{Holds, Stands}
 use Rattle.ips_load.specs.declared.fault.StateFault.TheVariants.{FolderFault}
 use Rattle.ips_load.proofs.Answered.{bad_weaker}
 use Rattle.ips_image.specs.Whole.{IsBehindFault}

@@ -1,4 +1,4 @@
-use Rattle.std.proofs.Common.{◌≡◌, ◌∙◌, Err, List, map, sym, ap, subst}
+use Rattle.std.proofs.Common.{◌≡◌, Err, List, map, sym, subst}
 use Rattle.std.specs.List.{AllByRecursion}
 use Rattle.ips_text.specs.declared.refusal.Or.TheVariants.{Bad}
 use Rattle.ips_fmri.specs.declared.fmri.Fmri.{Fmri}

@@ -1,5 +1,5 @@
 use Rattle.std.proofs.Common.{◌∙◌, sym}
-use Rattle.ips_packages.proofs.Folders.{folder_held, folder_records, native_order, packages_told}
+use Rattle.ips_packages.proofs.Folders.{folder_held, folder_records, packages_told}
 use Rattle.ips_packages.proofs.folder.load_listing.Goals as goal
 
 pub returns-in-Ok-by_stem-clause-lawful : goal.returns-in-Ok-by_stem-clause-lawful

@@ -1,5 +1,4 @@
-use Rattle.std.proofs.Common.{◌≡◌, [], ◌∷◌, ◌∙◌, Global, Vec, refl, sym, ap, subst, map, take, get_or, arith}
-use Rattle.std.specs.List.{AllByRecursion}
+use Rattle.std.proofs.Common.{◌∙◌, refl, ap, subst, map}
 use Rattle.std.proofs.lemmas.Result.{err_from_is_err_and}
 use Rattle.ips_text.specs.declared.refusal.Or.TheVariants.{Bad}
 use Rattle.ips_manifest.specs.declared.package.Package.{Package}
@@ -8,7 +7,6 @@ use Rattle.ips_outside.specs.State.{State}
 use Rattle.ips_outside.proofs.Reading.{handed_on, no_fault, reads_none, reads_then}
 use Rattle.ips_state.specs.State.{installed}
 use Rattle.ips_state.specs.Form.{IsPackage}
-use Rattle.ips_state.specs.Text.{versioned_stem}
 use Rattle.ips_state.specs.Records.{manifest_path}
 use Rattle.ips_load.specs.Held.{HoldsManifest}
 use Rattle.ips_load.specs.Fault.{IsBadManifest, IsFileFault}
