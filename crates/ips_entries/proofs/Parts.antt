@@ -1,17 +1,15 @@
 -- The texts of all parts of a state are its records.
-use Rattle.std.proofs.Common.{◌≡◌, ℕ, zero, suc, ◌+◌, ◌<◌, Bool, true, false, ◌==◌, List, [], ◌∷◌, ◌++◌, length, map, slice_get, Option, Some, None, refl, sym, ◌∙◌, ap, subst, arith, append_assoc, length-append}
+use Rattle.std.proofs.Common.{◌≡◌, ℕ, suc, ◌+◌, Bool, true, false, ◌==◌, List, [], ◌∷◌, ◌++◌, length, map, slice_get, Option, Some, None, refl, sym, ◌∙◌, ap, subst, arith, append_assoc, length-append}
 use Rattle.std.specs.List.{All, AllByRecursion}
 use Rattle.std.specs.List.Sorted.{IsPermutation}
-use Rattle.std.proofs.lemmas.List.{map-append, append-nil}
-use Rattle.std.proofs.lemmas.List.Sorted.{IsPermutation-map}
+use Rattle.std.proofs.lemmas.List.{map-append}
 use Rattle.std.proofs.lemmas.Map.Views.{All-map-IsPermutation}
 use Rattle.std.proofs.lemmas.Simd.{map-map}
-use Rattle.ips_text.proofs.Lists.{all_append, take_item}
+use Rattle.ips_text.proofs.Lists.{all_append}
 use Rattle.ips_index.specs.Rows.{Row}
 use Rattle.ips_state.specs.State.{Installed, Recorded}
 use Rattle.ips_state.specs.Records.{common_records, index_path, index_records, installed_path, package_place, records_by, records_of}
 use Rattle.ips_packages.proofs.Sorting.{to_all}
-use Rattle.ips_entries.specs.declared.part.Part.{Part}
 use Rattle.ips_entries.specs.declared.part.Part.TheVariants as part
 use Rattle.ips_entries.specs.declared.part.Place.{Place}
 use Rattle.ips_entries.specs.Part.{HasPart, Owned, common_parts, entry_at, index_parts, numbered, owned, owned_package, package_parts, part_text, parts_of, text_of_index, text_of_package}
