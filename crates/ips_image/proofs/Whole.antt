@@ -14,9 +14,9 @@ use Rattle.ips_state.specs.Lawful.{ArePackages, AreVersioned}
 use Rattle.ips_state.specs.Records.{installed_path}
 use Rattle.ips_load.specs.Held.{HoldsListed, HoldsManifest, HoldsPackages, Stands}
 use Rattle.ips_load.specs.Fault as files
-use Rattle.ips_load.specs.Fault.{IsBadText, IsFileFault, IsFolderFault, IsListFault, IsManifestsFault, IsNamesFile, IsRestFault}
+use Rattle.ips_load.specs.Fault.{HasRecords, IsBadText, IsFileFault, IsListFault, IsManifestsFault, IsNamesFile, IsRestFault}
 use Rattle.ips_load.specs.declared.fault.StateFault.{StateFault}
-use Rattle.ips_packages.specs.Placed.{HasRecords, IsPackagesFault}
+use Rattle.ips_packages.specs.Placed.{IsPackagesFault}
 use Rattle.ips_image.specs.declared.lists.Lists.{Lists}
 use Rattle.ips_image.specs.Held.{AreLists, HoldsLists}
 use Rattle.ips_image.specs.Whole.{HoldsRest, IsFilesFault, IsNamedFault}

@@ -152,6 +152,10 @@ abbrev pub IsFolderFault : Image → StateFault → Type 0
 IsFolderFault t f = ((IsFolder t → ⊥) × IsNoFile packages_path f)
     ⊎ (IsFolder t × ((children : List (List ℕ)) × AreChildren t packages_path children × IsChildrenFault t children f))
 
+-- The folder of packages is one, and each child is the record of a package.
+abbrev pub HasRecords : Image → Type 0
+HasRecords t = IsFolder t × ((children : List (List ℕ)) × AreChildren t packages_path children × AllByRecursion (IsPackageChild t) children)
+
 -- A file of lines of this kind stands at the path.
 abbrev pub StandsAs : (List (List ℕ) → Type 0) → Image → List ℕ → Type 0
 StandsAs IsFile t path = (lines : List (List ℕ)) × IsFile (map ended lines) × Stands t path (lines_text lines)
@@ -173,8 +177,4 @@ abbrev pub IsRestFault : Bool → Image → StateFault → Type 0
 IsRestFault true t f = IsFileFault (IsBadText IsNamesFile) t installed_path f
     ⊎ ((names : List Fmri) × AreVersioned names × Stands t installed_path (lines_text (name_lines names)) × (IsListFault t f ⊎ (HoldsLists t × IsManifestsFault t names f)))
 IsRestFault false t f = IsFolderFault t f
-    ⊎ (((children : List (List ℕ)) × AreChildren t packages_path children × AllByRecursion (IsPackageChild t) children) × IsListFault t f)
-
--- Why the records but for the index can't be loaded: the fault of the first file that has one.
-abbrev pub IsLoadFault : Image → StateFault → Type 0
-IsLoadFault t f = IsHeadFault t f ⊎ ((h : Head) × IsHead h × Stands t image_path (lines_text (head_lines h)) × IsRestFault (h.format == 1) t f)
+    ⊎ (HasRecords t × IsListFault t f)

@@ -1,11 +1,11 @@
 //! The records of an image, read back from the files that it stands in.
 //!
-//! Loaded today are lists, the history and manifests, a file at a time; the file `image`, the packages of format 2, the index and the
-//! whole aren't yet.
+//! A file is loaded at a time: the file `image`, lists, the history and manifests. Packages and a whole state are loaded above.
 //!
 //! What an image holds is told by its files (`specs/Held`), and so is why its records can't be read (`specs/Fault`): the first
 //! file that isn't of its grammar, and its first bad line. In reading order: why records can't be loaded (`fault`), files
-//! (`files`), lists of one item a line (`listings`, `mediators`, `lists`), manifests (`manifests`), laws (`laws`).
+//! (`files`), the file `image` (`set_lines`, `origins`, `head_words`, `head_lines`, `heading`), lists of one item a line (`listings`, `mediators`, `lists`),
+//! manifests (`manifests`), laws (`laws`).
 #![tactic(auto)]
 
 mod fault;

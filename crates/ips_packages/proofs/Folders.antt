@@ -17,11 +17,11 @@ use Rattle.ips_state.specs.Form.{IsPackage}
 use Rattle.ips_state.specs.Lawful.{ArePackages}
 use Rattle.ips_state.specs.Records.{packages_path}
 use Rattle.ips_load.specs.Held.{HoldsFolder, HoldsPackage}
-use Rattle.ips_load.specs.Fault.{IfFault, IsChildrenFault, IsFolderFault, IsNoFile, TellsLine}
+use Rattle.ips_load.specs.Fault.{HasRecords, IfFault, IsChildrenFault, IsFolderFault, IsNoFile, TellsLine}
 use Rattle.ips_load.specs.declared.fault.StateFault.{StateFault}
 use Rattle.ips_load.specs.declared.fault.StateFault.TheVariants.{NoImage, BadImage, TooLarge, FolderFault}
 use Rattle.ips_load.proofs.Unread.{as_bad, fault_weaker}
-use Rattle.ips_packages.specs.Placed.{HasRecords, IsPackagesFault, places}
+use Rattle.ips_packages.specs.Placed.{IsPackagesFault, places}
 use Rattle.ips_packages.proofs.Loaded.{all_records}
 use Rattle.ips_packages.proofs.Sorting.{all_moved, any_moved, stems_shown}
 
@@ -36,9 +36,12 @@ folder_held t dir children old new at is native are all moved held = record {
   only = λ path child. sym (any_moved path old new moved) ∙ ap (list_any (λ (q : List ℕ). same_path q path)) all ∙ (subst (λ (d : List ℕ). AreChildren t d children) at are).each path ∙ child;
 }
 
-pub folder_records : (t : Image) (dir : List ℕ) (children : List (List ℕ)) (packages : List Package) → dir ≡ packages_path → AreChildren t dir children → places (map installed packages) ≡ children
+pub folder_records : (t : Image) (dir : List ℕ) (children : List (List ℕ)) (packages : List Package) → dir ≡ packages_path → IsTrue (is_dir (t.look dir)) → is_foreign (t.look dir) ≡ false → AreChildren t dir children → places (map installed packages) ≡ children
     → AllByRecursion IsPackage (map installed packages) → AllByRecursion (HoldsPackage t) (map installed packages) → HasRecords t
-folder_records t dir children packages at are all fit held = (children, subst (λ (d : List ℕ). AreChildren t d children) at are, all_records t children (map installed packages) all fit held)
+folder_records t dir children packages at is native are all fit held = (
+  (subst (λ (d : List ℕ). IsTrue (is_dir (t.look d))) at is, subst (λ (d : List ℕ). is_foreign (t.look d) ≡ false) at native),
+  (children, subst (λ (d : List ℕ). AreChildren t d children) at are, all_records t children (map installed packages) all fit held),
+)
 
 pub packages_told : (old new : List Package) → IsPermutation old new → AllByRecursion IsPackage (map installed old) → Ascend (stems_shown new) → ArePackages (map installed new)
 packages_told old new moved fit order = record { each = all_moved IsPackage old new moved fit; order = order }

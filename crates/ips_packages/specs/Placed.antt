@@ -1,21 +1,15 @@
 -- Where the records of packages stand, and which line behind their heads is bad.
 use Rattle.std.specs.Prelude.{◌≡◌, ◌⊎◌, ℕ, zero, suc, List, map}
-use Rattle.std.specs.List.{AllByRecursion}
 use Rattle.ips_state.specs.State.{Installed}
-use Rattle.ips_state.specs.Records.{package_path, packages_path}
+use Rattle.ips_state.specs.Records.{package_path}
 use Rattle.ips_outside.specs.Image.{Image}
-use Rattle.ips_outside.specs.Children.{AreChildren}
-use Rattle.ips_load.specs.Fault.{IsBadManifest, IsFolderFault, IsPackageChild}
+use Rattle.ips_load.specs.Fault.{IsBadManifest, IsFolderFault}
 use Rattle.ips_load.specs.declared.fault.StateFault.{StateFault}
 use Rattle.ips_load.specs.declared.fault.StateFault.TheVariants.{FolderFault}
 
 -- Where the records of packages stand.
 abbrev pub places : List Installed → List (List ℕ)
 places packages = map (λ p. package_path p.stem) packages
-
--- Each child of the folder of packages is the record of one.
-abbrev pub HasRecords : Image → Type 0
-HasRecords t = (children : List (List ℕ)) × AreChildren t packages_path children × AllByRecursion (IsPackageChild t) children
 
 -- Why the packages of format 2 can't be loaded: a call failed, which says nothing of them, or their folder can't be read.
 abbrev pub IsPackagesFault : Image → StateFault → Type 0

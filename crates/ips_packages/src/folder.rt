@@ -13,9 +13,9 @@ ghost use Rattle.ips_state.specs.Form.{IsPackage};
 ghost use Rattle.ips_state.specs.Lawful.{ArePackages};
 ghost use Rattle.ips_state.specs.Records.{packages_path};
 ghost use Rattle.ips_load.specs.Held.{HoldsPackage, HoldsFolder};
-ghost use Rattle.ips_load.specs.Fault.{IsChildrenFault};
+ghost use Rattle.ips_load.specs.Fault.{HasRecords, IsChildrenFault};
 ghost use Rattle.ips_load.specs.declared.fault.StateFault.TheVariants as fault;
-ghost use Rattle.ips_packages.specs.Placed.{HasRecords, IsPackagesFault, places};
+ghost use Rattle.ips_packages.specs.Placed.{IsPackagesFault, places};
 
 use crate::child::load_child;
 use ips_folder::{Folder, ListFault, Listing};

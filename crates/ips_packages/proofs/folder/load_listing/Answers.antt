@@ -13,5 +13,7 @@ returns-in-Ok-by_stem-clause-found g c = λ told.
 
 pub returns-in-Ok-by_stem-clause-children : goal.returns-in-Ok-by_stem-clause-children
 returns-in-Ok-by_stem-clause-children g c = λ told.
-    folder_records (g.F.Source.outside.state c.args.folder.now).held c.args.path.now.bytes c.args.listing.now.names c.load_children.new.packages.items c.requires.path (c.requires.listing told).children
+    let listing = c.requires.listing told in
+    folder_records (g.F.Source.outside.state c.args.folder.now).held c.args.path.now.bytes c.args.listing.now.names c.load_children.new.packages.items c.requires.path (c.requires.dir told)
+    (sym listing.foreign ∙ c.if-listing.false) listing.children
     (c.in-Ok.ensures.places ∙ c.as_slice-children.ensures) c.in-Ok.ensures.lawful (c.in-Ok.ensures.found told)
