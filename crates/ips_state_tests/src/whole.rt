@@ -43,6 +43,7 @@ const CASES: &str = "
 2; packages/a=package 2¶version 1¶; packages/b%2Fc=package 2¶version 2¶dir path=usr owner=root group=bin mode=0755¶ -> 2 test: 2 0 0 0, a@1 0, b/c@2 1
 2; packages/a%2Fb=package 2¶version 1¶; packages/a-b=package 2¶version 2¶ -> 2 test: 2 0 0 0, a-b@2 0, a/b@1 0
 2; packages=! -> packages 0
+2; packages=!; avoid=! -> packages 0
 2; packages=text -> packages 0
 2; packages/a=/ -> packages/a 0
 2; packages/a= -> packages/a 1
@@ -205,7 +206,7 @@ fn each_image_as_a_whole(rt: HostRuntime) {
         assert!(rt; answer.as_str() == wanted, "{row} but {answer}");
         cases = cases.saturating_add(1);
     }
-    assert!(rt; cases == 49, "{cases} cases");
+    assert!(rt; cases == 50, "{cases} cases");
 }
 
 // Each call that is made fails in its turn.
