@@ -1,7 +1,7 @@
 -- Where a whole line goes wrong.
 use Rattle.std.proofs.Common.{◌≡◌, ℕ, suc, Bool, true, false, List, [], ◌∷◌, length, Option, Some, None, Result, Ok, Err, refl, sym, ◌∙◌, ap, subst, arith, append_assoc}
 use Rattle.std.specs.Prelude.{if◌then◌else◌, codes}
-use Rattle.std.proofs.lemmas.List.{length-append}
+use Rattle.std.proofs.lemmas.List.{append-nil, length-append}
 use Rattle.ips_text.specs.declared.refusal.Stop.{Stop}
 use Rattle.ips_text.specs.Reading.{◌>>=◌}
 use Rattle.ips_syntax.specs.declared.table.Why.{Why}
@@ -138,9 +138,12 @@ first_wrong words usage u = of_fault (subst (λ (r : Result Said (Stop Why)). If
     why : usage.why ≡ u.stop.kind
     why = ap (λ (x : Usage). x.why) u.is
 
-    go : (h : IsFault line_at words u.stop) (rest : Words) → StopsAt line_at h.front rest u.stop.kind → StopsLine h.front rest usage
-    go h [] stops = why ∙ stops
-    go h (word ∷ behind) stops = (
+    go : (h : IsFault line_at words u.stop) (rest : Words) → words ≡ h.front ++ rest → StopsAt line_at h.front rest u.stop.kind → StopsLine h.front rest usage
+    go h [] cut stops = (
+      λ read e. let clash : Err u.stop ≡ Ok read = sym u.read ∙ ap line_at (cut ∙ append-nil h.front) ∙ e in absurd cc,
+      why ∙ stops,
+    )
+    go h (word ∷ behind) cut stops = (
       λ begins. stops.0 begins.0 begins.1 (ap line_at (sym (append_assoc h.front (word ∷ []) begins.0)) ∙ begins.2),
       λ e. stops.1 (sym why ∙ e),
     )
@@ -152,5 +155,5 @@ first_wrong words usage u = of_fault (subst (λ (r : Result Said (Stop Why)). If
       cut = h.cut;
       place = ap (λ (x : Usage). x.place) u.is ∙ omega (arith, ap length h.cut, length-append h.front h.rest, h.left);
       begins = h.begins;
-      stops = go h h.rest h.stops;
+      stops = go h h.rest h.cut h.stops;
     }
