@@ -21,15 +21,15 @@ use Rattle.ips_run.specs.declared.operation.Decision.TheVariants as decision
 use Rattle.ips_run.specs.Planned.{IfChange, IsOfEffect, IsListed, IsPlanned}
 use Rattle.ips_run_tests.specs.Toy.{toy_steps, IsToyChange}
 
-a_path : IsPath (codes "a")
-a_path = joined_path (codes "a" ∷ []) (record { bytes = refl; some = omega arith; few = omega arith; no_dots = refl }) (omega arith)
-
-b_path : IsPath (codes "b")
-b_path = joined_path (codes "b" ∷ []) (record { bytes = refl; some = omega arith; few = omega arith; no_dots = refl }) (omega arith)
+toy_paths : IsPath (codes "a") × IsPath (codes "b")
+toy_paths = (
+  joined_path (codes "a" ∷ []) (record { bytes = refl; some = omega arith; few = omega arith; no_dots = refl }) (omega arith),
+  joined_path (codes "b" ∷ []) (record { bytes = refl; some = omega arith; few = omega arith; no_dots = refl }) (omega arith),
+)
 
 toy_journal : IsJournal toy_steps
 unfolding records_name stage_name journal_name gate_name mark_front
-toy_journal = record { count = omega arith; proper = ((a_path, omega arith), ((b_path, omega arith), tt)); names = refl; numbers = refl }
+toy_journal = record { count = omega arith; proper = ((toy_paths.0, omega arith), ((toy_paths.1, omega arith), tt)); names = refl; numbers = refl }
 
 pub toy_listed : {T : Type 0} (c : Change T) → IsToyChange c → IsListed c
 toy_listed c is = record { lists = subst IsJournal (sym is.steps) toy_journal; seen = is.seen }
