@@ -12,5 +12,3 @@ mod heading;
 mod lists;
 #[cfg(test)]
 mod whole;
-#[cfg(test)]
-mod written;
