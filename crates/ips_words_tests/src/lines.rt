@@ -129,7 +129,7 @@ fn a_word_at_fault_is_told_by_its_place(rt: HostRuntime) {
         &rt,
         alloc,
         &mut Asked::Command,
-        68,
+        80,
         "
         # each place of `install --search-limit 5 --accept a b`
         install --search-limit -> 6 missing
@@ -138,10 +138,13 @@ fn a_word_at_fault_is_told_by_its_place(rt: HostRuntime) {
         install --search-limit 18446744073709551616 a -> 6 bad value
         install --search-limit x a -> 6 bad value
         install --search-limit 5 -> 7 missing
+        install --search-limit 5 --frob a -> 7 unknown
+        install --search-limit 5 @1 -> 7 bad value
         install --search-limit 5 --search-limit 6 a -> 7 repeated
         install --search-limit 5 --accept -> 8 missing
         install --search-limit 5 --accept --accept a -> 8 repeated
         install --search-limit 5 --accept --frob a -> 8 unknown
+        install --search-limit 5 --accept @1 -> 8 bad value
         install --search-limit 5 --accept a -x -> 9 unknown
         install --search-limit 5 --accept a b@ -> 9 bad value
         install --search-limit 5 --accept a b -c -> 10 unknown
@@ -167,6 +170,11 @@ fn a_word_at_fault_is_told_by_its_place(rt: HostRuntime) {
         image-create -p test -p test -> 7 repeated
         image-create -p test x -> 7 extra
         image-create -p test -x -> 7 unknown
+        image-create -p test --variant -> 8 missing
+        image-create -p test --variant variant.a -> 8 bad value
+        image-create -p test --variant variant.a=b x -> 9 extra
+        image-create -p test --variant variant.a=b --frob -> 9 unknown
+        image-create -p test --variant variant.a=b -p t -> 9 repeated
         image-create -p test --facet facet.a=none -> 8 bad value
         image-create -p test --facet facet.=true -> 8 bad value
         image-create -p test --facet a=true -> 8 bad value
@@ -180,9 +188,13 @@ fn a_word_at_fault_is_told_by_its_place(rt: HostRuntime) {
         set-mediator -V 01 python -> 6 bad value
         set-mediator -V 1 -> 7 missing
         set-mediator -V 1 -V 2 python -> 7 repeated
+        set-mediator -V 1 --accept -> 7 unknown
+        set-mediator -V 1 python perl -> 8 extra
+        set-mediator -V 1 -I -> 8 missing
         set-mediator -V 1 -I - python -> 8 bad value
         set-mediator -V 1 -I x -> 9 missing
         set-mediator -V 1 -I x --accept -> 9 unknown
+        set-mediator -V 1 -I x -I y python -> 9 repeated
         set-mediator -V 1 -I x python perl -> 10 extra
         set-mediator -V 1 -I x python -V -> 10 extra
         # operands that set one name
