@@ -3,7 +3,9 @@ use Rattle.std.proofs.Common.{◌≡◌, ℕ, false, cond, List, [], ◌∷◌, 
 use Rattle.std.specs.Prelude.{codes}
 use Rattle.ips_text.specs.Ancestry.{same_path}
 use Rattle.ips_outside.specs.Image.{Entry, Dir, File, Image}
+use Rattle.ips_text.specs.Quote.{quoted}
 use Rattle.ips_due.specs.Due.{Due, said}
+use Rattle.ips_due.specs.Delivered.{Delivered, License, delivered_gone, delivered_records}
 
 abbrev look_in : List (List ℕ × Entry) → List ℕ → Option Entry
 look_in [] q = None
@@ -71,3 +73,32 @@ other_image = refl
 -- what stands and isn't due any more is taken away
 going : said (record { accounts = []; records = []; renewed = []; folders = []; gone = codes "var/pkg/packages/a" ∷ [] }) tree (codes "var/pkg/packages/a") ≡ Some None
 going = refl
+
+-- ---- what packages deliver
+
+abbrev mit : License
+mit = record { stem = codes "a/b"; name = codes "MIT"; bytes = 7 ∷ [] }
+
+abbrev lgpl : License
+lgpl = record { stem = codes "a/b"; name = codes "L GPL"; bytes = 8 ∷ [] }
+
+abbrev was : Delivered
+was = record { owners = []; drivers = []; licenses = mit ∷ lgpl ∷ []; legacy = record { pkg = codes "SUNWa"; text = [] } ∷ record { pkg = codes "SUNWb"; text = [] } ∷ [] }
+
+abbrev is : Delivered
+is = record { owners = 1 ∷ []; drivers = []; licenses = mit ∷ []; legacy = record { pkg = codes "SUNWb"; text = 2 ∷ [] } ∷ [] }
+
+-- each record stands at its place
+delivered_places : delivered_records is ≡ (codes "var/pkg/owners", 1 ∷ []) ∷ (codes "var/pkg/drivers", []) ∷ (codes "var/pkg/license/a%2Fb/MIT", 7 ∷ []) ∷ (codes "var/sadm/pkg/SUNWb/pkginfo", 2 ∷ []) ∷ []
+unfolding quoted
+delivered_places = refl
+
+-- a license goes alone where another of its stem stays, and a legacy package goes with its folder
+some_go : delivered_gone was is ≡ codes "var/pkg/license/a%2Fb/L%20GPL" ∷ codes "var/sadm/pkg/SUNWa" ∷ []
+unfolding quoted
+some_go = refl
+
+-- where none of its stem stays, the folder goes with each
+all_go : delivered_gone was (record { owners = []; drivers = []; licenses = []; legacy = is.legacy }) ≡ codes "var/pkg/license/a%2Fb" ∷ codes "var/pkg/license/a%2Fb" ∷ codes "var/sadm/pkg/SUNWa" ∷ []
+unfolding quoted
+all_go = refl

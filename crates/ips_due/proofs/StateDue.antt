@@ -31,7 +31,7 @@ byte_apart b false e = rw e (
     or_from (37 == 47) _ refl (or_from (digit_glyph true (b / 16) == 47) _ (glyph_apart (b / 16)) low))
 
 -- a quoted name has no `/`
-no_slash : (bytes : List ℕ) → list_any (λ x. x == 47) (quoted bytes) ≡ false
+pub no_slash : (bytes : List ℕ) → list_any (λ x. x == 47) (quoted bytes) ≡ false
 unfolding quoted
 no_slash [] = refl
 no_slash (b ∷ bytes) = list_any-append (λ x. x == 47) (quoted_byte b) (quoted bytes) ∙ or_from _ _ (byte_apart b (is_plain b) refl) (no_slash bytes)
@@ -43,14 +43,14 @@ parent_none (a ∷ x) h =
     ap (behind a) (parent_none x parts.1) ∙ ap (λ (b : Bool). cond b (Some []) None) parts.0
 
 -- the folder of a name is its parent
-parent_of : (d x : List ℕ) → list_any (λ b. b == 47) x ≡ false → parent (d ++ 47 ∷ x) ≡ Some d
+pub parent_of : (d x : List ℕ) → list_any (λ b. b == 47) x ≡ false → parent (d ++ 47 ∷ x) ≡ Some d
 parent_of [] x h = ap (behind 47) (parent_none x h)
 parent_of (a ∷ d) x h = ap (behind a) (parent_of d x h)
 
 -- ---- where records stand
 
 -- the folder of the packages' records: of format 1 where the flag tells so, else of format 2
-abbrev home : Bool → List ℕ
+abbrev pub home : Bool → List ℕ
 home true = manifests_path
 home false = packages_path
 
@@ -138,11 +138,11 @@ packages_seen = refl
 abbrev Files : Type 0
 Files = List (List ℕ × List ℕ)
 
-all_append : (Q : List ℕ → Type 0) (xs ys : Files) → AllByRecursion (λ e. Q e.0) xs → AllByRecursion (λ e. Q e.0) ys → AllByRecursion (λ (e : List ℕ × List ℕ). Q e.0) (xs ++ ys)
+pub all_append : (Q : List ℕ → Type 0) (xs ys : Files) → AllByRecursion (λ e. Q e.0) xs → AllByRecursion (λ e. Q e.0) ys → AllByRecursion (λ (e : List ℕ × List ℕ). Q e.0) (xs ++ ys)
 all_append Q [] ys a b = b
 all_append Q (x ∷ xs) ys a b = (a.0, all_append Q xs ys a.1 b)
 
-at_record : (Q : List ℕ → Type 0) (files : Files) (q : List ℕ) → AllByRecursion (λ (e : List ℕ × List ℕ). Q e.0) files → is_some (record_at files q) ≡ true → Q q
+pub at_record : (Q : List ℕ → Type 0) (files : Files) (q : List ℕ) → AllByRecursion (λ (e : List ℕ × List ℕ). Q e.0) files → is_some (record_at files q) ≡ true → Q q
 at_record Q [] q all h = cc
 at_record Q (e ∷ files) q all h = go (same_path e.0 q) refl (at_record Q files q all.1) h
   where
@@ -150,7 +150,7 @@ at_record Q (e ∷ files) q all h = go (same_path e.0 q) refl (at_record Q files
     go true same rest h = subst Q (same_path-true e.0 q same) all.0
     go false same rest h = rest h
 
-at_listed : (Q : List ℕ → Type 0) (paths : List (List ℕ)) (q : List ℕ) → AllByRecursion Q paths → listed paths q ≡ true → Q q
+pub at_listed : (Q : List ℕ → Type 0) (paths : List (List ℕ)) (q : List ℕ) → AllByRecursion Q paths → listed paths q ≡ true → Q q
 at_listed Q [] q all h = cc
 at_listed Q (p ∷ paths) q all h = elim (or_cases (same_path p q) (listed paths q) h) [
   | inl same ↦ subst Q (same_path-true p q same) all.0
@@ -196,7 +196,7 @@ taken_all true false old new = (installed_off false, (manifests_off, cc))
 taken_all false true old new = cc
 taken_all false false old new = gone_all false package_path (λ s. child_off false (quoted s)) (gone_stems old new)
 
-renewed_is : (was is : Bool) (q : List ℕ) → listed (renewed_by was is) q ≡ true → (q ≡ packages_path) × (is ≡ false)
+pub renewed_is : (was is : Bool) (q : List ℕ) → listed (renewed_by was is) q ≡ true → (q ≡ packages_path) × (is ≡ false)
 renewed_is true true q h = cc
 renewed_is true false q h = elim (or_cases (same_path packages_path q) false h) [ inl same ↦ (sym (same_path-true packages_path q same), refl) | inr none ↦ cc ]
 renewed_is false true q h = cc

@@ -1,3 +1,4 @@
 pub mod Due
 pub mod State
+pub mod Delivered
 pub mod Asked

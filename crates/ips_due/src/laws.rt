@@ -1,8 +1,9 @@
 //! Laws of what is due, each the contract of a function that does nothing.
 
-ghost use Rattle.std.specs.Prelude.{◌≡◌, ℕ, List, Option, Some, None, is_some, is_none, codes, Bool, IsTrue, IsFalse};
+ghost use Rattle.std.specs.Prelude.{◌≡◌, ℕ, ◌<◌, List, Option, Some, None, is_some, is_none, codes, Bool, IsTrue, IsFalse};
 ghost use Rattle.ips_text.specs.Ancestry.{is_below};
-ghost use Rattle.ips_outside.specs.Image.{Image, IsImage, is_dir};
+ghost use Rattle.ips_outside.specs.Image.{File, Image, IsImage, is_dir};
+ghost use Rattle.ips_state.specs.Lawful.{IsLawful};
 ghost use Rattle.ips_steps.specs.Private.{records_name};
 ghost use Rattle.ips_manifest.specs.declared.package.Package.{Package};
 ghost use Rattle.ips_filter.specs.Settings.{Set};
@@ -18,7 +19,9 @@ ghost use Rattle.ips_after.specs.Request.{IsRequest, IsWant, OverFits, Over, Req
 ghost use Rattle.ips_state.specs.State.{Recorded};
 ghost use Rattle.ips_due.specs.State.{state_due};
 ghost use Rattle.ips_due.specs.Asked.{AreMeant, request_between};
-ghost use Rattle.ips_due.specs.Due.{account_at, Due, HasProperDue, is_due, FitsAccounts, goes_with, holds_bytes, is_own, IsDue, IsOverOf, LeavesOwn, record_at, said};
+ghost use Rattle.ips_after.specs.Findings.{is_account_path};
+ghost use Rattle.ips_due.specs.Delivered.{AreNamedByBytes, CanBeNamed, Delivered, creation_due, request_due};
+ghost use Rattle.ips_due.specs.Due.{account_at, Due, DueFile, HasProperDue, is_due, FitsAccounts, goes_with, holds_bytes, is_own, IsDue, IsOverOf, LeavesOwn, record_at, said};
 
 /// What account files and records say by what is due fits what is wanted.
 pub fn due_fits_the_want()
@@ -64,4 +67,22 @@ pub fn requests_are_lawful()
 /// What a change of an image's state makes due hangs together, in both formats of the records and from the older to the newer one.
 pub fn state_hangs_together()
     ensures { (old new : Recorded) → IsDue (state_due old new) }
+{}
+
+/// What a request makes due hangs together: account files, the records of the new state in its format, and owners, drivers, licenses and
+/// legacy packages; what was recorded and isn't any more goes, with the folder of its stem where nothing else is due there.
+pub fn requests_hang_together()
+    ensures { (accounts : List DueFile) (old new : Recorded) (was is : Delivered) → ((q : List ℕ) → IsTrue (is_some (account_at accounts q)) → IsTrue (is_account_path q)) → AreNamedByBytes was → AreNamedByBytes is
+        → IsDue (request_due accounts old new was is) }
+{}
+
+/// So does what an image is made with: its records, in which nothing is installed, and the folders of licenses, of packages and of what was lost.
+pub fn creations_hang_together()
+    ensures { (new : Recorded) → IsDue (creation_due new) }
+{}
+
+/// Its paths are paths, and a journal can hold the modes: where both states are lawful, and what packages deliver can be named by files.
+pub fn requests_have_proper_due()
+    ensures { (accounts : List DueFile) (old new : Recorded) (was is : Delivered) → ((q : List ℕ) → IsTrue (is_some (account_at accounts q)) → IsTrue (is_account_path q))
+        → ((q : List ℕ) (m : ℕ) (b : List ℕ) → account_at accounts q ≡ Some (File m b) → m < 4096) → IsLawful old → IsLawful new → CanBeNamed was → CanBeNamed is → HasProperDue (request_due accounts old new was is) }
 {}

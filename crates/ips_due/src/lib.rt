@@ -7,6 +7,7 @@
 mod laws;
 
 pub use laws::{
-    due_can_be_named, due_fits_the_want, requests_are_lawful, standing_is_not_spoken_of,
+    creations_hang_together, due_can_be_named, due_fits_the_want, requests_are_lawful,
+    requests_hang_together, requests_have_proper_due, standing_is_not_spoken_of,
     standing_records_stay, state_hangs_together,
 };

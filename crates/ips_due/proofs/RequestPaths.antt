@@ -1,0 +1,214 @@
+-- Where a request's account files and records are due, and what goes, are paths.
+use Rattle.std.proofs.Common.{◌≡◌, ℕ, ◌<◌, Bool, true, false, cond, not, ◌||◌, ◌==◌, List, [], ◌∷◌, ◌++◌, map, filter, length, Option, Some, None, is_some, refl, sym, ◌∙◌, ap, subst, inl, inr, arith, append_assoc, length-append}
+use Rattle.std.specs.Prelude.{codes, IsTrue}
+use Rattle.std.specs.List.{AllByRecursion, join_with_byte, list_all}
+use borrow.Author.Tests.{leb-true}
+use Rattle.std.proofs.lemmas.Bool.{agree_below_at, or_cases}
+use Rattle.std.proofs.lemmas.List.Concat.{flat_map-cons}
+use Rattle.std.proofs.lemmas.List.Folds.{list_all-append}
+use Rattle.ips_text.specs.Ancestry.{same_path}
+use Rattle.ips_text.specs.Path.{IsPath}
+use Rattle.ips_text.specs.Quote.{quoted, quoted_byte, AreBytes}
+use Rattle.ips_text.proofs.Ancestry.{same_path-true}
+use Rattle.ips_fmri.specs.Name.{IsStem}
+use Rattle.ips_records.proofs.Joined.{is_name_byte, IsFileName, joined_path, pkg_name}
+use Rattle.ips_metafiles.specs.Records.{license_path}
+use Rattle.ips_metafiles.proofs.Licenses.{license_is_path}
+use Rattle.ips_index.specs.Rows.{Row}
+use Rattle.ips_state.specs.Form.{IsPackage}
+use Rattle.ips_state.specs.Lawful.{IsLawful}
+use Rattle.ips_state.specs.State.{Installed, Recorded}
+use Rattle.ips_state.specs.Records.{avoid_path, common_records, freeze_path, gone_stems, history_path, image_path, index_path, index_records, installed_path, listed_records, manifest_path, manifests_path, mediators_path, package_path, package_records, packages_path, records_by, records_of, taken_away, taken_by}
+use Rattle.ips_state.proofs.Places.{manifest_is_path, package_is_path}
+use Rattle.ips_outside.specs.Image.{File}
+use Rattle.ips_after.specs.Findings.{is_account_path}
+use Rattle.ips_after.specs.Lists.{listed}
+use Rattle.ips_due.specs.Due.{account_at, DueFile, HasProperDue, is_due, record_at}
+use Rattle.ips_due.specs.State.{renewed_by}
+use Rattle.ips_due.specs.Delivered.{CanBeNamed, CanName, Delivered, Legacy, License, delivered_gone, delivered_records, drivers_path, gone_license, has_legacy_package, has_license, has_stem, info_path, legacy_folder, license_folder, owners_path, request_due}
+use Rattle.ips_due.proofs.StateDue.{all_append, at_listed, at_record, renewed_is}
+
+-- ---- paths by their parts
+
+in_pkg : (name : List ℕ) → IsFileName name → IsPath (join_with_byte 47 (codes "var" ∷ codes "pkg" ∷ name ∷ []))
+in_pkg name n = joined_path (codes "var" ∷ codes "pkg" ∷ name ∷ []) (record { bytes = refl; some = omega arith; few = omega arith; no_dots = refl }, (pkg_name, n)) (omega (arith, n.few))
+
+quoted_name : (name : List ℕ) → CanName name → IsFileName (quoted name)
+unfolding quoted
+quoted_name name h = record { bytes = plain name h.0; some = h.1.some; few = leb-true (length (quoted name)) 255 h.1.short; no_dots = h.1.no_dots }
+  where
+    plain : (bytes : List ℕ) → AreBytes bytes → list_all is_name_byte (quoted bytes) ≡ true
+    plain [] are = refl
+    plain (b ∷ bytes) are =
+        ap (list_all is_name_byte) (flat_map-cons quoted_byte b bytes) ∙ list_all-append is_name_byte (quoted_byte b) (quoted bytes)
+        ∙ rw (agree_below_at (λ c. list_all is_name_byte (quoted_byte c)) (λ c. true) 256 b refl are.0, plain bytes are.1) refl
+
+license_folder_path : (stem : List ℕ) → CanName stem → IsPath (license_folder stem)
+license_folder_path stem h =
+    let last = quoted_name stem h in
+    joined_path (codes "var" ∷ codes "pkg" ∷ codes "license" ∷ quoted stem ∷ []) (record { bytes = refl; some = omega arith; few = omega arith; no_dots = refl }, (pkg_name, (record { bytes = refl; some = omega arith; few = omega arith; no_dots = refl }, last))) (omega (arith, last.few))
+
+legacy_folder_path : (name : List ℕ) → CanName name → IsPath (legacy_folder name)
+legacy_folder_path name h =
+    let last = quoted_name name h in
+    joined_path (codes "var" ∷ codes "sadm" ∷ codes "pkg" ∷ quoted name ∷ []) (record { bytes = refl; some = omega arith; few = omega arith; no_dots = refl }, (record { bytes = refl; some = omega arith; few = omega arith; no_dots = refl }, (pkg_name, last))) (omega (arith, last.few))
+
+info_is_path : (name : List ℕ) → CanName name → IsPath (info_path name)
+info_is_path name h =
+    let middle = quoted_name name h in
+    let names : List (List ℕ) = codes "var" ∷ codes "sadm" ∷ codes "pkg" ∷ quoted name ∷ codes "pkginfo" ∷ [] in
+    let is : join_with_byte 47 names ≡ info_path name = simp append_assoc in
+    subst IsPath is (joined_path names (record { bytes = refl; some = omega arith; few = omega arith; no_dots = refl }, (record { bytes = refl; some = omega arith; few = omega arith; no_dots = refl }, (pkg_name, (middle, record { bytes = refl; some = omega arith; few = omega arith; no_dots = refl })))) (simp length-append (omega (arith, middle.few))))
+
+file_in : (name : List ℕ) → IsFileName name → IsPath (join_with_byte 47 (codes "etc" ∷ name ∷ []))
+file_in name n = joined_path (codes "etc" ∷ name ∷ []) (record { bytes = refl; some = omega arith; few = omega arith; no_dots = refl }, n) (omega (arith, n.few))
+
+image_is : IsPath image_path
+image_is = in_pkg (codes "image") (record { bytes = refl; some = omega arith; few = omega arith; no_dots = refl })
+
+avoid_is : IsPath avoid_path
+avoid_is = in_pkg (codes "avoid") (record { bytes = refl; some = omega arith; few = omega arith; no_dots = refl })
+
+freeze_is : IsPath freeze_path
+freeze_is = in_pkg (codes "freeze") (record { bytes = refl; some = omega arith; few = omega arith; no_dots = refl })
+
+mediators_is : IsPath mediators_path
+mediators_is = in_pkg (codes "mediators") (record { bytes = refl; some = omega arith; few = omega arith; no_dots = refl })
+
+history_is : IsPath history_path
+history_is = in_pkg (codes "history") (record { bytes = refl; some = omega arith; few = omega arith; no_dots = refl })
+
+index_is : IsPath index_path
+index_is = in_pkg (codes "index") (record { bytes = refl; some = omega arith; few = omega arith; no_dots = refl })
+
+installed_is : IsPath installed_path
+installed_is = in_pkg (codes "installed") (record { bytes = refl; some = omega arith; few = omega arith; no_dots = refl })
+
+manifests_is : IsPath manifests_path
+manifests_is = in_pkg (codes "manifests") (record { bytes = refl; some = omega arith; few = omega arith; no_dots = refl })
+
+packages_is : IsPath packages_path
+packages_is = in_pkg (codes "packages") (record { bytes = refl; some = omega arith; few = omega arith; no_dots = refl })
+
+owners_is : IsPath owners_path
+owners_is = in_pkg (codes "owners") (record { bytes = refl; some = omega arith; few = omega arith; no_dots = refl })
+
+drivers_is : IsPath drivers_path
+drivers_is = in_pkg (codes "drivers") (record { bytes = refl; some = omega arith; few = omega arith; no_dots = refl })
+
+account_is : (q : List ℕ) → is_account_path q ≡ true → IsPath q
+account_is q h = elim (or_cases (same_path (codes "etc/passwd") q) (same_path (codes "etc/shadow") q || same_path (codes "etc/group") q) h) [
+  | inl one ↦ subst IsPath (same_path-true (codes "etc/passwd") q one) (file_in (codes "passwd") (record { bytes = refl; some = omega arith; few = omega arith; no_dots = refl }))
+  | inr more ↦ elim (or_cases (same_path (codes "etc/shadow") q) (same_path (codes "etc/group") q) more) [
+    | inl two ↦ subst IsPath (same_path-true (codes "etc/shadow") q two) (file_in (codes "shadow") (record { bytes = refl; some = omega arith; few = omega arith; no_dots = refl }))
+    | inr three ↦ subst IsPath (same_path-true (codes "etc/group") q three) (file_in (codes "group") (record { bytes = refl; some = omega arith; few = omega arith; no_dots = refl }))
+  ]
+]
+
+-- ---- records of a state
+
+abbrev ArePaths : List (List ℕ × List ℕ) → Type 0
+ArePaths files = AllByRecursion (λ (e : List ℕ × List ℕ). IsPath e.0) files
+
+index_paths : (o : Option (List Row)) → ArePaths (index_records o)
+index_paths None = cc
+index_paths (Some rows) = (index_is, cc)
+
+common_paths : (r : Recorded) → ArePaths (common_records r)
+common_paths r = (image_is, (avoid_is, (freeze_is, (mediators_is, (history_is, index_paths r.index)))))
+
+package_paths : (path : List ℕ → List ℕ) (text : Installed → List ℕ) → ((s : List ℕ) → IsStem false s → IsPath (path s)) → (ps : List Installed) → AllByRecursion IsPackage ps → ArePaths (map (λ p. (path p.stem, text p)) ps)
+package_paths path text at [] each = cc
+package_paths path text at (p ∷ ps) each = (at p.stem each.0.stem, package_paths path text at ps each.1)
+
+state_paths : (f : Bool) (r : Recorded) → AllByRecursion IsPackage r.installed → ArePaths (common_records r ++ records_by f r.installed)
+state_paths true r each = all_append IsPath (common_records r) (listed_records r.installed) (common_paths r) (installed_is, package_paths manifest_path _ manifest_is_path r.installed each)
+state_paths false r each = all_append IsPath (common_records r) (package_records r.installed) (common_paths r) (package_paths package_path _ package_is_path r.installed each)
+
+stems_are : (ps : List Installed) → AllByRecursion IsPackage ps → AllByRecursion (IsStem false) (map (λ p. p.stem) ps)
+stems_are [] each = cc
+stems_are (p ∷ ps) each = (each.0.stem, stems_are ps each.1)
+
+some_stay : {A : Type 0} (P : A → Type 0) (test : A → Bool) (xs : List A) → AllByRecursion P xs → AllByRecursion P (filter test xs)
+some_stay P test [] all = cc
+some_stay P test (x ∷ xs) all = go (test x) (some_stay P test xs all.1)
+  where
+    go : (c : Bool) → AllByRecursion P (filter test xs) → AllByRecursion P (cond c (x ∷ filter test xs) (filter test xs))
+    go true rest = (all.0, rest)
+    go false rest = rest
+
+paths_of : {A : Type 0} (P : A → Type 0) (path : A → List ℕ) → ((x : A) → P x → IsPath (path x)) → (xs : List A) → AllByRecursion P xs → AllByRecursion IsPath (map path xs)
+paths_of P path at [] all = cc
+paths_of P path at (x ∷ xs) all = (at x all.0, paths_of P path at xs all.1)
+
+gone_are : (old new : List Installed) → AllByRecursion IsPackage old → AllByRecursion (IsStem false) (gone_stems old new)
+gone_are old new each = some_stay (IsStem false) _ (map (λ p. p.stem) old) (stems_are old each)
+
+taken_paths : (was is : Bool) (old new : List Installed) → AllByRecursion IsPackage old → AllByRecursion IsPath (taken_by was is old new)
+taken_paths true true old new each = paths_of (IsStem false) manifest_path manifest_is_path (gone_stems old new) (gone_are old new each)
+taken_paths true false old new each = (installed_is, (manifests_is, cc))
+taken_paths false true old new each = cc
+taken_paths false false old new each = paths_of (IsStem false) package_path package_is_path (gone_stems old new) (gone_are old new each)
+
+-- ---- what is delivered
+
+abbrev NamesLicense : License → Type 0
+NamesLicense l = CanName l.stem × CanName l.name
+
+abbrev NamesLegacy : Legacy → Type 0
+NamesLegacy g = CanName g.pkg
+
+license_paths : (ls : List License) → AllByRecursion NamesLicense ls → ArePaths (map (λ (l : License). (license_path l.stem l.name, l.bytes)) ls)
+license_paths [] all = cc
+license_paths (l ∷ ls) all = (license_is_path l.stem l.name all.0.0.0 all.0.1.0 all.0.0.1 all.0.1.1, license_paths ls all.1)
+
+legacy_paths : (gs : List Legacy) → AllByRecursion NamesLegacy gs → ArePaths (map (λ (g : Legacy). (info_path g.pkg, g.text)) gs)
+legacy_paths [] all = cc
+legacy_paths (g ∷ gs) all = (info_is_path g.pkg all.0, legacy_paths gs all.1)
+
+delivered_paths : (d : Delivered) → CanBeNamed d → ArePaths (delivered_records d)
+delivered_paths d h = (owners_is, (drivers_is, all_append IsPath (map (λ (l : License). (license_path l.stem l.name, l.bytes)) d.licenses) (map (λ (g : Legacy). (info_path g.pkg, g.text)) d.legacy) (license_paths d.licenses h.licenses) (legacy_paths d.legacy h.packages)))
+
+gone_license_path : (new : List License) (l : License) → NamesLicense l → IsPath (gone_license new l)
+gone_license_path new l h = go (has_stem new l.stem)
+  where
+    go : (c : Bool) → IsPath (cond c (license_path l.stem l.name) (license_folder l.stem))
+    go true = license_is_path l.stem l.name h.0.0 h.1.0 h.0.1 h.1.1
+    go false = license_folder_path l.stem h.0
+
+both_paths : (xs ys : List (List ℕ)) → AllByRecursion IsPath xs → AllByRecursion IsPath ys → AllByRecursion IsPath (xs ++ ys)
+both_paths [] ys a b = b
+both_paths (x ∷ xs) ys a b = (a.0, both_paths xs ys a.1 b)
+
+gone_paths : (was is : Delivered) → CanBeNamed was → AllByRecursion IsPath (delivered_gone was is)
+gone_paths was is h =
+    let kept_licenses = some_stay NamesLicense (λ (l : License). not (has_license is.licenses l)) was.licenses h.licenses in
+    let kept_legacy = some_stay NamesLegacy (λ (g : Legacy). not (has_legacy_package is.legacy g.pkg)) was.legacy h.packages in
+    both_paths (map (gone_license is.licenses) (filter (λ (l : License). not (has_license is.licenses l)) was.licenses)) (map (λ (g : Legacy). legacy_folder g.pkg) (filter (λ (g : Legacy). not (has_legacy_package is.legacy g.pkg)) was.legacy))
+    (paths_of NamesLicense (gone_license is.licenses) (gone_license_path is.licenses) (filter (λ (l : License). not (has_license is.licenses l)) was.licenses) kept_licenses)
+    (paths_of NamesLegacy (λ (g : Legacy). legacy_folder g.pkg) (λ g n. legacy_folder_path g.pkg n) (filter (λ (g : Legacy). not (has_legacy_package is.legacy g.pkg)) was.legacy) kept_legacy)
+
+-- ---- what a request makes due
+
+module _ (accounts : List DueFile) (old new : Recorded) (was is : Delivered) (files : (q : List ℕ) → IsTrue (is_some (account_at accounts q)) → IsTrue (is_account_path q)) (lawful_old : IsLawful old) (lawful : IsLawful new) (named_old : CanBeNamed was) (named : CanBeNamed is) where
+  due_path : (q : List ℕ) → is_due (request_due accounts old new was is) q ≡ true → IsPath q
+  due_path q h = elim (or_cases (is_some (account_at accounts q)) _ h) [
+    | inl account ↦ account_is q (files q account)
+    | inr rest ↦ elim (or_cases (is_some (record_at (records_of new ++ delivered_records is) q)) _ rest) [
+      | inl record_due ↦ at_record IsPath (records_of new ++ delivered_records is) q (all_append IsPath (records_of new) (delivered_records is) (state_paths (new.format == 1) new lawful.installed.each) (delivered_paths is named)) record_due
+      | inr more ↦ elim (or_cases (listed (renewed_by (old.format == 1) (new.format == 1)) q) false more) [
+        | inl renewed ↦ subst IsPath (sym (renewed_is (old.format == 1) (new.format == 1) q renewed).0) packages_is
+        | inr none ↦ cc
+      ]
+    ]
+  ]
+
+  gone_path : (q : List ℕ) → listed (taken_away old new ++ delivered_gone was is) q ≡ true → IsPath q
+  gone_path q h = at_listed IsPath (taken_away old new ++ delivered_gone was is) q
+      (both_paths (taken_away old new) (delivered_gone was is) (taken_paths (old.format == 1) (new.format == 1) old.installed new.installed lawful_old.installed.each) (gone_paths was is named_old)) h
+
+  pub request_is_proper : ((q : List ℕ) (m : ℕ) (b : List ℕ) → account_at accounts q ≡ Some (File m b) → m < 4096) → HasProperDue (request_due accounts old new was is)
+  request_is_proper modes = record {
+    paths = λ q h. elim (or_cases (is_due (request_due accounts old new was is) q) (listed (taken_away old new ++ delivered_gone was is) q) h) [ inl due ↦ due_path q due | inr gone ↦ gone_path q gone ];
+    modes = modes;
+  }
