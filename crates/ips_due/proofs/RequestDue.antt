@@ -21,7 +21,7 @@ use Rattle.ips_after.specs.Lists.{listed}
 use Rattle.ips_due.specs.Due.{account_at, DueFile, IsDue, is_own, record_at}
 use Rattle.ips_due.specs.State.{renewed_by}
 use Rattle.ips_due.specs.Delivered.{AreNamedByBytes, Delivered, Legacy, License, creation_due, delivered_gone, delivered_records, drivers_path, first_folders, gone_license, has_legacy_package, has_license, has_stem, info_path, legacy_folder, legacy_path, license_folder, licenses_path, owners_path, request_due}
-use Rattle.ips_due.proofs.StateDue.{all_append, at_listed, at_record, home, no_slash, parent_of, renewed_is}
+use Rattle.ips_due.proofs.StateDue.{all_append, at_listed, at_record, home, no_slash, own_folder, packages_seen, parent_of, renewed_is}
 
 -- ---- folders above what is due
 
@@ -113,21 +113,13 @@ up_two p folder top is over = go (same_path p folder) refl
 
 -- ---- where the records of a state stand
 
-own_home : (f : Bool) → covers (codes "var/pkg") (home f) ≡ true
-own_home true = refl
-own_home false = refl
-
-home_self : (f : Bool) → covers (home f) (home f) ≡ true
-home_self true = refl
-home_self false = refl
-
 module _ (f : Bool) (d : Delivered) where
   -- a record's path, of which what is above is such a folder
   abbrev AtRecord : List ℕ → Type 0
   AtRecord x = IsOut f d x × IsIn f d x
 
   in_own : (x : List ℕ) → parent x ≡ Some (codes "var/pkg") → IsIn f d x
-  in_own x is = in_parent f d x (codes "var/pkg") is (λ p over. at_home f d p (covers_trans p (codes "var/pkg") (home f) over (own_home f)))
+  in_own x is = in_parent f d x (codes "var/pkg") is (λ p over. at_home f d p (covers_trans p (codes "var/pkg") (home f) over (own_folder f)))
 
   in_child : (s : List ℕ) → IsIn f d (home f ++ 47 ∷ quoted s)
   in_child s = in_parent f d (home f ++ 47 ∷ quoted s) (home f) (parent_of (home f) (quoted s) (no_slash s)) (λ p over. at_home f d p over)
@@ -404,10 +396,6 @@ folder_own : is_own packages_path ≡ true
 unfolding records_name
 folder_own = refl
 
-folder_seen : is_private packages_path ≡ false
-unfolding stage_name journal_name gate_name mark_front
-folder_seen = refl
-
 module _ (accounts : List DueFile) (old new : Recorded) (was is : Delivered) (files : (q : List ℕ) → IsTrue (is_some (account_at accounts q)) → IsTrue (is_account_path q)) (named_old : AreNamedByBytes was) (named : AreNamedByBytes is) where
   abbrev form : Bool
   form = new.format == 1
@@ -431,7 +419,7 @@ module _ (accounts : List DueFile) (old new : Recorded) (was is : Delivered) (fi
       (gone_licenses form is was.licenses named_old.stems named.stems) (gone_legacy form is was.legacy named_old.packages named.packages))) h
 
   renewed_at : (q : List ℕ) → listed (renewed_by older form) q ≡ true → (is_own q ≡ true) × (is_private q ≡ false)
-  renewed_at q h = let at = (renewed_is older form q h).0 in (ap is_own at ∙ folder_own, ap is_private at ∙ folder_seen)
+  renewed_at q h = let at = (renewed_is older form q h).0 in (ap is_own at ∙ folder_own, ap is_private at ∙ packages_seen)
 
   renewed_in : (q : List ℕ) → listed (renewed_by older form) q ≡ true → IsIn form is q
   renewed_in q h = in_own form is q (ap parent (renewed_is older form q h).0)

@@ -18,14 +18,14 @@ use Rattle.ips_index.specs.Rows.{Row}
 use Rattle.ips_state.specs.Form.{IsPackage}
 use Rattle.ips_state.specs.Lawful.{IsLawful}
 use Rattle.ips_state.specs.State.{Installed, Recorded}
-use Rattle.ips_state.specs.Records.{avoid_path, common_records, freeze_path, gone_stems, history_path, image_path, index_path, index_records, installed_path, listed_records, manifest_path, manifests_path, mediators_path, package_path, package_records, packages_path, records_by, records_of, taken_away, taken_by}
+use Rattle.ips_state.specs.Records.{common_records, index_records, listed_records, manifest_path, package_path, package_records, records_by, records_of, taken_away, taken_by}
 use Rattle.ips_state.proofs.Places.{manifest_is_path, package_is_path}
 use Rattle.ips_outside.specs.Image.{File}
 use Rattle.ips_after.specs.Findings.{is_account_path}
 use Rattle.ips_after.specs.Lists.{listed}
 use Rattle.ips_due.specs.Due.{account_at, DueFile, HasProperDue, is_due, record_at}
 use Rattle.ips_due.specs.State.{renewed_by}
-use Rattle.ips_due.specs.Delivered.{CanBeNamed, CanName, Delivered, Legacy, License, delivered_gone, delivered_records, drivers_path, gone_license, has_legacy_package, has_license, has_stem, info_path, legacy_folder, license_folder, owners_path, request_due}
+use Rattle.ips_due.specs.Delivered.{CanBeNamed, CanName, Delivered, Legacy, License, delivered_gone, delivered_records, gone_license, has_legacy_package, has_license, has_stem, info_path, legacy_folder, license_folder, request_due}
 use Rattle.ips_due.proofs.StateDue.{all_append, at_listed, at_record, renewed_is}
 
 -- ---- paths by their parts
@@ -63,39 +63,6 @@ info_is_path name h =
 file_in : (name : List ℕ) → IsFileName name → IsPath (join_with_byte 47 (codes "etc" ∷ name ∷ []))
 file_in name n = joined_path (codes "etc" ∷ name ∷ []) (record { bytes = refl; some = omega arith; few = omega arith; no_dots = refl }, n) (omega (arith, n.few))
 
-image_is : IsPath image_path
-image_is = in_pkg (codes "image") (record { bytes = refl; some = omega arith; few = omega arith; no_dots = refl })
-
-avoid_is : IsPath avoid_path
-avoid_is = in_pkg (codes "avoid") (record { bytes = refl; some = omega arith; few = omega arith; no_dots = refl })
-
-freeze_is : IsPath freeze_path
-freeze_is = in_pkg (codes "freeze") (record { bytes = refl; some = omega arith; few = omega arith; no_dots = refl })
-
-mediators_is : IsPath mediators_path
-mediators_is = in_pkg (codes "mediators") (record { bytes = refl; some = omega arith; few = omega arith; no_dots = refl })
-
-history_is : IsPath history_path
-history_is = in_pkg (codes "history") (record { bytes = refl; some = omega arith; few = omega arith; no_dots = refl })
-
-index_is : IsPath index_path
-index_is = in_pkg (codes "index") (record { bytes = refl; some = omega arith; few = omega arith; no_dots = refl })
-
-installed_is : IsPath installed_path
-installed_is = in_pkg (codes "installed") (record { bytes = refl; some = omega arith; few = omega arith; no_dots = refl })
-
-manifests_is : IsPath manifests_path
-manifests_is = in_pkg (codes "manifests") (record { bytes = refl; some = omega arith; few = omega arith; no_dots = refl })
-
-packages_is : IsPath packages_path
-packages_is = in_pkg (codes "packages") (record { bytes = refl; some = omega arith; few = omega arith; no_dots = refl })
-
-owners_is : IsPath owners_path
-owners_is = in_pkg (codes "owners") (record { bytes = refl; some = omega arith; few = omega arith; no_dots = refl })
-
-drivers_is : IsPath drivers_path
-drivers_is = in_pkg (codes "drivers") (record { bytes = refl; some = omega arith; few = omega arith; no_dots = refl })
-
 account_is : (q : List ℕ) → is_account_path q ≡ true → IsPath q
 account_is q h = elim (or_cases (same_path (codes "etc/passwd") q) (same_path (codes "etc/shadow") q || same_path (codes "etc/group") q) h) [
   | inl one ↦ subst IsPath (same_path-true (codes "etc/passwd") q one) (file_in (codes "passwd") (record { bytes = refl; some = omega arith; few = omega arith; no_dots = refl }))
@@ -112,43 +79,37 @@ ArePaths files = AllByRecursion (λ (e : List ℕ × List ℕ). IsPath e.0) file
 
 index_paths : (o : Option (List Row)) → ArePaths (index_records o)
 index_paths None = cc
-index_paths (Some rows) = (index_is, cc)
+index_paths (Some rows) = (in_pkg (codes "index") (record { bytes = refl; some = omega arith; few = omega arith; no_dots = refl }), cc)
 
 common_paths : (r : Recorded) → ArePaths (common_records r)
-common_paths r = (image_is, (avoid_is, (freeze_is, (mediators_is, (history_is, index_paths r.index)))))
+common_paths r = (in_pkg (codes "image") (record { bytes = refl; some = omega arith; few = omega arith; no_dots = refl }), (in_pkg (codes "avoid") (record { bytes = refl; some = omega arith; few = omega arith; no_dots = refl }), (in_pkg (codes "freeze") (record { bytes = refl; some = omega arith; few = omega arith; no_dots = refl }), (in_pkg (codes "mediators") (record { bytes = refl; some = omega arith; few = omega arith; no_dots = refl }), (in_pkg (codes "history") (record { bytes = refl; some = omega arith; few = omega arith; no_dots = refl }), index_paths r.index)))))
 
 package_paths : (path : List ℕ → List ℕ) (text : Installed → List ℕ) → ((s : List ℕ) → IsStem false s → IsPath (path s)) → (ps : List Installed) → AllByRecursion IsPackage ps → ArePaths (map (λ p. (path p.stem, text p)) ps)
 package_paths path text at [] each = cc
 package_paths path text at (p ∷ ps) each = (at p.stem each.0.stem, package_paths path text at ps each.1)
 
 state_paths : (f : Bool) (r : Recorded) → AllByRecursion IsPackage r.installed → ArePaths (common_records r ++ records_by f r.installed)
-state_paths true r each = all_append IsPath (common_records r) (listed_records r.installed) (common_paths r) (installed_is, package_paths manifest_path _ manifest_is_path r.installed each)
+state_paths true r each = all_append IsPath (common_records r) (listed_records r.installed) (common_paths r) (in_pkg (codes "installed") (record { bytes = refl; some = omega arith; few = omega arith; no_dots = refl }), package_paths manifest_path _ manifest_is_path r.installed each)
 state_paths false r each = all_append IsPath (common_records r) (package_records r.installed) (common_paths r) (package_paths package_path _ package_is_path r.installed each)
 
 stems_are : (ps : List Installed) → AllByRecursion IsPackage ps → AllByRecursion (IsStem false) (map (λ p. p.stem) ps)
 stems_are [] each = cc
 stems_are (p ∷ ps) each = (each.0.stem, stems_are ps each.1)
 
-some_stay : {A : Type 0} (P : A → Type 0) (test : A → Bool) (xs : List A) → AllByRecursion P xs → AllByRecursion P (filter test xs)
-some_stay P test [] all = cc
-some_stay P test (x ∷ xs) all = go (test x) (some_stay P test xs all.1)
+-- of what passes a test, each is at a path
+kept_paths : {A : Type 0} (P : A → Type 0) (path : A → List ℕ) → ((x : A) → P x → IsPath (path x)) → (test : A → Bool) (xs : List A) → AllByRecursion P xs → AllByRecursion IsPath (map path (filter test xs))
+kept_paths P path at test [] all = cc
+kept_paths P path at test (x ∷ xs) all = go (test x) (kept_paths P path at test xs all.1)
   where
-    go : (c : Bool) → AllByRecursion P (filter test xs) → AllByRecursion P (cond c (x ∷ filter test xs) (filter test xs))
-    go true rest = (all.0, rest)
+    go : (c : Bool) → AllByRecursion IsPath (map path (filter test xs)) → AllByRecursion IsPath (map path (cond c (x ∷ filter test xs) (filter test xs)))
+    go true rest = (at x all.0, rest)
     go false rest = rest
 
-paths_of : {A : Type 0} (P : A → Type 0) (path : A → List ℕ) → ((x : A) → P x → IsPath (path x)) → (xs : List A) → AllByRecursion P xs → AllByRecursion IsPath (map path xs)
-paths_of P path at [] all = cc
-paths_of P path at (x ∷ xs) all = (at x all.0, paths_of P path at xs all.1)
-
-gone_are : (old new : List Installed) → AllByRecursion IsPackage old → AllByRecursion (IsStem false) (gone_stems old new)
-gone_are old new each = some_stay (IsStem false) _ (map (λ p. p.stem) old) (stems_are old each)
-
 taken_paths : (was is : Bool) (old new : List Installed) → AllByRecursion IsPackage old → AllByRecursion IsPath (taken_by was is old new)
-taken_paths true true old new each = paths_of (IsStem false) manifest_path manifest_is_path (gone_stems old new) (gone_are old new each)
-taken_paths true false old new each = (installed_is, (manifests_is, cc))
+taken_paths true true old new each = kept_paths (IsStem false) manifest_path manifest_is_path _ (map (λ p. p.stem) old) (stems_are old each)
+taken_paths true false old new each = (in_pkg (codes "installed") (record { bytes = refl; some = omega arith; few = omega arith; no_dots = refl }), (in_pkg (codes "manifests") (record { bytes = refl; some = omega arith; few = omega arith; no_dots = refl }), cc))
 taken_paths false true old new each = cc
-taken_paths false false old new each = paths_of (IsStem false) package_path package_is_path (gone_stems old new) (gone_are old new each)
+taken_paths false false old new each = kept_paths (IsStem false) package_path package_is_path _ (map (λ p. p.stem) old) (stems_are old each)
 
 -- ---- what is delivered
 
@@ -167,7 +128,7 @@ legacy_paths [] all = cc
 legacy_paths (g ∷ gs) all = (info_is_path g.pkg all.0, legacy_paths gs all.1)
 
 delivered_paths : (d : Delivered) → CanBeNamed d → ArePaths (delivered_records d)
-delivered_paths d h = (owners_is, (drivers_is, all_append IsPath (map (λ (l : License). (license_path l.stem l.name, l.bytes)) d.licenses) (map (λ (g : Legacy). (info_path g.pkg, g.text)) d.legacy) (license_paths d.licenses h.licenses) (legacy_paths d.legacy h.packages)))
+delivered_paths d h = (in_pkg (codes "owners") (record { bytes = refl; some = omega arith; few = omega arith; no_dots = refl }), (in_pkg (codes "drivers") (record { bytes = refl; some = omega arith; few = omega arith; no_dots = refl }), all_append IsPath (map (λ (l : License). (license_path l.stem l.name, l.bytes)) d.licenses) (map (λ (g : Legacy). (info_path g.pkg, g.text)) d.legacy) (license_paths d.licenses h.licenses) (legacy_paths d.legacy h.packages)))
 
 gone_license_path : (new : List License) (l : License) → NamesLicense l → IsPath (gone_license new l)
 gone_license_path new l h = go (has_stem new l.stem)
@@ -182,11 +143,9 @@ both_paths (x ∷ xs) ys a b = (a.0, both_paths xs ys a.1 b)
 
 gone_paths : (was is : Delivered) → CanBeNamed was → AllByRecursion IsPath (delivered_gone was is)
 gone_paths was is h =
-    let kept_licenses = some_stay NamesLicense (λ (l : License). not (has_license is.licenses l)) was.licenses h.licenses in
-    let kept_legacy = some_stay NamesLegacy (λ (g : Legacy). not (has_legacy_package is.legacy g.pkg)) was.legacy h.packages in
     both_paths (map (gone_license is.licenses) (filter (λ (l : License). not (has_license is.licenses l)) was.licenses)) (map (λ (g : Legacy). legacy_folder g.pkg) (filter (λ (g : Legacy). not (has_legacy_package is.legacy g.pkg)) was.legacy))
-    (paths_of NamesLicense (gone_license is.licenses) (gone_license_path is.licenses) (filter (λ (l : License). not (has_license is.licenses l)) was.licenses) kept_licenses)
-    (paths_of NamesLegacy (λ (g : Legacy). legacy_folder g.pkg) (λ g n. legacy_folder_path g.pkg n) (filter (λ (g : Legacy). not (has_legacy_package is.legacy g.pkg)) was.legacy) kept_legacy)
+    (kept_paths NamesLicense (gone_license is.licenses) (gone_license_path is.licenses) (λ (l : License). not (has_license is.licenses l)) was.licenses h.licenses)
+    (kept_paths NamesLegacy (λ (g : Legacy). legacy_folder g.pkg) (λ g n. legacy_folder_path g.pkg n) (λ (g : Legacy). not (has_legacy_package is.legacy g.pkg)) was.legacy h.packages)
 
 -- ---- what a request makes due
 
@@ -197,7 +156,7 @@ module _ (accounts : List DueFile) (old new : Recorded) (was is : Delivered) (fi
     | inr rest ↦ elim (or_cases (is_some (record_at (records_of new ++ delivered_records is) q)) _ rest) [
       | inl record_due ↦ at_record IsPath (records_of new ++ delivered_records is) q (all_append IsPath (records_of new) (delivered_records is) (state_paths (new.format == 1) new lawful.installed.each) (delivered_paths is named)) record_due
       | inr more ↦ elim (or_cases (listed (renewed_by (old.format == 1) (new.format == 1)) q) false more) [
-        | inl renewed ↦ subst IsPath (sym (renewed_is (old.format == 1) (new.format == 1) q renewed).0) packages_is
+        | inl renewed ↦ subst IsPath (sym (renewed_is (old.format == 1) (new.format == 1) q renewed).0) (in_pkg (codes "packages") (record { bytes = refl; some = omega arith; few = omega arith; no_dots = refl }))
         | inr none ↦ cc
       ]
     ]

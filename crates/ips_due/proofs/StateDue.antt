@@ -70,7 +70,7 @@ under_parent d x up is over p below =
     let at = at_parent_of p x parts.0 (not-true _ parts.1) in
     covers_trans p up d (subst (λ (y : List ℕ). covers p y ≡ true) (same_Some at.dir up (sym at.is ∙ is)) at.up) over
 
-own_folder : (f : Bool) → covers (codes "var/pkg") (home f) ≡ true
+pub own_folder : (f : Bool) → covers (codes "var/pkg") (home f) ≡ true
 own_folder true = refl
 own_folder false = refl
 
@@ -79,7 +79,7 @@ unfolding records_name stage_name journal_name gate_name mark_front
 child_off true z = record { own = refl; seen = refl; off = refl }
 child_off false z = record { own = refl; seen = refl; off = refl }
 
-covers_itself : (f : Bool) → covers (home f) (home f) ≡ true
+pub covers_itself : (f : Bool) → covers (home f) (home f) ≡ true
 covers_itself true = refl
 covers_itself false = refl
 
@@ -129,7 +129,7 @@ packages_own : is_below records_name packages_path ≡ true
 unfolding records_name
 packages_own = refl
 
-packages_seen : is_private packages_path ≡ false
+pub packages_seen : is_private packages_path ≡ false
 unfolding stage_name journal_name gate_name mark_front
 packages_seen = refl
 
