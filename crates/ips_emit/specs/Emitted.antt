@@ -1,0 +1,48 @@
+-- The steps of paths in an order, with what is staged for them.
+use Rattle.std.specs.Prelude.{◌≡◌, ℕ, List, [], ◌∷◌, map}
+use Rattle.ips_outside.specs.Image.{Image, file_bytes}
+use Rattle.ips_digest.specs.Name.{spelling}
+use Rattle.ips_steps.specs.Steps.{Step, bytes_of}
+use Rattle.ips_steps.specs.Targets.{IsTarget}
+use Rattle.ips_steps.specs.View.{step_of}
+use Rattle.ips_journal.specs.declared.staged.Staged.{Staged}
+use Rattle.ips_journal.specs.declared.staged.Staged.TheVariants.{Payload, Bytes, Standing}
+use Rattle.ips_after.specs.Change.{Change}
+use Rattle.ips_after.specs.Planned.{next_step, with_content}
+use Rattle.ips_change.specs.declared.change.Change.{Change as Told}
+use Rattle.ips_change.specs.declared.change.Change.TheVariants as told
+use Rattle.ips_emit.specs.declared.emitting.Emitted.{Emitted}
+
+-- A path with what becomes of it.
+abbrev pub Turn : Type 0
+Turn = List ℕ × Change
+
+-- The steps of these paths in their order, of which the first content has this number.
+abbrev pub steps_in : ℕ → List Turn → List Step
+steps_in k [] = []
+steps_in k (x ∷ rest) = next_step x.1 k x.0 (λ n. steps_in n rest)
+
+-- What is to be staged for them.
+abbrev pub contents_in : List Turn → List (List ℕ)
+contents_in [] = []
+contents_in (x ∷ rest) = with_content x.1 (contents_in rest)
+
+-- The bytes of the file that stands at a path; none where no file does.
+abbrev pub bytes_at : Image → List ℕ → List ℕ
+bytes_at t p = bytes_of (file_bytes (t.look p))
+
+-- The bytes of what is staged, by the bytes of each payload and by what stands in the image.
+abbrev pub staged_bytes : (List ℕ → List ℕ) → Image → Staged → List ℕ
+staged_bytes bytes t (Payload name) = bytes (spelling name)
+staged_bytes bytes t (Bytes given) = given.items
+staged_bytes bytes t (Standing path) = bytes_at t path.bytes
+
+-- The steps are those of these paths in their order, and what is staged has just their contents.
+pub record IsEmitted (bytes : List ℕ → List ℕ) (t : Image) (turns : List Turn) (e : Emitted) : Type 0 where
+  pub steps : map step_of e.steps.items ≡ steps_in 0 turns
+  pub staged : map (staged_bytes bytes t) e.staged.items ≡ contents_in turns
+
+-- Where a symbolic link is made, what it says is a target.
+abbrev pub HasTarget : Told → Type 0
+HasTarget (told.Link target) = IsTarget target.now
+HasTarget other = Unit {0}

@@ -1,0 +1,11 @@
+//! The steps of a plan, with the contents that are staged for them.
+//!
+//! Each path of the plan's order adds the step of what becomes of it: of a change by what is wanted (`push`), of a file with bytes of its own,
+//! as records and account files are (`push_text`), or of a copy of a file that stands (`push_standing`).
+#![tactic(auto)]
+
+mod emitting;
+mod law;
+
+pub use emitting::Emitted;
+pub use law::emitted_steps_are_a_plan;
