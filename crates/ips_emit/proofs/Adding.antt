@@ -1,6 +1,5 @@
 -- One path more: its step behind the steps, and its content behind the contents.
-use Rattle.std.proofs.Common.{◌≡◌, ℕ, ◌+◌, List, [], ◌∷◌, ◌++◌, map, length, refl, sym, ap, ◌∙◌, Result, Ok, Err, arith}
-use Rattle.std.specs.Prelude.{OnOk}
+use Rattle.std.proofs.Common.{◌≡◌, ℕ, ◌+◌, List, [], ◌∷◌, ◌++◌, map, length, refl, sym, ap, ◌∙◌, arith}
 use Rattle.std.proofs.lemmas.List.{length-map, map-append}
 use Rattle.ips_outside.specs.Image.{Dir, File, Image, Link, Other}
 use Rattle.ips_steps.specs.Steps.{Step, Fresh, Gone, Hard, Mode, Put, Symlink}
@@ -94,8 +93,3 @@ module _ (bytes : List ℕ → List ℕ) (t : Image) (turns : List Turn) (old ne
     steps = more ∙ ap (λ (l : List Step). l ++ Put (length old.staged.items) m p ∷ []) is.steps ∙ ap (λ (n : ℕ). steps_in 0 turns ++ Put n m p ∷ []) counted ∙ sym (steps_more 0 turns (p, Laid (File m b)));
     staged = ap (λ (l : List Staged). map (staged_bytes bytes t) l) and_content ∙ map-append (staged_bytes bytes t) old.staged.items (content ∷ []) ∙ ap (λ (l : List (List ℕ)). l ++ staged_bytes bytes t content ∷ []) is.staged ∙ ap (λ (c : List ℕ). contents_in turns ++ c ∷ []) of ∙ sym (contents_more turns (p, Laid (File m b)));
   }
-
--- two facts of an answer
-pub on_both : {X E : Type 0} (r : Result X E) (A B C : Type 0) → (A → B → C) → OnOk r A → OnOk r B → OnOk r C
-on_both (Ok x) A B C to a b = to a b
-on_both (Err e) A B C to a b = tt

@@ -1,8 +1,8 @@
 -- The steps of paths in an order, with what is staged for them.
-use Rattle.std.specs.Prelude.{◌≡◌, ℕ, List, [], ◌∷◌, map}
+use Rattle.std.specs.Prelude.{◌≡◌, ℕ, List, [], ◌∷◌, ◌++◌, length, map}
 use Rattle.ips_outside.specs.Image.{Image, file_bytes}
 use Rattle.ips_digest.specs.Name.{spelling}
-use Rattle.ips_steps.specs.Steps.{Step, bytes_of}
+use Rattle.ips_steps.specs.Steps.{Step, Put, bytes_of}
 use Rattle.ips_steps.specs.Targets.{IsTarget}
 use Rattle.ips_steps.specs.View.{step_of}
 use Rattle.ips_journal.specs.declared.staged.Staged.{Staged}
@@ -41,6 +41,16 @@ staged_bytes bytes t (Standing path) = bytes_at t path.bytes
 pub record IsEmitted (bytes : List ℕ → List ℕ) (t : Image) (turns : List Turn) (e : Emitted) : Type 0 where
   pub steps : map step_of e.steps.items ≡ steps_in 0 turns
   pub staged : map (staged_bytes bytes t) e.staged.items ≡ contents_in turns
+
+-- One step more, that puts no file.
+pub record HasStep (old new : Emitted) (s : Step) : Type 0 where
+  pub step : map step_of new.steps.items ≡ map step_of old.steps.items ++ s ∷ []
+  pub none : new.staged.items ≡ old.staged.items
+
+-- One step more, that puts a file with this content.
+pub record HasPut (old new : Emitted) (m : ℕ) (p : List ℕ) (content : Staged) : Type 0 where
+  pub step : map step_of new.steps.items ≡ map step_of old.steps.items ++ Put (length old.staged.items) m p ∷ []
+  pub last : new.staged.items ≡ old.staged.items ++ content ∷ []
 
 -- Where a symbolic link is made, what it says is a target.
 abbrev pub HasTarget : Told → Type 0

@@ -7,7 +7,7 @@ ghost use Rattle.ips_steps.specs.Targets.{IsTarget};
 ghost use Rattle.ips_steps.specs.View.{step_of};
 ghost use Rattle.ips_after.specs.Change.{Laid};
 ghost use Rattle.ips_change.specs.Told.{change_told};
-ghost use Rattle.ips_emit.specs.Emitted.{HasTarget, IsEmitted, Turn, bytes_at};
+ghost use Rattle.ips_emit.specs.Emitted.{HasPut, HasStep, HasTarget, IsEmitted, Turn, bytes_at};
 
 use ips_change::Change;
 use ips_journal::Staged;
@@ -88,8 +88,7 @@ impl Emitted {
 
     // Adds a step that puts no file.
     fn add(&mut self, step: Step) -> Result<(), AllocError>
-        ensures steps { OnOk result (map step_of self.new.steps.items ≡ map step_of self.old.steps.items ++ step_of step ∷ []) }
-        ensures staged { OnOk result (self.new.staged.items ≡ self.old.staged.items) }
+        ensures { OnOk result (HasStep self.old self.new (step_of step)) }
     {
         match self.steps.push(step) {
             Ok(()) => Ok(()),
@@ -99,8 +98,7 @@ impl Emitted {
 
     // Adds a step that puts a file with this content.
     fn add_put(&mut self, path: RelPath, mode: u16, content: Staged) -> Result<(), AllocError>
-        ensures steps { OnOk result (map step_of self.new.steps.items ≡ map step_of self.old.steps.items ++ steps.Put (length self.old.staged.items) mode path.bytes ∷ []) }
-        ensures staged { OnOk result (self.new.staged.items ≡ self.old.staged.items ++ content ∷ []) }
+        ensures { OnOk result (HasPut self.old self.new mode path.bytes content) }
     {
         let stage = self.staged.len() as u64;
         match self.staged.push(content) {
@@ -112,8 +110,7 @@ impl Emitted {
     // Adds a symbolic link.
     fn add_link(&mut self, alloc: Global, path: RelPath, target: &Text) -> Result<(), AllocError>
         requires { IsTarget target.now }
-        ensures steps { OnOk result (map step_of self.new.steps.items ≡ map step_of self.old.steps.items ++ steps.Symlink path.bytes target.now ∷ []) }
-        ensures staged { OnOk result (self.new.staged.items ≡ self.old.staged.items) }
+        ensures { OnOk result (HasStep self.old self.new (steps.Symlink path.bytes target.now)) }
     {
         match Target::parse(alloc, target.as_str().as_bytes()) {
             Ok(target) => self.add(Step::Link { path, target }),
@@ -124,8 +121,7 @@ impl Emitted {
 
     // Adds one more name of a file.
     fn add_hard(&mut self, alloc: Global, path: RelPath, to: &RelPath) -> Result<(), AllocError>
-        ensures steps { OnOk result (map step_of self.new.steps.items ≡ map step_of self.old.steps.items ++ steps.Hard path.bytes to.now.bytes ∷ []) }
-        ensures staged { OnOk result (self.new.staged.items ≡ self.old.staged.items) }
+        ensures { OnOk result (HasStep self.old self.new (steps.Hard path.bytes to.now.bytes)) }
     {
         match to.copy(alloc) {
             Ok(to) => self.add(Step::Hard { path, to }),
