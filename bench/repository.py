@@ -1,7 +1,9 @@
 #!/usr/bin/env python3
 """A repository of packages in five versions with a planted selection, for requests of the program.
 
-usage: repository.py STEMS SEED FOLDER    then: install p00000 p00001 .. p00009
+usage: repository.py STEMS SEED FOLDER [pinned]    then: install p00000 p00001 .. p00009
+
+Pinned: two of the ten want one far package at versions that exclude each other, so there is no selection.
 
 As `problems.py sat`, but an exclusion takes what is later than its version too, as `depend type=exclude` means it.
 """
@@ -19,6 +21,7 @@ def write(path, content):
 
 def main():
     stems, seed, folder = int(sys.argv[1]), int(sys.argv[2]), sys.argv[3]
+    pinned = sys.argv[4:] == ["pinned"]
     chance = random.Random(seed)
     names = ["p%05d" % s for s in range(stems)]
     planted = [chance.randint(1, VERSIONS) for s in range(stems)]
@@ -47,6 +50,11 @@ def main():
             o = chance.randrange(stems)
             if o != s and not (v == planted[s] and planted[o] == VERSIONS):
                 depend("exclude", o, chance.randint(planted[o] + 1 if v == planted[s] else 1, VERSIONS))
+            if pinned and s == 0:
+                depend("require", stems * 3 // 4, 1)
+                depend("incorporate", stems * 3 // 4, 1)
+            if pinned and s == 1:
+                depend("require", stems * 3 // 4, 2)
             write("%s/publisher/test/pkg/%s/%d" % (folder, names[s], v), "".join(lines) or "set name=a value=b\n")
 
 
