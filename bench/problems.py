@@ -1,10 +1,10 @@
 #!/usr/bin/env python3
 """Problems of packages in five versions, as the puzzles that a search is given and as the clauses that a SAT solver is given.
 
-usage: problems.py KIND STEMS SEED NAME    writes NAME.puzzle and NAME.cnf
+usage: problems.py KIND STEMS SEED NAME [COUNT CHANCE]    writes NAME.puzzle and NAME.cnf
 
 KIND is sat (a solution is planted), pinned (the same, and two packages far from the root that can't stand together) or hard (the
-same, and forty packages that exclude one another's versions by chance, near where half of such problems have no solution).
+same, and forty packages that exclude one another's versions by chance, near where half of such problems have no solution; COUNT and CHANCE stand for forty and .2).
 Each package but the roots may be absent, which is preferred; then the versions follow, the newest first. A version requires one or two
 packages at some version or a later one, incorporates one and excludes one at a version.
 
@@ -108,5 +108,6 @@ def main():
             out.write(" ".join(map(str, clause)) + " 0\n")
 
 
-HARD, DENSITY, TIGHT = 40, 0.35, 0.2
+HARD = int(sys.argv[5]) if len(sys.argv) > 5 else 40
+DENSITY, TIGHT = 0.35, float(sys.argv[6]) if len(sys.argv) > 6 else 0.2
 main()
