@@ -18,7 +18,7 @@ use Rattle.ips_history.specs.Directories.{shows}
 use Rattle.ips_history.specs.declared.effect.Effect.{Effect}
 use Rattle.ips_run.specs.declared.operation.Decision.{Decision}
 use Rattle.ips_run.specs.declared.operation.Decision.TheVariants as decision
-use Rattle.ips_run.specs.Planned.{IfChange, IsOfEffect, IsListed, IsPlanned}
+use Rattle.ips_run.specs.Planned.{IfChange, IsOfEffect, CanBeListed, IsPlanned}
 use Rattle.ips_run_tests.specs.Toy.{toy_steps, IsToyChange}
 
 toy_paths : IsPath (codes "a") × IsPath (codes "b")
@@ -31,7 +31,7 @@ toy_journal : IsJournal toy_steps
 unfolding records_name stage_name journal_name gate_name mark_front
 toy_journal = record { count = omega arith; proper = ((toy_paths.0, omega arith), ((toy_paths.1, omega arith), tt)); names = refl; numbers = refl }
 
-pub toy_listed : {T : Type 0} (c : Change T) → IsToyChange c → IsListed c
+pub toy_listed : {T : Type 0} (c : Change T) → IsToyChange c → CanBeListed c
 toy_listed c is = record { lists = subst IsJournal (sym is.steps) toy_journal; seen = is.seen }
 
 toy_possible : (contents : Stage) (t : Image) → is_some (contents 0) ≡ true → possible contents toy_steps t ≡ true
@@ -71,8 +71,8 @@ no_change P e shown (decision.Shown told) here = tt
 no_change P e shown (decision.Refused told) here = tt
 
 module _ {T E : Type 0} (r : Result (Decision T) E) where
-  pub all_listed : IfOk r (IfChange IsToyChange) → IfOk r (IfChange IsListed)
-  all_listed are = IfOk-weaker r (IfChange IsToyChange) (IfChange IsListed) (change_as IsToyChange IsListed toy_listed) are
+  pub all_listed : IfOk r (IfChange IsToyChange) → IfOk r (IfChange CanBeListed)
+  all_listed are = IfOk-weaker r (IfChange IsToyChange) (IfChange CanBeListed) (change_as IsToyChange CanBeListed toy_listed) are
 
   pub all_planned : (tells : Bool) (repository t : Image) → is_dir (t.look records_name) ≡ true → t.look gate_name ≡ None → IfOk r (IfChange IsToyChange)
       → IfOk r (IfChange (IsPlanned (λ tells repository t u. Unit {0}) tells repository t))
