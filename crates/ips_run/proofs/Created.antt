@@ -28,7 +28,7 @@ use Rattle.ips_run.specs.declared.ending.Ending.TheVariants as ending
 use Rattle.ips_run.specs.Ending.{is_source_fault, is_spawn_fault, is_left}
 use Rattle.ips_run.specs.Comes.{HasRun, IsToDecide, Comes, Unopened, Unfinished, Back, NotDirectory, Unready, Carried}
 use Rattle.ips_run.specs.Phases.{IsAsked}
-use Rattle.ips_run.specs.Creating.{IsMissing, IsBlockedBy, HasMade, HasMadeInPart, IsAsBefore, IsMaking, IsMakingInPart, AreMade, AreUnmade, SaysOfDirectories, ended_as, IsCreated, Standing, Uncreated, Made, Failed}
+use Rattle.ips_run.specs.Creating.{IsMissing, IsBlockedBy, HasMade, HasMadeInPart, IsAsBefore, IsMaking, AreMade, AreUnmade, SaysOfDirectories, ended_as, IsCreated, Standing, Uncreated, Made, Failed}
 use Rattle.ips_run.proofs.Opened.{creates_unfixed}
 use Rattle.ips_run.proofs.Told.{none_run}
 use Rattle.ips_run.proofs.Performed.{early_fault}

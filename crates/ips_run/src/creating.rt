@@ -11,7 +11,7 @@ ghost use Rattle.ips_text.specs.Ancestry.{covers};
 ghost use Rattle.ips_steps.specs.Private.{records_name, gate_name};
 ghost use Rattle.ips_steps.specs.declared.step.Sort.{Sort};
 ghost use Rattle.ips_kinds.specs.Tallies.{seen_by, taken};
-ghost use Rattle.ips_history.specs.Directories.{creates, var_name, with_directories, image_for};
+ghost use Rattle.ips_history.specs.Directories.{creates, var_name, with_directories};
 ghost use Rattle.ips_history.specs.Transition.{IsUnsafe};
 ghost use Rattle.ips_history.specs.Run.{StaysShut};
 ghost use Rattle.ips_run.specs.declared.creating.DirectoryFault.TheVariants as fault;

@@ -1,11 +1,10 @@
 -- The change that the operation of the tests decides on can be listed, staged and laid.
-use Rattle.std.proofs.Common.{◌≡◌, ℕ, zero, suc, ◌<◌, Bool, true, List, [], ◌∷◌, length, map, slice_get, Some, None, Result, IfOk, IsTrue, codes, is_some, refl, sym, ◌∙◌, ap, subst, arith}
+use Rattle.std.proofs.Common.{◌≡◌, ℕ, zero, suc, Bool, true, List, [], ◌∷◌, slice_get, Some, None, Result, IfOk, IsTrue, codes, is_some, refl, sym, ◌∙◌, ap, subst, arith}
 use Rattle.ips_text.specs.Path.{IsPath}
 use Rattle.ips_outside.specs.Image.{Image, is_dir}
 use Rattle.ips_steps.specs.Steps.{Step, Stage, possible, stage_name}
 use Rattle.ips_steps.specs.Private.{records_name, journal_name, gate_name, mark_front}
 use Rattle.ips_steps.specs.Journal.{IsJournal}
-use Rattle.ips_steps.specs.View.{step_of}
 use Rattle.ips_repo.proofs.Joined.{joined_path}
 use Rattle.ips_journal.specs.declared.staged.Staged.{Staged}
 use Rattle.ips_journal.specs.declared.staged.Staged.TheVariants.{Payload}

@@ -1,4 +1,4 @@
-use Rattle.std.proofs.Common.{◌≡◌, sym, ◌∙◌, ap, subst, refl}
+use Rattle.std.proofs.Common.{◌≡◌, sym, ◌∙◌, ap, subst}
 use Rattle.ips_outside.specs.State.{State, settled}
 use Rattle.ips_steps.specs.Private.{gate_name}
 use Rattle.ips_run.specs.Creating.{IsMissing}

@@ -1,4 +1,4 @@
-use Rattle.std.proofs.Common.{◌≡◌, sym, ◌∙◌, subst, refl}
+use Rattle.std.proofs.Common.{sym, subst, refl}
 use Rattle.ips_run.specs.declared.creating.Missing.{Missing}
 use Rattle.ips_run.specs.declared.creating.Missing.TheVariants as missing
 use Rattle.ips_steps.specs.Private.{records_name}
