@@ -85,7 +85,7 @@ module _ {F R : Type 0} (o : Outside F) (sane : IsOutside o) (means : R → Imag
   left_at effect is_done r old new (Created at is_creating c made q) w now s (inl (was, is)) knows = subst (Knows s) (sym is) (still w old c.from c.still s was knows)
   left_at effect is_done r old new (Created at is_creating c made q) w now s (inr (inl (was, is))) knows = nothing now s is
   left_at effect is_done r old new (Created at is_creating c made q) w now s (inr (inr (l, is, left))) knows = anew now s l is (since is_done r at new q s l left) (since_means is_done r at new q s l left)
-  left_at effect is_done r old new (CreatedInPart is_creating none c) w now s (inl (was, is)) knows = subst (Knows s) (sym is) (still w old c.from c.still s was knows)
+  left_at effect is_done r old new (CreatedInPart is_creating none c) w now s (inl (was, is)) knows = subst (Knows s) (sym is) (still w old c.creating.from c.creating.still s was knows)
   left_at effect is_done r old new (CreatedInPart is_creating none c) w now s (inr (was, is)) knows = nothing now s is
 
   crashed : (w : Option (Last R)) (s : State) (left : Image) → MayLeave s left → Knows s w → Knows (untouched left) w
@@ -180,4 +180,4 @@ module _ {F R : Type 0} (o : Outside F) (means : Image → Image → Type 0) (ef
   left_somewhere (CreatedInPart is none c) = ⊎_elim
       (λ older. (w, inl (older, refl)))
       (λ within. (None, inr (inr within, refl)))
-      (c.moments.before (o.clock old) s c.later was)
+      (c.creating.moments.before (o.clock old) s c.creating.later was)

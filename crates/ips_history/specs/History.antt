@@ -45,7 +45,7 @@ LeftAt o means effect is_done r old new (Asked at later changes synced same k q)
     ⊎ ((l : Last _) × (now ≡ Some l) × LeftSince o means is_done r at new q s l)
 LeftAt o means effect is_done r old new (Created at is c made q) w s now = (o.states c.from (o.clock old) s × (now ≡ w)) ⊎ (((o.states at (o.clock c.from) s ⊎ Within (covers c.dir) nowhere (o.state c.from) s) × (now ≡ None))
     ⊎ ((l : Last _) × (now ≡ Some l) × LeftSince o means is_done r at new q s l))
-LeftAt o means effect is_done r old new (CreatedInPart is none c) w s now = (o.states c.from (o.clock old) s × (now ≡ w)) ⊎ ((o.states new (o.clock c.from) s ⊎ Within (covers c.dir) nowhere (o.state c.from) s) × (now ≡ None))
+LeftAt o means effect is_done r old new (CreatedInPart is none c) w s now = (o.states c.creating.from (o.clock old) s × (now ≡ w)) ⊎ ((o.states new (o.clock c.creating.from) s ⊎ Within (covers c.creating.dir) nowhere (o.state c.creating.from) s) × (now ≡ None))
 
 -- A history: runs on one folder, of which the first begins with nothing at the gate and nothing touched. Each begins on the
 -- state at which the one before it was left, or on an image that a crash at that moment may leave, with nothing touched.

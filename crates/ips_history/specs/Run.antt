@@ -13,7 +13,7 @@ use Rattle.ips_commit.specs.Pending.{IsBare}
 use Rattle.ips_commit.specs.Recovering.{IsJournalled, CanRollForward, CanResume, IsUnfinished}
 use Rattle.ips_history.specs.Due.{HasEnded}
 use Rattle.ips_history.specs.Directories.{creates, fixes, with_directories}
-use Rattle.ips_history.specs.Transition.{StillOwes, Creating, Transition}
+use Rattle.ips_history.specs.Transition.{StillOwes, CreatingInPart, Transition}
 use Rattle.ips_history.specs.declared.effect.Effect.{Effect}
 
 -- What an outcome claims of the image: that a request has come to its end; that what is seen is as before; that nothing is to
@@ -65,9 +65,9 @@ pub record HasOpened {F : Type 0} (o : Outside F) (old new : F) : Type 0 where
   pub later : o.changes at ≤ o.changes new
 
 -- what a refusal of a command that makes an image may leave: just the directories of the records, where nothing stood at them;
--- or, where a call failed, anything at or below the first of them
+-- or, where a call failed before they were safe, anything at or below the first of them
 abbrev pub LeavesDirectories : {F : Type 0} → Outside F → Bool → F → F → Type 0
-LeavesDirectories o failed old new = (visible (o.state new).held ≡ visible (with_directories (o.state old).held)) ⊎ (IsTrue failed × Creating o old new)
+LeavesDirectories o failed old new = (visible (o.state new).held ≡ visible (with_directories (o.state old).held)) ⊎ (IsTrue failed × CreatingInPart o old new)
 
 -- A run: what it does to what is owed; what it recovered; an outcome that refuses leaves what is seen as before, and a closed gate
 -- closed, but for the directories of the records that a command makes which makes an image; nothing is to do only behind a closed
@@ -78,7 +78,7 @@ pub record IsRun {F : Type 0} (o : Outside F) (means : Image → Image → Type 
   pub transition : Transition o means effect claim.done old new
   pub recovered : IfSome claim.recovered (λ forward. IsRecovered o forward before now old new)
   pub unseen : IsTrue claim.refused → (visible (o.state new).held ≡ visible (o.state old).held) ⊎ (IsTrue (creates effect) × LeavesDirectories o claim.failed old new)
-  pub unopened : IsTrue claim.refused → (o.state old).held.look gate_name ≡ None → StaysShut o old new ⊎ (IsTrue (creates effect) × (IsTrue claim.failed × Creating o old new))
+  pub unopened : IsTrue claim.refused → (o.state old).held.look gate_name ≡ None → StaysShut o old new ⊎ (IsTrue (creates effect) × (IsTrue claim.failed × CreatingInPart o old new))
   pub unneeded : IsTrue claim.nothing → ((o.state old).held.look gate_name ≡ None) × (IsTrue (fixes effect) → IsBare (o.state old).held)
   pub readable : IsTrue claim.bad_journal → (b : Image) (a : Option Image) (due : Bool) → FolderOwes journal_text b a due (o.state old) → ⊥
   pub out_of_memory : IsTrue claim.out_of_memory → (o.state new ≡ settled (o.state old)) ⊎ StaysShut o old new

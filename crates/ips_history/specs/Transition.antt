@@ -2,7 +2,7 @@
 use Rattle.std.specs.Prelude.{◌≡◌, ◌≢◌, ◌⊎◌, ℕ, ◌≤◌, Bool, false, IsTrue, IsFalse, List, Option, None, IfSome}
 use Rattle.ips_text.specs.Ancestry.{covers}
 use Rattle.ips_outside.specs.Image.{Image}
-use Rattle.ips_outside.specs.State.{IsSettled, Within, nowhere, settled, untouched}
+use Rattle.ips_outside.specs.State.{State, IsSettled, Within, nowhere, settled, untouched}
 use Rattle.ips_outside.specs.Outside.{Outside}
 use Rattle.ips_folder.specs.Calls.{Throughout}
 use Rattle.ips_steps.specs.Private.{records_name, gate_name, visible}
@@ -45,13 +45,22 @@ pub record Creating {F : Type 0} (o : Outside F) (old new : F) : Type 0 where
   pub absent : (o.state old).held.look dir ≡ None
   pub moments : Throughout o from new (Within (covers dir) nowhere (o.state from))
 
+-- the state is that one, or what stands at the path isn't safe
+abbrev pub IsUnsafe : List ℕ → State → State → Type 0
+IsUnsafe dir old s = (s ≡ old) ⊎ IsTrue (s.whole dir)
+
+-- The directories are made in part: at no moment since the opening sync the first of them stands and is safe.
+pub record CreatingInPart {F : Type 0} (o : Outside F) (old new : F) : Type 0 where
+  pub creating : Creating o old new
+  pub moments : Throughout o creating.from new (IsUnsafe creating.dir (o.state creating.from))
+
 -- What a run does to what the folder owes. It is no request, and what was owed stays owed. Or that holds until the opening sync has
 -- answered, and from then on the run is a request. Or it makes directories of the records, of which a crash may leave anything,
--- and is a request once these are made safe; or it isn't, since that was stopped.
+-- and is a request once these are made safe; or it isn't, since none of them was made safe.
 pub data Transition {F : Type 0} (o : Outside F) (means : Image → Image → Type 0) (effect : Effect) (is_done : Bool) (old new : F) : Type 0 where
   Kept : IsFalse is_done → IsNoRequest o effect old new → StillOwes o old new → Transition o means effect is_done old new
   Asked : (at : F) → o.clock old ≤ o.clock at → IsFalse (shows effect) → o.state at ≡ settled (o.state old) → (IsTrue is_done → image_for effect (o.state old).held ≡ (o.state old).held)
       → StillOwes o old at → IsRequest o means is_done at new → Transition o means effect is_done old new
   Created : (at : F) → IsTrue (creates effect) → Creating o old at → o.state at ≡ untouched (with_directories (o.state old).held)
       → IsRequest o means is_done at new → Transition o means effect is_done old new
-  CreatedInPart : IsTrue (creates effect) → IsFalse is_done → Creating o old new → Transition o means effect is_done old new
+  CreatedInPart : IsTrue (creates effect) → IsFalse is_done → CreatingInPart o old new → Transition o means effect is_done old new

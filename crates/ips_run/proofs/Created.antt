@@ -6,8 +6,8 @@ use Rattle.ips_outside.specs.State.{State, IsSettled, nowhere, settled, untouche
 use Rattle.ips_outside.specs.Outside.{Outside, IsOutside, Elapses}
 use Rattle.ips_outside.specs.Running.{Run, Running}
 use Rattle.ips_outside.specs.Change.{placed}
-use Rattle.ips_folder.specs.Calls.{Keeps}
-use Rattle.ips_folder.proofs.Runs.{begun, stays, keeps_then}
+use Rattle.ips_folder.specs.Calls.{Throughout, Keeps}
+use Rattle.ips_folder.proofs.Runs.{started, goes_on, joins, weaker, begun, stays, keeps_then}
 use Rattle.ips_commit.proofs.OwnNames.{absent_below}
 use Rattle.std.proofs.lemmas.Bool.{and_from}
 use Rattle.ips_text.specs.Ancestry.{covers}
@@ -15,6 +15,7 @@ use Rattle.ips_steps.specs.Private.{records_name, gate_name}
 use Rattle.ips_steps.proofs.Lists.{clash}
 use Rattle.ips_kinds.specs.Tallies.{Carrier}
 use Rattle.ips_history.specs.Directories.{creates, fixes, var_name, with_directories, is_dir_or_free, CanHaveDirectories, IsInTheWay}
+use Rattle.ips_history.specs.Transition.{IsUnsafe}
 use Rattle.ips_history.specs.Run.{StaysShut}
 use Rattle.ips_history.specs.declared.effect.Effect.{Effect}
 use Rattle.ips_run.specs.declared.creating.Missing.{Missing}
@@ -27,7 +28,7 @@ use Rattle.ips_run.specs.declared.ending.Ending.TheVariants as ending
 use Rattle.ips_run.specs.Ending.{is_source_fault, is_spawn_fault, is_left}
 use Rattle.ips_run.specs.Comes.{HasRun, IsToDecide, Comes, Unopened, Unfinished, Back, NotDirectory, Unready, Carried}
 use Rattle.ips_run.specs.Phases.{IsAsked}
-use Rattle.ips_run.specs.Creating.{IsMissing, IsBlockedBy, HasMade, IsAsBefore, IsMaking, AreMade, AreUnmade, SaysOfDirectories, ended_as, IsCreated, Standing, Uncreated, Made, Failed}
+use Rattle.ips_run.specs.Creating.{IsMissing, IsBlockedBy, HasMade, HasMadeInPart, IsAsBefore, IsMaking, AreMade, AreUnmade, SaysOfDirectories, ended_as, IsCreated, Standing, Uncreated, Made, Failed}
 use Rattle.ips_run.proofs.Opened.{creates_unfixed}
 use Rattle.ips_run.proofs.Told.{none_run}
 use Rattle.ips_run.proofs.Performed.{early_fault}
@@ -174,8 +175,22 @@ module _ {F : Type 0} (o : Outside F) (sane : IsOutside o) (old : F) (told : o.t
     making_of missing.Records is kept = inr (record { dir = records_name; is = inr refl; absent = is.1; kept = since (covers records_name) kept })
     making_of missing.Both is kept = inr (record { dir = var_name; is = inl refl; absent = is; kept = since (covers var_name) kept })
 
-    pub failed_of : (m : Missing) → (m ≡ missing.Nothing → ⊥) → IsMissing held m → HasMade o m mid new → SaysOfDirectories o old new fault.Failed
-    failed_of m some is has = ⊎_elim (λ none. absurd (some none.1)) (λ making. inr making) (making_of m is has)
+    unsafe_of : (dir : List ℕ) → Throughout o mid new (IsUnsafe dir (o.state mid)) → Throughout o old new (IsUnsafe dir (o.state old))
+    unsafe_of dir run =
+        let P : State → Type 0 = IsUnsafe dir (o.state old) in
+        joins o old mid new P (goes_on o old old mid P (started o old P (sane.only_now old) (inl refl)) time (inl same))
+        (weaker o mid new (IsUnsafe dir (o.state mid)) P (λ s is. subst (λ (t : State). IsUnsafe dir t s) same is) run)
+
+    pub failed_of : (m : Missing) → IsMissing held m → HasMade o m mid new → HasMadeInPart o m mid new → SaysOfDirectories o old new fault.Failed
+    failed_of missing.Nothing is has part = absurd part
+    failed_of missing.Records is has part = inr (record {
+      making = record { dir = records_name; is = inr refl; absent = is.1; kept = since (covers records_name) has };
+      moments = unsafe_of records_name part;
+    })
+    failed_of missing.Both is has part = inr (record {
+      making = record { dir = var_name; is = inl refl; absent = is; kept = since (covers var_name) has };
+      moments = unsafe_of var_name part;
+    })
 
     pub made_of : (m : Missing) → IsMissing held m → HasMade o m mid new → held.look gate_name ≡ None
         → o.state new ≡ untouched (with_directories (o.state mid).held) → StaysShut o mid new → AreMade o old new

@@ -1,20 +1,21 @@
 -- The directories of an image's records: what stands once they are made, and what is so at every moment until then.
-use Rattle.std.proofs.Common.{◌≡◌, ⊎_elim, ℕ, Bool, true, false, cond, List, [], ◌∷◌, Option, Some, None, is_none, Result, Ok, Err, OnOk, codes, refl, sym, ◌∙◌, ap, subst, arith}
-use Rattle.std.proofs.lemmas.Bool.{and_parts, and_from, or_right}
+use Rattle.std.proofs.Common.{◌≡◌, ⊎_elim, ℕ, Bool, true, false, cond, List, [], ◌∷◌, Option, Some, None, is_none, ◌⊎◌, inl, inr, Result, Ok, Err, OnOk, OnErr, codes, refl, sym, ◌∙◌, ap, subst, arith}
+use Rattle.std.proofs.lemmas.Bool.{and_parts, and_from, or_left, or_right}
 use Rattle.ips_text.specs.Path.{IsPath}
 use Rattle.ips_text.specs.Ancestry.{covers, same_path, parent}
-use Rattle.ips_text.proofs.Ancestry.{same_path-self, covers_trans}
+use Rattle.ips_text.proofs.Ancestry.{same_path-self, covers-self, covers_trans}
 use Rattle.ips_outside.specs.Image.{Entry, Dir, Image, is_dir, dir_or_none}
 use Rattle.ips_outside.specs.Change.{placed}
-use Rattle.ips_outside.specs.State.{State, nowhere, written, settled, untouched}
+use Rattle.ips_outside.specs.State.{State, MayChange, nowhere, written, settled, untouched}
 use Rattle.ips_outside.specs.Outside.{Outside, IsOutside, Elapses}
 use Rattle.ips_outside.proofs.Moments.{placed_within}
-use Rattle.ips_folder.specs.Calls.{CanMake, Writes, Syncs, Keeps}
-use Rattle.ips_folder.proofs.Runs.{started, goes_on, joins, one_write, one_sync, keeps_then, keeps_wider}
+use Rattle.ips_folder.specs.Calls.{CanMake, Writes, Syncs, Throughout, Keeps}
+use Rattle.ips_folder.proofs.Runs.{started, goes_on, joins, weaker, one_write, one_sync, keeps_then, keeps_wider}
 use Rattle.ips_steps.specs.Private.{records_name, gate_name}
 use Rattle.ips_steps.proofs.Lists.{clash}
 use Rattle.ips_repo.proofs.Joined.{joined_path}
 use Rattle.ips_history.specs.Directories.{var_name, with_dir, with_directories, is_dir_or_free, CanHaveDirectories, IsInTheWay}
+use Rattle.ips_history.specs.Transition.{IsUnsafe}
 use Rattle.ips_history.specs.Run.{StaysShut}
 
 -- ---- the names
@@ -164,7 +165,30 @@ pub on_ok : {T E : Type 0} {P Q : Type 0} (r : Result T E) → OnOk r P → (P �
 on_ok (Ok x) p f = f p
 on_ok (Err e) p f = p
 
+pub on_failure : {T E : Type 0} {P Q : Type 0} (r : Result T E) → OnErr r P → (P → Q) → OnErr r Q
+on_failure (Ok x) p f = p
+on_failure (Err e) p f = f p
+
+-- what is changed at and below a path isn't safe there
+unsafe_at : (p : List ℕ) (old s : State) → MayChange (covers p) nowhere old s → IsUnsafe p old s
+unsafe_at p old s (inl same) = inl same
+unsafe_at p old s (inr changed) = inr (ap (λ (f : List ℕ → Bool). f p) changed.whole ∙ or_left (covers p p) (old.whole p) (covers-self p))
+
+-- what isn't safe stays so
+unsafe_still : (free : List ℕ → Bool) (p : List ℕ) (old s : State) → old.whole p ≡ true → MayChange free nowhere old s → s.whole p ≡ true
+unsafe_still free p old s touched (inl same) = ap (λ (t : State). t.whole p) same ∙ touched
+unsafe_still free p old s touched (inr changed) = ap (λ (f : List ℕ → Bool). f p) changed.whole ∙ or_right (free p) (old.whole p) touched
+
 module _ {F : Type 0} (o : Outside F) (sane : IsOutside o) where
+  -- since the one call
+  one_change : (p q : List ℕ) → p ≡ q → (old new : F) → o.tells old ≡ true → {T E : Type 0} (made : Result T E) → Writes o (covers p) nowhere (written p (placed p made_dir (o.state old).held) (o.state old)) old new made
+      → Throughout o old new (MayChange (covers q) nowhere (o.state old))
+  one_change p q same old new told made w = goes_on o old old new (MayChange (covers q) nowhere (o.state old)) (started o old (MayChange (covers q) nowhere (o.state old)) (sane.only_now old) (inl refl)) w.call.time
+      (subst (λ (r : List ℕ). MayChange (covers r) nowhere (o.state old) (o.state new)) same (w.only told))
+
+  pub unsafe_since : (p : List ℕ) (old new : F) → Throughout o old new (MayChange (covers p) nowhere (o.state old)) → Throughout o old new (IsUnsafe p (o.state old))
+  unsafe_since p old new run = weaker o old new (MayChange (covers p) nowhere (o.state old)) (IsUnsafe p (o.state old)) (λ s may. unsafe_at p (o.state old) s may) run
+
   abbrev Shut : State → Type 0
   Shut s = s.held.look gate_name ≡ None
 
@@ -194,7 +218,14 @@ module _ {F : Type 0} (o : Outside F) (sane : IsOutside o) where
     pub records_failed : Keeps o (covers records_name) nowhere old mid
     records_failed = subst (λ (q : List ℕ). Keeps o (covers q) nowhere old mid) same (one_write o sane old mid (covers p) nowhere (written p (placed p made_dir (o.state old).held) (o.state old)) made told w)
 
+    pub records_in_part : Throughout o old mid (MayChange (covers records_name) nowhere (o.state old))
+    records_in_part = one_change p records_name same old mid told made w
+
     module _ (new : F) {U V : Type 0} (safe : Result U V) (s : Syncs o mid new safe) where
+      pub records_unsynced : OnErr safe (Throughout o old new (MayChange (covers records_name) nowhere (o.state old)))
+      records_unsynced = on_failure safe s.kept (λ kept.
+          goes_on o old mid new (MayChange (covers records_name) nowhere (o.state old)) records_in_part s.call.time (subst (MayChange (covers records_name) nowhere (o.state old)) (sym kept) (subst (λ (q : List ℕ). MayChange (covers q) nowhere (o.state old) (o.state mid)) same (w.only told))))
+
       pub records_kept : Keeps o (covers records_name) nowhere old new
       records_kept = keeps_then o (covers records_name) nowhere old mid new records_failed (one_sync o sane (covers records_name) nowhere mid new safe (w.call.same_kind ∙ told) s)
 
@@ -213,7 +244,17 @@ module _ {F : Type 0} (o : Outside F) (sane : IsOutside o) where
     pub var_failed : Keeps o (covers var_name) nowhere old mid
     var_failed = subst (λ (q : List ℕ). Keeps o (covers q) nowhere old mid) same (one_write o sane old mid (covers p) nowhere (written p (placed p made_dir (o.state old).held) (o.state old)) made told w)
 
+    pub var_in_part : Throughout o old mid (IsUnsafe var_name (o.state old))
+    var_in_part = unsafe_since var_name old mid (one_change p var_name same old mid told made w)
+
     module _ (is : o.state mid ≡ written p (placed p made_dir (o.state old).held) (o.state old)) where
+      var_touched : (o.state mid).whole var_name ≡ true
+      var_touched = ap (λ (t : State). t.whole var_name) is ∙ or_left (covers p var_name) ((o.state old).whole var_name) (ap (λ (q : List ℕ). covers q var_name) same ∙ covers-self var_name)
+
+      pub both_in_part : (new : F) {U V : Type 0} (rest : Result U V) → OnErr rest (Throughout o mid new (MayChange (covers records_name) nowhere (o.state mid))) → OnErr rest (Throughout o old new (IsUnsafe var_name (o.state old)))
+      both_in_part new rest later = on_failure rest later (λ run. joins o old mid new (IsUnsafe var_name (o.state old)) var_in_part
+          (weaker o mid new (MayChange (covers records_name) nowhere (o.state mid)) (IsUnsafe var_name (o.state old)) (λ s may. inr (unsafe_still (covers records_name) var_name (o.state mid) s var_touched may)) run))
+
       pub var_held : (o.state mid).held ≡ placed var_name made_dir (o.state old).held
       var_held = ap (λ (t : State). t.held) is ∙ ap (λ (q : List ℕ). placed q made_dir (o.state old).held) same
 

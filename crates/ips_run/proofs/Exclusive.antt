@@ -24,7 +24,7 @@ use Rattle.ips_run.specs.declared.operation.Decision.TheVariants as decision
 use Rattle.ips_run.specs.declared.ending.Ending.{Ending}
 use Rattle.ips_run.specs.declared.ending.Ending.TheVariants as ending
 use Rattle.ips_run.specs.Comes.{IsStopped, IsToDecide, IsUnopened, IsUnready, IsBackTo, IsCarriedTo, Comes, Unopened, Unfinished, Back, NotDirectory, Unready, Carried}
-use Rattle.ips_run.specs.Exclusive.{Way, AtGate, Recovering, InTheWay, Showing, Refusing, Needless, Damaged, Carrying, Faulty, way_of, is_faulty, DecidesOne}
+use Rattle.ips_run.specs.Exclusive.{Way, AtGate, Recovering, InTheWay, Showing, Refusing, Needless, Damaged, Carrying, Faulty, way_of, is_faulty, DecidesAlike}
 use Rattle.ips_run.proofs.Opened.{creates_unfixed}
 
 -- ---- a payload that has a fault isn't intact
@@ -155,13 +155,13 @@ module _ {T : Type 0} (n : Effect) (decides : Decision T → Type 0) (repository
       (λ second. clash (is_dir_or_free (held.look p)) (subst (λ (q : List ℕ). is_dir_or_free (held.look q) ≡ true) (sym second.0) can.1) blocked)
       one
 
-  module _ (unique : DecidesOne decides) where
+  module _ (unique : DecidesAlike decides) where
     damaged_carried : Before Damaged → Before Carrying → ⊥
     damaged_carried (decide, (c, decided, (name, why, says))) (other, (d, chosen, intact)) =
-        let same : c ≡ d = let e : decision.Change c ≡ decision.Change d = unique (decision.Change c) (decision.Change d) decided chosen in cc in
+        let alike = unique (decision.Change c) (decision.Change d) decided chosen in
         let first = says.1 refl in
         not_both name (file_at repository (payload_place c.publisher name)) why first.is
-        ((subst (λ (k : Change T). AreIntact repository k.publisher k.staged.items) (sym same) intact) first.at _ first.stands)
+        (subst (λ (publisher : List ℕ). IsIntact name (file_at repository (payload_place publisher name))) alike.0.publisher (intact first.at _ (alike.0.payloads first.at name first.stands)))
 
     pub one_alone : (v w : Way) → Before v → Before w → v ≡ w
     one_alone AtGate AtGate a b = refl
@@ -195,44 +195,44 @@ module _ {T : Type 0} (n : Effect) (decides : Decision T → Type 0) (repository
     one_alone Showing Recovering a b = absurd (not_stopped a.0 b)
     one_alone Showing InTheWay a b = absurd (not_in_the_way a.0 b)
     one_alone Showing Showing a b = refl
-    one_alone Showing Refusing a b = let e : (decision.Shown a.1.0) ≡ (decision.Refused b.1.0) = unique (decision.Shown a.1.0) (decision.Refused b.1.0) a.1.1 b.1.1 in cc
-    one_alone Showing Needless a b = let e : (decision.Shown a.1.0) ≡ decision.Nothing = unique (decision.Shown a.1.0) decision.Nothing a.1.1 b.1 in cc
-    one_alone Showing Damaged a b = let e : (decision.Shown a.1.0) ≡ (decision.Change b.1.0) = unique (decision.Shown a.1.0) (decision.Change b.1.0) a.1.1 b.1.1 in cc
-    one_alone Showing Carrying a b = let e : (decision.Shown a.1.0) ≡ (decision.Change b.1.0) = unique (decision.Shown a.1.0) (decision.Change b.1.0) a.1.1 b.1.1 in cc
+    one_alone Showing Refusing a b = absurd (unique (decision.Shown a.1.0) (decision.Refused b.1.0) a.1.1 b.1.1)
+    one_alone Showing Needless a b = absurd (unique (decision.Shown a.1.0) decision.Nothing a.1.1 b.1)
+    one_alone Showing Damaged a b = absurd (unique (decision.Shown a.1.0) (decision.Change b.1.0) a.1.1 b.1.1)
+    one_alone Showing Carrying a b = absurd (unique (decision.Shown a.1.0) (decision.Change b.1.0) a.1.1 b.1.1)
     one_alone Showing Faulty a b = absurd b
     one_alone Refusing AtGate a b = absurd (undecided a.0 b)
     one_alone Refusing Recovering a b = absurd (not_stopped a.0 b)
     one_alone Refusing InTheWay a b = absurd (not_in_the_way a.0 b)
-    one_alone Refusing Showing a b = let e : (decision.Refused a.1.0) ≡ (decision.Shown b.1.0) = unique (decision.Refused a.1.0) (decision.Shown b.1.0) a.1.1 b.1.1 in cc
+    one_alone Refusing Showing a b = absurd (unique (decision.Refused a.1.0) (decision.Shown b.1.0) a.1.1 b.1.1)
     one_alone Refusing Refusing a b = refl
-    one_alone Refusing Needless a b = let e : (decision.Refused a.1.0) ≡ decision.Nothing = unique (decision.Refused a.1.0) decision.Nothing a.1.1 b.1 in cc
-    one_alone Refusing Damaged a b = let e : (decision.Refused a.1.0) ≡ (decision.Change b.1.0) = unique (decision.Refused a.1.0) (decision.Change b.1.0) a.1.1 b.1.1 in cc
-    one_alone Refusing Carrying a b = let e : (decision.Refused a.1.0) ≡ (decision.Change b.1.0) = unique (decision.Refused a.1.0) (decision.Change b.1.0) a.1.1 b.1.1 in cc
+    one_alone Refusing Needless a b = absurd (unique (decision.Refused a.1.0) decision.Nothing a.1.1 b.1)
+    one_alone Refusing Damaged a b = absurd (unique (decision.Refused a.1.0) (decision.Change b.1.0) a.1.1 b.1.1)
+    one_alone Refusing Carrying a b = absurd (unique (decision.Refused a.1.0) (decision.Change b.1.0) a.1.1 b.1.1)
     one_alone Refusing Faulty a b = absurd b
     one_alone Needless AtGate a b = absurd (undecided a.0 b)
     one_alone Needless Recovering a b = absurd (not_stopped a.0 b)
     one_alone Needless InTheWay a b = absurd (not_in_the_way a.0 b)
-    one_alone Needless Showing a b = let e : decision.Nothing ≡ (decision.Shown b.1.0) = unique decision.Nothing (decision.Shown b.1.0) a.1 b.1.1 in cc
-    one_alone Needless Refusing a b = let e : decision.Nothing ≡ (decision.Refused b.1.0) = unique decision.Nothing (decision.Refused b.1.0) a.1 b.1.1 in cc
+    one_alone Needless Showing a b = absurd (unique decision.Nothing (decision.Shown b.1.0) a.1 b.1.1)
+    one_alone Needless Refusing a b = absurd (unique decision.Nothing (decision.Refused b.1.0) a.1 b.1.1)
     one_alone Needless Needless a b = refl
-    one_alone Needless Damaged a b = let e : decision.Nothing ≡ (decision.Change b.1.0) = unique decision.Nothing (decision.Change b.1.0) a.1 b.1.1 in cc
-    one_alone Needless Carrying a b = let e : decision.Nothing ≡ (decision.Change b.1.0) = unique decision.Nothing (decision.Change b.1.0) a.1 b.1.1 in cc
+    one_alone Needless Damaged a b = absurd (unique decision.Nothing (decision.Change b.1.0) a.1 b.1.1)
+    one_alone Needless Carrying a b = absurd (unique decision.Nothing (decision.Change b.1.0) a.1 b.1.1)
     one_alone Needless Faulty a b = absurd b
     one_alone Damaged AtGate a b = absurd (undecided a.0 b)
     one_alone Damaged Recovering a b = absurd (not_stopped a.0 b)
     one_alone Damaged InTheWay a b = absurd (not_in_the_way a.0 b)
-    one_alone Damaged Showing a b = let e : (decision.Change a.1.0) ≡ (decision.Shown b.1.0) = unique (decision.Change a.1.0) (decision.Shown b.1.0) a.1.1 b.1.1 in cc
-    one_alone Damaged Refusing a b = let e : (decision.Change a.1.0) ≡ (decision.Refused b.1.0) = unique (decision.Change a.1.0) (decision.Refused b.1.0) a.1.1 b.1.1 in cc
-    one_alone Damaged Needless a b = let e : (decision.Change a.1.0) ≡ decision.Nothing = unique (decision.Change a.1.0) decision.Nothing a.1.1 b.1 in cc
+    one_alone Damaged Showing a b = absurd (unique (decision.Change a.1.0) (decision.Shown b.1.0) a.1.1 b.1.1)
+    one_alone Damaged Refusing a b = absurd (unique (decision.Change a.1.0) (decision.Refused b.1.0) a.1.1 b.1.1)
+    one_alone Damaged Needless a b = absurd (unique (decision.Change a.1.0) decision.Nothing a.1.1 b.1)
     one_alone Damaged Damaged a b = refl
     one_alone Damaged Carrying a b = absurd (damaged_carried a b)
     one_alone Damaged Faulty a b = absurd b
     one_alone Carrying AtGate a b = absurd (undecided a.0 b)
     one_alone Carrying Recovering a b = absurd (not_stopped a.0 b)
     one_alone Carrying InTheWay a b = absurd (not_in_the_way a.0 b)
-    one_alone Carrying Showing a b = let e : (decision.Change a.1.0) ≡ (decision.Shown b.1.0) = unique (decision.Change a.1.0) (decision.Shown b.1.0) a.1.1 b.1.1 in cc
-    one_alone Carrying Refusing a b = let e : (decision.Change a.1.0) ≡ (decision.Refused b.1.0) = unique (decision.Change a.1.0) (decision.Refused b.1.0) a.1.1 b.1.1 in cc
-    one_alone Carrying Needless a b = let e : (decision.Change a.1.0) ≡ decision.Nothing = unique (decision.Change a.1.0) decision.Nothing a.1.1 b.1 in cc
+    one_alone Carrying Showing a b = absurd (unique (decision.Change a.1.0) (decision.Shown b.1.0) a.1.1 b.1.1)
+    one_alone Carrying Refusing a b = absurd (unique (decision.Change a.1.0) (decision.Refused b.1.0) a.1.1 b.1.1)
+    one_alone Carrying Needless a b = absurd (unique (decision.Change a.1.0) decision.Nothing a.1.1 b.1)
     one_alone Carrying Damaged a b = absurd (damaged_carried b a)
     one_alone Carrying Carrying a b = refl
     one_alone Carrying Faulty a b = absurd b

@@ -16,7 +16,7 @@ use Rattle.ips_commit.specs.Due.{IsSafelyOpen}
 use Rattle.ips_commit.specs.Recovering.{IsJournalled, CanRollForward, IsUnfinished}
 use Rattle.ips_history.specs.Due.{NeverOpen}
 use Rattle.ips_history.specs.Directories.{shows, creates, fixes, with_directories, image_for}
-use Rattle.ips_history.specs.Transition.{StillOwes, IsRequest, Creating, Transition, Kept, Asked, Created, CreatedInPart}
+use Rattle.ips_history.specs.Transition.{StillOwes, IsRequest, Creating, CreatingInPart, Transition, Kept, Asked, Created, CreatedInPart}
 use Rattle.ips_history.specs.Run.{IsRecovered, StaysShut, HasOpened, IsRun}
 use Rattle.ips_history.specs.declared.effect.Effect.{Effect}
 use Rattle.ips_history.specs.declared.effect.Effect.TheVariants as effect
@@ -25,7 +25,7 @@ use Rattle.ips_run.specs.declared.ending.Ending.{Ending}
 use Rattle.ips_run.specs.declared.ending.Ending.TheVariants as ending
 use Rattle.ips_run.specs.Ending.{is_done, is_unneeded, recovery, is_left, is_bad_journal, is_out_of_memory, is_failed, claim_of, IsEarly}
 use Rattle.ips_run.specs.Phases.{IsAsked, IsBack}
-use Rattle.ips_run.specs.Creating.{IsMaking, IsCreated, Standing, Uncreated, Made, Failed}
+use Rattle.ips_run.specs.Creating.{IsMaking, IsMakingInPart, IsCreated, Standing, Uncreated, Made, Failed}
 use Rattle.ips_commit.specs.Pending.{IsBare}
 
 -- where no other image is owed, nothing stands at the gate
@@ -234,7 +234,7 @@ module _ {F : Type 0} (o : Outside F) (sane : IsOutside o) where
 
         -- ---- the directories of the records are made first
 
-        creating : (mid : F) → IsMaking o at mid → Creating o old mid
+        abbrev creating : (mid : F) → IsMaking o at mid → Creating o old mid
         creating mid making = record {
           from = at;
           later = time.later;
@@ -245,6 +245,9 @@ module _ {F : Type 0} (o : Outside F) (sane : IsOutside o) where
           absent = ap (λ (t : Image). t.look making.dir) (sym same_held) ∙ making.absent;
           moments = making.kept.moments;
         }
+
+        creating_in_part : (mid : F) → IsMakingInPart o at mid → CreatingInPart o old mid
+        creating_in_part mid part = record { creating = creating mid part.making; moments = part.moments }
 
         unfixed : creates effect ≡ true → fixes effect ≡ false
         unfixed is = creates_unfixed effect is
@@ -270,7 +273,7 @@ module _ {F : Type 0} (o : Outside F) (sane : IsOutside o) where
             }
 
       -- a call failed before they were safe
-      run_part : x ≡ ending.FolderFault false → creates effect ≡ true → (old new : F) → Creating o old new → HasOpened o old new → IsRun o means effect (claim_of x) before now old new
+      run_part : x ≡ ending.FolderFault false → creates effect ≡ true → (old new : F) → CreatingInPart o old new → HasOpened o old new → IsRun o means effect (claim_of x) before now old new
       run_part is is_creating old new creating has_opened = subst (λ (e : Ending T). IsRun o means effect (claim_of e) before now old new) (sym is) (record {
         transition = CreatedInPart is_creating refl creating;
         recovered = tt;
@@ -295,4 +298,4 @@ module _ {F : Type 0} (o : Outside F) (sane : IsOutside o) where
       run_created is_creating changes old at new time is_synced has_opened gate (Made mid making shut made asked) =
           run_made old at new time is_synced has_opened is_creating gate mid making shut made asked
       run_created is_creating changes old at new time is_synced has_opened gate (Failed is making) =
-          run_part is is_creating old new (creating old at new time is_synced has_opened new making) has_opened
+          run_part is is_creating old new (creating_in_part old at new time is_synced has_opened new making) has_opened

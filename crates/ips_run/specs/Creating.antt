@@ -5,10 +5,11 @@ use Rattle.ips_text.specs.declared.path.RelPath.{RelPath}
 use Rattle.ips_outside.specs.Image.{Image, is_dir}
 use Rattle.ips_outside.specs.State.{nowhere, untouched}
 use Rattle.ips_outside.specs.Outside.{Outside, Elapses}
-use Rattle.ips_folder.specs.Calls.{Keeps}
+use Rattle.ips_folder.specs.Calls.{Throughout, Keeps}
 use Rattle.ips_steps.specs.Private.{records_name}
 use Rattle.ips_kinds.specs.Tallies.{Carrier}
 use Rattle.ips_history.specs.Directories.{var_name, with_directories, is_dir_or_free, CanHaveDirectories, IsInTheWay}
+use Rattle.ips_history.specs.Transition.{IsUnsafe}
 use Rattle.ips_history.specs.Run.{StaysShut}
 use Rattle.ips_run.specs.declared.creating.Missing.{Missing}
 use Rattle.ips_run.specs.declared.creating.Missing.TheVariants as missing
@@ -38,6 +39,11 @@ pub record IsMaking {F : Type 0} (o : Outside F) (old new : F) : Type 0 where
   pub absent : (o.state old).held.look dir ≡ None
   pub kept : Keeps o (covers dir) nowhere old new
 
+-- The same, and at no moment the first of them stands and is safe.
+pub record IsMakingInPart {F : Type 0} (o : Outside F) (old new : F) : Type 0 where
+  pub making : IsMaking o old new
+  pub moments : Throughout o old new (IsUnsafe making.dir (o.state old))
+
 -- nothing has happened to the image
 abbrev pub IsAsBefore : {F : Type 0} → Outside F → F → F → Type 0
 IsAsBefore o old new = Elapses o old new × (o.state new ≡ o.state old)
@@ -48,6 +54,12 @@ HasMade o missing.Nothing old new = new ≡ old
 HasMade o missing.Records old new = Keeps o (covers records_name) nowhere old new
 HasMade o missing.Both old new = Keeps o (covers var_name) nowhere old new
 
+-- the same where that failed: something was missing, and at no moment the first of it stands and is safe
+abbrev pub HasMadeInPart : {F : Type 0} → Outside F → Missing → F → F → Type 0
+HasMadeInPart o missing.Nothing old new = ⊥
+HasMadeInPart o missing.Records old new = Throughout o old new (IsUnsafe records_name (o.state old))
+HasMadeInPart o missing.Both old new = Throughout o old new (IsUnsafe var_name (o.state old))
+
 -- The directories stand, and nothing is touched: just those that were missing are made, or none was. The gate was closed all along.
 pub record AreMade {F : Type 0} (o : Outside F) (old new : F) : Type 0 where
   pub can : CanHaveDirectories (o.state old).held
@@ -55,9 +67,9 @@ pub record AreMade {F : Type 0} (o : Outside F) (old new : F) : Type 0 where
   pub none_made : (IsAsBefore o old new × (with_directories (o.state old).held ≡ (o.state old).held)) ⊎ IsMaking o old new
   pub shut : StaysShut o old new
 
--- why they aren't made: something is in the way, and nothing has happened; or a call failed, before the first was made or since then
+-- why they aren't made: something is in the way, and nothing has happened; or a call failed, before the first was made or before it was safe
 abbrev pub SaysOfDirectories : {F : Type 0} → Outside F → F → F → DirectoryFault → Type 0
-SaysOfDirectories o old new fault.Failed = IsAsBefore o old new ⊎ IsMaking o old new
+SaysOfDirectories o old new fault.Failed = IsAsBefore o old new ⊎ IsMakingInPart o old new
 SaysOfDirectories o old new fault.Var = IsAsBefore o old new × IsInTheWay (o.state old).held var_name
 SaysOfDirectories o old new fault.Records = IsAsBefore o old new × IsInTheWay (o.state old).held records_name
 
@@ -69,7 +81,7 @@ ended_as fault.Records var records = ending.NotDirectory records
 
 -- the same of an ending
 abbrev pub AreUnmade : {F T : Type 0} → Outside F → F → F → Ending T → Type 0
-AreUnmade o old new (ending.FolderFault unfinished) = IsFalse unfinished × (IsAsBefore o old new ⊎ IsMaking o old new)
+AreUnmade o old new (ending.FolderFault unfinished) = IsFalse unfinished × (IsAsBefore o old new ⊎ IsMakingInPart o old new)
 AreUnmade o old new (ending.NotDirectory path) = IsAsBefore o old new × IsInTheWay (o.state old).held path.bytes
 AreUnmade o old new ending.OutOfMemory = IsAsBefore o old new
 AreUnmade o old new other = ⊥
@@ -80,4 +92,4 @@ pub data IsCreated {F T : Type 0} (o : Outside F) (means : Image → Image → T
   Standing : (at : F) → IsAsBefore o old at → with_directories (o.state old).held ≡ (o.state old).held → IsAsked o means x before now at new → IsCreated o means x before now old new
   Uncreated : IsEarly x → IsAsBefore o old new → IsCreated o means x before now old new
   Made : (at : F) → IsMaking o old at → StaysShut o old at → o.state at ≡ untouched (with_directories (o.state old).held) → IsAsked o means x before now at new → IsCreated o means x before now old new
-  Failed : x ≡ ending.FolderFault false → IsMaking o old new → IsCreated o means x before now old new
+  Failed : x ≡ ending.FolderFault false → IsMakingInPart o old new → IsCreated o means x before now old new

@@ -1,6 +1,10 @@
 -- Which endings exclude each other.
-use Rattle.std.specs.Prelude.{◌≡◌, Bool, true, false}
+use Rattle.std.specs.Prelude.{◌≡◌, ℕ, Bool, true, false, slice_get, Some}
+use Rattle.ips_digest.specs.declared.name.PayloadName.{PayloadName}
+use Rattle.ips_journal.specs.declared.staged.Staged.TheVariants.{Payload}
+use Rattle.ips_run.specs.declared.operation.Change.{Change}
 use Rattle.ips_run.specs.declared.operation.Decision.{Decision}
+use Rattle.ips_run.specs.declared.operation.Decision.TheVariants as decision
 use Rattle.ips_run.specs.declared.ending.Ending.{Ending}
 use Rattle.ips_run.specs.declared.ending.Ending.TheVariants as ending
 
@@ -43,6 +47,19 @@ is_faulty (ending.FolderFault unfinished) = true
 is_faulty ending.OutOfMemory = true
 is_faulty other = false
 
--- one thing alone is decided
-abbrev pub DecidesOne : {T : Type 0} → (Decision T → Type 0) → Type 0
-DecidesOne decides = (a b : Decision _) → decides a → decides b → a ≡ b
+-- The second change puts each payload that the first puts, from the same publisher and at the same place of its list.
+pub record PutsPayloadsOf {T : Type 0} (c d : Change T) : Type 0 where
+  pub publisher : d.publisher ≡ c.publisher
+  pub payloads : (n : ℕ) (name : PayloadName) → slice_get c.staged.items n ≡ Some (Payload name) → slice_get d.staged.items n ≡ Some (Payload name)
+
+-- two decisions are of one sort, and two changes put the same payloads
+abbrev pub AreAlike : {T : Type 0} → Decision T → Decision T → Type 0
+AreAlike (decision.Change c) (decision.Change d) = PutsPayloadsOf c d × PutsPayloadsOf d c
+AreAlike decision.Nothing decision.Nothing = Unit {0}
+AreAlike (decision.Shown a) (decision.Shown b) = Unit {0}
+AreAlike (decision.Refused a) (decision.Refused b) = Unit {0}
+AreAlike a b = ⊥
+
+-- all that is decided is alike
+abbrev pub DecidesAlike : {T : Type 0} → (Decision T → Type 0) → Type 0
+DecidesAlike decides = (a b : Decision _) → decides a → decides b → AreAlike a b

@@ -28,7 +28,7 @@ IsOfEffect effect (decision.Shown told) = IsTrue (shows effect)
 IsOfEffect effect (decision.Refused told) = Unit {0}
 
 -- A journal can list the steps, and nothing is put from the updater's own names.
-pub record IsListed {T : Type 0} (c : Change T) : Type 0 where
+pub record CanBeListed {T : Type 0} (c : Change T) : Type 0 where
   pub lists : IsJournal (map step_of c.steps.items)
   pub seen : AreSeen c.staged.items
 

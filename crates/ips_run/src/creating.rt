@@ -1,23 +1,23 @@
 //! An image that is made: the directories of its records first.
 
-ghost use Rattle.std.specs.Prelude.{◌≡◌, ◌≢◌, ◌≤◌, false, None, Some, IsTrue, IsFalse, IfOk, OnOk, IfErr, IsErr, IsErrOf};
+ghost use Rattle.std.specs.Prelude.{◌≡◌, ◌≤◌, false, None, Some, IsTrue, IsFalse, IfOk, OnOk, OnErr, IfErr, IsErr, IsErrOf};
 ghost use Rattle.ips_text.specs.Path.{IsPath};
 ghost use Rattle.ips_outside.specs.Image.{Dir};
 ghost use Rattle.ips_outside.specs.Change.{placed};
-ghost use Rattle.ips_outside.specs.State.{nowhere, settled, untouched};
+ghost use Rattle.ips_outside.specs.State.{MayChange, nowhere, settled, untouched};
 ghost use Rattle.ips_outside.specs.Outside.{HasCause, Reads};
-ghost use Rattle.ips_folder.specs.Calls.{CanMake, Keeps};
+ghost use Rattle.ips_folder.specs.Calls.{CanMake, Throughout, Keeps};
 ghost use Rattle.ips_text.specs.Ancestry.{covers};
 ghost use Rattle.ips_steps.specs.Private.{records_name, gate_name};
 ghost use Rattle.ips_steps.specs.declared.step.Sort.{Sort};
 ghost use Rattle.ips_kinds.specs.Tallies.{seen_by, taken};
-ghost use Rattle.ips_history.specs.Directories.{creates, var_name, with_directories, image_for};
+ghost use Rattle.ips_history.specs.Directories.{creates, var_name, with_directories};
+ghost use Rattle.ips_history.specs.Transition.{IsUnsafe};
 ghost use Rattle.ips_history.specs.Run.{StaysShut};
-ghost use Rattle.ips_run.specs.declared.creating.Missing.TheVariants as missing_meant;
 ghost use Rattle.ips_run.specs.declared.creating.DirectoryFault.TheVariants as fault;
 ghost use Rattle.ips_run.specs.Ending.{EndsAs, is_left, is_folder_fault, is_source_fault, is_spawn_fault};
 ghost use Rattle.ips_run.specs.Comes.{Comes, HasRun};
-ghost use Rattle.ips_run.specs.Creating.{IsMissing, IsBlockedBy, SaysOfDirectories, HasMade, AreMade, AreUnmade, IsCreated, ended_as};
+ghost use Rattle.ips_run.specs.Creating.{IsMissing, IsBlockedBy, SaysOfDirectories, HasMade, HasMadeInPart, AreMade, AreUnmade, IsCreated, ended_as};
 ghost use Rattle.ips_run.specs.Phases.{HasFailedInCommit};
 
 use crate::ending::Ending;
@@ -194,7 +194,7 @@ fn make_missing<F: Folder>(
     ensures made { IsTrue (F.outside.tells folder.old) → OnOk result (F.outside.state folder.new ≡ untouched (with_directories (F.outside.state folder.old).held)) }
     ensures shut { IsTrue (F.outside.tells folder.old) → OnOk result (StaysShut F.outside folder.old folder.new) }
     ensures kept { IsTrue (F.outside.tells folder.old) → HasMade F.outside missing folder.old folder.new }
-    ensures some { IsErr result → missing ≢ missing_meant.Nothing }
+    ensures in_part { IsTrue (F.outside.tells folder.old) → OnErr result (HasMadeInPart F.outside missing folder.old folder.new) }
     ensures cause { HasCause (F.outside.faults folder.old) (F.outside.faults folder.new) (IsErr result) }
     ensures later { F.outside.changes folder.old ≤ F.outside.changes folder.new }
     ensures same_kind { F.outside.tells folder.new ≡ F.outside.tells folder.old }
@@ -216,6 +216,7 @@ fn make_both<F: Folder>(folder: &mut F, var: &RelPath, records: &RelPath) -> Res
         (F.outside.state folder.new ≡ untouched (placed records_name (Some (Dir 493 false)) (placed var_name (Some (Dir 493 false)) (F.outside.state folder.old).held))) }
     ensures shut { IsTrue (F.outside.tells folder.old) → OnOk result (StaysShut F.outside folder.old folder.new) }
     ensures kept { IsTrue (F.outside.tells folder.old) → Keeps F.outside (covers var_name) nowhere folder.old folder.new }
+    ensures in_part { IsTrue (F.outside.tells folder.old) → OnErr result (Throughout F.outside folder.old folder.new (IsUnsafe var_name (F.outside.state folder.old))) }
     ensures cause { HasCause (F.outside.faults folder.old) (F.outside.faults folder.new) (IsErr result) }
     ensures later { F.outside.changes folder.old ≤ F.outside.changes folder.new }
     ensures same_kind { F.outside.tells folder.new ≡ F.outside.tells folder.old }
@@ -235,6 +236,7 @@ fn make_records<F: Folder>(folder: &mut F, records: &RelPath) -> Result<(), Fail
         (F.outside.state folder.new ≡ untouched (placed records_name (Some (Dir 493 false)) (F.outside.state folder.old).held)) }
     ensures shut { IsTrue (F.outside.tells folder.old) → OnOk result (StaysShut F.outside folder.old folder.new) }
     ensures kept { IsTrue (F.outside.tells folder.old) → Keeps F.outside (covers records_name) nowhere folder.old folder.new }
+    ensures in_part { IsTrue (F.outside.tells folder.old) → OnErr result (Throughout F.outside folder.old folder.new (MayChange (covers records_name) nowhere (F.outside.state folder.old))) }
     ensures cause { HasCause (F.outside.faults folder.old) (F.outside.faults folder.new) (IsErr result) }
     ensures later { F.outside.changes folder.old ≤ F.outside.changes folder.new }
     ensures same_kind { F.outside.tells folder.new ≡ F.outside.tells folder.old }

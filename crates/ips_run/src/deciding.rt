@@ -6,7 +6,7 @@ ghost use Rattle.ips_outside.specs.Image.{is_dir};
 ghost use Rattle.ips_steps.specs.Private.{records_name, gate_name};
 ghost use Rattle.ips_history.specs.Directories.{shows, creates};
 ghost use Rattle.ips_run.specs.declared.operation.Decision.TheVariants as decision;
-ghost use Rattle.ips_run.specs.Planned.{IsListed, IsPlanned};
+ghost use Rattle.ips_run.specs.Planned.{CanBeListed, IsPlanned};
 ghost use Rattle.ips_run.specs.Ending.{EndsAs, IsEarly, is_folder_fault, is_source_fault};
 ghost use Rattle.ips_run.specs.Comes.{IsUnready};
 
@@ -29,7 +29,7 @@ pub(crate) fn decided<T: Drop, S: Source, F: Folder, C: Operation<T>>(
     ensures decided { IsTrue (F.outside.tells folder.old)
         → IfOk result (λ c. C.decides operation.now (S.outside.tells source.old) (S.outside.state source.old).held (F.outside.state folder.old).held (decision.Change c)) }
     ensures changes { IfOk result (λ _. IsFalse (shows (C.effect operation.now))) }
-    ensures listed { IfOk result IsListed }
+    ensures listed { IfOk result CanBeListed }
     ensures planned { IsTrue (F.outside.tells folder.old)
         → IfOk result (IsPlanned (C.means operation.now) (S.outside.tells source.old) (S.outside.state source.old).held (F.outside.state folder.old).held) }
     ensures early { IfErr result IsEarly }

@@ -8,7 +8,7 @@ ghost use Rattle.ips_steps.specs.Private.{records_name, gate_name};
 ghost use Rattle.ips_history.specs.Directories.{shows, creates};
 ghost use Rattle.ips_history.specs.declared.effect.Effect.{Effect};
 ghost use Rattle.ips_run.specs.declared.operation.Decision.{Decision};
-ghost use Rattle.ips_run.specs.Planned.{IfChange, IsListed, IsPlanned, IsOfEffect};
+ghost use Rattle.ips_run.specs.Planned.{IfChange, CanBeListed, IsPlanned, IsOfEffect};
 ghost use Rattle.ips_run.specs.declared.operation.DecideFault.TheVariants as fault;
 
 use ips_actuate::Words;
@@ -86,7 +86,7 @@ pub trait Operation<T> {
         ensures decided { IsTrue (F.outside.tells folder.old)
             → IfOk result (decides self.now (S.outside.tells source.old) (S.outside.state source.old).held (F.outside.state folder.old).held) }
         ensures of_effect { IfOk result (IsOfEffect (effect self.now)) }
-        ensures lists { IfOk result (IfChange IsListed) }
+        ensures lists { IfOk result (IfChange CanBeListed) }
         ensures planned { IsTrue (F.outside.tells folder.old)
             → IfOk result (IfChange (IsPlanned (means self.now) (S.outside.tells source.old) (S.outside.state source.old).held (F.outside.state folder.old).held)) }
         ensures source_unasked { IsTrue (shows (effect self.now)) → result ≢ Err (Bad fault.SourceFault) }

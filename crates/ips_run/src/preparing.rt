@@ -12,7 +12,7 @@ ghost use Rattle.ips_journal.specs.Text.{journal_text};
 ghost use Rattle.ips_commit.specs.Contents.{AreIntact};
 ghost use Rattle.ips_commit.specs.Staging.{CanStage, HasStaged};
 ghost use Rattle.ips_history.specs.Directories.{shows, creates};
-ghost use Rattle.ips_run.specs.Planned.{IsListed};
+ghost use Rattle.ips_run.specs.Planned.{CanBeListed};
 ghost use Rattle.ips_run.specs.Ending.{EndsAs, IsEarly, is_folder_fault, is_source_fault};
 ghost use Rattle.ips_run.specs.Comes.{IsUnready};
 ghost use Rattle.ips_run.specs.Phases.{IsReadied, IsUnstaged};
@@ -92,7 +92,7 @@ fn ready_for<T: Drop, S: Source, F: Folder>(
     source: &mut S,
     folder: &mut F,
 ) -> Result<Ready, Ending<T>>
-    requires listed { IsListed change.now }
+    requires listed { CanBeListed change.now }
     requires can { IsTrue (F.outside.tells folder.old) → CanStage (map step_of change.now.steps.items) change.now.staged.items (F.outside.state folder.old).held }
     ensures owed { IsTrue (F.outside.tells folder.old) → IsSettled (F.outside.state folder.old) → (a : Option Image)
         → Throughout F.outside folder.old folder.new (FolderOwes journal_text (visible (F.outside.state folder.old).held) a false) }

@@ -1,11 +1,10 @@
 -- The change that the operation of the tests decides on can be listed, staged and laid.
-use Rattle.std.proofs.Common.{◌≡◌, ℕ, zero, suc, ◌<◌, Bool, true, List, [], ◌∷◌, length, map, slice_get, Some, None, Result, IfOk, IsTrue, codes, is_some, refl, sym, ◌∙◌, ap, subst, arith}
+use Rattle.std.proofs.Common.{◌≡◌, ℕ, zero, suc, Bool, true, List, [], ◌∷◌, slice_get, Some, None, Result, IfOk, IsTrue, codes, is_some, refl, sym, ◌∙◌, ap, subst, arith}
 use Rattle.ips_text.specs.Path.{IsPath}
 use Rattle.ips_outside.specs.Image.{Image, is_dir}
 use Rattle.ips_steps.specs.Steps.{Step, Stage, possible, stage_name}
 use Rattle.ips_steps.specs.Private.{records_name, journal_name, gate_name, mark_front}
 use Rattle.ips_steps.specs.Journal.{IsJournal}
-use Rattle.ips_steps.specs.View.{step_of}
 use Rattle.ips_repo.proofs.Joined.{joined_path}
 use Rattle.ips_journal.specs.declared.staged.Staged.{Staged}
 use Rattle.ips_journal.specs.declared.staged.Staged.TheVariants.{Payload}
@@ -18,7 +17,7 @@ use Rattle.ips_history.specs.Directories.{shows}
 use Rattle.ips_history.specs.declared.effect.Effect.{Effect}
 use Rattle.ips_run.specs.declared.operation.Decision.{Decision}
 use Rattle.ips_run.specs.declared.operation.Decision.TheVariants as decision
-use Rattle.ips_run.specs.Planned.{IfChange, IsOfEffect, IsListed, IsPlanned}
+use Rattle.ips_run.specs.Planned.{IfChange, IsOfEffect, CanBeListed, IsPlanned}
 use Rattle.ips_run_tests.specs.Toy.{toy_steps, IsToyChange}
 
 toy_paths : IsPath (codes "a") × IsPath (codes "b")
@@ -31,7 +30,7 @@ toy_journal : IsJournal toy_steps
 unfolding records_name stage_name journal_name gate_name mark_front
 toy_journal = record { count = omega arith; proper = ((toy_paths.0, omega arith), ((toy_paths.1, omega arith), tt)); names = refl; numbers = refl }
 
-pub toy_listed : {T : Type 0} (c : Change T) → IsToyChange c → IsListed c
+pub toy_listed : {T : Type 0} (c : Change T) → IsToyChange c → CanBeListed c
 toy_listed c is = record { lists = subst IsJournal (sym is.steps) toy_journal; seen = is.seen }
 
 toy_possible : (contents : Stage) (t : Image) → is_some (contents 0) ≡ true → possible contents toy_steps t ≡ true
@@ -71,8 +70,8 @@ no_change P e shown (decision.Shown told) here = tt
 no_change P e shown (decision.Refused told) here = tt
 
 module _ {T E : Type 0} (r : Result (Decision T) E) where
-  pub all_listed : IfOk r (IfChange IsToyChange) → IfOk r (IfChange IsListed)
-  all_listed are = IfOk-weaker r (IfChange IsToyChange) (IfChange IsListed) (change_as IsToyChange IsListed toy_listed) are
+  pub all_listed : IfOk r (IfChange IsToyChange) → IfOk r (IfChange CanBeListed)
+  all_listed are = IfOk-weaker r (IfChange IsToyChange) (IfChange CanBeListed) (change_as IsToyChange CanBeListed toy_listed) are
 
   pub all_planned : (tells : Bool) (repository t : Image) → is_dir (t.look records_name) ≡ true → t.look gate_name ≡ None → IfOk r (IfChange IsToyChange)
       → IfOk r (IfChange (IsPlanned (λ tells repository t u. Unit {0}) tells repository t))

@@ -67,13 +67,13 @@ changes change plain abc 0 2 0 0 -> unchanged old
 shows nothing plain abc 0 1 0 0 -> unchanged old
 ";
 
-// The first word and what is behind it.
-fn front(text: &str) -> (&str, &str) {
+/// The first word and what is behind it.
+pub fn front(text: &str) -> (&str, &str) {
     text.split_once(' ').unwrap_or((text, ""))
 }
 
-// The operation of a row.
-fn toy(effect: &str, does: &str) -> Toy {
+/// The operation of a row.
+pub fn toy(effect: &str, does: &str) -> Toy {
     Toy {
         effect: match effect {
             "shows" => Effect::Shows,
@@ -91,8 +91,8 @@ fn toy(effect: &str, does: &str) -> Toy {
     }
 }
 
-// The image of a row.
-fn image(rt: &impl Abort, alloc: Global, name: &str) -> Tree {
+/// The image of a row.
+pub fn image(rt: &impl Abort, alloc: Global, name: &str) -> Tree {
     let mut tree = match name {
         "empty" | "half" | "var-file" | "pkg-file" => Tree::new(alloc),
         _ => plain(rt, alloc),
@@ -137,7 +137,7 @@ fn statuses(rt: &impl Abort, alloc: Global, digits: &str) -> Vec<u8> {
     statuses
 }
 
-// What is left of an image: the file and the directory, the directories of the records, and the updater's own names.
+/// What is left of an image: the file and the directory, the directories of the records, and the updater's own names.
 pub fn left(rt: &impl Abort, alloc: Global, tree: &Tree) -> String {
     let files = files_left(rt, alloc, tree);
     let directories = directories_left(rt, alloc, tree);
@@ -147,8 +147,11 @@ pub fn left(rt: &impl Abort, alloc: Global, tree: &Tree) -> String {
 
 // The file `a` and the directory `b`.
 fn files_left(rt: &impl Abort, alloc: Global, tree: &Tree) -> &'static str {
+    let file = spelled(rt, alloc, "a");
     let is_made = tree.look(&spelled(rt, alloc, "b")) == Look::Dir { mode: 0o755 };
-    match tree.bytes(&spelled(rt, alloc, "a")) {
+    let is_plain = matches!(tree.look(&file), Look::File { mode: 0o644, .. });
+    match tree.bytes(&file) {
+        _ if !is_plain => "neither",
         Some(b"abc") if is_made => "new",
         Some(b"old") if is_made => "made",
         Some(b"old") => "old",
@@ -170,11 +173,13 @@ fn directories_left(rt: &impl Abort, alloc: Global, tree: &Tree) -> &'static str
     }
 }
 
-// The gate, the stage and the journal.
+// The gate, and what else stands in the folder of the records.
 fn own_left(rt: &impl Abort, alloc: Global, tree: &Tree) -> &'static str {
     let is_closed = tree.look(&spelled(rt, alloc, "var/pkg/gate")) == Look::Absent;
-    let is_cleared = tree.look(&spelled(rt, alloc, "var/pkg/stage")) == Look::Absent
-        && tree.look(&spelled(rt, alloc, "var/pkg/journal")) == Look::Absent;
+    let is_cleared = tree
+        .children(alloc, &spelled(rt, alloc, "var/pkg"))
+        .expect(rt, "memory")
+        .is_empty();
     match (is_closed, is_cleared) {
         (false, _) => ",open",
         (true, false) => ",left",

@@ -1,4 +1,4 @@
-use Rattle.std.proofs.Common.{◌≡◌, sym, ◌∙◌, ap, subst, refl}
+use Rattle.std.proofs.Common.{◌≡◌, sym, ◌∙◌, ap, subst}
 use Rattle.ips_outside.specs.State.{State, settled}
 use Rattle.ips_steps.specs.Private.{gate_name}
 use Rattle.ips_run.specs.Creating.{IsMissing}
@@ -30,5 +30,5 @@ returns-in-Ok-make_missing-clause-made g c = λ told.
 pub returns-in-Err-make_missing-clause-unmade : goal.returns-in-Err-make_missing-clause-unmade
 returns-in-Err-make_missing-clause-unmade g c = λ told.
     let told_at = c.find_missing.ensures.reads.call.same_kind ∙ told in
-    failed_of g.F.Source.outside g.met.F.Source.sane c.args.folder.now told c.find_missing.new.folder c.make_missing.new.folder c.find_missing.ensures.reads.call.time c.find_missing.ensures.reads.kept c.in-Ok.missing (c.in-Err-make_missing.ensures.some refl)
-    (c.in-Ok.ensures.found told) (c.in-Err-make_missing.ensures.kept told_at)
+    failed_of g.F.Source.outside g.met.F.Source.sane c.args.folder.now told c.find_missing.new.folder c.make_missing.new.folder c.find_missing.ensures.reads.call.time c.find_missing.ensures.reads.kept c.in-Ok.missing
+    (c.in-Ok.ensures.found told) (c.make_missing.ensures.kept told_at) (c.in-Err-make_missing.ensures.in_part told_at)

@@ -1,8 +1,9 @@
-use Rattle.std.proofs.Common.{◌≡◌, sym, ◌∙◌, subst, refl}
+use Rattle.std.proofs.Common.{sym, subst, refl}
 use Rattle.ips_run.specs.declared.creating.Missing.{Missing}
 use Rattle.ips_run.specs.declared.creating.Missing.TheVariants as missing
-use Rattle.ips_run.specs.Creating.{IsMissing, HasMade}
-use Rattle.ips_run.proofs.Directories.{can_make_records, shut_now}
+use Rattle.ips_steps.specs.Private.{records_name}
+use Rattle.ips_run.specs.Creating.{IsMissing, HasMade, HasMadeInPart}
+use Rattle.ips_run.proofs.Directories.{can_make_records, shut_now, on_failure, unsafe_since}
 use Rattle.ips_run.proofs.Created.{made_nothing, made_records_alone, made_both}
 use Rattle.ips_run.proofs.creating.make_missing.Goals as goal
 
@@ -37,8 +38,10 @@ returns-in-Both-clause-made g c = λ told.
 pub returns-in-Both-clause-kept : goal.returns-in-Both-clause-kept
 returns-in-Both-clause-kept g c = λ told. subst (λ (m : Missing). HasMade g.F.Source.outside m c.args.folder.now c.make_both.new.folder) (sym c.in-Both.is) (c.make_both.ensures.kept told)
 
-pub returns-in-Records-clause-some : goal.returns-in-Records-clause-some
-returns-in-Records-clause-some g c = λ failed none. let bad : missing.Records ≡ missing.Nothing = sym c.in-Records.is ∙ none in cc
+pub returns-in-Records-clause-in_part : goal.returns-in-Records-clause-in_part
+returns-in-Records-clause-in_part g c = λ told. on_failure c.make_records.result (c.make_records.ensures.in_part told) (λ run.
+    subst (λ (m : Missing). HasMadeInPart g.F.Source.outside m c.args.folder.now c.make_records.new.folder) (sym c.in-Records.is) (unsafe_since g.F.Source.outside g.met.F.Source.sane records_name c.args.folder.now c.make_records.new.folder run))
 
-pub returns-in-Both-clause-some : goal.returns-in-Both-clause-some
-returns-in-Both-clause-some g c = λ failed none. let bad : missing.Both ≡ missing.Nothing = sym c.in-Both.is ∙ none in cc
+pub returns-in-Both-clause-in_part : goal.returns-in-Both-clause-in_part
+returns-in-Both-clause-in_part g c = λ told. on_failure c.make_both.result (c.make_both.ensures.in_part told) (λ run.
+    subst (λ (m : Missing). HasMadeInPart g.F.Source.outside m c.args.folder.now c.make_both.new.folder) (sym c.in-Both.is) run)

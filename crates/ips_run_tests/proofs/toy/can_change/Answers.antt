@@ -1,4 +1,4 @@
-use Rattle.std.proofs.Common.{◌≡◌, IsTrue, List, ℕ, subst}
+use Rattle.std.proofs.Common.{IsTrue, List, ℕ, subst}
 use Rattle.ips_outside.specs.Image.{is_dir}
 use Rattle.ips_steps.specs.Private.{records_name}
 use Rattle.ips_run_tests.proofs.toy.can_change.Goals as goal
