@@ -21,9 +21,9 @@ use Rattle.ips_state.specs.State.{Ascend, Installed, Recorded}
 use Rattle.ips_state.specs.Form.{IsPackage}
 use Rattle.ips_state.specs.Lawful.{IsLawful}
 use Rattle.ips_state.specs.Text.{package_head, package_text}
-use Rattle.ips_state.specs.Records.{AreRecords, Entry, common_records, index_path, index_records, manifest_path, package_path, package_records, packages_path, records_by, records_of}
+use Rattle.ips_state.specs.Records.{AreRecords, common_records, index_path, index_records, manifest_path, package_path, package_records, packages_path, records_by, records_of}
 use Rattle.ips_load.specs.Held.{Holds, HoldsIndex, HoldsPackages, StandsManifest}
-use Rattle.ips_entries.specs.Standing.{recounted, recounted_package}
+use Rattle.ips_entries.specs.Standing.{Written, recounted, recounted_package}
 use Rattle.ips_entries.proofs.OneState.{EachAt, IndexAt, Manifested, PackagesAt, Tells, above_all, among, head_among, heads_same, not_less_itself, stems_in, tail_among, told_one}
 use Rattle.ips_entries.proofs.PathsDiffer.{place_one}
 use Rattle.ips_entries.proofs.ReadBack.{Again, HasEntry, common_without, each_entry, entry_here, entry_later, found_right, index_without, is_entry, lawful_recounted, no_index, spread}
@@ -111,10 +111,10 @@ held_once t r s hr hs = told_one (FileIs t) (file_one t) r s (held_told t r hr) 
 
 -- ---- lists of records
 
-abbrev paths_of : List Entry → List (List ℕ)
-paths_of entries = map (λ (e : Entry). e.0) entries
+abbrev paths_of : List Written → List (List ℕ)
+paths_of entries = map (λ (e : Written). e.0) entries
 
-path_among : (entries : List Entry) (path bytes : List ℕ) → HasEntry entries path bytes → among (paths_of entries) path ≡ true
+path_among : (entries : List Written) (path bytes : List ℕ) → HasEntry entries path bytes → among (paths_of entries) path ≡ true
 path_among [] path bytes is = is
 path_among (e ∷ entries) path bytes is = elim (or_cases (is_entry path bytes e) (list_any (is_entry path bytes) entries) is) [
   | inl here ↦ ap (λ (b : Bool). b || among (paths_of entries) path) (and_parts (same_path e.0 path) (same_path e.1 bytes) here).0
@@ -122,13 +122,13 @@ path_among (e ∷ entries) path bytes is = elim (or_cases (is_entry path bytes e
 ]
 
 -- what a record at the head has as its bytes
-head_bytes : (e : Entry) (entries : List Entry) (bytes : List ℕ) → Ascend (paths_of (e ∷ entries)) → HasEntry (e ∷ entries) e.0 bytes → e.1 ≡ bytes
+head_bytes : (e : Written) (entries : List Written) (bytes : List ℕ) → Ascend (paths_of (e ∷ entries)) → HasEntry (e ∷ entries) e.0 bytes → e.1 ≡ bytes
 head_bytes e entries bytes up is = elim (or_cases (is_entry e.0 bytes e) (list_any (is_entry e.0 bytes) entries) is) [
   | inl here ↦ same_path-true e.1 bytes (and_parts (same_path e.0 e.0) (same_path e.1 bytes) here).1
   | inr later ↦ absurd (not_less_itself e.0 e.0 refl (above_all e.0 e.0 (paths_of entries) (sorted_head _ e.0 (paths_of entries) up) (path_among entries e.0 bytes later)))
 ]
 
-entries_one : (entries : List Entry) → Ascend (paths_of entries) → (path a b : List ℕ) → HasEntry entries path a → HasEntry entries path b → a ≡ b
+entries_one : (entries : List Written) → Ascend (paths_of entries) → (path a b : List ℕ) → HasEntry entries path a → HasEntry entries path b → a ≡ b
 entries_one [] up path a b ha hb = absurd (true≢false (sym ha))
 entries_one (e ∷ entries) up path a b ha hb = elim (or_cases (is_entry path a e) (list_any (is_entry path a) entries) ha) [
   | inl here ↦
@@ -145,7 +145,7 @@ entries_one (e ∷ entries) up path a b ha hb = elim (or_cases (is_entry path a 
 ]
 
 -- a record behind the head of one list is behind that of the other
-entry_behind : (e f : Entry) (es fs : List Entry) (path bytes : List ℕ) → e.0 ≡ f.0 → Ascend (paths_of (e ∷ es)) → HasEntry es path bytes → HasEntry (f ∷ fs) path bytes → HasEntry fs path bytes
+entry_behind : (e f : Written) (es fs : List Written) (path bytes : List ℕ) → e.0 ≡ f.0 → Ascend (paths_of (e ∷ es)) → HasEntry es path bytes → HasEntry (f ∷ fs) path bytes → HasEntry fs path bytes
 entry_behind e f es fs path bytes same up is other = elim (or_cases (is_entry path bytes f) (list_any (is_entry path bytes) fs) other) [
   | inl here ↦
       let at = same_path-true f.0 path (and_parts (same_path f.0 path) (same_path f.1 bytes) here).0 in
@@ -153,7 +153,7 @@ entry_behind e f es fs path bytes same up is other = elim (or_cases (is_entry pa
   | inr later ↦ later
 ]
 
-same_entries : (es fs : List Entry) → Ascend (paths_of es) → Ascend (paths_of fs) → ((path bytes : List ℕ) → HasEntry es path bytes → HasEntry fs path bytes) → ((path bytes : List ℕ) → HasEntry fs path bytes → HasEntry es path bytes) → es ≡ fs
+same_entries : (es fs : List Written) → Ascend (paths_of es) → Ascend (paths_of fs) → ((path bytes : List ℕ) → HasEntry es path bytes → HasEntry fs path bytes) → ((path bytes : List ℕ) → HasEntry fs path bytes → HasEntry es path bytes) → es ≡ fs
 same_entries [] [] up_e up_f to back = refl
 same_entries [] (f ∷ fs) up_e up_f to back = absurd (true≢false (sym (back f.0 f.1 (entry_here f fs))))
 same_entries (e ∷ es) [] up_e up_f to back = absurd (true≢false (sym (to e.0 e.1 (entry_here e es))))
@@ -167,7 +167,7 @@ same_entries (e ∷ es) (f ∷ fs) up_e up_f to back =
     (λ p b is. entry_behind f e fs es p b (sym path) up_f is (back p b (entry_later f fs p b is))) in
     λ j. (path j, bytes j) ∷ rest j
 
-pub one_list : (r : Recorded) (a b : List Entry) → AreRecords r a → AreRecords r b → a ≡ b
+pub one_list : (r : Recorded) (a b : List Written) → AreRecords r a → AreRecords r b → a ≡ b
 one_list r a b ha hb =
     same_entries a b ha.order hb.order
     (λ path bytes is. sym (list_any-IsPermutation (is_entry path bytes) (records_of r) b hb.due) ∙ list_any-IsPermutation (is_entry path bytes) (records_of r) a ha.due ∙ is)
@@ -175,7 +175,7 @@ one_list r a b ha hb =
 
 -- ---- the state of a list of records
 
-module _ (r : Recorded) (entries : List Entry) (due : IsPermutation (records_of r) entries) where
+module _ (r : Recorded) (entries : List Written) (due : IsPermutation (records_of r) entries) where
   written : (path bytes : List ℕ) → HasEntry (records_of r) path bytes → HasEntry entries path bytes
   written path bytes is = sym (list_any-IsPermutation (is_entry path bytes) (records_of r) entries due) ∙ is
 
@@ -202,11 +202,11 @@ module _ (r : Recorded) (entries : List Entry) (due : IsPermutation (records_of 
         stem_written r.installed stem bytes all h (ap (λ (b : Bool). list_any f (records_by b r.installed)) (sym is) ∙ found),
   )
 
-  index_written : (o : Option (List Row)) → r.index ≡ o → AllByRecursion (λ (e : Entry). HasEntry entries e.0 e.1) (index_records o) → IndexAt (HasEntry entries) o
+  index_written : (o : Option (List Row)) → r.index ≡ o → AllByRecursion (λ (e : Written). HasEntry entries e.0 e.1) (index_records o) → IndexAt (HasEntry entries) o
   index_written None is all = λ bytes at. false≢true (sym (no_index r (is_entry index_path bytes) (λ path b off. ap (λ (x : Bool). x && same_path b bytes) off) is) ∙ unwritten index_path bytes at)
   index_written (Some rows) is all = all.0
 
-written_told : Again → (r : Recorded) (entries : List Entry) → IsLawful r → AreRecords r entries → Tells (HasEntry entries) (recounted r)
+written_told : Again → (r : Recorded) (entries : List Written) → IsLawful r → AreRecords r entries → Tells (HasEntry entries) (recounted r)
 written_told again r entries lawful records =
     let parts = spread (HasEntry entries) again r lawful.installed (each_entry (HasEntry entries) (records_of r) (written r entries records.due)) in
     record {
@@ -220,5 +220,5 @@ written_told again r entries lawful records =
       index = index_written r entries records.due r.index refl parts.index;
     }
 
-pub one_written : Again → (r s : Recorded) (entries : List Entry) → IsLawful r → IsLawful s → AreRecords r entries → AreRecords s entries → recounted r ≡ recounted s
+pub one_written : Again → (r s : Recorded) (entries : List Written) → IsLawful r → IsLawful s → AreRecords r entries → AreRecords s entries → recounted r ≡ recounted s
 one_written again r s entries hr hs ar as_ = told_one (HasEntry entries) (entries_one entries ar.order) (recounted r) (recounted s) (written_told again r entries hr ar) (written_told again s entries hs as_)

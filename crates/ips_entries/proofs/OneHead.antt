@@ -9,7 +9,7 @@ use Rattle.std.proofs.lemmas.List.Concat.{flat_map-cons}
 use Rattle.ips_text.specs.Cut.{has_byte}
 use Rattle.ips_text.specs.Quote.{quoted}
 use Rattle.ips_text.proofs.Cuts.{lacks_append}
-use Rattle.ips_records.specs.Form.{IsWord, IsRequestLine, words_text}
+use Rattle.ips_records.specs.Form.{IsWord, IsRequestLine}
 use Rattle.ips_records.specs.Lines.{lines_text}
 use Rattle.ips_records.proofs.Apart.{texts_apart}
 use Rattle.ips_records.proofs.Clear.{clear_lacks, stamp_clear, word_clear}
@@ -155,13 +155,17 @@ head_one a b ha hb e =
 
 -- ---- requests
 
-words_single : (ws : List (List ℕ)) → AllByRecursion IsWord ws → has_byte 10 (words_text ws) ≡ false
+-- words, each behind a blank
+abbrev behind_blanks : List (List ℕ) → List ℕ
+behind_blanks ws = flat_map (λ (word : List ℕ). 32 ∷ quoted word) ws
+
+words_single : (ws : List (List ℕ)) → AllByRecursion IsWord ws → has_byte 10 (behind_blanks ws) ≡ false
 words_single [] all = refl
 words_single (w ∷ ws) all =
-    ap (has_byte 10) (flat_map-cons (λ (word : List ℕ). 32 ∷ quoted word) w ws) ∙ lacks_append 10 (32 ∷ quoted w) (words_text ws) (word_single w all.0) (words_single ws all.1)
+    ap (has_byte 10) (flat_map-cons (λ (word : List ℕ). 32 ∷ quoted word) w ws) ∙ lacks_append 10 (32 ∷ quoted w) (behind_blanks ws) (word_single w all.0) (words_single ws all.1)
 
 request_single : (s : List ℕ) → IsRequestLine s → has_byte 10 s ≡ false
-request_single s h = ap (has_byte 10) h.written ∙ lacks_append 10 (stamp_text h.moment) (words_text h.words) (clear_lacks 10 (stamp_text h.moment) (omega arith) (stamp_clear h.moment)) (words_single h.words h.each)
+request_single s h = ap (has_byte 10) h.written ∙ lacks_append 10 (stamp_text h.moment) (behind_blanks h.words) (clear_lacks 10 (stamp_text h.moment) (omega arith) (stamp_clear h.moment)) (words_single h.words h.each)
 
 pub history_one : (a b : List (List ℕ)) → AllByRecursion IsRequestLine a → AllByRecursion IsRequestLine b → lines_text a ≡ lines_text b → a ≡ b
 history_one a b ha hb e = texts_apart (λ (s : List ℕ). s) IsRequestLine (λ x y hx hy same. same) request_single a b ha hb (ap lines_text (same_list a) ∙ e ∙ sym (ap lines_text (same_list b)))

@@ -18,9 +18,9 @@ use Rattle.ips_state.specs.State.{Ascend, Installed, Recorded, head_of}
 use Rattle.ips_state.specs.Form.{IsPackage}
 use Rattle.ips_state.specs.Lawful.{ArePackages, IsLawful}
 use Rattle.ips_state.specs.Text.{head_lines, mediator_line, name_lines, package_head, package_text, versioned_stem}
-use Rattle.ips_state.specs.Records.{AreRecords, Entry, avoid_path, common_records, freeze_path, history_path, image_path, index_path, index_records, installed_path, manifest_path, mediators_path, package_path, package_records, packages_path, records_by, records_of}
+use Rattle.ips_state.specs.Records.{AreRecords, avoid_path, common_records, freeze_path, history_path, image_path, index_path, index_records, installed_path, manifest_path, mediators_path, package_path, package_records, packages_path, records_by, records_of}
 use Rattle.ips_load.specs.Held.{Holds, HoldsIndex, HoldsPackages, Stands, StandsManifest}
-use Rattle.ips_entries.specs.Standing.{HasNoOther, JustStand, has_path, recounted, recounted_package}
+use Rattle.ips_entries.specs.Standing.{Written, HasNoOther, JustStand, has_path, recounted, recounted_package}
 use Rattle.ips_entries.proofs.OneState.{EachAt, Manifested, stems_in}
 
 -- the canonical text of a manifest that some text means reads as that manifest
@@ -30,24 +30,24 @@ Again = (bytes : List ℕ) (lines : List Line) → IsManifestOf bytes lines → 
 -- ---- lists of records
 
 -- the record is this one
-abbrev pub is_entry : List ℕ → List ℕ → Entry → Bool
+abbrev pub is_entry : List ℕ → List ℕ → Written → Bool
 is_entry path bytes e = same_path e.0 path && same_path e.1 bytes
 
 -- the record is in the list
-abbrev pub HasEntry : List Entry → List ℕ → List ℕ → Type 0
+abbrev pub HasEntry : List Written → List ℕ → List ℕ → Type 0
 HasEntry entries path bytes = list_any (is_entry path bytes) entries ≡ true
 
-pub entry_here : (e : Entry) (entries : List Entry) → HasEntry (e ∷ entries) e.0 e.1
+pub entry_here : (e : Written) (entries : List Written) → HasEntry (e ∷ entries) e.0 e.1
 entry_here e entries = ap (λ (b : Bool). b || list_any (is_entry e.0 e.1) entries) (both_true (same_path e.0 e.0) (same_path e.1 e.1) (same_path-self e.0) (same_path-self e.1))
 
-pub entry_later : (e : Entry) (entries : List Entry) (path bytes : List ℕ) → HasEntry entries path bytes → HasEntry (e ∷ entries) path bytes
+pub entry_later : (e : Written) (entries : List Written) (path bytes : List ℕ) → HasEntry entries path bytes → HasEntry (e ∷ entries) path bytes
 entry_later e entries path bytes is = ap (λ (b : Bool). is_entry path bytes e || b) is ∙ or_true (is_entry path bytes e)
 
-pub each_entry : (At : List ℕ → List ℕ → Type 0) (entries : List Entry) → ((path bytes : List ℕ) → HasEntry entries path bytes → At path bytes) → AllByRecursion (λ (e : Entry). At e.0 e.1) entries
+pub each_entry : (At : List ℕ → List ℕ → Type 0) (entries : List Written) → ((path bytes : List ℕ) → HasEntry entries path bytes → At path bytes) → AllByRecursion (λ (e : Written). At e.0 e.1) entries
 each_entry At [] to = tt
 each_entry At (e ∷ entries) to = (to e.0 e.1 (entry_here e entries), each_entry At entries (λ path bytes is. to path bytes (entry_later e entries path bytes is)))
 
-pub entry_told : (At : List ℕ → List ℕ → Type 0) (entries : List Entry) (path bytes : List ℕ) → AllByRecursion (λ (e : Entry). At e.0 e.1) entries → HasEntry entries path bytes → At path bytes
+pub entry_told : (At : List ℕ → List ℕ → Type 0) (entries : List Written) (path bytes : List ℕ) → AllByRecursion (λ (e : Written). At e.0 e.1) entries → HasEntry entries path bytes → At path bytes
 entry_told At [] path bytes all is = absurd (true≢false (sym is))
 entry_told At (e ∷ entries) path bytes all is = elim (or_cases (is_entry path bytes e) (list_any (is_entry path bytes) entries) is) [
   | inl here ↦
@@ -57,7 +57,7 @@ entry_told At (e ∷ entries) path bytes all is = elim (or_cases (is_entry path 
 ]
 
 -- what holds of all records of a list holds of those in another order
-all_entries : (At : List ℕ → List ℕ → Type 0) (old new : List Entry) → IsPermutation old new → AllByRecursion (λ (e : Entry). At e.0 e.1) new → AllByRecursion (λ (e : Entry). At e.0 e.1) old
+all_entries : (At : List ℕ → List ℕ → Type 0) (old new : List Written) → IsPermutation old new → AllByRecursion (λ (e : Written). At e.0 e.1) new → AllByRecursion (λ (e : Written). At e.0 e.1) old
 all_entries At old new moved all = each_entry At old (λ path bytes is. entry_told At new path bytes all (sym (list_any-IsPermutation (is_entry path bytes) old new moved) ∙ is))
 
 head_all : {A : Type 0} (P : A → Type 0) (x : A) (xs : List A) → AllByRecursion P (x ∷ xs) → P x
@@ -85,7 +85,7 @@ found_right f xs ys none is = ap (λ (b : Bool). b || list_any f ys) (sym (none_
 -- ---- the records of a state, one by one
 
 module _ (At : List ℕ → List ℕ → Type 0) where
-  abbrev at_entry : Entry → Type 0
+  abbrev at_entry : Written → Type 0
   at_entry e = At e.0 e.1
 
   listed_each : Again → (ps : List Installed) → AllByRecursion IsPackage ps → AllByRecursion at_entry (map (λ p. (manifest_path p.stem, manifest_text p.lines)) ps)
@@ -123,11 +123,11 @@ module _ (At : List ℕ → List ℕ → Type 0) where
 
   pub spread : Again → (r : Recorded) → ArePackages r.installed → AllByRecursion at_entry (records_of r) → Spread r
   spread again r lawful all =
-      let head : Entry = (image_path, lines_text (head_lines (head_of r))) in
-      let avoid : Entry = (avoid_path, lines_text r.avoid) in
-      let freeze : Entry = (freeze_path, lines_text (name_lines r.freeze)) in
-      let mediators : Entry = (mediators_path, lines_text (map mediator_line r.mediators)) in
-      let history : Entry = (history_path, lines_text r.history) in
+      let head : Written = (image_path, lines_text (head_lines (head_of r))) in
+      let avoid : Written = (avoid_path, lines_text r.avoid) in
+      let freeze : Written = (freeze_path, lines_text (name_lines r.freeze)) in
+      let mediators : Written = (mediators_path, lines_text (map mediator_line r.mediators)) in
+      let history : Written = (history_path, lines_text r.history) in
       let index = index_records r.index in
       let common = left_all at_entry (common_records r) (records_by (r.format == 1) r.installed) all in
       let one = tail_all at_entry head (avoid ∷ freeze ∷ mediators ∷ history ∷ index) common in
@@ -171,33 +171,33 @@ lawful_recounted again r h = record {
 -- ---- records of which none is at a path
 
 -- no record of the state has a path that none of these has
-pub common_without : (f : Entry → Bool) (r : Recorded) → ((b : List ℕ) → f (image_path, b) ≡ false) → ((b : List ℕ) → f (avoid_path, b) ≡ false) → ((b : List ℕ) → f (freeze_path, b) ≡ false)
-    → ((b : List ℕ) → f (mediators_path, b) ≡ false) → ((b : List ℕ) → f (history_path, b) ≡ false) → AllByRecursion (λ (e : Entry). f e ≡ false) (index_records r.index) → AllByRecursion (λ (e : Entry). f e ≡ false) (common_records r)
+pub common_without : (f : Written → Bool) (r : Recorded) → ((b : List ℕ) → f (image_path, b) ≡ false) → ((b : List ℕ) → f (avoid_path, b) ≡ false) → ((b : List ℕ) → f (freeze_path, b) ≡ false)
+    → ((b : List ℕ) → f (mediators_path, b) ≡ false) → ((b : List ℕ) → f (history_path, b) ≡ false) → AllByRecursion (λ (e : Written). f e ≡ false) (index_records r.index) → AllByRecursion (λ (e : Written). f e ≡ false) (common_records r)
 common_without f r head avoid freeze mediators history index =
     (head (lines_text (head_lines (head_of r))), (avoid (lines_text r.avoid), (freeze (lines_text (name_lines r.freeze)), (mediators (lines_text (map mediator_line r.mediators)), (history (lines_text r.history), index)))))
 
-pub index_without : (f : Entry → Bool) (index : Option (List Row)) → ((b : List ℕ) → f (index_path, b) ≡ false) → AllByRecursion (λ (e : Entry). f e ≡ false) (index_records index)
+pub index_without : (f : Written → Bool) (index : Option (List Row)) → ((b : List ℕ) → f (index_path, b) ≡ false) → AllByRecursion (λ (e : Written). f e ≡ false) (index_records index)
 index_without f None none = tt
 index_without f (Some rows) none = (none (index_text rows), tt)
 
-packages_without : (f : Entry → Bool) (first : Bool) (ps : List Installed) → ((b : List ℕ) → f (installed_path, b) ≡ false) → ((s b : List ℕ) → f (manifest_path s, b) ≡ false) → ((s b : List ℕ) → f (package_path s, b) ≡ false)
-    → AllByRecursion (λ (e : Entry). f e ≡ false) (records_by first ps)
+packages_without : (f : Written → Bool) (first : Bool) (ps : List Installed) → ((b : List ℕ) → f (installed_path, b) ≡ false) → ((s b : List ℕ) → f (manifest_path s, b) ≡ false) → ((s b : List ℕ) → f (package_path s, b) ≡ false)
+    → AllByRecursion (λ (e : Written). f e ≡ false) (records_by first ps)
 packages_without f true ps list manifest package_ = (list (lines_text (name_lines (map versioned_stem ps))), go ps)
   where
-    go : (qs : List Installed) → AllByRecursion (λ (e : Entry). f e ≡ false) (map (λ p. (manifest_path p.stem, manifest_text p.lines)) qs)
+    go : (qs : List Installed) → AllByRecursion (λ (e : Written). f e ≡ false) (map (λ p. (manifest_path p.stem, manifest_text p.lines)) qs)
     go [] = tt
     go (q ∷ qs) = (manifest q.stem (manifest_text q.lines), go qs)
 packages_without f false ps list manifest package_ = go ps
   where
-    go : (qs : List Installed) → AllByRecursion (λ (e : Entry). f e ≡ false) (package_records qs)
+    go : (qs : List Installed) → AllByRecursion (λ (e : Written). f e ≡ false) (package_records qs)
     go [] = tt
     go (q ∷ qs) = (package_ q.stem (package_text q.version q.lines), go qs)
 
 -- where there is no index, no record has its path
-pub no_index : (r : Recorded) (f : Entry → Bool) → ((path b : List ℕ) → same_path path index_path ≡ false → f (path, b) ≡ false) → r.index ≡ None → list_any f (records_of r) ≡ false
+pub no_index : (r : Recorded) (f : Written → Bool) → ((path b : List ℕ) → same_path path index_path ≡ false → f (path, b) ≡ false) → r.index ≡ None → list_any f (records_of r) ≡ false
 no_index r f off none =
     let common = common_without f r (λ b. off image_path b refl) (λ b. off avoid_path b refl) (λ b. off freeze_path b refl) (λ b. off mediators_path b refl) (λ b. off history_path b refl)
-    (subst (λ (o : Option (List Row)). AllByRecursion (λ (e : Entry). f e ≡ false) (index_records o)) (sym none) tt) in
+    (subst (λ (o : Option (List Row)). AllByRecursion (λ (e : Written). f e ≡ false) (index_records o)) (sym none) tt) in
     let rest = packages_without f (r.format == 1) r.installed (λ b. off installed_path b refl) (λ s b. off (manifest_path s) b refl) (λ s b. off (package_path s) b refl) in
     list_any-append f (common_records r) (records_by (r.format == 1) r.installed) ∙ ap₂ (λ (a b : Bool). a || b) (none_any f (common_records r) common) (none_any f (records_by (r.format == 1) r.installed) rest)
 
@@ -211,14 +211,14 @@ no_child t x path off child = go (same_path x path) refl
     go true e = absurd (true≢false (sym (and_parts (is_some (t.look path)) (is_directory packages_path (parent path)) child).1 ∙ ap (λ (q : List ℕ). is_directory packages_path (parent q)) (sym (same_path-true x path e)) ∙ off))
     go false e = refl
 
-place_among : (path : List ℕ) (ps : List Installed) → list_any (λ (e : Entry). same_path e.0 path) (package_records ps) ≡ list_any (λ p. same_path (package_path p.stem) path) (map recounted_package ps)
+place_among : (path : List ℕ) (ps : List Installed) → list_any (λ (e : Written). same_path e.0 path) (package_records ps) ≡ list_any (λ p. same_path (package_path p.stem) path) (map recounted_package ps)
 place_among path [] = refl
 place_among path (p ∷ ps) = ap (λ (b : Bool). same_path (package_path p.stem) path || b) (place_among path ps)
 
-module _ (t : Image) (r : Recorded) (entries : List Entry) (due : IsPermutation (records_of r) entries) where
+module _ (t : Image) (r : Recorded) (entries : List Written) (due : IsPermutation (records_of r) entries) where
   child_among : (r.format == 1) ≡ false → (path : List ℕ) → is_child t packages_path path ≡ true → has_path entries path ≡ true → list_any (λ p. same_path (package_path p.stem) path) (map recounted_package r.installed) ≡ true
   child_among second path child has =
-      let f : Entry → Bool = λ e. same_path e.0 path in
+      let f : Written → Bool = λ e. same_path e.0 path in
       let off = λ (x : List ℕ) (free : is_directory packages_path (parent x) ≡ false). no_child t x path free child in
       let common = common_without f r (λ b. off image_path refl) (λ b. off avoid_path refl) (λ b. off freeze_path refl) (λ b. off mediators_path refl) (λ b. off history_path refl) (index_without f r.index (λ b. off index_path refl)) in
       let found = found_right f (common_records r) (records_by (r.format == 1) r.installed) common (list_any-IsPermutation f (records_of r) entries due ∙ has) in
@@ -237,19 +237,19 @@ module _ (t : Image) (r : Recorded) (entries : List Entry) (due : IsPermutation 
     only = λ path child. child_among is path child (other.1 path child);
   }
 
-  index_held : (t.look index_path ≡ None) ⊎ IsTrue (has_path entries index_path) → AllByRecursion (λ (e : Entry). Stands t e.0 e.1) (index_records r.index) → HoldsIndex t r.index
+  index_held : (t.look index_path ≡ None) ⊎ IsTrue (has_path entries index_path) → AllByRecursion (λ (e : Written). Stands t e.0 e.1) (index_records r.index) → HoldsIndex t r.index
   index_held which all = go r.index refl all
     where
-      go : (o : Option (List Row)) → r.index ≡ o → AllByRecursion (λ (e : Entry). Stands t e.0 e.1) (index_records o) → HoldsIndex t o
+      go : (o : Option (List Row)) → r.index ≡ o → AllByRecursion (λ (e : Written). Stands t e.0 e.1) (index_records o) → HoldsIndex t o
       go (Some rows) is a = a.0
       go None is a = elim which [
         | inl none ↦ none
         | inr has ↦
-            let f : Entry → Bool = λ e. same_path e.0 index_path in
+            let f : Written → Bool = λ e. same_path e.0 index_path in
             absurd (false≢true (sym (no_index r f (λ path b off. off) is) ∙ list_any-IsPermutation f (records_of r) entries due ∙ has))
       ]
 
-pub read_back : Again → (t : Image) (r : Recorded) (entries : List Entry) → IsLawful r → AreRecords r entries → JustStand (r.format == 1) t entries → Holds t (recounted r)
+pub read_back : Again → (t : Image) (r : Recorded) (entries : List Written) → IsLawful r → AreRecords r entries → JustStand (r.format == 1) t entries → Holds t (recounted r)
 read_back again t r entries lawful records stand =
     let parts = spread (Stands t) again r lawful.installed (all_entries (Stands t) (records_of r) entries records.due stand.each) in
     record {
