@@ -9,9 +9,9 @@ mod head;
 #[cfg(test)]
 mod heading;
 #[cfg(test)]
-mod lists;
-#[cfg(test)]
 mod limits;
+#[cfg(test)]
+mod lists;
 #[cfg(test)]
 mod moment;
 #[cfg(test)]

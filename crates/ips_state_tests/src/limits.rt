@@ -36,7 +36,10 @@ fn a_record_of_each_kind_is_too_large(rt: HostRuntime) {
         ("2; ", "index"),
     ] {
         let answer = large(&rt, alloc, question, record, LIMIT + 1);
-        assert!(rt; answer.as_str() == "too large 67108865", "{record}: {answer}");
+        assert!(rt;
+            answer.as_str() == "too large 67108865",
+            "{record}: {answer}"
+        );
     }
 }
 

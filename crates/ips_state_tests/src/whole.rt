@@ -159,10 +159,12 @@ fn fault_told(rt: &impl Abort, alloc: Global, fault: Or<StateFault>) -> String {
         Or::Bad(StateFault::FolderFault) => {
             String::from_str(alloc, "folder fault").expect(rt, "memory")
         }
-        Or::Bad(StateFault::TooLarge {
-            which: Which::ImageFileBytes,
-            count,
-        }) => format!(in alloc; "too large {count}").expect(rt, "memory"),
+        Or::Bad(
+            StateFault::TooLarge {
+                which: Which::ImageFileBytes,
+                count,
+            },
+        ) => format!(in alloc; "too large {count}").expect(rt, "memory"),
         _ => String::from_str(alloc, "another fault").expect(rt, "memory"),
     }
 }

@@ -113,7 +113,10 @@ fn each_image_is_written_as_it_stands(rt: HostRuntime) {
         let (told, copy, again) = three_told(&rt, alloc, tree);
         assert!(rt; told.as_str() == row, "{row} but {told}");
         assert!(rt; copy.as_str() == row, "{row} but {copy} of the copy");
-        assert!(rt; again.as_str() == row, "{row} but {again} of what was written");
+        assert!(rt;
+            again.as_str() == row,
+            "{row} but {again} of what was written"
+        );
         cases = cases.saturating_add(1);
     }
     assert!(rt; cases == 4, "{cases} cases");
