@@ -76,7 +76,7 @@ all_off : (first : Bool) (n : ℕ) (packages : List Installed) (front : List (Li
 all_off first n packages [] off = tt
 all_off first n packages (path ∷ front) off = (off_packages path first n packages off.0, all_off first n packages front off.1)
 
-place_one : (first : Bool) (s t : List ℕ) → IsStem false s → IsStem false t → package_place first s ≡ package_place first t → s ≡ t
+pub place_one : (first : Bool) (s t : List ℕ) → IsStem false s → IsStem false t → package_place first s ≡ package_place first t → s ≡ t
 place_one true s t hs ht e = word_one s t (stem_is_word s hs) (stem_is_word t ht) (append_cancel_left (codes "var/pkg/manifests/") (quoted s) (quoted t) e)
 place_one false s t hs ht e = word_one s t (stem_is_word s hs) (stem_is_word t ht) (append_cancel_left (codes "var/pkg/packages/") (quoted s) (quoted t) e)
 

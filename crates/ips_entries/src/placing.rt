@@ -25,6 +25,7 @@ pub fn places(alloc: Global, state: &State) -> Result<Vec<Place>, AllocError>
     requires { IsLawful (recorded state.now) }
     ensures records { IfOk result (λ places. AreRecords (recorded state.now) (map (entry_at (recorded state.now)) places.items)) }
     ensures parts { IfOk result (λ places. AllByRecursion (λ place. HasPart (recorded state.now) place.part) places.items) }
+    ensures own { IfOk result (λ places. IsPermutation (parts_of (recorded state.now)) (map owned places.items)) }
 {
     let mut places = Vec::new(alloc);
     push_places(alloc, state, &mut places)?;

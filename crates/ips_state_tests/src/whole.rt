@@ -5,7 +5,7 @@ use ips_image::load;
 use ips_load::StateFault;
 use ips_outside::Tree;
 use ips_state::State;
-use ips_text::{Or, RelPath};
+use ips_text::{Or, RelPath, Which};
 use std::alloc::Global;
 use std::process::Abort;
 
@@ -17,7 +17,7 @@ const SECOND: &str =
     "image=image 2¶publisher test¶; avoid=; freeze=; mediators=; history=; packages=/";
 
 // What is told of an image of the format and, in place of its own, these files below `var/pkg`, each with its text; `/` is a
-// directory, and `!` nothing.
+// directory, `?` one that also holds a name that is no path, and `!` nothing.
 const CASES: &str = "
 1; -> 1 test: 0 0 0 0
 1; installed=a@1¶b/c@2¶; manifests/a=; manifests/b%2Fc=dir path=usr owner=root group=bin mode=0755¶ -> 1 test: 2 0 0 0, a@1 0, b/c@2 1
@@ -45,6 +45,9 @@ const CASES: &str = "
 2; packages=! -> packages 0
 2; packages=!; avoid=! -> packages 0
 2; packages=text -> packages 0
+2; packages=? -> packages 0
+2; packages=?; packages/a=package 1¶; avoid=! -> packages 0
+2; manifests=? -> 2 test: 0 0 0 0
 2; packages/a=/ -> packages/a 0
 2; packages/a= -> packages/a 1
 2; packages/a=package 2 -> packages/a 1
@@ -57,6 +60,10 @@ const CASES: &str = "
 2; packages/a=package 2¶version 1¶¶# none¶dir¶ -> packages/a 5
 2; packages/A%2f=package 2¶version 1¶ -> packages/A%2f 0
 2; packages/-a=package 2¶version 1¶ -> packages/-a 0
+2; packages/a%2=package 2¶version 1¶ -> packages/a%2 0
+2; packages/%61=package 2¶version 1¶ -> packages/%61 0
+2; packages/a%FF=package 2¶version 1¶ -> packages/a%FF 0
+2; packages/a%2F=package 2¶version 1¶ -> packages/a%2F 0
 2; packages/a=package 2¶version 1¶; packages/b=package 1¶ -> packages/b 1
 2; packages/a=package 1¶; packages/b=/ -> packages/a 1
 2; packages/a=package 1¶; avoid=! -> packages/a 1
@@ -71,7 +78,7 @@ const CASES: &str = "
 2; image=image 2¶publisher test¶origin b free¶; avoid=x¶; freeze=y@1¶; mediators=m 1 -¶; history=20240102T030405Z install a¶20240102T030406Z uninstall a¶ -> 2 test: 0 1 1 2
 ";
 
-fn path(rt: &impl Abort, alloc: Global, text: &str) -> RelPath {
+pub fn path(rt: &impl Abort, alloc: Global, text: &str) -> RelPath {
     RelPath::parse(alloc, text.as_bytes())
         .ok()
         .expect(rt, "a path")
@@ -95,8 +102,11 @@ fn spelled(rt: &impl Abort, alloc: Global, column: &str) -> Vec<u8> {
 fn add(rt: &impl Abort, alloc: Global, tree: &mut Tree, name: &str, text: &str) {
     let place = format!(in alloc; "var/pkg/{name}").expect(rt, "memory");
     let place = path(rt, alloc, place.as_str());
-    if text == "/" {
+    if text == "/" || text == "?" {
         tree.dir(alloc, &place, 0o755).ok().expect(rt, "no fault");
+        if text == "?" {
+            tree.mark_foreign(&place);
+        }
     } else {
         tree.file(alloc, &place, 0o644, &spelled(rt, alloc, text))
             .ok()
@@ -149,6 +159,12 @@ fn fault_told(rt: &impl Abort, alloc: Global, fault: Or<StateFault>) -> String {
         Or::Bad(StateFault::FolderFault) => {
             String::from_str(alloc, "folder fault").expect(rt, "memory")
         }
+        Or::Bad(
+            StateFault::TooLarge {
+                which: Which::ImageFileBytes,
+                count,
+            },
+        ) => format!(in alloc; "too large {count}").expect(rt, "memory"),
         _ => String::from_str(alloc, "another fault").expect(rt, "memory"),
     }
 }
@@ -184,7 +200,7 @@ fn state_told(rt: &impl Abort, alloc: Global, state: &State) -> String {
 }
 
 // What is told of the folder.
-fn told(rt: &impl Abort, alloc: Global, folder: &mut MemFolder) -> String {
+pub fn told(rt: &impl Abort, alloc: Global, folder: &mut MemFolder) -> String {
     match load(alloc, folder) {
         Ok(state) => state_told(rt, alloc, &state),
         Err(fault) => fault_told(rt, alloc, fault),
@@ -206,7 +222,7 @@ fn each_image_as_a_whole(rt: HostRuntime) {
         assert!(rt; answer.as_str() == wanted, "{row} but {answer}");
         cases = cases.saturating_add(1);
     }
-    assert!(rt; cases == 50, "{cases} cases");
+    assert!(rt; cases == 57, "{cases} cases");
 }
 
 // Each call that is made fails in its turn.

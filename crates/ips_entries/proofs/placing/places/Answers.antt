@@ -2,7 +2,7 @@ use Rattle.std.proofs.Common.{ℕ, List, map, rules, subst}
 use Rattle.std.specs.List.Sorted.{IsPermutation}
 use Rattle.std.proofs.lemmas.List.Sorted.{answers_always, IsPermutation-map}
 use Rattle.ips_state.specs.State.{recorded}
-use Rattle.ips_entries.specs.Part.{entry_at}
+use Rattle.ips_entries.specs.Part.{Owned, entry_at, owned}
 use Rattle.ips_entries.proofs.Parts.{entries_told, parts_moved}
 use Rattle.ips_entries.proofs.PathsDiffer.{before_place, entries_ascend}
 use Rattle.ips_entries.proofs.Written.{ranks_places}
@@ -22,3 +22,9 @@ returns-clause-records c =
 
 pub returns-clause-parts : goal.returns-clause-parts
 returns-clause-parts c = parts_moved (recorded c.args.state.now) c.push_places.new.places.items c.sort_by.new.self.items c.in_ok-push_places.ensures c.in_ok-sort_by.ensures.permutation
+
+pub returns-clause-own : goal.returns-clause-own
+returns-clause-own c =
+    let old = c.push_places.new.places.items in
+    let new = c.sort_by.new.self.items in
+    subst (λ (l : List Owned). IsPermutation l (map owned new)) c.in_ok-push_places.ensures (IsPermutation-map owned old new c.in_ok-sort_by.ensures.permutation)
