@@ -1,16 +1,18 @@
 -- Rows and paths that are spoken of, merged line by line.
-use Rattle.std.proofs.Common.{◌≡◌, ℕ, ◌+◌, ◌<◌, ◌≤◌, Bool, true, false, ◌||◌, List, [], ◌∷◌, ◌++◌, append_assoc, map, take, drop, length, Option, Some, None, is_some, refl, sym, ◌∙◌, ap, subst, inl, inr, arith}
+use Rattle.std.proofs.Common.{◌≡◌, ℕ, ◌+◌, ◌<◌, ◌≤◌, Bool, true, false, ◌||◌, List, [], ◌∷◌, ◌++◌, append_assoc, map, take, drop, length, Option, Some, None, is_some, refl, sym, ◌∙◌, ap, subst, inl, inr, arith, Bor}
 use Rattle.std.specs.Prelude.{slice_get}
 use Rattle.std.specs.List.{AllByRecursion}
+use Rattle.std.specs.Option.{option_map}
+use Rattle.std.specs.Slice.{IsItemAt}
 use Rattle.std.specs.List.Sorted.{IsStrictlySortedBy}
 use Rattle.std.specs.declared.cmp.Ordering.{Ordering}
 use Rattle.std.specs.declared.cmp.Ordering.TheVariants.{Less, Equal, Greater}
 use Rattle.std.specs.Ordering.{nat_cmp, is_eq, ordering_reverse}
 use Rattle.std.specs.Cmp.Lexicographic.{slice_cmp}
-use Rattle.std.proofs.lemmas.Bool.{or_cases, or_from, false_from_ne_true}
+use Rattle.std.proofs.lemmas.Bool.{ltb-false, ltb-true, or_from}
 use Rattle.std.proofs.lemmas.Cmp.{nat_list_cmp_total}
-use Rattle.std.proofs.lemmas.List.{append-nil, drop_more, map-append, take_more, take-append-drop}
-use Rattle.std.proofs.lemmas.Option.{get_or_from_slice_get, same_Some, slice_get_within}
+use Rattle.std.proofs.lemmas.List.{append-nil, drop_all, drop_more, map-append, take_more, take-append-drop}
+use Rattle.std.proofs.lemmas.Option.{get_or_from_slice_get, same_Some, slice_get_read, slice_get_within}
 use Rattle.ips_text.specs.Ancestry.{same_path}
 use Rattle.ips_text.proofs.Lists.{all_append}
 use Rattle.ips_text.proofs.Truths.{or_assoc, or_false}
@@ -112,11 +114,11 @@ abbrev IsNamed : Over → Spoken → Type 0
 IsNamed o s = s.said ≡ said_at o s.path.now.bytes
 
 -- what is so far in the table, as the lists of a request say
-record HasLines (r : Request) (left : List Row) (more : List Spoken) (front : List Row) (said : List (Option Said)) : Type 0 where
+record HasLines (r : Request) (rest : List Row) (others : List Spoken) (front : List Row) (told : List (Option Said)) : Type 0 where
   rows : AllByRecursion (IsRowOf r) front
-  said : said ≡ map (said_at r.over) (row_paths front)
-  left : AllByRecursion (IsRowOf r) left
-  more : AllByRecursion (IsNamed r.over) more
+  said : told ≡ map (said_at r.over) (row_paths front)
+  left : AllByRecursion (IsRowOf r) rest
+  more : AllByRecursion (IsNamed r.over) others
 
 -- so much of both lists is in the table
 pub record SoFar (rows : List Row) (spoken : List Spoken) (done left : List Row) (told more : List Spoken) (front : List Row) (said : List (Option Said)) : Type 0 where
@@ -137,8 +139,8 @@ pub record SoFar (rows : List Row) (spoken : List Spoken) (done left : List Row)
 are_named : (o : Over) (spoken : List Spoken) (keys : Paths) → spoken_paths spoken ≡ keys → map (λ (s : Spoken). s.said) spoken ≡ map (said_at o) keys → AllByRecursion (IsNamed o) spoken
 are_named o spoken keys paths said = go spoken (said ∙ sym (ap (map (said_at o)) paths))
   where
-    head : (a b : Option Said) (as bs : List (Option Said)) → a ∷ as ≡ b ∷ bs → (a ≡ b) × (as ≡ bs)
-    head a b as bs h = (cc, cc)
+    head : (a b : Option Said) (more others : List (Option Said)) → a ∷ more ≡ b ∷ others → (a ≡ b) × (more ≡ others)
+    head a b more others h = (cc, cc)
 
     go : (l : List Spoken) → map (λ (s : Spoken). s.said) l ≡ map (said_at o) (spoken_paths l) → AllByRecursion (IsNamed o) l
     go [] h = tt
@@ -378,6 +380,10 @@ abbrev pub Next : {A : Type 0} → List A → ℕ → Option A → Type 0
 Next xs i (Some x) = slice_get xs i ≡ Some x
 Next xs i None = drop i xs ≡ []
 
+pub next_found : {A : Type 0} (xs : List A) (i : ℕ) (r : Option (Bor A)) → IsItemAt xs i r → Next xs i (option_map (λ (x : Bor A). x.now) r)
+next_found xs i (Some x) h = slice_get_read xs (length xs) i x.now refl (ltb-true i (length xs) (sym h.0)) h.1
+next_found xs i None h = drop_all i xs (ltb-false i (length xs) (sym h.0))
+
 none_left : (k : ℕ) → k ≡ k + 0
 none_left k = omega arith
 
@@ -410,23 +416,22 @@ line_added rows spoken i j front said row one line at_row at_one is h = go row o
 pub record Moves (rows : List Row) (spoken : List Spoken) (i j : ℕ) (line : Line) : Type 0 where
   pub rows_within : i + rows_taken line.origin ≤ length rows
   pub spoken_within : j + spoken_taken line.origin ≤ length spoken
-  pub some : 0 < rows_taken line.origin + spoken_taken line.origin
 
 pub moves : (rows : List Row) (spoken : List Spoken) (i j : ℕ) (row : Option Row) (one : Option Spoken) (line : Line) → Next rows i row → Next spoken j one → first row one ≡ Some line → i ≤ length rows → j ≤ length spoken → Moves rows spoken i j line
 moves rows spoken i j row one line at_row at_one is within spoken_within = go row one at_row at_one is
   where
     old : (x : Row) → slice_get rows i ≡ Some x → Moves rows spoken i j (unsaid x)
-    old x at = let lt = slice_get_within rows i x at in record { rows_within = omega (arith, lt); spoken_within = omega (arith, spoken_within); some = omega arith }
+    old x at = let lt = slice_get_within rows i x at in record { rows_within = omega (arith, lt); spoken_within = omega (arith, spoken_within) }
 
     new : (y : Spoken) → slice_get spoken j ≡ Some y → Moves rows spoken i j (bare y)
-    new y at = let lt = slice_get_within spoken j y at in record { rows_within = omega (arith, within); spoken_within = omega (arith, lt); some = omega arith }
+    new y at = let lt = slice_get_within spoken j y at in record { rows_within = omega (arith, within); spoken_within = omega (arith, lt) }
 
     least : (x : Row) (y : Spoken) → slice_get rows i ≡ Some x → slice_get spoken j ≡ Some y → (o : Ordering) → Moves rows spoken i j (ranked o x y)
     least x y at there Less = old x at
     least x y at there Equal =
         let lt = slice_get_within rows i x at in
         let less = slice_get_within spoken j y there in
-        record { rows_within = omega (arith, lt); spoken_within = omega (arith, less); some = omega arith }
+        record { rows_within = omega (arith, lt); spoken_within = omega (arith, less) }
     least x y at there Greater = new y there
 
     go : (o : Option Row) (n : Option Spoken) → Next rows i o → Next spoken j n → first o n ≡ Some line → Moves rows spoken i j line

@@ -30,9 +30,9 @@ pub record AreNamed (o : Over) (spoken : List Spoken) : Type 0 where
 
 -- Just the paths that were or are wanted or that account files and records name, by their bytes, each once: what was and
 -- what is wanted there, and what is said of each; no other is spoken of.
-pub record IsTable (r : Request) (rows : List Row) (said : List (Option Said)) : Type 0 where
+pub record IsTable (r : Request) (rows : List Row) (told : List (Option Said)) : Type 0 where
   pub order : IsStrictlySortedBy (slice_cmp nat_cmp) (row_paths rows)
   pub entries : AllByRecursion (IsRowOf r) rows
   pub covers : (q : List ℕ) → listed (row_paths rows) q ≡ (is_some (r.old.at q) || (is_some (r.new.at q) || listed r.over.keys q))
-  pub said : said ≡ map (λ p. said_of (r.over.at p)) (row_paths rows)
+  pub said : told ≡ map (λ p. said_of (r.over.at p)) (row_paths rows)
   pub none_else : (q : List ℕ) → listed (row_paths rows) q ≡ false → r.over.at q ≡ None
