@@ -1,9 +1,10 @@
 -- Where hard links lead that are made, row by row.
-use Rattle.std.proofs.Common.{◌≡◌, ℕ, ◌+◌, ◌<◌, Bool, true, false, ◌&&◌, ◌||◌, List, [], ◌∷◌, ◌++◌, map, take, length, get_or, Option, Some, None, is_some, refl, sym, ◌∙◌, ap, zero, suc, arith}
+use Rattle.std.proofs.Common.{◌≡◌, ℕ, ◌+◌, ◌<◌, Bool, true, false, ◌&&◌, ◌||◌, List, [], ◌∷◌, ◌++◌, map, take, length, get_or, Option, Some, None, is_some, refl, sym, ◌∙◌, ap, inl, inr}
 use Rattle.std.specs.List.{AllByRecursion, list_any}
 use Rattle.std.specs.Prelude.{slice_get}
 use Rattle.std.proofs.lemmas.Bool.{and_parts, cases_Bool, false_from_ne_true}
 use Rattle.std.proofs.lemmas.List.Folds.{list_any-append}
+use Rattle.ips_text.specs.Ancestry.{same_path}
 use Rattle.ips_text.proofs.Lists.{take_item}
 use Rattle.ips_text.proofs.Truths.{or_false}
 use Rattle.ips_outside.specs.Image.{Image}
@@ -12,6 +13,7 @@ use Rattle.ips_after.specs.Change.{makes}
 use Rattle.ips_after.specs.Lists.{listed}
 use Rattle.ips_after.specs.Request.{IsRequest, Request, WantDir, WantFile, WantHard, WantLink, Wanted}
 use Rattle.ips_after.proofs.Fits.{any_from, any_of}
+use Rattle.ips_steps.proofs.Lists.{clash, same_path-sym}
 use Rattle.ips_change.specs.Told.{naming}
 use Rattle.ips_survey.specs.declared.row.Row.{Row}
 use Rattle.ips_reach.specs.Marks.{row_paths}
@@ -77,3 +79,15 @@ led_wanted r t rows said p good table = same_any (λ h. leads_at r t h p) (row_p
   where
     wanted : (h : List ℕ) → leads_at r t h p ≡ true → is_some (r.new.at h) ≡ true
     wanted h leads = leads_wanted (r.new.at h) p (and_parts (leads_to p (r.new.at h)) (makes (itself (naming r) t h)) leads).0
+
+-- ---- marks where a hard link leads
+
+swapped : (p q : List ℕ) → same_path p q ≡ same_path q p
+swapped p q = elim (cases_Bool (same_path p q)) [
+  | inl same ↦ same ∙ sym (same_path-sym p q same)
+  | inr apart ↦ apart ∙ sym (false_from_ne_true _ (λ same. clash (same_path p q) (same_path-sym q p same) apart))
+]
+
+pub mark_led : (test f : List ℕ → Bool) (path to : List ℕ) (paths : List (List ℕ)) → path ≡ to → ((p : List ℕ) → same_path to p ≡ f p) → map (λ p. test p || same_path p path) paths ≡ map (λ p. test p || f p) paths
+mark_led test f path to paths is leads = map_same (λ p. test p || same_path p path) (λ p. test p || f p) paths
+    (λ p. ap (λ (b : Bool). test p || b) (ap (λ (x : List ℕ). same_path p x) is ∙ swapped p to ∙ leads p))

@@ -1,7 +1,8 @@
 -- What becomes of rows, one by one.
-use Rattle.std.proofs.Common.{◌≡◌, ℕ, zero, suc, ◌+◌, ◌<◌, Bool, true, false, not, ◌&&◌, ◌||◌, List, [], ◌∷◌, ◌++◌, map, take, length, get_or, Option, Some, None, is_none, is_some, refl, sym, ◌∙◌, ap, arith}
+use Rattle.std.proofs.Common.{◌≡◌, ℕ, zero, suc, ◌+◌, ◌<◌, Bool, true, false, not, ◌&&◌, ◌||◌, List, [], ◌∷◌, ◌++◌, map, take, length, get_or, Option, Some, None, is_none, is_some, refl, sym, ◌∙◌, ap, subst, arith}
 use Rattle.std.specs.List.{AllByRecursion, list_any}
 use Rattle.std.proofs.lemmas.Bool.{and_parts, or_from, false_from_ne_true}
+use Rattle.std.proofs.lemmas.List.{length-append}
 use Rattle.ips_text.specs.Ancestry.{is_below, same_path}
 use Rattle.ips_text.proofs.Ancestry.{same_path-true}
 use Rattle.ips_text.proofs.Lists.{map_item}
@@ -56,6 +57,17 @@ told_here g f (y ∷ xs) (r ∷ rows) (suc i) x row are lt is within there =
     let rest : map g xs ≡ map f (row_paths rows) = cc in
     told_here g f xs rows i x row rest (omega (arith, lt)) is (omega (arith, within)) there
 
+pub at_row : {A : Type 0} (f : List ℕ → A) (xs : List A) (rows : List Row) (i : ℕ) (row : Row) (d : A) → xs ≡ map f (row_paths rows) → i < length rows → row ≡ get_or rows i row → get_or xs i d ≡ f row.path.now.bytes
+at_row f xs rows i row d are lt is = ap (λ (l : List _). get_or l i d) are ∙ go rows i lt is
+  where
+    go : (rows : List Row) (i : ℕ) → i < length rows → row ≡ get_or rows i row → get_or (map f (row_paths rows)) i d ≡ f row.path.now.bytes
+    go [] i lt is = absurd (omega arith)
+    go (r ∷ rows) zero lt is = ap (at_path f) (sym is)
+    go (r ∷ rows) (suc i) lt is = go rows i (omega (arith, lt)) is
+
+pub one_more : {A : Type 0} (xs new : List A) (x : A) (i : ℕ) → new ≡ xs ++ x ∷ [] → length xs ≡ i → length new ≡ i + 1
+one_more xs new x i is long = ap length is ∙ length-append xs (x ∷ []) ∙ ap (λ (n : ℕ). n + 1) long
+
 -- ---- what is said
 
 pub is_silent : (o : Option (Option Entry)) → is_none (said_of o) ≡ is_none o
@@ -72,6 +84,12 @@ needs_at r t paths p = is_none (r.over.at p) && (not (is_file (t.look p)) && is_
 pub needs_wanted : (r : Request) (t : Image) (rows : List Row) (said : List (Option Said)) (paths : List (List ℕ)) → IsRequest r → IsTable r rows said → map (needs_at r t (row_paths rows)) paths ≡ map (after.needs_file (naming r) t) paths
 needs_wanted r t rows said paths good table = map_same (needs_at r t (row_paths rows)) (after.needs_file (naming r) t) paths
     (λ p. ap (λ (b : Bool). is_none (r.over.at p) && (not (is_file (t.look p)) && b)) (led_wanted r t rows said p good table))
+
+pub needs_here : (r : Request) (t u : Image) (paths : List (List ℕ)) (p : List ℕ) (said : Option Said) (led needs : Bool) → u ≡ t → needs ≡ (is_none said && (not (is_file (u.look p)) && led)) → said ≡ said_of (r.over.at p) → led ≡ is_led r t paths p
+    → needs ≡ needs_at r t paths p
+needs_here r t u paths p said led needs same is are leads =
+    is ∙ ap (λ (x : Image). is_none said && (not (is_file (x.look p)) && led)) same ∙ ap (λ (s : Option Said). is_none s && (not (is_file (t.look p)) && led)) are
+    ∙ ap (λ (b : Bool). b && (not (is_file (t.look p)) && led)) (is_silent (r.over.at p)) ∙ ap (λ (b : Bool). is_none (r.over.at p) && (not (is_file (t.look p)) && b)) leads
 
 -- ---- paths without a row
 

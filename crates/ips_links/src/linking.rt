@@ -1,6 +1,6 @@
 //! What becomes of each path with hard links and the files that they need.
 
-ghost use Rattle.std.specs.Prelude.{◌≡◌, ℕ, Bool, IfOk, List, length, map};
+ghost use Rattle.std.specs.Prelude.{◌≡◌, ℕ, ◌||◌, IfOk, List, length, map};
 ghost use Rattle.std.specs.List.{AllByRecursion};
 ghost use Rattle.std.specs.List.Sorted.{IsStrictlySortedBy};
 ghost use Rattle.std.specs.Option.{option_map};
@@ -8,11 +8,13 @@ ghost use Rattle.std.specs.Ordering.{nat_cmp};
 ghost use Rattle.std.specs.Cmp.Lexicographic.{slice_cmp};
 ghost use Rattle.ips_outside.specs.Image.{Image};
 ghost use Rattle.ips_after.specs.After as after;
+ghost use Rattle.ips_after.specs.Change as changes;
 ghost use Rattle.ips_after.specs.Request.{IsRequest, Request};
 ghost use Rattle.ips_wanted.specs.Wanted.{wanted_of};
 ghost use Rattle.ips_change.specs.Told.{change_told, naming};
 ghost use Rattle.ips_survey.specs.Rows.{HasLooked, IsRowOf};
 ghost use Rattle.ips_reach.specs.Marks.{IsMarkOf, row_paths};
+ghost use Rattle.ips_spoken.specs.Said.{says_laid};
 ghost use Rattle.ips_spoken.specs.Tables.{IsTable};
 ghost use Rattle.ips_links.specs.Leading.{linked_by};
 
@@ -20,7 +22,7 @@ use crate::asking::{lays, lead, makes};
 use ips_change::Change;
 use ips_meaning::Entry;
 use ips_reach::is_marked;
-use ips_spoken::Table;
+use ips_spoken::{Said, Table};
 use ips_survey::Row;
 use std::alloc::{AllocError, Global};
 
@@ -57,9 +59,16 @@ fn laid(alloc: Global, table: &Table<'_>, needs: &[bool]) -> Result<Vec<bool>, A
 {
     let mut laid = Vec::with_capacity(alloc, table.rows.len())?;
     for i in 0..table.rows.len() {
-        laid.push(lays(table.said[i]) || needs[i] || makes(table.rows[i].itself()))?;
+        laid.push(is_laid(table.said[i], needs[i], table.rows[i].itself()))?;
     }
     Ok(laid)
+}
+
+// Whether a file is laid: as an account file, because a hard link needs it or by what becomes of its path by itself.
+fn is_laid(said: Option<Said>, needed: bool, own: Change<'_>) -> bool
+    ensures { (bytes : List ℕ → List ℕ) → result ≡ (says_laid said || (needed || changes.makes (change_told bytes own.entry))) }
+{
+    lays(said) || needed || makes(own)
 }
 
 // What becomes of the row's path, by whether a hard link needs a file there and the marks of files that are laid.

@@ -1,6 +1,6 @@
 //! The directories that go.
 
-ghost use Rattle.std.specs.Prelude.{◌≡◌, ℕ, IfOk, List, length, map};
+ghost use Rattle.std.specs.Prelude.{◌≡◌, ◌||◌, IfOk, length, map, is_some};
 ghost use Rattle.std.specs.List.{AllByRecursion};
 ghost use Rattle.std.specs.List.Sorted.{IsStrictlySortedBy};
 ghost use Rattle.std.specs.Ordering.{nat_cmp};
@@ -9,13 +9,14 @@ ghost use Rattle.ips_outside.specs.Image.{Image};
 ghost use Rattle.ips_after.specs.After as after;
 ghost use Rattle.ips_after.specs.Request.{Request};
 ghost use Rattle.ips_change.specs.Told.{naming};
-ghost use Rattle.ips_survey.specs.Rows.{HasLooked};
+ghost use Rattle.ips_survey.specs.Rows.{HasLooked, IsRowOf};
 ghost use Rattle.ips_reach.specs.Marks.{IsMarkOf, row_paths};
 ghost use Rattle.ips_spoken.specs.Tables.{IsTable};
 ghost use Rattle.ips_supports.specs.Supporting.{begins_taken};
 
 use ips_reach::{is_reached, is_top};
-use ips_spoken::Table;
+use ips_spoken::{Said, Table};
+use ips_survey::Row;
 use std::alloc::{AllocError, Global};
 
 /// At each row whether a directory that stands there goes: at or above its path one with a stated mode does, or account files and
@@ -44,7 +45,14 @@ fn starts(alloc: Global, table: &Table<'_>) -> Result<Vec<bool>, AllocError>
 {
     let mut marks = Vec::with_capacity(alloc, table.rows.len())?;
     for i in 0..table.rows.len() {
-        marks.push(is_top(&table.rows[i]) || table.said[i].is_some())?;
+        marks.push(is_start(&table.rows[i], table.said[i]))?;
     }
     Ok(marks)
+}
+
+// Whether a directory with a stated mode goes at the row's path, or account files and records speak of it.
+fn is_start(row: &Row<'_>, said: Option<Said>) -> bool
+    ensures { (r : Request) (t : Image) → IsRowOf r row.now → HasLooked t row.now → result ≡ (after.is_top r t row.now.path.now.bytes || is_some said) }
+{
+    is_top(row) || said.is_some()
 }
