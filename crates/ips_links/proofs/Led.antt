@@ -1,7 +1,6 @@
 -- Where hard links lead that are made, row by row.
-use Rattle.std.proofs.Common.{◌≡◌, ℕ, ◌+◌, ◌<◌, Bool, true, false, ◌&&◌, ◌||◌, List, [], ◌∷◌, ◌++◌, map, take, length, get_or, Option, Some, None, is_some, refl, sym, ◌∙◌, ap, inl, inr}
-use Rattle.std.specs.List.{AllByRecursion, list_any}
-use Rattle.std.specs.Prelude.{slice_get}
+use Rattle.std.proofs.Common.{◌≡◌, ℕ, ◌+◌, ◌<◌, Bool, true, false, ◌&&◌, ◌||◌, List, [], ◌∷◌, map, take, length, get_or, Option, Some, None, is_some, refl, sym, ◌∙◌, ap, inl, inr}
+use Rattle.std.specs.List.{list_any}
 use Rattle.std.proofs.lemmas.Bool.{and_parts, cases_Bool, false_from_ne_true}
 use Rattle.std.proofs.lemmas.List.Folds.{list_any-append}
 use Rattle.ips_text.specs.Ancestry.{same_path}
@@ -20,7 +19,7 @@ use Rattle.ips_reach.specs.Marks.{row_paths}
 use Rattle.ips_reach.proofs.Marking.{map_same}
 use Rattle.ips_spoken.specs.declared.said.Said.{Said}
 use Rattle.ips_spoken.specs.Tables.{IsTable}
-use Rattle.ips_spoken.proofs.Filling.{or_none, rows_more}
+use Rattle.ips_spoken.proofs.Filling.{rows_more}
 use Rattle.ips_links.specs.Leading.{hard_to, is_led, is_that}
 
 pub leads_that : (w : Option Wanted) (p : List ℕ) → leads_to p w ≡ is_that (hard_to w) p
@@ -58,10 +57,6 @@ same_any f xs ys to from = elim (cases_Bool (list_any f xs)) [
       let there = any_from f xs y.path (from y.path y.holds y.in_list) y.holds in
       let bad : true ≡ false = sym there ∙ none in absurd cc))
 ]
-
-or_first : (a b : Bool) → a ≡ true → (a || b) ≡ true
-or_first true b h = refl
-or_first false b h = cc
 
 or_second : (a b c : Bool) → b ≡ true → (a || (b || c)) ≡ true
 or_second true b c h = refl

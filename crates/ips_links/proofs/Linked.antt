@@ -3,7 +3,7 @@ use Rattle.std.proofs.Common.{◌≡◌, ℕ, zero, suc, ◌+◌, ◌<◌, Bool,
 use Rattle.std.specs.List.{AllByRecursion, list_any}
 use Rattle.std.proofs.lemmas.Bool.{and_parts, or_from, false_from_ne_true}
 use Rattle.std.proofs.lemmas.List.{length-append}
-use Rattle.ips_text.specs.Ancestry.{is_below, same_path}
+use Rattle.ips_text.specs.Ancestry.{is_below}
 use Rattle.ips_text.proofs.Ancestry.{same_path-true}
 use Rattle.ips_text.proofs.Lists.{map_item}
 use Rattle.ips_outside.specs.Image.{Entry, Image, is_file}
@@ -14,14 +14,14 @@ use Rattle.ips_after.specs.Request.{IsRequest, Request, WantDir, WantFile, WantH
 use Rattle.ips_after.proofs.Fits.{any_of}
 use Rattle.ips_change.specs.Told.{naming}
 use Rattle.ips_survey.specs.declared.row.Row.{Row}
-use Rattle.ips_reach.specs.Marks.{IsMarkOf, holds_below, row_paths}
+use Rattle.ips_reach.specs.Marks.{holds_below, row_paths}
 use Rattle.ips_reach.proofs.Marking.{map_same}
 use Rattle.ips_spoken.specs.declared.said.Said.{Said}
-use Rattle.ips_spoken.specs.Said.{said_of, says_laid}
+use Rattle.ips_spoken.specs.Said.{said_as, says_laid}
 use Rattle.ips_spoken.specs.Tables.{IsTable}
 use Rattle.ips_spoken.proofs.Filling.{or_none}
 use Rattle.ips_spoken.proofs.Marked.{is_laid}
-use Rattle.ips_links.specs.Leading.{hard_to, is_led, is_that, linked_by}
+use Rattle.ips_links.specs.Leading.{hard_to, is_led, linked_by}
 use Rattle.ips_links.specs.Made.{is_made}
 use Rattle.ips_links.proofs.Led.{leads_at, led_wanted, same_any, wanted_row}
 
@@ -40,10 +40,11 @@ pub row_more : {A : Type 0} (f : List ℕ → A) (rows : List Row) (i : ℕ) (ro
 row_more f rows i row xs x lt is are one =
     ap (λ (l : List _). l ++ x ∷ []) are ∙ ap (λ (y : _). map (at_path f) (take i rows) ++ y ∷ []) one ∙ sym (map_item (at_path f) rows i row lt is)
 
-pub all_here : {X : Type 0} (P : X → Type 0) (xs : List X) (i : ℕ) (x : X) → AllByRecursion P xs → i < length xs → x ≡ get_or xs i x → P x
-all_here P [] i x all lt is = absurd (omega arith)
-all_here P (y ∷ xs) zero x all lt is = subst P (sym is) all.0
-all_here P (y ∷ xs) (suc i) x all lt is = all_here P xs i x all.1 (omega (arith, lt)) is
+-- what is so of each is so of the one at this place
+pub all_here : {X : Type 0} (P : X → Type 0) (xs : List X) (i : ℕ) (x : X) → i < length xs → x ≡ get_or xs i x → AllByRecursion P xs → P x
+all_here P [] i x lt is all = absurd (omega arith)
+all_here P (y ∷ xs) zero x lt is all = subst P (sym is) all.0
+all_here P (y ∷ xs) (suc i) x lt is all = all_here P xs i x (omega (arith, lt)) is all.1
 
 -- two lists that are told of as the rows say are so at each row
 pub told_here : {X A : Type 0} (g : X → A) (f : List ℕ → A) (xs : List X) (rows : List Row) (i : ℕ) (x : X) (row : Row) → map g xs ≡ map f (row_paths rows) → i < length xs → x ≡ get_or xs i x → i < length rows → row ≡ get_or rows i row
@@ -70,7 +71,7 @@ one_more xs new x i is long = ap length is ∙ length-append xs (x ∷ []) ∙ a
 
 -- ---- what is said
 
-pub is_silent : (o : Option (Option Entry)) → is_none (said_of o) ≡ is_none o
+pub is_silent : (o : Option (Option Entry)) → is_none (said_as o) ≡ is_none o
 is_silent None = refl
 is_silent (Some None) = refl
 is_silent (Some (Some e)) = refl
@@ -85,7 +86,7 @@ pub needs_wanted : (r : Request) (t : Image) (rows : List Row) (said : List (Opt
 needs_wanted r t rows said paths good table = map_same (needs_at r t (row_paths rows)) (after.needs_file (naming r) t) paths
     (λ p. ap (λ (b : Bool). is_none (r.over.at p) && (not (is_file (t.look p)) && b)) (led_wanted r t rows said p good table))
 
-pub needs_here : (r : Request) (t u : Image) (paths : List (List ℕ)) (p : List ℕ) (said : Option Said) (led needs : Bool) → u ≡ t → needs ≡ (is_none said && (not (is_file (u.look p)) && led)) → said ≡ said_of (r.over.at p) → led ≡ is_led r t paths p
+pub needs_here : (r : Request) (t u : Image) (paths : List (List ℕ)) (p : List ℕ) (said : Option Said) (led needs : Bool) → u ≡ t → needs ≡ (is_none said && (not (is_file (u.look p)) && led)) → said ≡ said_as (r.over.at p) → led ≡ is_led r t paths p
     → needs ≡ needs_at r t paths p
 needs_here r t u paths p said led needs same is are leads =
     is ∙ ap (λ (x : Image). is_none said && (not (is_file (x.look p)) && led)) same ∙ ap (λ (s : Option Said). is_none s && (not (is_file (t.look p)) && led)) are
@@ -106,8 +107,8 @@ pub record IsBare (r : Request) (q : List ℕ) : Type 0 where
 pub is_bare : (r : Request) (rows : List Row) (said : List (Option Said)) (q : List ℕ) → IsTable r rows said → listed (row_paths rows) q ≡ false → IsBare r q
 is_bare r rows said q table apart =
     let first = or_none _ _ (sym (table.covers q) ∙ apart) in
-    let second = or_none _ _ first.1 in
-    record { old = no_want (r.old.at q) first.0; new = no_want (r.new.at q) second.0; over = table.none_else q apart }
+    let second = or_none _ _ first.0 in
+    record { old = no_want (r.old.at q) first.1; new = no_want (r.new.at q) second.1; over = table.none_else q apart }
 
 bare_kept : (r : Request) (t : Image) (q : List ℕ) → IsBare r q → makes (after.itself (naming r) t q) ≡ false
 bare_kept r t q bare =
@@ -149,7 +150,7 @@ laid_none r t rows said q good table apart =
     or_from _ _ (ap lays bare.over)
     (or_from _ _ (and_second (is_none (r.over.at q)) (not (is_file (t.look q))) (is_led r t r.new.keys q) (bare_unled r t q good bare)) (bare_kept r t q bare))
 
-pub laid_here : (r : Request) (t : Image) (p : List ℕ) (said : Option Said) (needed own : Bool) → said ≡ said_of (r.over.at p) → needed ≡ after.needs_file (naming r) t p → own ≡ makes (after.itself (naming r) t p)
+pub laid_here : (r : Request) (t : Image) (p : List ℕ) (said : Option Said) (needed own : Bool) → said ≡ said_as (r.over.at p) → needed ≡ after.needs_file (naming r) t p → own ≡ makes (after.itself (naming r) t p)
     → laid_by said needed own ≡ after.has_laid (naming r) t p
 laid_here r t p said needed own is need by =
     ap (λ (s : Option Said). laid_by s needed own) is ∙ ap (λ (b : Bool). b || (needed || own)) (is_laid (r.over.at p))
@@ -201,7 +202,7 @@ made_none r t rows said q table apart =
     let bare = is_bare r rows said q table apart in
     or_from _ _ (unwanted_makes r t q bare.new) (ap lays bare.over)
 
-pub made_here : (r : Request) (t : Image) (p : List ℕ) (c : Change) (said : Option Said) → c ≡ after.linked (naming r) t p → said ≡ said_of (r.over.at p) → (makes c || says_laid said) ≡ is_made r t p
+pub made_here : (r : Request) (t : Image) (p : List ℕ) (c : Change) (said : Option Said) → c ≡ after.linked (naming r) t p → said ≡ said_as (r.over.at p) → (makes c || says_laid said) ≡ is_made r t p
 made_here r t p c said is are =
     ap (λ (x : Change). makes x || says_laid said) is ∙ ap (λ (s : Option Said). makes (after.linked (naming r) t p) || says_laid s) are
     ∙ ap (λ (b : Bool). makes (after.linked (naming r) t p) || b) (is_laid (r.over.at p))
@@ -232,13 +233,13 @@ pub made_below : (r : Request) (t : Image) (rows : List Row) (said : List (Optio
 made_below r t rows said p good table =
     any_either (is_below p) (λ q. makes (after.linked (naming r) t q)) (λ q. lays (r.over.at q)) (row_paths rows)
     ∙ ap (λ (b : Bool). b || list_any (λ q. is_below p q && lays (r.over.at q)) (row_paths rows))
-        (same_any (λ q. is_below p q && makes (after.linked (naming r) t q)) (row_paths rows) r.new.keys
-        (λ q is there. sym (good.new_want.keyed q) ∙ wanted q is)
-        (λ q is there. wanted_row r rows said q table (wanted q is)))
+    (same_any (λ q. is_below p q && makes (after.linked (naming r) t q)) (row_paths rows) r.new.keys
+    (λ q is there. sym (good.new_want.keyed q) ∙ wanted q is)
+    (λ q is there. wanted_row r rows said q table (wanted q is)))
     ∙ ap (λ (b : Bool). list_any (λ q. is_below p q && makes (after.linked (naming r) t q)) r.new.keys || b)
-        (same_any (λ q. is_below p q && lays (r.over.at q)) (row_paths rows) r.over.keys
-        (λ q is there. good.over_fits.keyed q (spoken (r.over.at q) (and_parts (is_below p q) (lays (r.over.at q)) is).1))
-        (λ q is there. table.covers q ∙ third_holds (is_some (r.old.at q)) (is_some (r.new.at q)) (listed r.over.keys q) there))
+    (same_any (λ q. is_below p q && lays (r.over.at q)) (row_paths rows) r.over.keys
+    (λ q is there. good.over_fits.keyed q (spoken (r.over.at q) (and_parts (is_below p q) (lays (r.over.at q)) is).1))
+    (λ q is there. table.covers q ∙ third_holds (is_some (r.old.at q)) (is_some (r.new.at q)) (listed r.over.keys q) there))
   where
     wanted : (q : List ℕ) → (is_below p q && makes (after.linked (naming r) t q)) ≡ true → is_some (r.new.at q) ≡ true
     wanted q is = made_wanted r t q (and_parts (is_below p q) (makes (after.linked (naming r) t q)) is).1

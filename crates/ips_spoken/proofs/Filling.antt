@@ -1,5 +1,5 @@
 -- Rows and paths that are spoken of, merged line by line.
-use Rattle.std.proofs.Common.{◌≡◌, ℕ, ◌+◌, ◌<◌, ◌≤◌, Bool, true, false, ◌||◌, List, [], ◌∷◌, ◌++◌, append_assoc, map, take, drop, length, Option, Some, None, is_some, refl, sym, ◌∙◌, ap, subst, inl, inr, arith, Bor}
+use Rattle.std.proofs.Common.{◌≡◌, ℕ, ◌+◌, ◌≤◌, Bool, true, false, ◌||◌, List, [], ◌∷◌, ◌++◌, append_assoc, map, take, drop, length, Option, Some, None, is_some, refl, sym, ◌∙◌, ap, subst, arith, Bor}
 use Rattle.std.specs.Prelude.{slice_get}
 use Rattle.std.specs.List.{AllByRecursion}
 use Rattle.std.specs.Option.{option_map}
@@ -11,24 +11,23 @@ use Rattle.std.specs.Ordering.{nat_cmp, is_eq, ordering_reverse}
 use Rattle.std.specs.Cmp.Lexicographic.{slice_cmp}
 use Rattle.std.proofs.lemmas.Bool.{ltb-false, ltb-true, or_from}
 use Rattle.std.proofs.lemmas.Cmp.{nat_list_cmp_total}
-use Rattle.std.proofs.lemmas.List.{append-nil, drop_all, drop_more, map-append, take_more, take-append-drop}
+use Rattle.std.proofs.lemmas.List.{append-nil, drop_all, drop_more, map-append, take_more}
 use Rattle.std.proofs.lemmas.Option.{get_or_from_slice_get, same_Some, slice_get_read, slice_get_within}
 use Rattle.ips_text.specs.Ancestry.{same_path}
 use Rattle.ips_text.proofs.Lists.{all_append}
 use Rattle.ips_text.proofs.Truths.{or_assoc, or_false}
-use Rattle.ips_outside.specs.Image.{Entry, Image}
+use Rattle.ips_outside.specs.Image.{Image}
 use Rattle.ips_outside.proofs.Maps.{is_eq-path, one_path}
 use Rattle.ips_after.specs.Lists.{listed}
 use Rattle.ips_after.specs.Request.{Over, Request, Wanted}
-use Rattle.ips_after.proofs.Order.{listed_append}
 use Rattle.ips_survey.specs.declared.row.Row.{Row}
 use Rattle.ips_survey.specs.Rows.{HasLooked, IsRowOf}
 use Rattle.ips_reach.specs.Marks.{row_paths}
 use Rattle.ips_spoken.specs.declared.next.Line.{Line}
 use Rattle.ips_spoken.specs.declared.said.Said.{Said}
 use Rattle.ips_spoken.specs.declared.said.Spoken.{Spoken}
-use Rattle.ips_spoken.specs.Lines.{bare, both, first, lesser, ranked, rows_taken, spoken_taken, unsaid}
-use Rattle.ips_spoken.specs.Said.{said_of}
+use Rattle.ips_spoken.specs.Lines.{bare, first, lesser, ranked, rows_taken, spoken_taken, unsaid}
+use Rattle.ips_spoken.specs.Said.{said_as}
 use Rattle.ips_spoken.specs.Tables.{AreNamed, AreRowsOf, IsTable, spoken_paths}
 
 abbrev Paths : Type 0
@@ -71,9 +70,6 @@ leads_on p y (z ∷ zs) all less = (nat_list_cmp_total.trans p y z less all.0, l
 leads_all : (p y : List ℕ) (ys : Paths) → slice_cmp nat_cmp p y ≡ Less → InOrder (y ∷ ys) → Leads p (y ∷ ys)
 leads_all p y ys less order = (less, leads_on p y ys (parts_of y ys order).0 less)
 
-turned_round : (p q : List ℕ) → slice_cmp nat_cmp p q ≡ Greater → slice_cmp nat_cmp q p ≡ Less
-turned_round p q more = nat_list_cmp_total.antisymm q p ∙ ap ordering_reverse more
-
 unlike : (p q : List ℕ) → slice_cmp nat_cmp p q ≡ Less → same_path q p ≡ false
 unlike p q less = sym (is_eq-path p q) ∙ ap is_eq less
 
@@ -102,13 +98,14 @@ spoken_both : (told more : List Spoken) (q : List ℕ) → listed (spoken_paths 
 spoken_both [] more q = refl
 spoken_both (x ∷ told) more q = ap (λ (b : Bool). same_path x.path.now.bytes q || b) (spoken_both told more q) ∙ sym (or_assoc (same_path x.path.now.bytes q) (listed (spoken_paths told) q) (listed (spoken_paths more) q))
 
-pub or_none : (a b : Bool) → (a || b) ≡ false → (a ≡ false) × (b ≡ false)
-or_none false b h = (refl, h)
+-- neither the second nor the first
+pub or_none : (a b : Bool) → (a || b) ≡ false → (b ≡ false) × (a ≡ false)
+or_none false b h = (h, refl)
 or_none true b h = cc
 
 -- what is said of a path
 abbrev pub said_at : Over → List ℕ → Option Said
-said_at o p = said_of (o.at p)
+said_at o p = said_as (o.at p)
 
 abbrev IsNamed : Over → Spoken → Type 0
 IsNamed o s = s.said ≡ said_at o s.path.now.bytes
@@ -215,8 +212,8 @@ unspoken : (r : Request) (rows : List Row) (spoken : List Spoken) (done left : L
 unspoken r rows spoken done left told more front said p h named past leads =
     let old = or_none (listed (row_paths done) p) (listed (spoken_paths told) p) (sym (h.covers p) ∙ not_before p (row_paths front) past) in
     let apart : listed r.over.keys p ≡ false =
-    ap (λ (l : Paths). listed l p) (sym (ap spoken_paths h.spoken_are ∙ named.paths)) ∙ spoken_both told more p ∙ or_from _ _ old.1 (not_behind p (spoken_paths more) leads) in
-    sym (ap said_of (named.none_else p apart))
+    ap (λ (l : Paths). listed l p) (sym (ap spoken_paths h.spoken_are ∙ named.paths)) ∙ spoken_both told more p ∙ or_from _ _ old.0 (not_behind p (spoken_paths more) leads) in
+    sym (ap said_as (named.none_else p apart))
 
 -- at the next path that is spoken of nothing was or is wanted, where it comes before the next row
 unwanted : (r : Request) (rows : List Row) (spoken : List Spoken) (done left : List Row) (told more : List Spoken) (front : List Row) (said : List (Option Said)) (p : List ℕ)
@@ -224,9 +221,9 @@ unwanted : (r : Request) (rows : List Row) (spoken : List Spoken) (done left : L
 unwanted r rows spoken done left told more front said p h of past leads =
     let old = or_none (listed (row_paths done) p) (listed (spoken_paths told) p) (sym (h.covers p) ∙ not_before p (row_paths front) past) in
     let apart : listed (row_paths rows) p ≡ false =
-    ap (λ (l : List Row). listed (row_paths l) p) (sym h.rows_are) ∙ rows_both done left p ∙ or_from _ _ old.0 (not_behind p (row_paths left) leads) in
+    ap (λ (l : List Row). listed (row_paths l) p) (sym h.rows_are) ∙ rows_both done left p ∙ or_from _ _ old.1 (not_behind p (row_paths left) leads) in
     let none = or_none (is_some (r.old.at p)) (is_some (r.new.at p)) (sym (of.covers p) ∙ apart) in
-    (no_entry (r.old.at p) none.0, no_entry (r.new.at p) none.1)
+    (no_entry (r.old.at p) none.1, no_entry (r.new.at p) none.0)
 
 take_row : (rows : List Row) (spoken : List Spoken) (done : List Row) (x : Row) (left : List Row) (told more : List Spoken) (front : List Row) (said : List (Option Said))
     → SoFar rows spoken done (x ∷ left) told more front said → Leads x.path.now.bytes (spoken_paths more)
@@ -404,7 +401,7 @@ line_added rows spoken i j front said row one line at_row at_one is h = go row o
     least : (x : Row) (y : Spoken) → slice_get rows i ≡ Some x → slice_get spoken j ≡ Some y → (o : Ordering) → slice_cmp nat_cmp x.path.now.bytes y.path.now.bytes ≡ o → Steps rows spoken i j front said (ranked o x y)
     least x y at there Less e = old x at (leads_spoken rows spoken i j front said x.path.now.bytes y h there e)
     least x y at there Equal e = step_both rows spoken i j front said x y h at there (one_path x.path.now.bytes y.path.now.bytes e)
-    least x y at there Greater e = new y there (leads_rows rows spoken i j front said y.path.now.bytes x h at (turned_round x.path.now.bytes y.path.now.bytes e))
+    least x y at there Greater e = new y there (leads_rows rows spoken i j front said y.path.now.bytes x h at (nat_list_cmp_total.antisymm y.path.now.bytes x.path.now.bytes ∙ ap ordering_reverse e))
 
     go : (o : Option Row) (n : Option Spoken) → Next rows i o → Next spoken j n → first o n ≡ Some line → Steps rows spoken i j front said line
     go (Some x) (Some y) at there e = subst (Steps rows spoken i j front said) (same_Some (lesser x y) line e) (least x y at there (slice_cmp nat_cmp x.path.now.bytes y.path.now.bytes) refl)

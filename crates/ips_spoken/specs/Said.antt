@@ -5,19 +5,13 @@ use Rattle.ips_spoken.specs.declared.said.Said.{Said}
 use Rattle.ips_spoken.specs.declared.said.Said.TheVariants.{Lays, Takes}
 
 -- what is said, by what is laid or taken away
-abbrev pub said_of : Option (Option Entry) → Option Said
-said_of None = None
-said_of (Some None) = Some Takes
-said_of (Some (Some e)) = Some Lays
+abbrev pub said_as : Option (Option Entry) → Option Said
+said_as None = None
+said_as (Some None) = Some Takes
+said_as (Some (Some e)) = Some Lays
 
 -- an entry is laid
 abbrev pub says_laid : Option Said → Bool
 says_laid (Some Lays) = true
 says_laid (Some Takes) = false
 says_laid None = false
-
--- what stands is taken away
-abbrev pub says_taken : Option Said → Bool
-says_taken (Some Lays) = false
-says_taken (Some Takes) = true
-says_taken None = false

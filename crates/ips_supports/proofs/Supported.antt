@@ -1,7 +1,7 @@
 -- Directories for what is made below them, row by row.
-use Rattle.std.proofs.Common.{◌≡◌, ℕ, Bool, true, false, not, ◌&&◌, ◌||◌, List, Option, Some, None, is_none, is_some, refl, sym, ◌∙◌, ap}
+use Rattle.std.proofs.Common.{◌≡◌, ℕ, Bool, false, not, ◌&&◌, ◌||◌, List, Option, Some, None, is_none, is_some, ◌∙◌, ap}
 use Rattle.std.proofs.lemmas.Bool.{or_from}
-use Rattle.ips_outside.specs.Image.{Entry, Image, is_dir}
+use Rattle.ips_outside.specs.Image.{Image, is_dir}
 use Rattle.ips_after.specs.After as after
 use Rattle.ips_after.specs.Change.{Change}
 use Rattle.ips_after.specs.Lists.{listed}
@@ -10,7 +10,7 @@ use Rattle.ips_change.specs.Told.{naming}
 use Rattle.ips_survey.specs.declared.row.Row.{Row}
 use Rattle.ips_reach.specs.Marks.{row_paths}
 use Rattle.ips_spoken.specs.declared.said.Said.{Said}
-use Rattle.ips_spoken.specs.Said.{said_of}
+use Rattle.ips_spoken.specs.Said.{said_as}
 use Rattle.ips_spoken.specs.Tables.{IsTable}
 use Rattle.ips_spoken.proofs.Marked.{is_spoken}
 use Rattle.ips_links.proofs.Linked.{and_second, is_bare, is_silent}
@@ -22,11 +22,11 @@ begins_none r t rows said q table apart =
     let bare = is_bare r rows said q table apart in
     or_from _ _ (and_second (is_none (r.new.at q)) (is_dir (t.look q)) (after.is_stated (r.old.at q)) (ap after.is_stated bare.old)) (ap is_some bare.over)
 
-pub begins_here : (r : Request) (t : Image) (p : List ℕ) (top : Bool) (said : Option Said) → top ≡ after.is_top r t p → said ≡ said_of (r.over.at p) → (top || is_some said) ≡ begins_taken (naming r) t p
+pub begins_here : (r : Request) (t : Image) (p : List ℕ) (top : Bool) (said : Option Said) → top ≡ after.is_top r t p → said ≡ said_as (r.over.at p) → (top || is_some said) ≡ begins_taken (naming r) t p
 begins_here r t p top said is are =
     ap (λ (b : Bool). b || is_some said) is ∙ ap (λ (s : Option Said). after.is_top r t p || is_some s) are ∙ ap (λ (b : Bool). after.is_top r t p || b) (is_spoken (r.over.at p))
 
-pub support_here : (r : Request) (t : Image) (p : List ℕ) (said : Option Said) (below taken : Bool) → said ≡ said_of (r.over.at p) → below ≡ after.holds_made (naming r) t p → taken ≡ after.is_taken (naming r) t p
+pub support_here : (r : Request) (t : Image) (p : List ℕ) (said : Option Said) (below taken : Bool) → said ≡ said_as (r.over.at p) → below ≡ after.holds_made (naming r) t p → taken ≡ after.is_taken (naming r) t p
     → (is_none said && ((not (is_dir (t.look p)) || taken) && below)) ≡ after.is_support (naming r) t p
 support_here r t p said below taken are made goes =
     ap (λ (s : Option Said). is_none s && ((not (is_dir (t.look p)) || taken) && below)) are

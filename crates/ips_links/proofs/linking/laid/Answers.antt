@@ -1,10 +1,9 @@
-use Rattle.std.proofs.Common.{◌<◌, false, List, get_or, length, map, take, take_all, ◌∙◌, ap, arith}
+use Rattle.std.proofs.Common.{◌<◌, false, List, get_or, length, map, take_all, ◌∙◌, ap, arith}
 use Rattle.ips_after.specs.After.{has_laid, needs_file}
 use Rattle.ips_after.specs.Change.{makes}
 use Rattle.ips_change.specs.Told.{change_told, naming}
 use Rattle.ips_survey.specs.declared.row.Row.{Row}
 use Rattle.ips_survey.specs.Rows.{HasLooked, IsRowOf}
-use Rattle.ips_reach.specs.Marks.{row_paths}
 use Rattle.ips_spoken.proofs.Filling.{said_at}
 use Rattle.ips_links.proofs.Linked.{all_here, at_path, at_row, by_rows, laid_here, laid_none, one_more, row_more}
 use Rattle.ips_links.proofs.linking.laid.Goals as goal
@@ -21,7 +20,7 @@ loop-i-preserved c =
     record {
       long = one_more c.loop-i.laid.items c.push.new.self.items c.is_laid.result i c.in_ok-push.ensures.items c.loop-i.invariant.long;
       so_far = λ r t table looked are.
-          let own = c.itself.ensures r t (all_here (IsRowOf r) rows i row table.entries lt there) (all_here (HasLooked t) rows i row looked lt there) in
+          let own = c.itself.ensures r t (all_here (IsRowOf r) rows i row lt there table.entries) (all_here (HasLooked t) rows i row lt there looked) in
           let here = laid_here r t row.path.now.bytes said needed (makes (change_told r.bytes c.itself.result))
           (c.index.ensures ∙ at_row (said_at r.over) c.args.table.now.said.items rows i row said table.said lt there)
           (at_row (needs_file (naming r) t) c.args.needs.now rows i row false are lt there) (ap makes own) in

@@ -1,4 +1,4 @@
-use Rattle.std.proofs.Common.{◌≡◌, ℕ, length, map, take}
+use Rattle.std.proofs.Common.{◌≡◌, length, map, take}
 use Rattle.ips_outside.specs.Image.{Image}
 use Rattle.ips_after.specs.After as after
 use Rattle.ips_after.specs.Request.{Request}

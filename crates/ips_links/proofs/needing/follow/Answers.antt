@@ -16,7 +16,7 @@ loop-row-preserved c =
     record {
       long = c.add.auto.led ∙ c.loop-row.invariant.long;
       so_far = λ r t of looked.
-          c.add.ensures r t (is_led r t (row_paths (take i rows))) (all_here (IsRowOf r) rows i row of lt c.row-item.is) (all_here (HasLooked t) rows i row looked lt c.row-item.is) (c.loop-row.invariant.so_far r t of looked)
+          c.add.ensures r t (is_led r t (row_paths (take i rows))) (all_here (IsRowOf r) rows i row lt c.row-item.is of) (all_here (HasLooked t) rows i row lt c.row-item.is looked) (c.loop-row.invariant.so_far r t of looked)
           ∙ led_more r t rows i row (row_paths rows) lt c.row-item.is;
     }
 

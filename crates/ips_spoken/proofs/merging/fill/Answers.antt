@@ -1,4 +1,4 @@
-use Rattle.std.proofs.Common.{◌≡◌, ℕ, ◌+◌, ◌≤◌, List, [], ◌∷◌, ◌++◌, length, Option, Some, None, sym, ◌∙◌, subst, arith, Bor}
+use Rattle.std.proofs.Common.{◌≡◌, ℕ, ◌+◌, ◌≤◌, List, [], ◌∷◌, ◌++◌, length, Option, Some, sym, ◌∙◌, subst, arith, Bor}
 use Rattle.std.specs.Option.{option_map}
 use Rattle.ips_survey.specs.declared.row.Row.{Row}
 use Rattle.ips_spoken.specs.declared.said.Said.{Said}

@@ -1,4 +1,4 @@
-use Rattle.std.proofs.Common.{◌<◌, false, not, ◌&&◌, ◌||◌, List, get_or, length, map, take, take_all, is_none, sym, ◌∙◌, ap, subst, arith}
+use Rattle.std.proofs.Common.{◌<◌, false, not, ◌&&◌, ◌||◌, List, get_or, length, map, take_all, is_none, sym, ◌∙◌, ap, subst, arith}
 use Rattle.ips_outside.specs.Image.{Image, is_dir}
 use Rattle.ips_outside.specs.State.{State}
 use Rattle.ips_outside.proofs.Reading.{reads_then}
@@ -28,7 +28,7 @@ loop-i-preserved g c =
       long = one_more c.loop-i.supports.items c.push.new.self.items c.in_ok-ask_at.field-0 i c.in_ok-push.ensures.items c.loop-i.invariant.long;
       reads = reads_then g.S.Source.outside c.args.source.now c.loop-i.source c.ask_at.new.source (HasFailed c.ask_at.result) _ c.loop-i.invariant.reads c.ask_at.ensures.reads (λ f. subst (λ (r : _). HasFailed r) c.in_ok-ask_at.was f) (λ f. absurd f);
       so_far = λ told r table looked made goes.
-          let asked = c.in_ok-ask_at.ensures.found (c.loop-i.invariant.reads.call.same_kind ∙ told) (subst (λ (u : Image). HasLooked u row) (sym kept) (all_here (HasLooked t) rows i row looked lt c.index.ensures)) in
+          let asked = c.in_ok-ask_at.ensures.found (c.loop-i.invariant.reads.call.same_kind ∙ told) (subst (λ (u : Image). HasLooked u row) (sym kept) (all_here (HasLooked t) rows i row lt c.index.ensures looked)) in
           let here = support_here r t p said below taken
           (c.index-in-loop-i.ensures ∙ at_row (said_at r.over) c.args.table.now.said.items rows i row said table.said lt c.index.ensures)
           (at_row (after.holds_made (naming r) t) c.args.below.now rows i row false made lt c.index.ensures)

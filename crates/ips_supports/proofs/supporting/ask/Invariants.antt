@@ -1,4 +1,4 @@
-use Rattle.std.proofs.Common.{◌≡◌, IsTrue, ℕ, length, map, take}
+use Rattle.std.proofs.Common.{◌≡◌, IsTrue, length, map, take}
 use Rattle.std.specs.List.{AllByRecursion}
 use Rattle.ips_outside.specs.Outside.{Reads}
 use Rattle.ips_after.specs.After as after

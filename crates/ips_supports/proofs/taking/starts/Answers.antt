@@ -1,4 +1,4 @@
-use Rattle.std.proofs.Common.{◌<◌, List, length, map, take, take_all, refl, ◌∙◌, ap, arith}
+use Rattle.std.proofs.Common.{◌<◌, List, length, map, take_all, refl, ◌∙◌, ap, arith}
 use Rattle.ips_after.specs.After as after
 use Rattle.ips_change.specs.Told.{naming}
 use Rattle.ips_survey.specs.declared.row.Row.{Row}
@@ -20,7 +20,7 @@ loop-i-preserved c =
       long = one_more c.loop-i.marks.items c.push.new.self.items c.is_start.result i c.in_ok-push.ensures.items c.loop-i.invariant.long;
       so_far = λ r t table looked.
           let p = row.path.now.bytes in
-          let own = c.is_start.ensures r t (all_here (IsRowOf r) rows i row table.entries lt c.index.ensures) (all_here (HasLooked t) rows i row looked lt c.index.ensures) in
+          let own = c.is_start.ensures r t (all_here (IsRowOf r) rows i row lt c.index.ensures table.entries) (all_here (HasLooked t) rows i row lt c.index.ensures looked) in
           let here = begins_here r t p (after.is_top r t p) said refl (c.index-in-loop-i.ensures ∙ at_row (said_at r.over) c.args.table.now.said.items rows i row said table.said lt c.index.ensures) in
           c.in_ok-push.ensures.items ∙ row_more (begins_taken (naming r) t) rows i row c.loop-i.marks.items c.is_start.result lt c.index.ensures (c.loop-i.invariant.so_far r t table looked) (own ∙ here);
     }

@@ -1,4 +1,4 @@
-use Rattle.std.proofs.Common.{◌<◌, Bool, List, length, map, take, take_all, sym, ◌∙◌, ap, subst, arith}
+use Rattle.std.proofs.Common.{◌<◌, Bool, List, length, map, take_all, sym, ◌∙◌, ap, subst, arith}
 use Rattle.ips_after.specs.After as after
 use Rattle.ips_after.specs.Change.{reached}
 use Rattle.ips_change.specs.Told.{naming}
