@@ -1,4 +1,4 @@
-mod Placed
+pub mod Placed
 mod Reached
 mod Topping
-mod Marking
+pub mod Marking

@@ -20,7 +20,8 @@ pub fn marked_below(
 ) -> Result<Vec<bool>, AllocError>
     requires order { IsStrictlySortedBy (slice_cmp nat_cmp) (row_paths rows.now) }
     requires marks { length marks.now ≡ length rows.now }
-    ensures { IfOk result (λ found. (test : List ℕ → Bool) → IsMarkOf test (row_paths rows.now) marks.now → found.items ≡ map (holds_below test (row_paths rows.now)) (row_paths rows.now)) }
+    ensures long { IfOk result (λ found. length found.items ≡ length rows.now) }
+    ensures below { IfOk result (λ found. (test : List ℕ → Bool) → IsMarkOf test (row_paths rows.now) marks.now → found.items ≡ map (holds_below test (row_paths rows.now)) (row_paths rows.now)) }
 {
     let mut found = vec![in alloc; false; rows.len()]?;
     mark_all(rows, marks, &mut found);
@@ -64,8 +65,8 @@ fn mark_above(rows: &[Row<'_>], found: &mut [bool], path: &[u8])
     }
 }
 
-// Marks the row of the path, if it has one.
-fn mark(rows: &[Row<'_>], found: &mut [bool], path: &[u8])
+/// Marks the row of the path, if it has one.
+pub fn mark(rows: &[Row<'_>], found: &mut [bool], path: &[u8])
     requires order { IsStrictlySortedBy (slice_cmp nat_cmp) (row_paths rows.now) }
     requires found { length found.old ≡ length rows.now }
     ensures { (test : List ℕ → Bool) → found.old ≡ map test (row_paths rows.now) → found.new ≡ map (λ p. test p || same_path p path.now) (row_paths rows.now) }

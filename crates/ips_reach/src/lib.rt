@@ -9,7 +9,7 @@ mod placing;
 mod reaching;
 mod top;
 
-pub use below::marked_below;
+pub use below::{mark, marked_below};
 pub use placing::place;
-pub use reaching::is_reached;
+pub use reaching::{is_marked, is_reached};
 pub use top::{is_top, tops};

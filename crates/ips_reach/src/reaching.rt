@@ -31,8 +31,8 @@ pub fn is_reached(rows: &[Row<'_>], marks: &[bool], path: &[u8]) -> bool
     false
 }
 
-// Whether a mark stands at the path.
-fn is_marked(rows: &[Row<'_>], marks: &[bool], path: &[u8]) -> bool
+/// Whether a mark stands at the path.
+pub fn is_marked(rows: &[Row<'_>], marks: &[bool], path: &[u8]) -> bool
     requires order { IsStrictlySortedBy (slice_cmp nat_cmp) (row_paths rows.now) }
     requires marks { length marks.now ≡ length rows.now }
     ensures { (test : List ℕ → Bool) → IsMarkOf test (row_paths rows.now) marks.now → result ≡ test path.now }

@@ -1,0 +1,19 @@
+use Rattle.std.proofs.Common.{◌≡◌, IsTrue, length, map, take}
+use Rattle.std.specs.List.{AllByRecursion}
+use Rattle.ips_outside.specs.Outside.{Reads}
+use Rattle.ips_after.specs.Request.{Request}
+use Rattle.ips_survey.specs.Rows.{HasLooked}
+use Rattle.ips_reach.specs.Marks.{row_paths}
+use Rattle.ips_spoken.specs.Tables.{IsTable}
+use Rattle.ips_links.specs.Leading.{is_led}
+use Rattle.ips_links.proofs.Linked.{at_path, needs_at}
+use Rattle.ips_links.proofs.needing.ask.Given as goal
+
+abbrev pub invariant-loop-i : goal.invariant-loop-i
+invariant-loop-i g l = record {
+  long : length l.needs.items ≡ l.i;
+  reads : Reads g.S.Source.outside l.fn.source l.source ⊥;
+  so_far : IsTrue (g.S.Source.outside.tells l.fn.source) → (r : Request) → IsTable r l.table.rows.items l.table.said.items → AllByRecursion (HasLooked (g.S.Source.outside.state l.fn.source).held) l.table.rows.items
+      → l.led ≡ map (is_led r (g.S.Source.outside.state l.fn.source).held (row_paths l.table.rows.items)) (row_paths l.table.rows.items)
+      → l.needs.items ≡ map (at_path (needs_at r (g.S.Source.outside.state l.fn.source).held (row_paths l.table.rows.items))) (take l.i l.table.rows.items);
+}

@@ -1,0 +1,4 @@
+pub mod Said
+pub mod Tables
+pub mod Lines
+pub mod Kinds
