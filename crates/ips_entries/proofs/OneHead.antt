@@ -109,11 +109,6 @@ by_sections {B = B} g h =
     flat_map-append g (os ++ ws ++ vs) fs ∙ ap (λ (l : List B). l ++ flat_map g fs) (flat_map-append g (os ++ ws) vs) ∙ ap (λ (l : List B). l ++ flat_map g vs ++ flat_map g fs) (flat_map-append g os ws)
     ∙ ap (λ (l : List HeadLine). flat_map g os ++ flat_map g l ++ flat_map g vs ++ flat_map g fs) (actuator_mapped h.actuator)
 
-origins_said : (h : Head) → flat_map origin_in (tail_items h) ≡ h.origins
-origins_said h =
-    by_sections origin_in h ∙ rw (kept_all line.Origin origin_in (λ o. refl) h.origins, none_of (λ (v : List ℕ). line.Actuator v) origin_in (λ w. refl) (words_in h.actuator), none_of variant_item origin_in (λ v. refl) h.settings.variants, none_of facet_item origin_in (λ f. refl) h.settings.facets)
-    (append-nil ((h.origins ++ []) ++ []) ∙ append-nil (h.origins ++ []) ∙ append-nil h.origins)
-
 words_said : (h : Head) → flat_map actuator_in (tail_items h) ≡ words_in h.actuator
 words_said h =
     by_sections actuator_in h ∙ rw (none_of line.Origin actuator_in (λ o. refl) h.origins, kept_all (λ (v : List ℕ). line.Actuator v) actuator_in (λ w. refl) (words_in h.actuator), none_of variant_item actuator_in (λ v. refl) h.settings.variants, none_of facet_item actuator_in (λ f. refl) h.settings.facets)
@@ -135,6 +130,11 @@ tails_said : (a b : Head) → a.format ≡ b.format → a.publisher ≡ b.publis
 tails_said a b f p e =
     same_head a b f p (sym (origins_said a) ∙ ap (flat_map origin_in) e ∙ origins_said b) (sym (word_kept a.actuator) ∙ ap first_word (sym (words_said a) ∙ ap (flat_map actuator_in) e ∙ words_said b) ∙ word_kept b.actuator)
     (sym (variants_said a) ∙ ap (flat_map variant_in) e ∙ variants_said b) (sym (facets_said a) ∙ ap (flat_map facet_in) e ∙ facets_said b)
+  where
+    origins_said : (h : Head) → flat_map origin_in (tail_items h) ≡ h.origins
+    origins_said h =
+        by_sections origin_in h ∙ rw (kept_all line.Origin origin_in (λ o. refl) h.origins, none_of (λ (v : List ℕ). line.Actuator v) origin_in (λ w. refl) (words_in h.actuator), none_of variant_item origin_in (λ v. refl) h.settings.variants, none_of facet_item origin_in (λ f. refl) h.settings.facets)
+        (append-nil ((h.origins ++ []) ++ []) ∙ append-nil (h.origins ++ []) ∙ append-nil h.origins)
 
 abbrev format_in : List HeadLine → ℕ
 format_in (line.Format n ∷ xs) = n

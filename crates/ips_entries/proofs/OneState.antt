@@ -8,6 +8,7 @@ use Rattle.std.specs.List.{AllByRecursion, list_any}
 use Rattle.std.proofs.lemmas.Bool.{true≢false, or_cases}
 use Rattle.std.proofs.lemmas.Cmp.{nat_list_cmp_total}
 use Rattle.std.proofs.lemmas.Map.Keys.{sorted_head, sorted_tail}
+use Rattle.std.proofs.lemmas.Option.{same_Some}
 use Rattle.ips_text.specs.Ancestry.{same_path}
 use Rattle.ips_text.proofs.Ancestry.{same_path-self, same_path-true}
 use Rattle.ips_text.proofs.Truths.{or_true}
@@ -137,17 +138,8 @@ versioned packages h = record { each = each packages h.each; order = subst Ascen
     stems [] = refl
     stems (p ∷ ps) = ap (λ (l : List (List ℕ)). p.stem ∷ l) (stems ps)
 
-front_of : {A : Type 0} (x y : A) (xs ys : List A) → x ∷ xs ≡ y ∷ ys → x ≡ y
-front_of x y xs ys e = cc
-
-rest_of : {A : Type 0} (x y : A) (xs ys : List A) → x ∷ xs ≡ y ∷ ys → xs ≡ ys
-rest_of x y xs ys e = cc
-
 abbrev version_of_name : Fmri → Option Parts
 version_of_name f = f.version
-
-some_one : {A : Type 0} (a b : A) → (let o : Option A = Some a in o) ≡ Some b → a ≡ b
-some_one a b e = cc
 
 module _ (At : List ℕ → List ℕ → Type 0) (one : (path a b : List ℕ) → At path a → At path b → a ≡ b) where
   moved : (path other text : List ℕ) → path ≡ other → At path text → At other text
@@ -159,13 +151,14 @@ module _ (At : List ℕ → List ℕ → Type 0) (one : (path a b : List ℕ) �
   listed_same [] (q ∷ qs) e hp hq = absurd cc
   listed_same (p ∷ ps) [] e hp hq = absurd cc
   listed_same (p ∷ ps) (q ∷ qs) e hp hq =
-      let name = front_of (versioned_stem p) (versioned_stem q) (map versioned_stem ps) (map versioned_stem qs) e in
+      let name : versioned_stem p ≡ versioned_stem q = cc in
+      let others : map versioned_stem ps ≡ map versioned_stem qs = cc in
       let stem : p.stem ≡ q.stem = ap (λ (f : Fmri). f.stem) name in
-      let version : p.version ≡ q.version = some_one p.version q.version (ap version_of_name name) in
+      let version : p.version ≡ q.version = same_Some p.version q.version (ap version_of_name name) in
       let text = one (manifest_path q.stem) hp.0.text hq.0.text (moved (manifest_path p.stem) (manifest_path q.stem) hp.0.text (ap manifest_path stem) hp.0.at) hq.0.at in
       let lines = manifest_one hp.0.text hq.0.text p.lines q.lines text hp.0.means hq.0.means in
       ap₂ (λ (x : Installed) (l : List Installed). x ∷ l) (same_package p q stem version lines)
-      (listed_same ps qs (rest_of (versioned_stem p) (versioned_stem q) (map versioned_stem ps) (map versioned_stem qs) e) hp.1 hq.1)
+      (listed_same ps qs others hp.1 hq.1)
 
   recorded_same : (ps qs : List Installed) → stems_in ps ≡ stems_in qs → AllByRecursion IsPackage ps → AllByRecursion IsPackage qs
       → AllByRecursion (λ (p : Installed). Manifested At (package_path p.stem) (package_head p.version) p) ps
@@ -174,12 +167,13 @@ module _ (At : List ℕ → List ℕ → Type 0) (one : (path a b : List ℕ) �
   recorded_same [] (q ∷ qs) e ap_ aq hp hq = absurd cc
   recorded_same (p ∷ ps) [] e ap_ aq hp hq = absurd cc
   recorded_same (p ∷ ps) (q ∷ qs) e ap_ aq hp hq =
-      let stem = front_of p.stem q.stem (stems_in ps) (stems_in qs) e in
+      let stem : p.stem ≡ q.stem = cc in
+      let others : stems_in ps ≡ stems_in qs = cc in
       let text = one (package_path q.stem) (package_head p.version ++ hp.0.text) (package_head q.version ++ hq.0.text) (moved (package_path p.stem) (package_path q.stem) (package_head p.version ++ hp.0.text) (ap package_path stem) hp.0.at) hq.0.at in
       let parts = record_one p.version q.version hp.0.text hq.0.text ap_.0.version aq.0.version text in
       let lines = manifest_one hp.0.text hq.0.text p.lines q.lines parts.1 hp.0.means hq.0.means in
       ap₂ (λ (x : Installed) (l : List Installed). x ∷ l) (same_package p q stem parts.0 lines)
-      (recorded_same ps qs (rest_of p.stem q.stem (stems_in ps) (stems_in qs) e) ap_.1 aq.1 hp.1 hq.1)
+      (recorded_same ps qs others ap_.1 aq.1 hp.1 hq.1)
 
   among_told : (ps qs : List Installed) → AllByRecursion IsPackage ps → AllByRecursion (λ (p : Installed). Manifested At (package_path p.stem) (package_head p.version) p) ps
       → ((stem bytes : List ℕ) → IsStem false stem → At (package_path stem) bytes → among (stems_in qs) stem ≡ true) → (x : List ℕ) → among (stems_in ps) x ≡ true → among (stems_in qs) x ≡ true
