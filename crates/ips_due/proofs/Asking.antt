@@ -37,7 +37,7 @@ module _ (so sn : Set) (mo mn : List SetMediator) (po pn : List Package) (old ne
     legacy = λ q below there. legacy_wanted sn mn pn new is.mean (legacy q below there);
   }
 
-  pub is_asked : FitsAccounts (want_of new) → LeavesOwn due (want_of new) → IsRequest r
+  pub is_asked : FitsAccounts due (want_of new) → LeavesOwn due (want_of new) → IsRequest r
   is_asked accounts left = record {
     old_want = is_want old was.mean.want.in_order was.together;
     new_want = is_want new is.mean.want.in_order is.together;

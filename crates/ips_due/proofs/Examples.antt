@@ -5,7 +5,7 @@ use Rattle.ips_text.specs.Ancestry.{same_path}
 use Rattle.ips_outside.specs.Image.{Entry, Dir, File, Image}
 use Rattle.ips_text.specs.Quote.{quoted}
 use Rattle.ips_due.specs.Due.{Due, said}
-use Rattle.ips_due.specs.Delivered.{Delivered, License, delivered_gone, delivered_records}
+use Rattle.ips_due.specs.Delivered.{Delivered, License, delivered_gone, delivered_records, first_folders}
 
 abbrev look_in : List (List ℕ × Entry) → List ℕ → Option Entry
 look_in [] q = None
@@ -102,3 +102,13 @@ some_go = refl
 all_go : delivered_gone was (record { owners = []; drivers = []; licenses = []; legacy = is.legacy }) ≡ codes "var/pkg/license/a%2Fb" ∷ codes "var/pkg/license/a%2Fb" ∷ codes "var/sadm/pkg/SUNWa" ∷ []
 unfolding quoted
 all_go = refl
+
+-- an image is made with an empty folder of packages, whatever stands there
+abbrev made_due : Due
+made_due = record { accounts = []; records = []; renewed = codes "var/pkg/packages" ∷ []; folders = first_folders; gone = [] }
+
+renewed_packages : said made_due tree (codes "var/pkg/packages") ≡ Some (Some (Dir 493 false))
+renewed_packages = refl
+
+made_licenses : said made_due tree (codes "var/pkg/license") ≡ Some (Some (Dir 493 false))
+made_licenses = refl

@@ -111,7 +111,7 @@ own_down p q up own =
       | inr h ↦ or_right (is_below records_name q) _ (below_trans (codes "var/sadm/pkg") p q h up)
     ]
 
-module _ (due : Due) (t : Image) (o : Over) (new : Want) (is : IsDue due) (of : IsOverOf due t o) (want : IsWant new) (accounts : FitsAccounts new) (left : LeavesOwn due new) where
+module _ (due : Due) (t : Image) (o : Over) (new : Want) (is : IsDue due) (of : IsOverOf due t o) (want : IsWant new) (accounts : FitsAccounts due new) (left : LeavesOwn due new) where
   of_said : (q : List ℕ) → Said due q (o.at q)
   of_said q = subst (Said due q) (sym (of.at q)) (said_is due t q)
 
@@ -126,7 +126,7 @@ module _ (due : Due) (t : Image) (o : Over) (new : Want) (is : IsDue due) (of : 
   own_unwanted q own h = clash (is_some (new.at q)) h (ap is_some (left.none q own))
 
   wanted_among : (q : List ℕ) (x : Option (Option Entry)) → Said due q x → is_some x ≡ true → is_some (new.at q) ≡ true → (is_file_wanted (new.at q) ≡ true) × (o.is_account q ≡ true) × (lays_file x ≡ true)
-  wanted_among q _ (Account m b at) h new = let acc = is.accounts q (ap is_some at) in (accounts.files q acc new, of.accounts q ∙ acc, refl)
+  wanted_among q _ (Account m b at) h new = let there = ap is_some at in (accounts.files q there new, of.accounts q ∙ is.accounts q there, refl)
   wanted_among q _ (Record b at) h new = absurd (own_unwanted q (is.own q (own_of_record due q at)).0 new)
   wanted_among q _ (Folder at) h new = absurd (own_unwanted q (is.own q (own_of_folder due q at)).0 new)
   wanted_among q _ (Gone at) h new = absurd (own_unwanted q (is.own q (own_of_gone due q at)).0 new)
@@ -155,7 +155,7 @@ module _ (due : Due) (t : Image) (o : Over) (new : Want) (is : IsDue due) (of : 
   ]
 
   above_at : (p q : List ℕ) → is_below p q ≡ true → (x : Option (Option Entry)) → Said due q x → lays x ≡ true → is_some (new.at p) ≡ true → is_dir_wanted (new.at p) ≡ true
-  above_at p q up _ (Account m b at) h there = accounts.above p q (is.accounts q (ap is_some at)) up there
+  above_at p q up _ (Account m b at) h there = accounts.above p q (ap is_some at) up there
   above_at p q up _ (Record b at) h there = own_above p q up (is.own q (own_of_record due q at)).0 (due_of_record due q at) there
   above_at p q up _ (Folder at) h there = own_above p q up (is.own q (own_of_folder due q at)).0 (due_of_folder due q at) there
   above_at p q up _ (Gone at) h there = cc

@@ -470,7 +470,7 @@ lost_path = codes "var/pkg/lost+found"
 
 first_own : AllByRecursion (λ (x : List ℕ). (is_own x ≡ true) × (is_private x ≡ false)) first_folders
 unfolding records_name stage_name journal_name gate_name mark_front
-first_own = ((refl, refl), ((refl, refl), ((refl, refl), tt)))
+first_own = ((refl, refl), ((refl, refl), tt))
 
 module _ (new : Recorded) where
   abbrev made : Bool
@@ -483,20 +483,26 @@ module _ (new : Recorded) where
   first_at q h = at_record (AtRecord made nothing) first_records q (all_append (AtRecord made nothing) (records_of new) (delivered_records nothing) (state_all made nothing new) (delivered_all made nothing)) h
 
   first_in : AllByRecursion (IsIn made nothing) first_folders
-  first_in = (in_own made nothing licenses_path refl, (in_own made nothing lost_path refl, (in_own made nothing packages_path refl, tt)))
+  first_in = (in_own made nothing licenses_path refl, (in_own made nothing lost_path refl, tt))
 
-  first_due : (q : List ℕ) → (false || (is_some (record_at first_records q) || (false || listed first_folders q))) ≡ true → IsIn made nothing q
-  first_due q h = elim (or_cases (is_some (record_at first_records q)) (listed first_folders q) h) [
+  first_due : (q : List ℕ) → (false || (is_some (record_at first_records q) || (listed (packages_path ∷ []) q || listed first_folders q))) ≡ true → IsIn made nothing q
+  first_due q h = elim (or_cases (is_some (record_at first_records q)) (listed (packages_path ∷ []) q || listed first_folders q) h) [
     | inl record_due ↦ (first_at q record_due).1
-    | inr folder ↦ at_listed (IsIn made nothing) first_folders q first_in folder
+    | inr more ↦ elim (or_cases (listed (packages_path ∷ []) q) (listed first_folders q) more) [
+      | inl packages ↦ at_listed (IsIn made nothing) (packages_path ∷ []) q (in_own made nothing packages_path refl, tt) packages
+      | inr folder ↦ at_listed (IsIn made nothing) first_folders q first_in folder
+    ]
   ]
 
-  owned_first : (q : List ℕ) → (is_some (record_at first_records q) || (false || (listed first_folders q || false))) ≡ true → (is_own q ≡ true) × (is_private q ≡ false)
-  owned_first q h = elim (or_cases (is_some (record_at first_records q)) (listed first_folders q || false) h) [
+  owned_first : (q : List ℕ) → (is_some (record_at first_records q) || (listed (packages_path ∷ []) q || (listed first_folders q || false))) ≡ true → (is_own q ≡ true) × (is_private q ≡ false)
+  owned_first q h = elim (or_cases (is_some (record_at first_records q)) (listed (packages_path ∷ []) q || (listed first_folders q || false)) h) [
     | inl record_due ↦ let at = (first_at q record_due).0 in (at.own, at.seen)
-    | inr more ↦ elim (or_cases (listed first_folders q) false more) [
-      | inl folder ↦ at_listed (λ (x : List ℕ). (is_own x ≡ true) × (is_private x ≡ false)) first_folders q first_own folder
-      | inr none ↦ cc
+    | inr more ↦ elim (or_cases (listed (packages_path ∷ []) q) (listed first_folders q || false) more) [
+      | inl packages ↦ at_listed (λ (x : List ℕ). (is_own x ≡ true) × (is_private x ≡ false)) (packages_path ∷ []) q ((folder_own, packages_seen), tt) packages
+      | inr rest ↦ elim (or_cases (listed first_folders q) false rest) [
+        | inl folder ↦ at_listed (λ (x : List ℕ). (is_own x ≡ true) × (is_private x ≡ false)) first_folders q first_own folder
+        | inr none ↦ cc
+      ]
     ]
   ]
 

@@ -18,14 +18,14 @@ use Rattle.ips_index.specs.Rows.{Row}
 use Rattle.ips_state.specs.Form.{IsPackage}
 use Rattle.ips_state.specs.Lawful.{IsLawful}
 use Rattle.ips_state.specs.State.{Installed, Recorded}
-use Rattle.ips_state.specs.Records.{common_records, index_records, listed_records, manifest_path, package_path, package_records, records_by, records_of, taken_away, taken_by}
+use Rattle.ips_state.specs.Records.{common_records, index_records, listed_records, manifest_path, package_path, package_records, packages_path, records_by, records_of, taken_away, taken_by}
 use Rattle.ips_state.proofs.Places.{manifest_is_path, package_is_path}
 use Rattle.ips_outside.specs.Image.{File}
 use Rattle.ips_after.specs.Findings.{is_account_path}
 use Rattle.ips_after.specs.Lists.{listed}
 use Rattle.ips_due.specs.Due.{account_at, DueFile, HasProperDue, is_due, record_at}
 use Rattle.ips_due.specs.State.{renewed_by}
-use Rattle.ips_due.specs.Delivered.{CanBeNamed, CanName, Delivered, Legacy, License, delivered_gone, delivered_records, gone_license, has_legacy_package, has_license, has_stem, info_path, legacy_folder, license_folder, request_due}
+use Rattle.ips_due.specs.Delivered.{CanBeNamed, CanName, Delivered, Legacy, License, creation_due, delivered_gone, delivered_records, first_folders, gone_license, has_legacy_package, has_license, has_stem, info_path, legacy_folder, license_folder, request_due}
 use Rattle.ips_due.proofs.StateDue.{all_append, at_listed, at_record, renewed_is}
 
 -- ---- paths by their parts
@@ -171,3 +171,24 @@ module _ (accounts : List DueFile) (old new : Recorded) (was is : Delivered) (fi
     paths = λ q h. elim (or_cases (is_due (request_due accounts old new was is) q) (listed (taken_away old new ++ delivered_gone was is) q) h) [ inl due ↦ due_path q due | inr gone ↦ gone_path q gone ];
     modes = modes;
   }
+
+-- ---- what an image is made with
+
+abbrev nothing_named : Delivered
+nothing_named = record { owners = []; drivers = []; licenses = []; legacy = [] }
+
+module _ (new : Recorded) (lawful : IsLawful new) where
+  made_path : (q : List ℕ) → (is_due (creation_due new) q || false) ≡ true → IsPath q
+  made_path q h = elim (or_cases (is_due (creation_due new) q) false h) [
+    | inl due ↦ elim (or_cases (is_some (record_at (records_of new ++ delivered_records nothing_named) q)) (listed (packages_path ∷ []) q || listed first_folders q) due) [
+      | inl record_due ↦ at_record IsPath (records_of new ++ delivered_records nothing_named) q (all_append IsPath (records_of new) (delivered_records nothing_named) (state_paths (new.format == 1) new lawful.installed.each) (delivered_paths nothing_named (record { licenses = cc; packages = cc }))) record_due
+      | inr more ↦ elim (or_cases (listed (packages_path ∷ []) q) (listed first_folders q) more) [
+        | inl packages ↦ at_listed IsPath (packages_path ∷ []) q (in_pkg (codes "packages") (record { bytes = refl; some = omega arith; few = omega arith; no_dots = refl }), tt) packages
+        | inr folder ↦ at_listed IsPath first_folders q (in_pkg (codes "license") (record { bytes = refl; some = omega arith; few = omega arith; no_dots = refl }), (in_pkg (codes "lost+found") (record { bytes = refl; some = omega arith; few = omega arith; no_dots = refl }), tt)) folder
+      ]
+    ]
+    | inr none ↦ cc
+  ]
+
+  pub creation_is_proper : HasProperDue (creation_due new)
+  creation_is_proper = record { paths = made_path; modes = λ q m b at. cc }

@@ -111,16 +111,17 @@ request_due accounts old new was is = record {
   gone = taken_away old new ++ delivered_gone was is;
 }
 
--- The folders that an image is made with, beside that of its records, in format 2.
+-- The folders that an image is made with where no directory stands: that of licenses, and that of what was salvaged.
 abbrev pub first_folders : List (List ℕ)
-first_folders = licenses_path ∷ codes "var/pkg/lost+found" ∷ packages_path ∷ []
+first_folders = licenses_path ∷ codes "var/pkg/lost+found" ∷ []
 
--- What is due where an image is made in this state, in which nothing is installed.
+-- What is due where an image is made in this state, of format 2, in which nothing is installed: its folder of packages is made anew, whatever stands
+-- there.
 abbrev pub creation_due : Recorded → Due
 creation_due new = record {
   accounts = [];
   records = records_of new ++ delivered_records (record { owners = []; drivers = []; licenses = []; legacy = [] });
-  renewed = [];
+  renewed = packages_path ∷ [];
   folders = first_folders;
   gone = [];
 }

@@ -106,10 +106,10 @@ pub record IsOverOf (due : Due) (t : Image) (o : Over) : Type 0 where
   pub only : (p : List ℕ) → IsTrue (listed o.keys p) → (q : List ℕ) × IsTrue (covers p q) × IsTrue (is_some (o.at q))
   pub by_bytes : IsStrictlySortedBy (slice_cmp nat_cmp) o.keys
 
--- What is wanted fits account files: where one is, a file is wanted if anything is, and above it nothing but directories.
-pub record FitsAccounts (new : Want) : Type 0 where
-  pub files : (q : List ℕ) → IsTrue (is_account_path q) → IsTrue (is_some (new.at q)) → IsTrue (is_file_wanted (new.at q))
-  pub above : (p q : List ℕ) → IsTrue (is_account_path q) → IsTrue (is_below p q) → IsTrue (is_some (new.at p)) → IsTrue (is_dir_wanted (new.at p))
+-- What is wanted fits the account files that are due: where one is, a file is wanted if anything is, and above it nothing but directories.
+pub record FitsAccounts (due : Due) (new : Want) : Type 0 where
+  pub files : (q : List ℕ) → IsTrue (is_some (account_at due.accounts q)) → IsTrue (is_some (new.at q)) → IsTrue (is_file_wanted (new.at q))
+  pub above : (p q : List ℕ) → IsTrue (is_some (account_at due.accounts q)) → IsTrue (is_below p q) → IsTrue (is_some (new.at p)) → IsTrue (is_dir_wanted (new.at p))
 
 -- What is wanted leaves the image's own folders to it: nothing in them is wanted, the folder of the records is wanted as a directory, and
 -- so is that of the records of legacy packages where one is due in it.

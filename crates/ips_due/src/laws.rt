@@ -25,7 +25,7 @@ ghost use Rattle.ips_due.specs.Due.{account_at, Due, DueFile, HasProperDue, is_d
 
 /// What account files and records say by what is due fits what is wanted.
 pub fn due_fits_the_want()
-    ensures { (due : Due) (t : Image) (o : Over) (new : Want) → IsDue due → IsOverOf due t o → IsWant new → FitsAccounts new → LeavesOwn due new → OverFits o new }
+    ensures { (due : Due) (t : Image) (o : Over) (new : Want) → IsDue due → IsOverOf due t o → IsWant new → FitsAccounts due new → LeavesOwn due new → OverFits o new }
 {}
 
 /// A journal can name each path of which they speak.
@@ -53,7 +53,7 @@ pub fn standing_records_stay()
 /// legacy packages are due only where the new packages have such an entry.
 pub fn requests_are_lawful()
     ensures request { (so sn : Set) (mo mn : List SetMediator) (po pn : List Package) (old new : List (List ℕ × Entry)) (was : AreMeant so mo po old) (is : AreMeant sn mn pn new)
-        → (due : Due) (t : Image) (o : Over) → IsDue due → IsOverOf due t o → FitsAccounts (want_of new)
+        → (due : Due) (t : Image) (o : Over) → IsDue due → IsOverOf due t o → FitsAccounts due (want_of new)
         → ((q : List ℕ) → IsTrue (is_below (codes "var/sadm/pkg") q) → IsTrue (is_due due q) → IsTrue (has_legacy is.mean.taken.kept))
         → (bytes : List ℕ → List ℕ) (holds : List ℕ → List ℕ → Bool) → IsRequest (request_between old new bytes holds o) }
     ensures names { (so sn : Set) (mo mn : List SetMediator) (po pn : List Package) (old new : List (List ℕ × Entry)) → AreMeant so mo po old → AreMeant sn mn pn new
@@ -85,4 +85,9 @@ pub fn creations_hang_together()
 pub fn requests_have_proper_due()
     ensures { (accounts : List DueFile) (old new : Recorded) (was is : Delivered) → ((q : List ℕ) → IsTrue (is_some (account_at accounts q)) → IsTrue (is_account_path q))
         → ((q : List ℕ) (m : ℕ) (b : List ℕ) → account_at accounts q ≡ Some (File m b) → m < 4096) → IsLawful old → IsLawful new → CanBeNamed was → CanBeNamed is → HasProperDue (request_due accounts old new was is) }
+{}
+
+/// And the paths of what an image is made with are paths, where its state is lawful.
+pub fn creations_have_proper_due()
+    ensures { (new : Recorded) → IsLawful new → HasProperDue (creation_due new) }
 {}

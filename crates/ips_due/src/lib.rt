@@ -7,7 +7,7 @@
 mod laws;
 
 pub use laws::{
-    creations_hang_together, due_can_be_named, due_fits_the_want, requests_are_lawful,
-    requests_hang_together, requests_have_proper_due, standing_is_not_spoken_of,
-    standing_records_stay, state_hangs_together,
+    creations_hang_together, creations_have_proper_due, due_can_be_named, due_fits_the_want,
+    requests_are_lawful, requests_hang_together, requests_have_proper_due,
+    standing_is_not_spoken_of, standing_records_stay, state_hangs_together,
 };

@@ -1,7 +1,7 @@
 //! Steps, one after another.
 
 ghost use Rattle.std.specs.Prelude.{◌≡◌, ◌++◌, ◌∷◌, [], ℕ, List, OnOk, IfOk, length, map};
-ghost use Rattle.ips_outside.specs.Image.{File, Image};
+ghost use Rattle.ips_outside.specs.Image.{File, Image, Link};
 ghost use Rattle.ips_steps.specs.Steps as steps;
 ghost use Rattle.ips_steps.specs.Targets.{IsTarget};
 ghost use Rattle.ips_steps.specs.View.{step_of};
@@ -51,7 +51,7 @@ impl Emitted {
             Change::Removed => self.add(Step::Gone { path }),
             Change::Dir { mode } => self.add(Step::Fresh { path, mode }),
             Change::File { payload, mode } => self.add_put(path, mode, Staged::Payload(*payload)),
-            Change::Link { target } => self.add_link(alloc, path, target),
+            Change::Link { target } => self.add_text_link(alloc, path, target),
             Change::Hard { to } => self.add_hard(alloc, path, to),
             Change::Mode { mode } => self.add(Step::Mode { path, mode }),
         }
@@ -86,6 +86,20 @@ impl Emitted {
         self.add_put(path, mode, Staged::Standing(from))
     }
 
+    /// Adds the step of a symbolic link that says this, as one that is salvaged does, whose target may be any bytes.
+    pub fn push_link(
+        &mut self,
+        alloc: Global,
+        path: &RelPath,
+        target: &[u8],
+    ) -> Result<(), AllocError>
+        requires { IsTarget target.now }
+        ensures { OnOk result ((bytes : List ℕ → List ℕ) (t : Image) (turns : List Turn) → IsEmitted bytes t turns self.old → IsEmitted bytes t (turns ++ (path.now.bytes, Laid (Link target.now)) ∷ []) self.new) }
+    {
+        let path = path.copy(alloc)?;
+        self.add_link(alloc, path, target)
+    }
+
     // Adds a step that puts no file.
     fn add(&mut self, step: Step) -> Result<(), AllocError>
         ensures { OnOk result (HasStep self.old self.new (step_of step)) }
@@ -107,12 +121,25 @@ impl Emitted {
         }
     }
 
-    // Adds a symbolic link.
-    fn add_link(&mut self, alloc: Global, path: RelPath, target: &Text) -> Result<(), AllocError>
+    // Adds a symbolic link that says a text.
+    fn add_text_link(
+        &mut self,
+        alloc: Global,
+        path: RelPath,
+        target: &Text,
+    ) -> Result<(), AllocError>
         requires { IsTarget target.now }
         ensures { OnOk result (HasStep self.old self.new (steps.Symlink path.bytes target.now)) }
     {
-        match Target::parse(alloc, target.as_str().as_bytes()) {
+        self.add_link(alloc, path, target.as_str().as_bytes())
+    }
+
+    // Adds a symbolic link.
+    fn add_link(&mut self, alloc: Global, path: RelPath, target: &[u8]) -> Result<(), AllocError>
+        requires { IsTarget target.now }
+        ensures { OnOk result (HasStep self.old self.new (steps.Symlink path.bytes target.now)) }
+    {
+        match Target::parse(alloc, target) {
             Ok(target) => self.add(Step::Link { path, target }),
             Err(Or::OutOfMemory) => Err(AllocError),
             Err(Or::Bad(_)) => unreachable!(),

@@ -1,7 +1,8 @@
 //! The steps of a plan, with the contents that are staged for them.
 //!
 //! Each path of the plan's order adds the step of what becomes of it: of a change by what is wanted (`push`), of a file with bytes of its own,
-//! as records and account files are (`push_text`), or of a copy of a file that stands (`push_standing`).
+//! as records and account files are (`push_text`), of a copy of a file that stands (`push_standing`), or of a symbolic link that says any bytes
+//! (`push_link`).
 #![tactic(auto)]
 
 mod emitting;

@@ -28,10 +28,10 @@ returns-in-Dir c = on_ok_weaker c.add-in-Dir.result (λ added bytes t turns is.
     c.add-in-Dir.ensures
 
 pub returns-in-Link : goal.returns-in-Link
-returns-in-Link c = on_ok_weaker c.add_link.result (λ added bytes t turns is.
-    subst (λ (told : Told). IsEmitted bytes t (turns ++ (c.args.path.now.bytes, change_told bytes told) ∷ []) c.add_link.new.self) (sym c.in-Link.is)
-    (step_on bytes t turns c.args.self.now c.add_link.new.self is (c.args.path.now.bytes, Laid (Link c.in-Link.target.now)) (Symlink c.args.path.now.bytes c.in-Link.target.now) refl refl (added.step ∙ ap (λ (q : List ℕ). map step_of c.args.self.now.steps.items ++ Symlink q c.in-Link.target.now ∷ []) c.in_ok-path.ensures.same) added.none))
-    c.add_link.ensures
+returns-in-Link c = on_ok_weaker c.add_text_link.result (λ added bytes t turns is.
+    subst (λ (told : Told). IsEmitted bytes t (turns ++ (c.args.path.now.bytes, change_told bytes told) ∷ []) c.add_text_link.new.self) (sym c.in-Link.is)
+    (step_on bytes t turns c.args.self.now c.add_text_link.new.self is (c.args.path.now.bytes, Laid (Link c.in-Link.target.now)) (Symlink c.args.path.now.bytes c.in-Link.target.now) refl refl (added.step ∙ ap (λ (q : List ℕ). map step_of c.args.self.now.steps.items ++ Symlink q c.in-Link.target.now ∷ []) c.in_ok-path.ensures.same) added.none))
+    c.add_text_link.ensures
 
 pub returns-in-Hard : goal.returns-in-Hard
 returns-in-Hard c = on_ok_weaker c.add_hard.result (λ added bytes t turns is.
