@@ -1,13 +1,14 @@
 -- Reports of several lines: findings, and what was changed.
 use lib.Chars.{codes}
-use Rattle.std.proofs.Common.{◌≡◌, ℕ, cond, ◌<◌, ◌^◌, true, false, List, [], ◌∷◌, ◌++◌, map, refl, sym, ap, ◌∙◌, arith}
+use Rattle.std.proofs.Common.{◌≡◌, ℕ, cond, ◌<◌, ◌^◌, true, false, List, [], ◌∷◌, ◌++◌, map, refl, sym, ap, ◌∙◌, arith, ◌+◌, ◌==◌, Option, Some, None}
+use Rattle.std.proofs.lemmas.Bool.{or_from}
 use Rattle.std.specs.Fmt.{decimal}
 use Rattle.std.specs.List.{flat_map, AllByRecursion}
-use Rattle.std.proofs.lemmas.List.{append_assoc, append_cancel_left}
+use Rattle.std.proofs.lemmas.List.{append_assoc, append_cancel_left, append_cancel_right}
 use Rattle.ips_text.specs.Cut.{has_byte}
 use Rattle.ips_text.specs.Path.{IsPath}
 use Rattle.ips_text.specs.Quote.{shown}
-use Rattle.ips_text.proofs.Cuts.{clear_lacks, lacks_append, newline_in}
+use Rattle.ips_text.proofs.Cuts.{clear_lacks, cut_once, lacks_append, newline_in}
 use Rattle.ips_steps.specs.Private.{begins}
 use Rattle.ips_journal.proofs.FieldForms.{path_apart, path_clear}
 use Rattle.ips_journal.proofs.StepLines.{path_whole}
@@ -16,9 +17,12 @@ use Rattle.ips_counts.specs.declared.sorts.Sorts.{Sorts}
 use Rattle.ips_meaning.specs.declared.finding.Finding.{Finding}
 use Rattle.ips_meaning.specs.declared.finding.Damage.{Damage}
 use Rattle.ips_meaning.specs.declared.finding.Damage.TheVariants.{Missing, WrongKind, WrongContent, WrongMode, WrongTarget, NotSame}
-use Rattle.ips_report.specs.Report.{counts_text, damage_text, done_text, finding_text, line, lines_of, sorts_text, three}
-use Rattle.ips_apart.specs.Kind.{AllLack, HasPath, AreSmallCounts, AreSmallSorts, found}
-use Rattle.ips_apart.proofs.Pieces.{comma, cut_last, is_no_digit, line_before, newline, number_before}
+use Rattle.ips_report.specs.Report.{behind_blanks, candidate_text, counts_text, damage_text, done_text, finding_text, line, lines_of, sorts_text, three, tried_text, tried_texts}
+use Rattle.ips_report.specs.declared.unsolved.Tried.{Tried}
+use Rattle.ips_fmri.specs.Version.{Parts, version_text}
+use Rattle.ips_refute.specs.Text.{Entry, entry_text, refutation_text}
+use Rattle.ips_apart.specs.Kind.{AllLack, AreSmallCounts, AreSmallSorts, HasPath, HasWords, candidate_word, found, tried_words}
+use Rattle.ips_apart.proofs.Pieces.{comma, cut_last, is_no_digit, line_before, newline, number_before, words_apart}
 
 -- ---- findings
 
@@ -150,3 +154,58 @@ changes_apart c d s u xs ys hc hd hs hu hx hy e =
   where
     rest : Counts → Sorts → List ℕ
     rest c s = line (three (codes "nstall ") c.installs (codes ", update ") c.updates (codes ", remove ") c.removes) ++ (sorts_text s ++ line (codes "done"))
+
+-- ---- a conflict
+
+pub clashes_apart : (k f s k' f' s' : List ℕ) → AllLack 32 (f ∷ s ∷ []) → AllLack 32 (f' ∷ s' ∷ [])
+    → line (codes "clash " ++ k ++ codes " " ++ f ++ codes " " ++ s) ≡ line (codes "clash " ++ k' ++ codes " " ++ f' ++ codes " " ++ s') → (k ≡ k') × (f ≡ f') × (s ≡ s')
+clashes_apart k f s k' f' s' h h' e =
+    let front = codes "clash " in
+    let inner = append_cancel_right (front ++ k ++ codes " " ++ f ++ codes " " ++ s) (front ++ k' ++ codes " " ++ f' ++ codes " " ++ s') (10 ∷ []) e in
+    let last = cut_last 32 (front ++ k ++ codes " " ++ f) s (front ++ k' ++ codes " " ++ f') s' h.1.0 h'.1.0 (gathered (front ++ k ++ codes " " ++ f) s ∙ inner ∙ sym (gathered (front ++ k' ++ codes " " ++ f') s')) in
+    let first = cut_last 32 (front ++ k) f (front ++ k') f' h.0 h'.0 (gathered (front ++ k) f ∙ last.0 ∙ sym (gathered (front ++ k') f')) in
+    (append_cancel_left front k k' first.0, first.1, last.1)
+  where
+    gathered : (a b : List ℕ) → a ++ 32 ∷ b ≡ a ++ codes " " ++ b
+    gathered a b = sym (append_assoc a (codes " ") b)
+
+-- ---- no solution
+
+-- the words of a stem's line behind its number are those that are told
+words_of_tried : (cs : List (Option Parts)) → flat_map candidate_text cs ≡ behind_blanks (map candidate_word cs)
+words_of_tried [] = refl
+words_of_tried (None ∷ cs) = ap (λ (l : List ℕ). 32 ∷ 45 ∷ l) (words_of_tried cs)
+words_of_tried (Some v ∷ cs) = ap (λ (l : List ℕ). 32 ∷ (version_text v ++ l)) (words_of_tried cs)
+
+words_lack : (c : ℕ) (ws : List (List ℕ)) → (32 == c) ≡ false → AllLack c ws → has_byte c (behind_blanks ws) ≡ false
+words_lack c [] apart h = refl
+words_lack c (w ∷ ws) apart h = or_from (32 == c) (has_byte c (w ++ behind_blanks ws)) apart (lacks_append c w (behind_blanks ws) h.0 (words_lack c ws apart h.1))
+
+-- a stem's line, with what stands behind it
+tried_flat : (i : ℕ) (t : Tried) (rest : List ℕ) → tried_text i t ++ rest ≡ codes "stem " ++ decimal i ++ (behind_blanks (tried_words t) ++ 10 ∷ rest)
+tried_flat i t rest =
+    append_assoc (codes "stem " ++ decimal i ++ 32 ∷ t.stem ++ flat_map candidate_text t.candidates.items) (10 ∷ []) rest
+    ∙ append_assoc (codes "stem " ++ decimal i ++ 32 ∷ t.stem) (flat_map candidate_text t.candidates.items) (10 ∷ rest)
+    ∙ append_assoc (codes "stem " ++ decimal i) (32 ∷ t.stem) (flat_map candidate_text t.candidates.items ++ 10 ∷ rest)
+    ∙ ap (λ (l : List ℕ). codes "stem " ++ decimal i ++ l) (sym (append_assoc (32 ∷ t.stem) (flat_map candidate_text t.candidates.items) (10 ∷ rest)) ∙ ap (λ (l : List ℕ). 32 ∷ (t.stem ++ l) ++ 10 ∷ rest) (words_of_tried t.candidates.items))
+
+unsolved_apart : (i : ℕ) (xs ys : List Tried) (a b : List ℕ) → AllByRecursion HasWords xs → AllByRecursion HasWords ys
+    → tried_texts i xs ++ (114 ∷ a) ≡ tried_texts i ys ++ (114 ∷ b) → (map tried_words xs ≡ map tried_words ys) × (a ≡ b)
+unsolved_apart i [] [] a b hx hy e = (refl, cc)
+unsolved_apart i [] (y ∷ ys) a b hx hy e = absurd (differ (ap (begins (codes "s")) e))
+unsolved_apart i (x ∷ xs) [] a b hx hy e = absurd (differ (ap (begins (codes "s")) (sym e)))
+unsolved_apart i (x ∷ xs) (y ∷ ys) a b hx hy e =
+    let behind_x = tried_texts (i + 1) xs ++ (114 ∷ a) in
+    let behind_y = tried_texts (i + 1) ys ++ (114 ∷ b) in
+    let whole = sym (append_assoc (tried_text i x) (tried_texts (i + 1) xs) (114 ∷ a)) ∙ e ∙ append_assoc (tried_text i y) (tried_texts (i + 1) ys) (114 ∷ b) in
+    let right = append_cancel_left (codes "stem " ++ decimal i) (behind_blanks (tried_words x) ++ 10 ∷ behind_x) (behind_blanks (tried_words y) ++ 10 ∷ behind_y) (sym (tried_flat i x behind_x) ∙ whole ∙ tried_flat i y behind_y) in
+    let first = cut_once 10 (behind_blanks (tried_words x)) behind_x (behind_blanks (tried_words y)) behind_y (words_lack 10 (tried_words x) refl hx.0.1) (words_lack 10 (tried_words y) refl hy.0.1) right in
+    let words = words_apart (tried_words x) (tried_words y) hx.0.0 hy.0.0 first.0 in
+    let rest = unsolved_apart (i + 1) xs ys a b hx.1 hy.1 first.1 in
+    (rw (words, rest.0) refl, rest.1)
+
+pub refuted_apart : (xs ys : List Tried) (es fs : List Entry) → AllByRecursion HasWords xs → AllByRecursion HasWords ys
+    → tried_texts 0 xs ++ refutation_text es ≡ tried_texts 0 ys ++ refutation_text fs → (map tried_words xs ≡ map tried_words ys) × (refutation_text es ≡ refutation_text fs)
+refuted_apart xs ys es fs hx hy e =
+    let parts = unsolved_apart 0 xs ys (codes "efutation 2\n" ++ flat_map entry_text es) (codes "efutation 2\n" ++ flat_map entry_text fs) hx hy e in
+    (parts.0, ap (λ (l : List ℕ). 114 ∷ l) parts.1)

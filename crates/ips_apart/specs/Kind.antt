@@ -1,5 +1,5 @@
 -- Which kind an outcome is of.
-use Rattle.std.specs.Prelude.{◌≡◌, ℕ, ◌<◌, ◌^◌, Bool, true, false, List, codes}
+use Rattle.std.specs.Prelude.{◌≡◌, ℕ, ◌<◌, ◌^◌, Bool, true, false, List, ◌∷◌, Option, Some, None, map, codes}
 use Rattle.std.specs.List.{AllByRecursion}
 use Rattle.ips_text.specs.Cut.{has_byte}
 use Rattle.ips_text.specs.Path.{IsPath}
@@ -7,6 +7,8 @@ use Rattle.ips_meaning.specs.declared.finding.Finding.{Finding}
 use Rattle.ips_meaning.specs.declared.finding.Damage.{Damage}
 use Rattle.ips_counts.specs.declared.counts.Counts.{Counts}
 use Rattle.ips_counts.specs.declared.sorts.Sorts.{Sorts}
+use Rattle.ips_fmri.specs.Version.{Parts, version_text}
+use Rattle.ips_report.specs.declared.unsolved.Tried.{Tried}
 use Rattle.ips_report.specs.declared.outcome.Outcome.{Outcome}
 use Rattle.ips_report.specs.declared.outcome.Outcome.TheVariants.{Usage, Unfinished, BadJournal, Recovered, NoImage, ImageExists, BadImage, OldFormat, NoIndex, NoRepository, BadCatalog, NoMatch, Ambiguous, ManifestMissing, BadManifest, BadDepend, NoSolution, SearchSpent, NothingToDo, Reserved, Clash, BadAccountLine, IdTaken, UnknownOwner, LicenseNeeded, Unmovable, PayloadMissing, PayloadDamaged, Compressed, TooLarge, ActuatorFailed, SpawnFault, SourceFault, FolderFault, Damaged, Done, Shown, OutOfMemory}
 
@@ -82,3 +84,16 @@ pub record AreSmallSorts (s : Sorts) : Type 0 where
   pub put : s.put < 2 ^ 64
   pub link : s.link < 2 ^ 64
   pub hard : s.hard < 2 ^ 64
+
+-- The word that tells a candidate: its version, or `-` for absence.
+abbrev pub candidate_word : Option Parts → List ℕ
+candidate_word None = codes "-"
+candidate_word (Some v) = version_text v
+
+-- What the line of a stem tells: its name and its candidates.
+abbrev pub tried_words : Tried → List (List ℕ)
+tried_words t = t.stem ∷ map candidate_word t.candidates.items
+
+-- Neither the name of the stem nor a candidate's version has a blank or a newline.
+abbrev pub HasWords : Tried → Type 0
+HasWords t = AllLack 32 (tried_words t) × AllLack 10 (tried_words t)

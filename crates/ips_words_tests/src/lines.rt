@@ -129,7 +129,7 @@ fn a_word_at_fault_is_told_by_its_place(rt: HostRuntime) {
         &rt,
         alloc,
         &mut Asked::Command,
-        80,
+        87,
         "
         # each place of `install --search-limit 5 --accept a b`
         install --search-limit -> 6 missing
@@ -148,6 +148,7 @@ fn a_word_at_fault_is_told_by_its_place(rt: HostRuntime) {
         install --search-limit 5 --accept a -x -> 9 unknown
         install --search-limit 5 --accept a b@ -> 9 bad value
         install --search-limit 5 --accept a b -c -> 10 unknown
+        install --search-limit 5 --accept a b c@ -> 10 bad value
         install --reject -> 6 missing
         install --reject @ a -> 6 bad value
         install -p x a -> 5 unknown
@@ -179,6 +180,7 @@ fn a_word_at_fault_is_told_by_its_place(rt: HostRuntime) {
         image-create -p test --facet facet.=true -> 8 bad value
         image-create -p test --facet a=true -> 8 bad value
         image-create -p test --actuator x --actuator y -> 9 repeated
+        image-create -p test --actuator {0x01} -> 8 bad value
         # each place of `set-mediator -V 1 -I x python`
         set-mediator -> 5 missing
         set-mediator python -> 5 unknown
@@ -186,13 +188,18 @@ fn a_word_at_fault_is_told_by_its_place(rt: HostRuntime) {
         set-mediator -V 1,2 python -> 6 bad value
         set-mediator -V 1-2 python -> 6 bad value
         set-mediator -V 01 python -> 6 bad value
+        set-mediator -V {0x01} python -> 6 bad value
         set-mediator -V 1 -> 7 missing
         set-mediator -V 1 -V 2 python -> 7 repeated
         set-mediator -V 1 --accept -> 7 unknown
+        set-mediator -V 1 {0x01} -> 7 bad value
         set-mediator -V 1 python perl -> 8 extra
         set-mediator -V 1 -I -> 8 missing
         set-mediator -V 1 -I - python -> 8 bad value
+        set-mediator -V 1 -I {0x01} python -> 8 bad value
         set-mediator -V 1 -I x -> 9 missing
+        set-mediator -V 1 -I x {0x01} -> 9 bad value
+        unset-mediator {0x01} -> 5 bad value
         set-mediator -V 1 -I x --accept -> 9 unknown
         set-mediator -V 1 -I x -I y python -> 9 repeated
         set-mediator -V 1 -I x python perl -> 10 extra

@@ -83,7 +83,7 @@ fn options_stand_in_any_order(rt: HostRuntime) {
         &rt,
         alloc,
         &mut Orders,
-        9,
+        10,
         "
         image-create|-p test;--variant variant.a=b;--facet facet.c=true;--actuator /bin/x| -> image-create test variant.a=b facet.c=true /bin/x
         install|--accept;--reject x;--search-limit 7| a b -> install a b reject x accept 7
@@ -93,6 +93,7 @@ fn options_stand_in_any_order(rt: HostRuntime) {
         change-variant|--accept| variant.a=b -> change-variant variant.a=b accept
         set-mediator|-V 1.2;-I gnu| python -> set-mediator python 1.2 gnu
         set-publisher|--search-first;--non-sticky| b -> set-publisher b first free
+        set-publisher|--sticky;--search-first| b -> set-publisher b first sticky
         contents|-m| a -> contents a manifest
     ",
     );

@@ -15,7 +15,7 @@ use std::alloc::Global;
 use std::process::Abort;
 use std::rt::HostRuntime;
 
-// What a table asks of outcomes: the number, where it is told and where it isn't, and the text.
+// What a table asks of outcomes: the number, where the report is told, and the text.
 #[derive(Drop)]
 struct Told;
 

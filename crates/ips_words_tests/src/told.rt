@@ -4,15 +4,22 @@ use ips_words::{Command, FacetWord, VariantWord, What, Why};
 use std::alloc::Global;
 use std::process::Abort;
 
-/// What the words, divided by blanks, mean, and the history where it isn't the words; or where they go wrong.
-pub fn told(rt: &impl Abort, alloc: Global, line: &str) -> String {
+// The words, which are divided by blanks; one of the byte 1 alone stands for the empty word.
+fn words_of(rt: &impl Abort, alloc: Global, line: &str) -> Vec<String> {
     let mut words = Vec::new(alloc);
-    for word in line.split(' ') {
-        if !word.is_empty() {
-            let word = String::from_str(alloc, word).expect(rt, "memory");
+    for piece in line.split(' ') {
+        if !piece.is_empty() {
+            let piece = if piece == "\u{1}" { "" } else { piece };
+            let word = String::from_str(alloc, piece).expect(rt, "memory");
             words.push(word).expect(rt, "memory");
         }
     }
+    words
+}
+
+/// What the words, divided by blanks, mean, and the history where it isn't the words; or where they go wrong.
+pub fn told(rt: &impl Abort, alloc: Global, line: &str) -> String {
+    let words = words_of(rt, alloc, line);
     let mut out = String::new(alloc);
     match Command::read(alloc, &words) {
         Ok(command) => push_what(rt, alloc, &mut out, &command.what),
@@ -26,13 +33,7 @@ pub fn told(rt: &impl Abort, alloc: Global, line: &str) -> String {
 
 /// The history of the words.
 pub fn history(rt: &impl Abort, alloc: Global, line: &str) -> String {
-    let mut words = Vec::new(alloc);
-    for word in line.split(' ') {
-        if !word.is_empty() {
-            let word = String::from_str(alloc, word).expect(rt, "memory");
-            words.push(word).expect(rt, "memory");
-        }
-    }
+    let words = words_of(rt, alloc, line);
     let mut out = String::new(alloc);
     match Command::read(alloc, &words) {
         Ok(command) => put(rt, &mut out, command.history.as_str()),
