@@ -21,7 +21,31 @@ fn the_whole_help_has_each_command(rt: HostRuntime) {
     let alloc = rt.alloc();
     let page = help(alloc, None).ok().expect(&rt, "memory");
     assert!(rt; page.as_str().lines().count() == 49, "{}", page.as_str());
-    for name in ["\n  image-create ", "\n  install ", "\n  update ", "\n  uninstall ", "\n  fix\n", "\n  verify\n", "\n  list\n", "\n  contents ", "\n  history\n", "\n  search ", "\n  rebuild-index\n", "\n  change-facet ", "\n  change-variant ", "\n  set-mediator ", "\n  unset-mediator ", "\n  avoid ", "\n  unavoid ", "\n  freeze ", "\n  unfreeze ", "\n  set-publisher ", "\n  unset-publisher ", "\n  update-format\n", "\n  gen "] {
+    for name in [
+        "\n  image-create ",
+        "\n  install ",
+        "\n  update ",
+        "\n  uninstall ",
+        "\n  fix\n",
+        "\n  verify\n",
+        "\n  list\n",
+        "\n  contents ",
+        "\n  history\n",
+        "\n  search ",
+        "\n  rebuild-index\n",
+        "\n  change-facet ",
+        "\n  change-variant ",
+        "\n  set-mediator ",
+        "\n  unset-mediator ",
+        "\n  avoid ",
+        "\n  unavoid ",
+        "\n  freeze ",
+        "\n  unfreeze ",
+        "\n  set-publisher ",
+        "\n  unset-publisher ",
+        "\n  update-format\n",
+        "\n  gen ",
+    ] {
         assert!(rt; page.as_str().contains(name), "{name}");
     }
 }
