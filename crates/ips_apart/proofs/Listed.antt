@@ -1,7 +1,7 @@
 -- Reports of several lines: findings, and what was changed.
 use lib.Chars.{codes}
 use Rattle.std.proofs.Common.{◌≡◌, ℕ, cond, ◌<◌, ◌^◌, true, false, List, [], ◌∷◌, ◌++◌, map, refl, sym, ap, ◌∙◌, arith, ◌+◌, ◌==◌, Option, Some, None}
-use Rattle.std.proofs.lemmas.Bool.{or_from}
+use Rattle.std.proofs.lemmas.Bool.{false≢true, or_from}
 use Rattle.std.specs.Fmt.{decimal}
 use Rattle.std.specs.List.{flat_map, AllByRecursion}
 use Rattle.std.proofs.lemmas.List.{append_assoc, append_cancel_left, append_cancel_right}
@@ -85,15 +85,12 @@ findings_apart (x ∷ xs) (y ∷ ys) a b hx hy e =
 
 -- ---- what was changed
 
-differ : false ≡ true → ⊥
-differ e = cc
-
 -- lines in front of a text that begins otherwise
 licenses_apart : (xs ys : List (List ℕ)) (a b : List ℕ) → AllLack 10 xs → AllLack 10 ys
     → lines_of (codes "license: ") xs ++ (105 ∷ a) ≡ lines_of (codes "license: ") ys ++ (105 ∷ b) → (xs ≡ ys) × (a ≡ b)
 licenses_apart [] [] a b hx hy e = (refl, cc)
-licenses_apart [] (y ∷ ys) a b hx hy e = absurd (differ (ap (begins (codes "l")) e))
-licenses_apart (x ∷ xs) [] a b hx hy e = absurd (differ (ap (begins (codes "l")) (sym e)))
+licenses_apart [] (y ∷ ys) a b hx hy e = absurd (false≢true (ap (begins (codes "l")) e))
+licenses_apart (x ∷ xs) [] a b hx hy e = absurd (false≢true (ap (begins (codes "l")) (sym e)))
 licenses_apart (x ∷ xs) (y ∷ ys) a b hx hy e =
     let front = codes "license: " in
     let whole = sym (append_assoc (line (front ++ x)) (lines_of front xs) (105 ∷ a)) ∙ e ∙ append_assoc (line (front ++ y)) (lines_of front ys) (105 ∷ b) in
@@ -192,8 +189,8 @@ tried_flat i t rest =
 unsolved_apart : (i : ℕ) (xs ys : List Tried) (a b : List ℕ) → AllByRecursion HasWords xs → AllByRecursion HasWords ys
     → tried_texts i xs ++ (114 ∷ a) ≡ tried_texts i ys ++ (114 ∷ b) → (map tried_words xs ≡ map tried_words ys) × (a ≡ b)
 unsolved_apart i [] [] a b hx hy e = (refl, cc)
-unsolved_apart i [] (y ∷ ys) a b hx hy e = absurd (differ (ap (begins (codes "s")) e))
-unsolved_apart i (x ∷ xs) [] a b hx hy e = absurd (differ (ap (begins (codes "s")) (sym e)))
+unsolved_apart i [] (y ∷ ys) a b hx hy e = absurd (false≢true (ap (begins (codes "s")) e))
+unsolved_apart i (x ∷ xs) [] a b hx hy e = absurd (false≢true (ap (begins (codes "s")) (sym e)))
 unsolved_apart i (x ∷ xs) (y ∷ ys) a b hx hy e =
     let behind_x = tried_texts (i + 1) xs ++ (114 ∷ a) in
     let behind_y = tried_texts (i + 1) ys ++ (114 ∷ b) in

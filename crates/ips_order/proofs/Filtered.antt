@@ -1,6 +1,6 @@
 -- Two lists of paths in order, of which the same pass a test, pass the same.
-use Rattle.std.proofs.Common.{◌≡◌, ◌⊎◌, inl, inr, ℕ, Bool, true, false, cond, ◌&&◌, ◌||◌, List, [], ◌∷◌, filter, refl, sym, ap, subst, ◌∙◌}
-use Rattle.std.proofs.lemmas.Bool.{or_cases, or_left, false_from_ne_true, cases_Bool}
+use Rattle.std.proofs.Common.{◌≡◌, ◌⊎◌, inl, inr, ℕ, Bool, true, false, cond, ◌&&◌, ◌||◌, ◌==◌, List, [], ◌∷◌, filter, refl, sym, ap, subst, ◌∙◌}
+use Rattle.std.proofs.lemmas.Bool.{and_parts, eqb-true, false≢true, or_cases, or_left, false_from_ne_true, cases_Bool}
 use Rattle.std.specs.declared.cmp.Ordering.{Ordering}
 use Rattle.std.specs.declared.cmp.Ordering.TheVariants.{Less, Equal}
 use Rattle.std.specs.Ordering.{nat_cmp, ordering_then}
@@ -17,9 +17,6 @@ use Rattle.ips_after.specs.Lists.{listed}
 
 abbrev IsLess : List ℕ → List ℕ → Type 0
 IsLess x y = slice_cmp nat_cmp x y ≡ Less
-
-differ : false ≡ true → ⊥
-differ e = cc
 
 or_rest : (a b : Bool) → a ≡ false → b ≡ (a || b)
 or_rest a b h = rw h refl
@@ -53,20 +50,28 @@ filtered f (x ∷ xs) q = go (f x) refl (same_path x q) refl (filtered f xs q)
     go false is true same e = e ∙ no_more (f q) (listed xs q) (at same ∙ is) ∙ sym (at same ∙ is)
     go false is false same e = e
 
-never_less : (x : List ℕ) → slice_cmp nat_cmp x x ≡ Less → ⊥
-never_less [] h = cc
-never_less (b ∷ x) h = never_less x (ap (λ (o : Ordering). ordering_then o (slice_cmp nat_cmp x x)) (sym (sym (nat_cmp_is b b Equal refl))) ∙ h)
+never_less : (x q : List ℕ) → same_path x q ≡ true → slice_cmp nat_cmp x q ≡ Less → ⊥
+never_less [] [] same h = cc
+never_less [] (a ∷ q) same h = cc
+never_less (b ∷ x) [] same h = cc
+never_less (b ∷ x) (a ∷ q) same h =
+    let parts = and_parts (b == a) (same_path x q) same in
+    let one : nat_cmp b a ≡ Equal = nat_equal b a parts.0 in
+    never_less x q parts.1 (ap (λ (o : Ordering). ordering_then o (slice_cmp nat_cmp x q)) (sym one) ∙ h)
+  where
+    nat_equal : (b a : ℕ) → (b == a) ≡ true → nat_cmp b a ≡ Equal
+    nat_equal b a e = ap (nat_cmp b) (sym (eqb-true b a e)) ∙ sym (nat_cmp_is b b Equal refl)
 
 -- a path isn't listed behind itself
 first_gone : (x : List ℕ) (xs : List (List ℕ)) → AllByRecursion (λ y. slice_cmp nat_cmp x y ≡ Less) xs → (q : List ℕ) → same_path x q ≡ true → listed xs q ≡ false
-first_gone x xs all q at = false_from_ne_true _ (λ there. never_less x (subst (λ (z : List ℕ). slice_cmp nat_cmp x z ≡ Less) (sym (same_path-true x q at)) (behind_less x q xs all there)))
+first_gone x xs all q at = false_from_ne_true _ (λ there. never_less x q at (behind_less x q xs all there))
 
 -- two lists in order that list the same paths are one
 unique : (xs ys : List (List ℕ)) → IsStrictlySortedBy (slice_cmp nat_cmp) xs → IsStrictlySortedBy (slice_cmp nat_cmp) ys → ((q : List ℕ) → listed xs q ≡ listed ys q) → xs ≡ ys
 unfolding IsStrictlySortedBy
 unique [] [] hx hy same = refl
-unique [] (y ∷ ys) hx hy same = absurd (differ (same y ∙ or_left (same_path y y) (listed ys y) (same_path-self y)))
-unique (x ∷ xs) [] hx hy same = absurd (differ (sym (same x) ∙ or_left (same_path x x) (listed xs x) (same_path-self x)))
+unique [] (y ∷ ys) hx hy same = absurd (false≢true (same y ∙ or_left (same_path y y) (listed ys y) (same_path-self y)))
+unique (x ∷ xs) [] hx hy same = absurd (false≢true (sym (same x) ∙ or_left (same_path x x) (listed xs x) (same_path-self x)))
 unique (x ∷ xs) (y ∷ ys) hx hy same =
     let one = heads (or_cases (same_path y x) (listed ys x) (sym (same x) ∙ or_left (same_path x x) (listed xs x) (same_path-self x))) (or_cases (same_path x y) (listed xs y) (same y ∙ or_left (same_path y y) (listed ys y) (same_path-self y))) in
     rw (one, unique xs ys hx.1 hy.1 (tails one)) refl
@@ -74,7 +79,7 @@ unique (x ∷ xs) (y ∷ ys) hx hy same =
     heads : ((same_path y x ≡ true) ⊎ (listed ys x ≡ true)) → ((same_path x y ≡ true) ⊎ (listed xs y ≡ true)) → x ≡ y
     heads (inl at) there = sym (same_path-true y x at)
     heads (inr behind) (inl at) = same_path-true x y at
-    heads (inr behind) (inr after) = absurd (never_less x (less_trans x y x (behind_less x y xs hx.0 after) (behind_less y x ys hy.0 behind)))
+    heads (inr behind) (inr after) = absurd (never_less x x (same_path-self x) (less_trans x y x (behind_less x y xs hx.0 after) (behind_less y x ys hy.0 behind)))
 
     tails : x ≡ y → (q : List ℕ) → listed xs q ≡ listed ys q
     tails one q = elim (cases_Bool (same_path x q)) [

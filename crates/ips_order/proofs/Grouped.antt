@@ -1,7 +1,7 @@
 -- Paths in their groups, and the groups as a plan has them.
 use Rattle.std.proofs.Common.{◌≡◌, inl, inr, ℕ, Bool, true, false, cond, not, ◌&&◌, ◌||◌, List, [], ◌∷◌, ◌++◌, map, filter, Option, Some, None, is_none, is_some, refl, sym, ap, ◌∙◌}
 use Rattle.std.specs.List.{list_any}
-use Rattle.std.proofs.lemmas.Bool.{and_parts, or_cases, or_left, or_right}
+use Rattle.std.proofs.lemmas.Bool.{and_parts, and_right, false≢true, or_cases, or_left, or_right}
 use Rattle.std.proofs.lemmas.List.{append_assoc, map-append}
 use Rattle.ips_text.specs.Ancestry.{is_below, same_path}
 use Rattle.ips_text.proofs.Ancestry.{same_path-self}
@@ -19,7 +19,9 @@ use Rattle.ips_spoken.specs.Said.{said_as, says_laid}
 use Rattle.ips_spoken.specs.Tables.{IsTable}
 use Rattle.ips_spoken.proofs.Marked.{is_laid, is_spoken}
 use Rattle.ips_order.specs.Groups.{belongs, group_at, lays_below}
+use Rattle.ips_after.proofs.Fits.{dir_of_wanted}
 use Rattle.ips_links.proofs.Led.{same_any}
+use Rattle.ips_links.proofs.Linked.{is_silent}
 use Rattle.ips_order.specs.Chosen.{chosen, path_in, turned_places}
 use Rattle.ips_order.specs.declared.group.Group.{Group}
 use Rattle.ips_order.specs.declared.group.Group.TheVariants as group
@@ -31,12 +33,8 @@ use Rattle.ips_order.proofs.Filtered.{same_filtered}
 pub account_here : (r : Request) (p : List ℕ) (account : Bool) (said : Option Said) → account ≡ r.over.is_account p → said ≡ said_as (r.over.at p) → (account && says_laid said) ≡ lays_account r p
 account_here r p account said a s = rw (a, s) (ap (λ (b : Bool). r.over.is_account p && b) (is_laid (r.over.at p)))
 
-and_none : (a b : Bool) → b ≡ false → (a && b) ≡ false
-and_none true b h = h
-and_none false b h = refl
-
 pub account_none : (r : Request) (rows : List Row) (said : List (Option Said)) (q : List ℕ) → IsTable r rows said → listed (row_paths rows) q ≡ false → lays_account r q ≡ false
-account_none r rows said q table apart = and_none (r.over.is_account q) (lays (r.over.at q)) (ap lays (table.none_else q apart))
+account_none r rows said q table apart = and_right (r.over.is_account q) (lays (r.over.at q)) (ap lays (table.none_else q apart))
 
 pub group_here : (r : Request) (t : Image) (group : Group) (p : List ℕ) (was new : Option Wanted) (said : Option Said) (support account above : Bool) → was ≡ r.old.at p → new ≡ r.new.at p → said ≡ said_as (r.over.at p)
     → support ≡ is_support (naming r) t p → account ≡ r.over.is_account p → above ≡ lays_below r p → belongs group was new said support account above ≡ group_at r t group p
@@ -44,11 +42,8 @@ group_here r t group p was new said support account above w n s u a b = rw (w, n
 
 -- ---- groups
 
-differ : false ≡ true → ⊥
-differ e = cc
-
 some_listed : {P : Type 0} (f : List ℕ → Bool) (keys : List (List ℕ)) → list_any f keys ≡ true → ((x : List ℕ) → listed keys x ≡ true → f x ≡ true → P) → P
-some_listed f [] h to = absurd (differ h)
+some_listed f [] h to = absurd (false≢true h)
 some_listed f (k ∷ keys) h to = elim (or_cases (f k) (list_any f keys) h) [
   | inl here ↦ to k (or_left (same_path k k) (listed keys k) (same_path-self k)) here
   | inr more ↦ some_listed f keys more (λ x there is. to x (or_right (same_path k x) (listed keys x) there) is)
@@ -57,40 +52,19 @@ some_listed f (k ∷ keys) h to = elim (or_cases (f k) (list_any f keys) h) [
 -- a test in two lists in which it holds nowhere else
 pub in_both : (l k f g : Bool) → f ≡ g → (f ≡ true → l ≡ true) → (f ≡ true → k ≡ true) → (l && f) ≡ (k && g)
 in_both l k true g e to_l to_k = rw (to_l refl, to_k refl) e
-in_both l k false g e to_l to_k = and_none l false refl ∙ sym (and_none k g (sym e))
+in_both l k false g e to_l to_k = and_right l false refl ∙ sym (and_right k g (sym e))
 
 pub rest_in_both : (l w n x y : Bool) → (n ≡ true → l ≡ true) → x ≡ y → (l && (w && (n && x))) ≡ (n && (w && y))
 rest_in_both l w true x y to_l e = rw (to_l refl) (ap (λ (b : Bool). w && b) e)
-rest_in_both l w false x y to_l e = and_none l (w && false) (and_none w false refl)
+rest_in_both l w false x y to_l e = and_right l (w && false) (and_right w false refl)
 
 gone_in_both : (o n k x y : Bool) → x ≡ y → ((o || (n || k)) && (o && x)) ≡ (o && y)
 gone_in_both true n k x y e = e
-gone_in_both false n k x y e = and_none (n || k) false refl
-
-dir_some : (w : Option Wanted) → is_dir_wanted w ≡ true → is_some w ≡ true
-dir_some (Some w) h = refl
-dir_some None h = cc
-
-hard_some : (w : Option Wanted) → is_hard_wanted w ≡ true → is_some w ≡ true
-hard_some (Some w) h = refl
-hard_some None h = cc
-
-lays_some : (o : Option (Option Entry)) → lays o ≡ true → is_some o ≡ true
-lays_some (Some x) h = refl
-lays_some None h = cc
-
-none_some : {A : Type 0} (o : Option A) → is_none o ≡ true → is_some o ≡ true → ⊥
-none_some (Some x) a b = differ a
-none_some None a b = differ b
+gone_in_both false n k x y e = and_right (n || k) false refl
 
 early_apart : (c a s v : Bool) → cond c a (s && v) ≡ true → (c || s) ≡ true
 early_apart true a s v h = refl
 early_apart false a s v h = (and_parts s v h).0
-
-silent : (o : Option (Option Entry)) → is_none (said_as o) ≡ is_none o
-silent None = refl
-silent (Some None) = refl
-silent (Some (Some e)) = refl
 
 module _ (r : Request) (t : Image) (rows : List Row) (said : List (Option Said)) (good : IsRequest r) (table : IsTable r rows said) where
   abbrev paths : List (List ℕ)
@@ -111,8 +85,12 @@ module _ (r : Request) (t : Image) (rows : List Row) (said : List (Option Said))
   -- what is laid as an account file below a path, in all rows
   pub below_is : (p : List ℕ) → list_any (λ q. is_below p q && lays_account r q) paths ≡ lays_below r p
   below_is p = same_any (λ q. is_below p q && lays_account r q) paths r.over.keys
-      (λ q is there. good.over_fits.keyed q (lays_some (r.over.at q) (and_parts (r.over.is_account q) (lays (r.over.at q)) (and_parts (is_below p q) (lays_account r q) is).1).1))
+      (λ q is there. good.over_fits.keyed q (spoken (r.over.at q) (and_parts (r.over.is_account q) (lays (r.over.at q)) (and_parts (is_below p q) (lays_account r q) is).1).1))
       (λ q is there. key_row q there)
+    where
+      spoken : (o : Option (Option Entry)) → lays o ≡ true → is_some o ≡ true
+      spoken (Some x) h = refl
+      spoken None h = cc
 
   -- a path whose step stands among those of account files and records is one of which they speak, or one above such
   apart_key : (q : List ℕ) → is_apart (naming r) t q ≡ true → listed r.over.keys q ≡ true
@@ -123,10 +101,14 @@ module _ (r : Request) (t : Image) (rows : List Row) (said : List (Option Said))
         let made = (and_parts (not (is_dir (t.look q)) || is_taken (naming r) t q) (holds_made (naming r) t q) (and_parts (is_none (r.over.at q)) ((not (is_dir (t.look q)) || is_taken (naming r) t q) && holds_made (naming r) t q) parts.1).1).1 in
         elim (or_cases (list_any (λ x. is_below q x && makes (linked (naming r) t x)) r.new.keys) (list_any (λ x. is_below q x && lays (r.over.at x)) r.over.keys) made) [
           | inl wanted ↦ some_listed (λ x. is_below q x && makes (linked (naming r) t x)) r.new.keys wanted (λ x there is.
-              absurd (none_some (r.new.at q) parts.0 (dir_some (r.new.at q) (good.new_want.dirs q x (and_parts (is_below q x) (makes (linked (naming r) t x)) is).0 (good.new_want.keyed x ∙ there)))))
+              absurd (unwanted (r.new.at q) parts.0 (dir_of_wanted (r.new.at q) (good.new_want.dirs q x (and_parts (is_below q x) (makes (linked (naming r) t x)) is).0 (good.new_want.keyed x ∙ there)))))
           | inr laid ↦ some_listed (λ x. is_below q x && lays (r.over.at x)) r.over.keys laid (λ x there is. good.over_fits.closed q x (and_parts (is_below q x) (lays (r.over.at x)) is).0 there)
         ]
   ]
+    where
+      unwanted : (w : Option Wanted) → is_none w ≡ true → is_some w ≡ true → ⊥
+      unwanted (Some x) a b = false≢true a
+      unwanted None a b = false≢true b
 
   gone_is : filter (group_at r t group.Gone) paths ≡ filter (λ p. is_none (r.new.at p) && not (is_apart (naming r) t p)) r.old.keys
   gone_is = same_filtered (group_at r t group.Gone) (λ p. is_none (r.new.at p) && not (is_apart (naming r) t p)) paths r.old.keys table.order good.old_want.by_bytes (λ q.
@@ -136,15 +118,15 @@ module _ (r : Request) (t : Image) (rows : List Row) (said : List (Option Said))
   old_dirs : filter (group_at r t group.OldDirs) paths ≡ filter (λ p. is_some (r.old.at p) && is_dir_wanted (r.new.at p)) r.new.keys
   old_dirs = same_filtered (group_at r t group.OldDirs) (λ p. is_some (r.old.at p) && is_dir_wanted (r.new.at p)) paths r.new.keys table.order good.new_want.by_bytes (λ q.
       in_both (listed paths q) (listed r.new.keys q) (is_some (r.old.at q) && is_dir_wanted (r.new.at q)) (is_some (r.old.at q) && is_dir_wanted (r.new.at q)) refl
-      (λ h. old_row q (and_parts (is_some (r.old.at q)) (is_dir_wanted (r.new.at q)) h).0) (λ h. new_key q (dir_some (r.new.at q) (and_parts (is_some (r.old.at q)) (is_dir_wanted (r.new.at q)) h).1)))
+      (λ h. old_row q (and_parts (is_some (r.old.at q)) (is_dir_wanted (r.new.at q)) h).0) (λ h. new_key q (dir_of_wanted (r.new.at q) (and_parts (is_some (r.old.at q)) (is_dir_wanted (r.new.at q)) h).1)))
 
   new_dirs : filter (group_at r t group.NewDirs) paths ≡ filter (λ p. is_none (r.old.at p) && is_dir_wanted (r.new.at p)) r.new.keys
   new_dirs = same_filtered (group_at r t group.NewDirs) (λ p. is_none (r.old.at p) && is_dir_wanted (r.new.at p)) paths r.new.keys table.order good.new_want.by_bytes (λ q.
       in_both (listed paths q) (listed r.new.keys q) (is_none (r.old.at q) && is_dir_wanted (r.new.at q)) (is_none (r.old.at q) && is_dir_wanted (r.new.at q)) refl
-      (λ h. new_row q (dir_some (r.new.at q) (and_parts (is_none (r.old.at q)) (is_dir_wanted (r.new.at q)) h).1)) (λ h. new_key q (dir_some (r.new.at q) (and_parts (is_none (r.old.at q)) (is_dir_wanted (r.new.at q)) h).1)))
+      (λ h. new_row q (dir_of_wanted (r.new.at q) (and_parts (is_none (r.old.at q)) (is_dir_wanted (r.new.at q)) h).1)) (λ h. new_key q (dir_of_wanted (r.new.at q) (and_parts (is_none (r.old.at q)) (is_dir_wanted (r.new.at q)) h).1)))
 
   others_here : (q : List ℕ) → (not (is_dir_wanted (r.new.at q)) && (not (is_hard_wanted (r.new.at q)) && is_none (said_as (r.over.at q)))) ≡ wants_other (naming r) q
-  others_here q = ap (λ (b : Bool). not (is_dir_wanted (r.new.at q)) && (not (is_hard_wanted (r.new.at q)) && b)) (silent (r.over.at q))
+  others_here q = ap (λ (b : Bool). not (is_dir_wanted (r.new.at q)) && (not (is_hard_wanted (r.new.at q)) && b)) (is_silent (r.over.at q))
 
   old_others : filter (group_at r t group.OldOthers) paths ≡ filter (λ p. is_some (r.old.at p) && wants_other (naming r) p) r.new.keys
   old_others = same_filtered (group_at r t group.OldOthers) (λ p. is_some (r.old.at p) && wants_other (naming r) p) paths r.new.keys table.order good.new_want.by_bytes (λ q.
@@ -156,7 +138,11 @@ module _ (r : Request) (t : Image) (rows : List Row) (said : List (Option Said))
 
   hards : filter (group_at r t group.Hards) paths ≡ filter (λ p. is_hard_wanted (r.new.at p)) r.new.keys
   hards = same_filtered (group_at r t group.Hards) (λ p. is_hard_wanted (r.new.at p)) paths r.new.keys table.order good.new_want.by_bytes (λ q.
-      in_both (listed paths q) (listed r.new.keys q) (is_hard_wanted (r.new.at q)) (is_hard_wanted (r.new.at q)) refl (λ h. new_row q (hard_some (r.new.at q) h)) (λ h. new_key q (hard_some (r.new.at q) h)))
+      in_both (listed paths q) (listed r.new.keys q) (is_hard_wanted (r.new.at q)) (is_hard_wanted (r.new.at q)) refl (λ h. new_row q (there (r.new.at q) h)) (λ h. new_key q (there (r.new.at q) h)))
+    where
+      there : (w : Option Wanted) → is_hard_wanted w ≡ true → is_some w ≡ true
+      there (Some w) h = refl
+      there None h = cc
 
   early_here : (q : List ℕ) → group_at r t group.Accounts q ≡ is_early (naming r) t q
   early_here q = ap (λ (b : Bool). cond b (r.over.is_account q) ((is_none (r.new.at q) && is_support (naming r) t q) && lays_below r q)) (is_spoken (r.over.at q))
