@@ -33,7 +33,7 @@ use Rattle.ips_entries.proofs.ReadBack.{Again, HasEntry, common_without, each_en
 abbrev FileIs : Image → List ℕ → List ℕ → Type 0
 FileIs t path bytes = file_at t path ≡ Some bytes
 
-file_one : (t : Image) (path a b : List ℕ) → FileIs t path a → FileIs t path b → a ≡ b
+pub file_one : (t : Image) (path a b : List ℕ) → FileIs t path a → FileIs t path b → a ≡ b
 file_one t path a b ha hb = same a b (sym ha ∙ hb)
   where
     same : (x y : List ℕ) → (let o : Option (List ℕ) = Some x in o) ≡ Some y → x ≡ y
@@ -49,7 +49,7 @@ file_stands t path bytes at = go (t.look path) refl
         none_is : (let o : Option (List ℕ) = Some bytes in o) ≡ None → ⊥
         none_is e = cc
 
-none_stands : (t : Image) (path bytes : List ℕ) → t.look path ≡ None → FileIs t path bytes → ⊥
+pub none_stands : (t : Image) (path bytes : List ℕ) → t.look path ≡ None → FileIs t path bytes → ⊥
 none_stands t path bytes none at = false≢true (ap (λ (o : Option Seen). is_some o) (sym none) ∙ file_stands t path bytes at)
 
 -- the folder of packages is the parent of a package's record

@@ -68,7 +68,7 @@ switch_single : (on : Bool) → has_byte 10 (switch on) ≡ false
 switch_single true = refl
 switch_single false = refl
 
-line_single : (x : HeadLine) → IsHeadLine x → has_byte 10 (head_line_text x) ≡ false
+pub line_single : (x : HeadLine) → IsHeadLine x → has_byte 10 (head_line_text x) ≡ false
 line_single (line.Format n) h = format_single n h
 line_single (line.Publisher p) h = lacks_append 10 (codes "publisher ") p refl (publisher_lacks 10 p (inr (omega arith)) h)
 line_single (line.Origin o) h = lacks_append 10 (codes "origin ") (origin_value o) refl (origin_single o.name o.sticky (publisher_lacks 10 o.name (inr (omega arith)) h))
@@ -164,7 +164,7 @@ words_single [] all = refl
 words_single (w ∷ ws) all =
     ap (has_byte 10) (flat_map-cons (λ (word : List ℕ). 32 ∷ quoted word) w ws) ∙ lacks_append 10 (32 ∷ quoted w) (behind_blanks ws) (word_single w all.0) (words_single ws all.1)
 
-request_single : (s : List ℕ) → IsRequestLine s → has_byte 10 s ≡ false
+pub request_single : (s : List ℕ) → IsRequestLine s → has_byte 10 s ≡ false
 request_single s h = ap (has_byte 10) h.written ∙ lacks_append 10 (stamp_text h.moment) (behind_blanks h.words) (clear_lacks 10 (stamp_text h.moment) (omega arith) (stamp_clear h.moment)) (words_single h.words h.each)
 
 pub history_one : (a b : List (List ℕ)) → AllByRecursion IsRequestLine a → AllByRecursion IsRequestLine b → lines_text a ≡ lines_text b → a ≡ b

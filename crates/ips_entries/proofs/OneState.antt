@@ -127,7 +127,7 @@ pub record Tells (At : List ℕ → List ℕ → Type 0) (r : Recorded) : Type 0
 same_package : (p q : Installed) → p.stem ≡ q.stem → p.version ≡ q.version → p.lines ≡ q.lines → p ≡ q
 same_package p q s v l = λ j. record { stem = s j; version = v j; lines = l j }
 
-versioned : (packages : List Installed) → ArePackages packages → AreVersioned (map versioned_stem packages)
+pub versioned : (packages : List Installed) → ArePackages packages → AreVersioned (map versioned_stem packages)
 versioned packages h = record { each = each packages h.each; order = subst Ascend (stems packages) h.order }
   where
     each : (ps : List Installed) → AllByRecursion IsPackage ps → AllByRecursion IsNamed (map versioned_stem ps)

@@ -134,3 +134,11 @@ fn all_that_is_told(rt: HostRuntime) {
     assert!(rt; heading.settings.variant("arch") == "i 386");
     assert!(rt; heading.settings.facet("doc") && !heading.settings.facet("locale.de"));
 }
+
+// Bytes that aren't UTF-8 are on a bad line.
+#[test]
+fn no_text_is_a_bad_line(rt: HostRuntime) {
+    let alloc = rt.alloc();
+    let answer = told(&rt, alloc, b"image 1\npublisher \xff\n");
+    assert!(rt; answer.as_str() == "line 2", "{answer}");
+}

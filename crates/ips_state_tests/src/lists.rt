@@ -28,10 +28,20 @@ names a@1¶a@2¶ -> line 2
 names b@1¶a@1¶ -> line 2
 names pkg://test/a@1¶ -> line 1
 names a@1¶b@1 -> line 2
+names ¶ -> line 1
+names a@1 ¶ -> line 1
+names a-b@1¶a/b@1¶ -> 2
+names a/b@1¶a-b@1¶ -> line 2
 mediators -> 0
 mediators a - -¶b%2Fc 1.2 x¶ -> 2
 mediators a 3.9 vendor%20x¶ -> 1
 mediators a - -¶a - -¶ -> line 2
+mediators b - -¶a - -¶ -> line 2
+mediators a-b - -¶a%2Fb - -¶ -> 2
+mediators a%2Fb - -¶a-b - -¶ -> line 2
+mediators a - -¶b - - -> line 2
+mediators ¶ -> line 1
+mediators a  - -¶ -> line 1
 mediators a -¶ -> line 1
 mediators a - - -¶ -> line 1
 mediators a 01 -¶ -> line 1
@@ -51,6 +61,8 @@ history 1:20240102T030405Z install¶ -> line 1
 history 20240102T030405Z  install¶ -> line 1
 history 20240102T030405Z install ¶ -> line 1
 history 20240102T030405Z a/b¶ -> line 1
+history 20240102T030405Z a%2fb¶ -> line 1
+history ¶ -> line 1
 history 20240102T030405Z install¶20240102T030405Z update -> line 2
 manifest -> 0
 manifest set name=a value=b¶# no action¶dir path=x mode=0755 owner=root group=bin¶ -> 2
@@ -147,7 +159,7 @@ fn each_file_by_its_lines(rt: HostRuntime) {
         assert!(rt; answer.as_str() == wanted, "{row} but {answer}");
         cases = cases.saturating_add(1);
     }
-    assert!(rt; cases == 47, "{cases} cases");
+    assert!(rt; cases == 59, "{cases} cases");
 }
 
 // Nothing stands there, or something else than a file; a call fails.
@@ -178,6 +190,19 @@ fn no_file_is_line_zero(rt: HostRuntime) {
                 "{kind}"
             );
         }
+    }
+}
+
+// Bytes that aren't UTF-8 are on a bad line.
+#[test]
+fn no_text_is_a_bad_line(rt: HostRuntime) {
+    let alloc = rt.alloc();
+    for kind in ["stems", "names", "mediators", "history", "manifest"] {
+        let mut source = MemSource::new(tree_of(&rt, alloc, b"\xff\n"), Vec::new(alloc));
+        assert!(rt;
+            told(&rt, alloc, kind, &mut source).as_str() == "line 1",
+            "{kind}"
+        );
     }
 }
 

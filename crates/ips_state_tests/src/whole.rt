@@ -36,6 +36,8 @@ const CASES: &str = "
 1; installed=a@1¶; manifests/a=# none¶bad¶ -> manifests/a 2
 1; installed=a@1¶b@1¶; manifests/a=; manifests/b=¶¶dir¶ -> manifests/b 3
 1; installed=a@1¶; avoid=! -> avoid 0
+1; installed=a@1¶; manifests/a=dir path=usr owner=root group=bin mode=0755 -> 1 test: 1 0 0 0, a@1 1
+1; image= -> image 1
 1; installed=a@1¶; history=a¶ -> history 1
 1; installed=a¶; avoid=! -> installed 1
 1; packages=/; packages/x=package 3¶ -> 1 test: 0 0 0 0
@@ -57,6 +59,7 @@ const CASES: &str = "
 2; packages/a=package 2¶version -¶ -> packages/a 2
 2; packages/a=package 2¶version 01¶ -> packages/a 2
 2; packages/a=package 2¶version 1¶bad -> packages/a 3
+2; packages/a=package 2¶version 1¶dir path=usr owner=root group=bin mode=0755 -> 2 test: 1 0 0 0, a@1 1
 2; packages/a=package 2¶version 1¶¶# none¶dir¶ -> packages/a 5
 2; packages/A%2f=package 2¶version 1¶ -> packages/A%2f 0
 2; packages/-a=package 2¶version 1¶ -> packages/-a 0
@@ -69,9 +72,18 @@ const CASES: &str = "
 2; packages/a=package 1¶; avoid=! -> packages/a 1
 2; avoid=b¶a¶; freeze=a¶ -> avoid 2
 2; freeze=/ -> freeze 0
+2; avoid=/ -> avoid 0
+2; avoid=a -> avoid 1
+2; freeze=a@1 -> freeze 1
+2; mediators=/ -> mediators 0
+2; mediators=m - - -> mediators 1
+2; history=/ -> history 0
 2; mediators=m¶ -> mediators 1
 2; history=20240102T030405Z install a -> history 1
 2; index=index 2¶ -> index 1
+2; index=/ -> index 0
+2; index= -> index 1
+2; index=index 1 -> index 1
 2; history=a¶; index=index 2¶ -> history 1
 2; index=index 1¶ -> 2 test: 0 0 0 0, index
 2; installed=a¶; manifests=/; manifests/x=bad¶ -> 2 test: 0 0 0 0
@@ -222,7 +234,7 @@ fn each_image_as_a_whole(rt: HostRuntime) {
         assert!(rt; answer.as_str() == wanted, "{row} but {answer}");
         cases = cases.saturating_add(1);
     }
-    assert!(rt; cases == 57, "{cases} cases");
+    assert!(rt; cases == 69, "{cases} cases");
 }
 
 // Each call that is made fails in its turn.
