@@ -1,15 +1,16 @@
 -- Where something is destroyed, row by row.
 use Rattle.std.proofs.Common.{◌≡◌, ℕ, Bool, true, false, cond, not, ◌&&◌, ◌||◌, List, Option, Some, None, is_none, is_some, refl, sym, ◌∙◌, ap}
 use Rattle.std.specs.List.{list_any}
-use Rattle.std.proofs.lemmas.Bool.{and_from, and_parts, false_from_ne_true, or_from, or_right}
+use Rattle.std.proofs.lemmas.Bool.{and_parts, false_from_ne_true, or_from}
 use Rattle.ips_text.specs.Ancestry.{covers, is_below}
-use Rattle.ips_text.proofs.Truths.{or_false}
+use Rattle.ips_text.proofs.Truths.{not_true}
 use Rattle.ips_outside.specs.Image.{Dir, Entry, File, Image, Link, Other, is_dir, is_file}
 use Rattle.ips_action.specs.declared.action.Preserve.{Preserve}
 use Rattle.ips_action.specs.declared.action.Preserve.TheVariants as preserves
 use Rattle.ips_preserve.specs.declared.case.Standing.{Standing}
 use Rattle.ips_preserve.specs.declared.case.Standing.TheVariants.{Absent, NotFile}
-use Rattle.ips_preserve.specs.Keep.{at_change, at_event, at_first}
+use Rattle.ips_preserve.specs.declared.case.Event.TheVariants.{First, Update}
+use Rattle.ips_preserve.specs.Keep.{at_event}
 use Rattle.ips_steps.specs.Private.{records_name}
 use Rattle.ips_after.specs.After as after
 use Rattle.ips_after.specs.Change.{Change, Kept, Laid, makes}
@@ -35,23 +36,23 @@ abbrev fileless : Bool → Standing
 fileless true = Absent
 fileless false = NotFile
 
-first_copies : (preserve : Preserve) (none : Bool) → copies (at_first preserve (fileless none)) ≡ false
-first_copies preserves.None true = refl
-first_copies preserves.None false = refl
-first_copies preserves.True true = refl
-first_copies preserves.True false = refl
-first_copies preserves.RenameOld true = refl
-first_copies preserves.RenameOld false = refl
-first_copies preserves.RenameNew true = refl
-first_copies preserves.RenameNew false = refl
-first_copies preserves.Legacy true = refl
-first_copies preserves.Legacy false = refl
-first_copies preserves.Abandon true = refl
-first_copies preserves.Abandon false = refl
-first_copies preserves.InstallOnly true = refl
-first_copies preserves.InstallOnly false = refl
+first_copies : (changed : Bool) (preserve : Preserve) (none : Bool) → copies (at_event First changed preserve (fileless none)) ≡ false
+first_copies changed preserves.None true = refl
+first_copies changed preserves.None false = refl
+first_copies changed preserves.True true = refl
+first_copies changed preserves.True false = refl
+first_copies changed preserves.RenameOld true = refl
+first_copies changed preserves.RenameOld false = refl
+first_copies changed preserves.RenameNew true = refl
+first_copies changed preserves.RenameNew false = refl
+first_copies changed preserves.Legacy true = refl
+first_copies changed preserves.Legacy false = refl
+first_copies changed preserves.Abandon true = refl
+first_copies changed preserves.Abandon false = refl
+first_copies changed preserves.InstallOnly true = refl
+first_copies changed preserves.InstallOnly false = refl
 
-change_copies : (preserve : Preserve) (none : Bool) → copies (at_change preserve (fileless none)) ≡ false
+change_copies : (preserve : Preserve) (none : Bool) → copies (at_event Update true preserve (fileless none)) ≡ false
 change_copies preserves.None true = refl
 change_copies preserves.None false = refl
 change_copies preserves.True true = refl
@@ -71,10 +72,10 @@ no_copies : (was : Option Wanted) (changed : Bool) (preserve : Preserve) (none :
 no_copies (Some (WantFile payload m kept)) true preserve none = change_copies preserve none
 no_copies (Some (WantFile payload m kept)) false preserve true = refl
 no_copies (Some (WantFile payload m kept)) false preserve false = refl
-no_copies (Some (WantDir m)) changed preserve none = first_copies preserve none
-no_copies (Some (WantLink target)) changed preserve none = first_copies preserve none
-no_copies (Some (WantHard to)) changed preserve none = first_copies preserve none
-no_copies None changed preserve none = first_copies preserve none
+no_copies (Some (WantDir m)) changed preserve none = first_copies changed preserve none
+no_copies (Some (WantLink target)) changed preserve none = first_copies changed preserve none
+no_copies (Some (WantHard to)) changed preserve none = first_copies changed preserve none
+no_copies None changed preserve none = first_copies changed preserve none
 
 fileless_of : (known : List ℕ → Bool) (e : Option Entry) → is_file e ≡ false → after.standing_of known e ≡ fileless (is_none e)
 fileless_of known (Some (Dir m f)) h = refl
@@ -105,17 +106,6 @@ unsaved_other r was (Some (WantFile payload m preserve)) e h =
     other true k = refl
     other false k = k
 
-unseen_file : (was new : Option Wanted) (e : Option Entry) (s : Stands) → s ≡ seen_of is_payload_of was new e → ((m : ℕ) (known fresh : Bool) → s ≡ stands.File m known fresh → ⊥) → is_file e ≡ false
-unseen_file was new (Some (Dir m f)) s h never = refl
-unseen_file was new (Some (File m b)) s h never = absurd (never m _ _ h)
-unseen_file was new (Some (Link g)) s h never = refl
-unseen_file was new (Some Other) s h never = refl
-unseen_file was new None s h never = refl
-
-not_file : (b : Bool) → not b ≡ true → b ≡ false
-not_file true h = sym h
-not_file false h = refl
-
 -- where no rule asked what stands, a file is made only for a hard link, where none stands
 unasked_unsaved : (r : Request) (t : Image) (p : List ℕ) (w : Option Wanted) → r.new.at p ≡ w → is_unasked (r.old.at p) w ≡ true → makes (after.supported_as (naming r) t p w) ≡ true → saved_as (naming r) (r.old.at p) w (t.look p) ≡ false
 unasked_unsaved r t p (Some (WantDir m)) is same made = refl
@@ -143,7 +133,7 @@ unasked_unsaved r t p (Some (WantFile payload m preserve)) is same made = unsave
     none : is_file (t.look p) ≡ false
     none =
         let rest = and_parts (is_none (r.over.at p)) _ (needed (after.needs_file (naming r) t p) (here made)) in
-        not_file (is_file (t.look p)) (and_parts (not (is_file (t.look p))) _ rest.1).0
+        not_true (is_file (t.look p)) (and_parts (not (is_file (t.look p))) _ rest.1).0
 
 -- where no rule asked, what stands must be salvaged where something is made
 pub unasked_spared : (r : Request) (t : Image) (p : List ℕ) → is_unasked (r.old.at p) (r.new.at p) ≡ true → makes (after.supported (naming r) t p) ≡ true → false ≡ needs_no_salvage (naming r) t p
@@ -165,9 +155,16 @@ pub unseen_spared : (r : Request) (t : Image) (p : List ℕ) (was new : Option W
     → ((m : ℕ) (known fresh : Bool) → s ≡ stands.File m known fresh → ⊥) → false ≡ needs_no_salvage (naming r) t p
 unseen_spared r t p was new s at by looked made never = go (is_unasked was new) refl looked
   where
+    unseen_file : (e : Option Entry) → s ≡ seen_of is_payload_of was new e → is_file e ≡ false
+    unseen_file (Some (Dir m f)) h = refl
+    unseen_file (Some (File m b)) h = absurd (never m _ _ h)
+    unseen_file (Some (Link g)) h = refl
+    unseen_file (Some Other) h = refl
+    unseen_file None h = refl
+
     go : (b : Bool) → is_unasked was new ≡ b → s ≡ cond b stands.Unasked (seen_of is_payload_of was new (t.look p)) → false ≡ needs_no_salvage (naming r) t p
     go true same h = unasked_spared r t p (ap (λ (o : Option Wanted). is_unasked o (r.new.at p)) (sym at) ∙ ap (is_unasked was) (sym by) ∙ same) made
-    go false asked h = other_spared r t p (unseen_file was new (t.look p) s h never)
+    go false asked h = other_spared r t p (unseen_file (t.look p) h)
 
 -- what is made, outside the folder of the records and of what needs no salvage
 abbrev pub destroyed_by : Bool → Bool → Bool → Bool
@@ -191,7 +188,7 @@ destroyed_here r t p made records spared is at held =
     go true h = ap (λ (b : Bool). destroyed_by true records b) (h refl)
     go false h = refl
 
-none_both : (b : Bool) → b ≡ true → b ≡ false → ⊥
+pub none_both : (b : Bool) → b ≡ true → b ≡ false → ⊥
 none_both b h k = let bad : true ≡ false = sym h ∙ k in cc
 
 -- below a path without a row nothing is made

@@ -1,8 +1,8 @@
 -- What a survey found, as rows of a request.
-use Rattle.std.proofs.Common.{◌≡◌, ℕ, ◌||◌, List, [], ◌∷◌, Option, map, is_some, sym, ◌∙◌, ap}
+use Rattle.std.proofs.Common.{◌≡◌, ℕ, ◌||◌, List, [], ◌∷◌, map, is_some, sym, ◌∙◌, ap}
 use Rattle.std.specs.List.{AllByRecursion}
 use Rattle.ips_meaning.specs.declared.entry.Entry.{Entry}
-use Rattle.ips_after.specs.Request.{Request, Want, Wanted}
+use Rattle.ips_after.specs.Request.{Request, Want}
 use Rattle.ips_wanted.specs.Wanted.{want_of}
 use Rattle.ips_survey.specs.declared.row.Row.{Row}
 use Rattle.ips_survey.specs.Rows.{AreRows, HasBoth, IsRowOf, row_pair}

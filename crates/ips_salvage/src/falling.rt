@@ -22,11 +22,7 @@ use std::alloc::{AllocError, Global};
 
 /// At each row whether what stands at its path goes with something that is destroyed, as these marks say, or with a directory with a stated mode, or
 /// is an edit that goes.
-pub fn going(
-    alloc: Global,
-    table: &Table<'_>,
-    destroyed: &[bool],
-) -> Result<Vec<bool>, AllocError>
+pub fn going(alloc: Global, table: &Table<'_>, destroyed: &[bool]) -> Result<Vec<bool>, AllocError>
     requires order { IsStrictlySortedBy (slice_cmp nat_cmp) (row_paths table.now.rows.items) }
     requires destroyed { length destroyed.now ≡ length table.now.rows.items }
     ensures long { IfOk result (λ going. length going.items ≡ length table.now.rows.items) }

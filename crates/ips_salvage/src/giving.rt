@@ -39,7 +39,7 @@ pub fn given_up_at<F: Folder>(
     requires room { 0 < length buffer.old }
     ensures found { IsTrue (F.outside.tells folder.old) → HasLooked (F.outside.state folder.old).held row.now
         → IfOk result (λ given. (r : Request) → IsRowOf r row.now → IsMarkOf (λ q. takes (r.over.at q)) (row_paths rows.now) away.now
-            → given ≡ after.given_up (naming r) (F.outside.state folder.old).held row.now.path.now.bytes) }
+        → given ≡ after.given_up (naming r) (F.outside.state folder.old).held row.now.path.now.bytes) }
     ensures untouched { is_unlooked row.now.stands ≡ false → folder.new ≡ folder.old }
     ensures reads { Reads F.outside folder.old folder.new (HasFailed result) }
 {

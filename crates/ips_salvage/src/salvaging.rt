@@ -128,7 +128,7 @@ fn ask_at<F: Folder>(
     ensures kept { length buffer.new ≡ length buffer.old }
     ensures found { IsTrue (F.outside.tells folder.old) → HasLooked (F.outside.state folder.old).held row.now
         → IfOk result (λ saved. (r : Request) → IsRowOf r row.now → IsMarkOf (λ q. takes (r.over.at q)) (row_paths rows.now) away.now
-            → saved ≡ (is_some ((F.outside.state folder.old).held.look row.now.path.now.bytes) && (not (after.given_up (naming r) (F.outside.state folder.old).held row.now.path.now.bytes) && goes))) }
+        → saved ≡ (is_some ((F.outside.state folder.old).held.look row.now.path.now.bytes) && (not (after.given_up (naming r) (F.outside.state folder.old).held row.now.path.now.bytes) && goes))) }
     ensures untouched { goes ≡ false → folder.new ≡ folder.old }
     ensures reads { Reads F.outside folder.old folder.new (HasFailed result) }
 {

@@ -1,4 +1,4 @@
-use Rattle.std.proofs.Common.{◌≡◌, length, map, take}
+use Rattle.std.proofs.Common.{◌≡◌, map, take}
 use Rattle.ips_salvage.specs.Destroying.{says_taken}
 use Rattle.ips_salvage.proofs.away.taken_away.Given as goal
 

@@ -1,4 +1,4 @@
-use Rattle.std.proofs.Common.{◌<◌, List, length, map, take_all, sym, ◌∙◌, ap, arith}
+use Rattle.std.proofs.Common.{◌<◌, List, length, map, take_all, ◌∙◌, ap, arith}
 use Rattle.ips_after.specs.After.{supported}
 use Rattle.ips_change.specs.Told.{change_told, naming}
 use Rattle.ips_survey.specs.declared.row.Row.{Row}

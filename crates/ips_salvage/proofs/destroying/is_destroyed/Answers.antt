@@ -1,4 +1,4 @@
-use Rattle.std.proofs.Common.{◌≡◌, Bool, true, false, not, ◌&&◌, sym, ◌∙◌, ap}
+use Rattle.std.proofs.Common.{Bool, not, ◌&&◌, sym, ◌∙◌, ap}
 use Rattle.ips_after.specs.Change as changes
 use Rattle.ips_text.specs.Ancestry as ancestry
 use Rattle.ips_steps.specs.Private.{records_name}

@@ -1,5 +1,3 @@
-use Rattle.std.proofs.Common.{◌≡◌, ℕ, Bool, true, false, cond, Option, sym, ◌∙◌, ap}
-use Rattle.ips_after.specs.Request.{Wanted}
 use Rattle.ips_salvage.proofs.Destruction.{unseen_spared}
 use Rattle.ips_survey.specs.Rows.{row_pair}
 use Rattle.ips_salvage.proofs.destroying.is_spared.Goals as goal
