@@ -1,0 +1,4 @@
+pub mod Taking
+pub mod Destruction
+pub mod Salvageable
+pub mod Surveyed
