@@ -24,7 +24,7 @@ use Rattle.ips_history.proofs.Histories.{settled_private}
 use Rattle.ips_run.specs.declared.ending.Ending.{Ending}
 use Rattle.ips_run.specs.declared.ending.Ending.TheVariants as ending
 use Rattle.ips_run.specs.Ending.{is_done, is_unneeded, recovery, is_left, is_bad_journal, is_out_of_memory, is_failed, claim_of, IsEarly}
-use Rattle.ips_run.specs.Phases.{IsAsked, IsBack}
+use Rattle.ips_run.specs.Phases.{IsAsked, IsBack, IsNotBefore, HasFailedInCommit}
 use Rattle.ips_run.specs.Creating.{IsMaking, IsMakingInPart, IsCreated, Standing, Uncreated, Made, Failed}
 use Rattle.ips_commit.specs.Pending.{IsBare}
 
@@ -44,6 +44,24 @@ no_fewer a b same = omega (arith, same)
 
 pub synced_safe : (old s : State) → s ≡ settled old → IsSettled s
 synced_safe old s is = subst IsSettled (sym is) (record { whole = λ q. refl; modes = λ q. refl })
+
+-- a commit that failed in a run failed in one that began earlier
+pub failed_since : {F : Type 0} (o : Outside F) (old at new : F) → IsNotBefore o old at → HasFailedInCommit o at new → HasFailedInCommit o old new
+failed_since o old at new since failed = record {
+  ready = failed.ready;
+  steps = failed.steps;
+  after = failed.after;
+  staged = failed.staged;
+  since = record { time = omega (arith, since.time, failed.since.time); faults = omega (arith, since.faults, failed.since.faults); changes = omega (arith, since.changes, failed.since.changes) };
+  until = failed.until;
+  rose = failed.rose;
+  changed = failed.changed;
+}
+
+-- behind the opening sync and a look
+pub since_opened : {F : Type 0} (o : Outside F) (old at mid : F) → o.clock old ≤ o.clock mid → o.faults old ≤ o.faults at → o.faults at ≤ o.faults mid
+    → o.changes old ≤ o.changes at → o.changes mid ≡ o.changes at → IsNotBefore o old mid
+since_opened o old at mid time first second more kept = record { time = time; faults = omega (arith, first, second); changes = omega (arith, more, kept) }
 
 -- nothing more is made safe behind a sync
 pub as_settled : (old s : State) → s ≡ settled old → s ≡ settled s

@@ -1,7 +1,7 @@
 -- What the phases of a run do to a folder.
 use Rattle.std.specs.Prelude.{◌≡◌, ◌≢◌, ◌⊎◌, ℕ, ◌≤◌, Bool, true, false, cond, IsTrue, IsFalse, List, length, map, take, slice_get, Option, Some, None, IfSome}
 use Rattle.ips_outside.specs.Image.{Image}
-use Rattle.ips_outside.specs.State.{State, IsSettled, settled}
+use Rattle.ips_outside.specs.State.{State, settled}
 use Rattle.ips_outside.specs.Outside.{Outside, Rose}
 use Rattle.ips_folder.specs.Calls.{Throughout}
 use Rattle.ips_steps.specs.Steps.{Step}
@@ -126,20 +126,30 @@ pub record IsBack {F T : Type 0} (o : Outside F) (x : Ending T) (before now : Li
 abbrev pub IsKeptOrSettled : {F : Type 0} → Outside F → F → F → Type 0
 IsKeptOrSettled o old new = (o.state new ≡ o.state old) ⊎ (o.state new ≡ settled (o.state old))
 
--- A call failed in a commit: where a change stood ready, and the gate's call or a later one did, and a call was made that may
+-- This moment isn't before a run: neither by the clock nor by a count.
+pub record IsNotBefore {F : Type 0} (o : Outside F) (old at : F) : Type 0 where
+  pub time : o.clock old ≤ o.clock at
+  pub faults : o.faults old ≤ o.faults at
+  pub changes : o.changes old ≤ o.changes at
+
+-- A call failed in a commit: since a moment of this run at which a change stood ready, a call failed, and one was made that may
 -- have changed something.
-pub record HasFailedInCommit {F : Type 0} (o : Outside F) (new : F) : Type 0 where
+pub record HasFailedInCommit {F : Type 0} (o : Outside F) (old new : F) : Type 0 where
   pub ready : F
   pub steps : List Step
   pub after : Image
   pub staged : IsStaged steps after (o.state ready)
+  pub since : IsNotBefore o old ready
+  pub until : o.clock ready ≤ o.clock new
   pub rose : Rose (o.faults ready) (o.faults new)
   pub changed : Rose (o.changes ready) (o.changes new)
 
--- A call failed in a recovery from an open gate, behind a call that may have changed something.
-pub record HasFailedInRecovery {F : Type 0} (o : Outside F) (new : F) : Type 0 where
+-- A call failed in a recovery from an open gate: since a moment of this run at which what was touched was made safe and nothing else
+-- had happened, a call failed, and one was made that may have changed something.
+pub record HasFailedInRecovery {F : Type 0} (o : Outside F) (old new : F) : Type 0 where
   pub opened : F
-  pub safe : IsSettled (o.state opened)
+  pub synced : o.state opened ≡ settled (o.state old)
   pub stands : (o.state opened).held.look gate_name ≢ None
+  pub since : IsNotBefore o old opened
   pub rose : Rose (o.faults opened) (o.faults new)
   pub changed : Rose (o.changes opened) (o.changes new)

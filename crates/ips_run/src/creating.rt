@@ -66,7 +66,7 @@ pub(crate) fn create<T: Drop, S: Source, F: Folder, P: Spawner, C: Operation<T>>
         (C.decides operation.now (S.outside.tells source.old) (S.outside.state source.old).held (with_directories (F.outside.state folder.old).held))
         (S.outside.tells source.old) (S.outside.state source.old).held (F.outside.state folder.old).held (F.outside.state folder.new).held
         (seen_by sorts finished kinds.old.items) (seen_by sorts finished kinds.new.items) (HasRun P.running spawner.old spawner.new) result }
-    ensures begun { IsTrue (F.outside.tells folder.old) → IsTrue (is_left result) → HasFailedInCommit F.outside folder.new }
+    ensures begun { IsTrue (F.outside.tells folder.old) → IsTrue (is_left result) → HasFailedInCommit F.outside folder.old folder.new }
     ensures later { F.outside.changes folder.old ≤ F.outside.changes folder.new }
     ensures folder { HasCause (F.outside.faults folder.old) (F.outside.faults folder.new) (IsTrue (is_folder_fault result)) }
     ensures source { Reads S.outside source.old source.new (IsTrue (is_source_fault result)) }

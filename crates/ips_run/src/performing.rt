@@ -58,8 +58,9 @@ pub fn perform<T: Drop, S: Source, F: Folder, P: Spawner, C: Operation<T>>(
     ensures shows_unasked { IsTrue (shows (C.effect operation.now)) → IsFalse (is_source_fault result) }
     ensures shows_unspawned { IsTrue (shows (C.effect operation.now)) → IsFalse (is_spawn_fault result) }
 
-    // Unfinished: in the gate's call or later, or in a recovery from an open gate behind a call that may have changed something.
-    ensures begun { IsTrue (F.outside.tells folder.old) → IsTrue (is_left result) → HasFailedInCommit F.outside folder.new ⊎ HasFailedInRecovery F.outside folder.new }
+    // Unfinished: since a moment of this run at which a change stood ready, or the gate stood open behind the opening sync, a call failed
+    // and one was made that may have changed something.
+    ensures begun { IsTrue (F.outside.tells folder.old) → IsTrue (is_left result) → HasFailedInCommit F.outside folder.old folder.new ⊎ HasFailedInRecovery F.outside folder.old folder.new }
 
     // The opening sync is the only call that may change something, where something is shown, and where an open gate is left as it
     // was; and nothing but that has happened to the image.

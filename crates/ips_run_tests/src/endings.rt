@@ -10,11 +10,12 @@ use std::alloc::Global;
 use std::process::Abort;
 
 // What the operation does and decides, the image, the payload in the repository, the call of the repository, of the folder and of the
-// spawner that fails, if one does, and the status with which actuators end: how the run ends, and what is left of the image.
+// spawner that fails, if one does, and the status with which actuators end: how the run ends, with its words, status, name or line; each
+// run of an actuator, in brackets; and what is left of the image.
 const ENDINGS: &str = "
 # a change is done, is not to be made, is refused, and is given up for want of memory
 changes change plain abc 0 0 0 0 -> done new
-changes act plain abc 0 0 0 0 -> done new
+changes act plain abc 0 0 0 0 -> done (run disable svc:/a ) (run restart svc:/b ) new
 changes change made abc 0 0 0 0 -> nothing made
 changes nothing plain abc 0 0 0 0 -> nothing old
 changes refuse plain abc 0 0 0 0 -> refused old
@@ -29,7 +30,7 @@ shows nothing left abc 0 0 0 0 -> shown old,left
 changes change gate abc 0 0 0 0 -> unfinished old,open
 shows nothing gate abc 0 0 0 0 -> unfinished old,open
 creates change gate abc 0 0 0 0 -> unfinished old,open
-fixes change gate abc 0 0 0 0 -> bad-journal-1 old,open
+fixes change gate abc 0 0 0 0 -> bad-journal 1 old,open
 
 # a change that was stopped is brought to its end, or what it left is taken away; and a recovery changes nothing more
 fixes change left abc 0 0 0 0 -> recovered-old old
@@ -42,19 +43,19 @@ creates change empty abc 0 0 0 0 -> done new
 creates change half abc 0 0 0 0 -> done new
 creates change plain abc 0 0 0 0 -> done new
 creates refuse empty abc 0 0 0 0 -> refused old
-creates change var-file abc 0 0 0 0 -> in-the-way-var old,var-file
-creates change pkg-file abc 0 0 0 0 -> in-the-way-var/pkg old,pkg-file
+creates change var-file abc 0 0 0 0 -> in-the-way var old,var-file
+creates change pkg-file abc 0 0 0 0 -> in-the-way var/pkg old,pkg-file
 changes change empty abc 0 0 0 0 -> nothing old,no-var
 
 # a payload has a fault
-changes change plain none 0 0 0 0 -> bad-payload old,left
-changes change plain abd 0 0 0 0 -> bad-payload old,left
+changes change plain none 0 0 0 0 -> bad-payload a9993e364706816aba3e25717850c26c9cd0d89d missing old,left
+changes change plain abd 0 0 0 0 -> bad-payload a9993e364706816aba3e25717850c26c9cd0d89d damaged cb4cc28df0fdbe0ecf9d9662e294b118092a5735 old,left
 
 # an actuator fails or can't be run, before the commit and behind it
-changes act plain abc 0 0 0 3 -> failed-before old,left
-changes act plain abc 0 0 0 03 -> failed-after new
+changes act plain abc 0 0 0 3 -> failed-before run disable svc:/a 3 (run disable svc:/a ) old,left
+changes act plain abc 0 0 0 03 -> failed-after run restart svc:/b 3 (run disable svc:/a ) (run restart svc:/b ) new
 changes act plain abc 0 0 1 0 -> spawn-before old,left
-changes act plain abc 0 0 2 0 -> spawn-after new
+changes act plain abc 0 0 2 0 -> spawn-after (run disable svc:/a ) new
 
 # a call on the repository fails: as the operation decides, and as the payload is read
 changes change plain abc 1 0 0 0 -> source old

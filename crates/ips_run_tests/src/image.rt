@@ -6,11 +6,13 @@ ghost use Rattle.ips_kinds.specs.Tallies.{seen_by, taken};
 
 use crate::six::are_six;
 use crate::toy::Toy;
+use ips_digest::PayloadName;
 use ips_folder::MemFolder;
 use ips_kinds::Kind;
 use ips_outside::{Look, MemSource, MemSpawner, Tree};
+use ips_repo::RepoFault;
 use ips_run::{Ending, perform};
-use ips_text::RelPath;
+use ips_text::{RelPath, Text};
 use std::alloc::Global;
 use std::process::Abort;
 
@@ -69,7 +71,7 @@ pub fn repository(
     MemSource::new(tree, fails)
 }
 
-/// Performs the operation, and tells how that ended.
+/// Performs the operation, and tells how that ended, and what the spawner ran.
 pub fn performed(
     rt: &impl Abort,
     alloc: Global,
@@ -78,36 +80,55 @@ pub fn performed(
     folder: &mut MemFolder,
     spawner: &mut MemSpawner,
     kinds: &mut Vec<Box<dyn Kind>>,
-) -> &'static str {
+) -> String {
     if !are_six(rt, alloc, kinds) {
-        return "no kinds";
+        return String::from_str(alloc, "no kinds").expect(rt, "memory");
     }
-    told(alloc, toy, source, folder, spawner, kinds)
+    let mut out = told(rt, alloc, toy, source, folder, spawner, kinds);
+    push_ran(rt, &mut out, spawner.ran());
+    out
 }
 
-// The same where each sort of step has a kind.
+// How it ended, where each sort of step has a kind.
 fn told(
+    rt: &impl Abort,
     alloc: Global,
     toy: Toy,
     source: &mut MemSource,
     folder: &mut MemFolder,
     spawner: &mut MemSpawner,
     kinds: &mut Vec<Box<dyn Kind>>,
-) -> &'static str
+) -> String
     requires { (s : SortMeant) → IsTrue (taken (seen_by sorts finished kinds.old.items) s) }
 {
-    match perform(alloc, &toy, source, folder, spawner, kinds) {
+    let ending = perform(alloc, &toy, source, folder, spawner, kinds);
+    let mut out = String::from_str(alloc, word_of(&ending)).expect(rt, "memory");
+    match &ending {
+        Ending::NotDirectory { path } => push_word(rt, &mut out, path.bytes()),
+        Ending::BadJournal { line } => out = format!(in alloc; "{out} {line}").expect(rt, "memory"),
+        Ending::BadPayload { name, fault } => push_payload(rt, &mut out, name, fault),
+        Ending::ActuatorFailed { words, status, .. } => {
+            push_run(rt, &mut out, words.as_slice());
+            out = format!(in alloc; "{out} {status}").expect(rt, "memory");
+        }
+        _ => {}
+    }
+    out
+}
+
+// The word for an ending.
+fn word_of(ending: &Ending<u8>) -> &'static str {
+    match ending {
         Ending::Done(7) => "done",
         Ending::Shown(5) => "shown",
         Ending::Refused(9) => "refused",
         Ending::Done(_) | Ending::Shown(_) | Ending::Refused(_) => "another text",
         Ending::NothingToDo => "nothing",
         Ending::Unfinished => "unfinished",
-        Ending::BadJournal { line: 1 } => "bad-journal-1",
-        Ending::BadJournal { line: _ } => "bad-journal",
+        Ending::BadJournal { .. } => "bad-journal",
         Ending::Recovered { forward: true } => "recovered-new",
         Ending::Recovered { forward: false } => "recovered-old",
-        Ending::NotDirectory { path } => not_directory(&path),
+        Ending::NotDirectory { .. } => "in-the-way",
         Ending::BadPayload { .. } => "bad-payload",
         Ending::ActuatorFailed { after: false, .. } => "failed-before",
         Ending::ActuatorFailed { after: true, .. } => "failed-after",
@@ -120,11 +141,51 @@ fn told(
     }
 }
 
-// At which of the directories something else stands.
-fn not_directory(path: &RelPath) -> &'static str {
-    match path.bytes() {
-        b"var" => "in-the-way-var",
-        b"var/pkg" => "in-the-way-var/pkg",
-        _ => "in-the-way",
+// A blank and the word of these bytes.
+fn push_word(rt: &impl Abort, out: &mut String, word: &[u8]) {
+    out.push_str(" ").expect(rt, "memory");
+    out.push_str(str::from_utf8(word).ok().expect(rt, "a text"))
+        .expect(rt, "memory");
+}
+
+// The name of the payload, and its fault with the digest that was found.
+fn push_payload(rt: &impl Abort, out: &mut String, name: &PayloadName, fault: &RepoFault) {
+    push_digest(rt, out, name);
+    match fault {
+        RepoFault::PayloadMissing => push_word(rt, out, b"missing"),
+        RepoFault::PayloadDamaged { found } => {
+            push_word(rt, out, b"damaged");
+            push_digest(rt, out, found);
+        }
+        _ => push_word(rt, out, b"another-fault"),
+    }
+}
+
+// A blank and the digits of the name.
+fn push_digest(rt: &impl Abort, out: &mut String, name: &PayloadName) {
+    let mut digits = [0u8; 64];
+    let count = name.print(&mut digits);
+    push_word(rt, out, &digits[..count]);
+}
+
+// The words of a run, a blank before each.
+fn push_run(rt: &impl Abort, out: &mut String, words: &[Text]) {
+    for word in words {
+        push_word(rt, out, word.as_str().as_bytes());
+    }
+}
+
+// What a spawner ran: each run in brackets, its words ended by blanks.
+fn push_ran(rt: &impl Abort, out: &mut String, ran: &[u8]) {
+    let text = str::from_utf8(ran).ok().expect(rt, "a text");
+    for run in text.lines() {
+        out.push_str(" (").expect(rt, "memory");
+        for (i, word) in run.split('\0').enumerate() {
+            if i > 0 {
+                out.push_str(" ").expect(rt, "memory");
+            }
+            out.push_str(word).expect(rt, "memory");
+        }
+        out.push_str(")").expect(rt, "memory");
     }
 }

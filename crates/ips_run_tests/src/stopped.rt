@@ -34,7 +34,7 @@ creates change half junk -> unchanged nothing old,no-pkg; unchanged nothing old,
 
 # a fix that changes something, and a change with actuators
 fixes change plain after -> unchanged nothing old; unchanged recovered-old old; begun recovered-new new; begun recovered-old new; begun nothing new; done new
-changes act plain after -> unchanged nothing old; unchanged recovered-old old; begun recovered-new new; begun recovered-old new; begun nothing new; done new
+changes act plain after -> unchanged nothing old; unchanged recovered-old old; begun (run disable svc:/a ) recovered-new new; begun (run disable svc:/a ) recovered-old new; begun (run disable svc:/a ) nothing new; done (run disable svc:/a ) (run restart svc:/b ) new
 
 # what was left is taken away
 fixes nothing left before -> unchanged recovered-old old; recovered-old old
@@ -77,14 +77,15 @@ fn behind_crash(rt: &impl Abort, alloc: Global, folder: &MemFolder) -> MemFolder
     MemFolder::new(alloc, tree, Vec::new(alloc), None).expect(rt, "memory")
 }
 
-// Performs the operation, with the payload in the repository and actuators that end with status 0, and tells how that ended.
+// Performs the operation, with the payload in the repository and actuators that end with status 0, and tells how that ended and
+// which were run.
 fn run(
     rt: &impl Abort,
     alloc: Global,
     toy: Toy,
     folder: &mut MemFolder,
     kinds: &mut Vec<Box<dyn Kind>>,
-) -> &'static str {
+) -> String {
     let mut source = repository(rt, alloc, Some(b"abc"), Vec::new(alloc));
     let mut spawner = MemSpawner::new(alloc, 100, Vec::new(alloc), Vec::new(alloc)).expect(
         rt, "memory",
@@ -105,9 +106,14 @@ fn ended(
     format!(in alloc; "{told} {left}").expect(rt, "memory")
 }
 
-// Whether a call failed in a run that ended so.
+// Whether a call failed in a run of which this is told.
 fn is_stopped(told: &str) -> bool {
-    matches!(told, "unchanged" | "begun")
+    matches!(front(told).0, "unchanged" | "begun")
+}
+
+// Whether a fix that wasn't stopped ended so, and ran nothing.
+fn is_fixed(told: &str) -> bool {
+    matches!(told, "recovered-new" | "recovered-old" | "nothing")
 }
 
 // How a run ends in which a call fails, and the fix behind it, and what is left; or how the run ends, where none does.
@@ -119,7 +125,7 @@ fn behind_fault(
     kinds: &mut Vec<Box<dyn Kind>>,
 ) -> String {
     let told = run(rt, alloc, toy, folder, kinds);
-    let next = match is_stopped(told) {
+    let next = match is_stopped(&told) {
         true => ended(rt, alloc, FIX, folder, kinds),
         false => left(rt, alloc, folder.tree()),
     };
@@ -136,7 +142,7 @@ fn behind_stop(
 ) -> String {
     let told = run(rt, alloc, toy, folder, kinds);
     let mut later = behind_crash(rt, alloc, folder);
-    let next = match is_stopped(told) {
+    let next = match is_stopped(&told) {
         true => ended(rt, alloc, FIX, &mut later, kinds),
         false => left(rt, alloc, folder.tree()),
     };
@@ -160,7 +166,7 @@ fn story(rt: &impl Abort, alloc: Global, row: &str, kinds: &mut Vec<Box<dyn Kind
             let separator = if call == 1 { "" } else { "; " };
             story = format!(in alloc; "{story}{separator}{next}").expect(rt, "memory");
         }
-        if !is_stopped(front(&next).0) {
+        if !is_stopped(&next) {
             return story;
         }
         last = next;
@@ -168,29 +174,45 @@ fn story(rt: &impl Abort, alloc: Global, row: &str, kinds: &mut Vec<Box<dyn Kind
     story
 }
 
-// What a fix leaves behind two that are stopped at this call, if they are.
-fn left_behind_two(
+// Whether a fix on what a crash left comes to its end and leaves just this.
+fn is_brought_to(
+    rt: &impl Abort,
+    alloc: Global,
+    stopped: &MemFolder,
+    wanted: &str,
+    kinds: &mut Vec<Box<dyn Kind>>,
+) -> bool {
+    let mut later = behind_crash(rt, alloc, stopped);
+    let told = run(rt, alloc, FIX, &mut later, kinds);
+    is_fixed(&told) && left(rt, alloc, later.tree()).as_str() == wanted
+}
+
+// Whether a fix comes to its end and leaves just this behind two: one that is stopped at this call, and a second that is stopped at the
+// same call, or comes to its end before it. None where the first comes to its end, and leaves just this.
+fn is_brought_behind_two(
     rt: &impl Abort,
     alloc: Global,
     tree: Tree,
-    how: &str,
-    call: u64,
+    at: (&str, u64),
+    wanted: &str,
     kinds: &mut Vec<Box<dyn Kind>>,
-) -> Option<String> {
-    let mut first = folder(rt, alloc, tree, how, call);
-    if !is_stopped(run(rt, alloc, FIX, &mut first, kinds)) {
+) -> Option<bool> {
+    let mut first = folder(rt, alloc, tree, at.0, at.1);
+    let told = run(rt, alloc, FIX, &mut first, kinds);
+    if !is_stopped(&told) {
+        let left = left(rt, alloc, first.tree());
+        assert!(rt; is_fixed(&told) && left.as_str() == wanted, "{told} {left}");
         return None;
     }
     let tree = first.crashed(alloc).ok().expect(rt, "memory");
-    let mut second = folder(rt, alloc, tree, how, call);
-    run(rt, alloc, FIX, &mut second, kinds);
-    let mut last = behind_crash(rt, alloc, &second);
-    run(rt, alloc, FIX, &mut last, kinds);
-    Some(left(rt, alloc, last.tree()))
+    let mut second = folder(rt, alloc, tree, at.0, at.1);
+    let told = run(rt, alloc, FIX, &mut second, kinds);
+    let is_two = is_brought_to(rt, alloc, &second, wanted, kinds);
+    Some(is_two && (is_stopped(&told) || is_fixed(&told)))
 }
 
-// Whether a fix behind two that are stopped leaves just this, for each call at which these can be stopped.
-fn is_left_behind_two(
+// The same for each call at which the first can be stopped.
+fn is_brought_at_each(
     rt: &impl Abort,
     alloc: Global,
     tree: &Tree,
@@ -200,17 +222,17 @@ fn is_left_behind_two(
 ) -> bool {
     for call in 1..100u64 {
         let copy = tree.copy(alloc).expect(rt, "memory");
-        match left_behind_two(rt, alloc, copy, how, call, kinds) {
-            Some(left) if left.as_str() == wanted => {}
-            Some(_) => return false,
+        match is_brought_behind_two(rt, alloc, copy, (how, call), wanted, kinds) {
+            Some(true) => {}
+            Some(false) => return false,
             None => return true,
         }
     }
     false
 }
 
-// What a fix leaves behind a change that is stopped at this call, if it is; and whether it leaves that as well where it is stopped
-// twice.
+// What a fix leaves behind a change that is stopped at this call, if it is; and whether it comes to its end and leaves that behind two
+// fixes that are stopped as well.
 fn left_behind(
     rt: &impl Abort,
     alloc: Global,
@@ -218,15 +240,18 @@ fn left_behind(
     call: u64,
     kinds: &mut Vec<Box<dyn Kind>>,
 ) -> Option<(String, bool)> {
-    let mut folder = folder(rt, alloc, image(rt, alloc, "plain"), how, call);
-    if !is_stopped(run(rt, alloc, toy("changes", "change"), &mut folder, kinds)) {
+    let mut changed = folder(rt, alloc, image(rt, alloc, "plain"), how, call);
+    let told = run(rt, alloc, toy("changes", "change"), &mut changed, kinds);
+    if !is_stopped(&told) {
+        assert!(rt; told.as_str() == "done", "{how} {call} {told}");
         return None;
     }
-    let mut later = behind_crash(rt, alloc, &folder);
-    run(rt, alloc, FIX, &mut later, kinds);
+    let mut later = behind_crash(rt, alloc, &changed);
+    let told = run(rt, alloc, FIX, &mut later, kinds);
+    assert!(rt; is_fixed(&told), "{how} {call} {told}");
     let wanted = left(rt, alloc, later.tree());
-    let tree = folder.crashed(alloc).ok().expect(rt, "memory");
-    let is_same = is_left_behind_two(rt, alloc, &tree, how, &wanted, kinds);
+    let tree = changed.crashed(alloc).ok().expect(rt, "memory");
+    let is_same = is_brought_at_each(rt, alloc, &tree, how, &wanted, kinds);
     Some((wanted, is_same))
 }
 

@@ -2,6 +2,7 @@ use Rattle.std.proofs.Common.{sym, ◌∙◌, ap}
 use Rattle.ips_outside.specs.State.{State}
 use Rattle.ips_history.specs.Directories.{with_directories}
 use Rattle.ips_run.proofs.Created.{created_unmade, created_made, unmade_finished, comes_unmade, comes_made, comes_at, made_safe, made_shut, made_records}
+use Rattle.ips_run.proofs.Opened.{failed_since}
 use Rattle.ips_run.proofs.creating.create.Goals as goal
 
 pub request-requires-clause-shut : goal.request-requires-clause-shut
@@ -33,7 +34,13 @@ returns-in-Ok-clause-comes g c = λ told.
     (comes_at n D _ _ _ _ _ _ c.request.result (o.state at).held (with_directories held) (ap (λ (s : State). s.held) made.made) (c.request.ensures.comes (c.make_directories.ensures.same_kind ∙ told)))
 
 pub returns-in-Ok-clause-begun : goal.returns-in-Ok-clause-begun
-returns-in-Ok-clause-begun g c = λ told left. c.request.ensures.begun (c.make_directories.ensures.same_kind ∙ told) left
+returns-in-Ok-clause-begun g c = λ told left.
+    let o = g.F.Source.outside in
+    let at = c.make_directories.new.folder in
+    let made = c.in-Ok.ensures.made told in
+    failed_since o c.args.folder.now at c.request.new.folder
+    (record { time = made.shut.later; faults = c.make_directories.ensures.cause.later; changes = c.make_directories.ensures.later })
+    (c.request.ensures.begun (c.make_directories.ensures.same_kind ∙ told) (made_safe _ (o.state at) made.made) left)
 
 pub returns-in-Err-clause-created : goal.returns-in-Err-clause-created
 returns-in-Err-clause-created g c = λ told. created_unmade g.F.Source.outside _ _ c.args.folder.now c.make_directories.new.folder c.in-Err.ending (c.in-Err.ensures.unmade told)

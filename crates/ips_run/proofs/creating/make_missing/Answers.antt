@@ -1,6 +1,5 @@
 use Rattle.std.proofs.Common.{sym, subst, refl}
 use Rattle.ips_run.specs.declared.creating.Missing.{Missing}
-use Rattle.ips_run.specs.declared.creating.Missing.TheVariants as missing
 use Rattle.ips_steps.specs.Private.{records_name}
 use Rattle.ips_run.specs.Creating.{IsMissing, HasMade, HasMadeInPart}
 use Rattle.ips_run.proofs.Directories.{can_make_records, shut_now, on_failure, unsafe_since}

@@ -7,7 +7,7 @@ use Rattle.ips_steps.proofs.Lists.{clash}
 use Rattle.ips_commit.specs.Pending.{IsBare, IsPending}
 use Rattle.ips_history.specs.Directories.{shows}
 use Rattle.ips_run.specs.declared.ending.Ending.TheVariants as ending
-use Rattle.ips_run.proofs.Opened.{no_fewer, synced_safe, as_settled, elapses_kept, opened, run_unopened, run_read, run_back, run_asked, run_created}
+use Rattle.ips_run.proofs.Opened.{failed_since, since_opened, no_fewer, synced_safe, as_settled, elapses_kept, opened, run_unopened, run_read, run_back, run_asked, run_created}
 use Rattle.ips_run.proofs.Nexts.{shown_of, changed_of, created_of, show_is, change_is, recover_is, create_is}
 use Rattle.ips_run.proofs.Performed.{fault_of, out_of_memory_of, unfinished_of, early_fault, early_out_of_memory, early_unfinished, left_fault, comes_unopened, comes_refused, comes_back, comes_shown, comes_asked, comes_created, image_same, next_as}
 use Rattle.ips_run.proofs.performing.perform.Goals as goal
@@ -83,8 +83,9 @@ returns-in-Recover-clause-begun g c = λ told left.
     let told_at = c.pending.ensures.reads.call.same_kind ∙ c.sync.ensures.call.same_kind ∙ told in
     inr (record {
       opened = at;
-      safe = synced_safe (o.state c.args.folder.now) (o.state at) is_synced;
+      synced = is_synced;
       stands = ((c.recovered.ensures.back told_at).resumes left).0;
+      since = (since_opened o c.args.folder.now c.sync.new.self at time.later c.sync.ensures.call.cause.later c.pending.ensures.reads.call.cause.later c.sync.ensures.one_made.later c.pending.ensures.reads.none_made);
       rose = c.recovered.ensures.cause.rose (left_fault c.recovered.result left);
       changed = c.recovered.ensures.changed left;
     })
@@ -175,7 +176,8 @@ returns-in-Change-clause-begun g c = λ told left.
     let time = elapses_kept o sane c.args.folder.now c.sync.new.self at c.sync.ensures.call.time c.pending.ensures.reads.call.time c.pending.ensures.reads.kept in
     let is_synced = c.pending.ensures.reads.kept ∙ c.in-Ok.ensures.done told in
     let told_at = c.pending.ensures.reads.call.same_kind ∙ c.sync.ensures.call.same_kind ∙ told in
-    inl (c.request.ensures.begun told_at left)
+    inl (failed_since o c.args.folder.now at c.request.new.folder (since_opened o c.args.folder.now c.sync.new.self at time.later c.sync.ensures.call.cause.later c.pending.ensures.reads.call.cause.later c.sync.ensures.one_made.later c.pending.ensures.reads.none_made)
+    (c.request.ensures.begun told_at (synced_safe (o.state c.args.folder.now) (o.state at) is_synced) left))
 
 pub returns-in-Change-clause-shows : goal.returns-in-Change-clause-shows
 returns-in-Change-clause-shows g c = λ is. absurd (clash (shows (g.C.Operation.effect c.args.operation.now)) is (change_is (g.C.Operation.effect c.args.operation.now) c.in-Ok-pending.found (next_as (g.C.Operation.effect c.args.operation.now) c.effect.result c.in-Ok-pending.found _ c.phase_behind.result c.effect.ensures c.phase_behind.ensures c.in-Change.is)).0)
@@ -280,7 +282,13 @@ returns-in-Create-clause-comes g c = λ told.
     (subst (λ (t : Image). IsPending t c.in-Ok-pending.found) (sym (ap (λ (s : State). s.held) c.pending.ensures.reads.kept)) (c.in-Ok-pending.ensures.found (c.sync.ensures.call.same_kind ∙ told))) _ _ c.create.result (next_as (g.C.Operation.effect c.args.operation.now) c.effect.result c.in-Ok-pending.found _ c.phase_behind.result c.effect.ensures c.phase_behind.ensures c.in-Create.is) (c.create.ensures.comes told_at)
 
 pub returns-in-Create-clause-begun : goal.returns-in-Create-clause-begun
-returns-in-Create-clause-begun g c = λ told left. inl (c.create.ensures.begun (c.pending.ensures.reads.call.same_kind ∙ c.sync.ensures.call.same_kind ∙ told) left)
+returns-in-Create-clause-begun g c = λ told left.
+    let o = g.F.Source.outside in
+    let sane = g.met.F.Source.sane in
+    let at = c.pending.new.folder in
+    let time = elapses_kept o sane c.args.folder.now c.sync.new.self at c.sync.ensures.call.time c.pending.ensures.reads.call.time c.pending.ensures.reads.kept in
+    inl (failed_since o c.args.folder.now at c.create.new.folder (since_opened o c.args.folder.now c.sync.new.self at time.later c.sync.ensures.call.cause.later c.pending.ensures.reads.call.cause.later c.sync.ensures.one_made.later c.pending.ensures.reads.none_made)
+    (c.create.ensures.begun (c.pending.ensures.reads.call.same_kind ∙ c.sync.ensures.call.same_kind ∙ told) left))
 
 pub returns-in-Create-clause-shows : goal.returns-in-Create-clause-shows
 returns-in-Create-clause-shows g c = λ is. absurd (clash (shows (g.C.Operation.effect c.args.operation.now)) is (create_is (g.C.Operation.effect c.args.operation.now) c.in-Ok-pending.found (next_as (g.C.Operation.effect c.args.operation.now) c.effect.result c.in-Ok-pending.found _ c.phase_behind.result c.effect.ensures c.phase_behind.ensures c.in-Create.is)).1)

@@ -17,7 +17,7 @@ returns-in-Err-clause-comes g c = λ told to_decide.
     Unready to_decide (c.in-Err.ensures.unready told) refl (none_run g.P.Spawner.running c.args.spawner.now)
 
 pub returns-in-Err-clause-begun : goal.returns-in-Err-clause-begun
-returns-in-Err-clause-begun g c = λ told left. absurd (clash (is_left c.in-Err.ending) left c.in-Err.ensures.early.finished)
+returns-in-Err-clause-begun g c = λ told clean left. absurd (clash (is_left c.in-Err.ending) left c.in-Err.ensures.early.finished)
 
 pub carry_out-requires-clause-gate : goal.carry_out-requires-clause-gate
 carry_out-requires-clause-gate g c = λ told.
@@ -44,6 +44,15 @@ returns-clause-comes g c = λ told to_decide.
     (c.carry_out.ensures.told (c.prepare.ensures.same_kind ∙ told) _ ready.after ready.staged))
 
 pub returns-clause-begun : goal.returns-clause-begun
-returns-clause-begun g c = λ told left.
+returns-clause-begun g c = λ told clean left.
     let ready = c.in-Ok.ensures.readied told in
-    record { ready = c.prepare.new.folder; steps = _; after = ready.after; staged = ready.staged; rose = c.carry_out.ensures.folder.rose (left_fault c.carry_out.result left); changed = c.carry_out.ensures.changed left }
+    record {
+      ready = c.prepare.new.folder;
+      steps = _;
+      after = ready.after;
+      staged = ready.staged;
+      since = record { time = (c.prepare.ensures.owed told clean None).later; faults = c.prepare.ensures.cause.later; changes = c.prepare.ensures.later };
+      until = (c.carry_out.ensures.carried (c.prepare.ensures.same_kind ∙ told) _ ready.after ready.staged).owed.later;
+      rose = c.carry_out.ensures.folder.rose (left_fault c.carry_out.result left);
+      changed = c.carry_out.ensures.changed left;
+    }
