@@ -4,6 +4,7 @@ use Rattle.std.proofs.lemmas.List.{length-map, map-append}
 use Rattle.ips_outside.specs.Image.{Dir, File, Image, Link, Other}
 use Rattle.ips_steps.specs.Steps.{Step, Fresh, Gone, Hard, Mode, Put, Symlink}
 use Rattle.ips_steps.specs.View.{step_of}
+use Rattle.ips_journal.specs.Reading.{puts_in}
 use Rattle.ips_journal.specs.declared.staged.Staged.{Staged}
 use Rattle.ips_after.specs.Change.{Change, Changes, Given, Joined, Kept, Laid, Removed}
 use Rattle.ips_after.specs.Planned.{contents_of, next_step, steps_of, with_content}
@@ -64,6 +65,21 @@ steps_by change k (p ∷ paths) = go (change p) (steps_by change k paths) (steps
 pub contents_by : (change : Changes) (paths : List (List ℕ)) → contents_in (map (λ p. (p, change p)) paths) ≡ contents_of change paths
 contents_by change [] = refl
 contents_by change (p ∷ paths) = ap (with_content (change p)) (contents_by change paths)
+
+-- the steps put as much as is to be staged
+pub puts_counted : (k : ℕ) (turns : List Turn) → puts_in (steps_in k turns) ≡ length (contents_in turns)
+puts_counted k [] = refl
+puts_counted k (x ∷ rest) = go x.1 (puts_counted k rest) (puts_counted (k + 1) rest)
+  where
+    go : (c : Change) → puts_in (steps_in k rest) ≡ length (contents_in rest) → puts_in (steps_in (k + 1) rest) ≡ length (contents_in rest) → puts_in (next_step c k x.0 (λ n. steps_in n rest)) ≡ length (with_content c (contents_in rest))
+    go Kept same put = same
+    go Removed same put = same
+    go (Laid (Dir m f)) same put = same
+    go (Laid (File m b)) same put = omega (arith, put)
+    go (Laid (Link g)) same put = same
+    go (Laid Other) same put = same
+    go (Joined to) same put = same
+    go (Given m) same put = same
 
 append_none : {A : Type 0} (xs : List A) → xs ≡ xs ++ []
 append_none {A = A} [] = refl
