@@ -9,7 +9,7 @@ use Rattle.ips_journal.specs.declared.staged.Staged.{Staged}
 use Rattle.ips_after.specs.Change.{Change, Changes, Given, Joined, Kept, Laid, Removed}
 use Rattle.ips_after.specs.Planned.{contents_of, next_step, steps_of, with_content}
 use Rattle.ips_emit.specs.declared.emitting.Emitted.{Emitted}
-use Rattle.ips_emit.specs.Emitted.{IsEmitted, Turn, contents_in, staged_bytes, steps_in}
+use Rattle.ips_emit.specs.Emitted.{IsEmitted, Provenance, Turn, contents_in, provenance_of, staged_bytes, steps_in}
 
 -- the step of a path alone
 abbrev last_step : Turn → ℕ → List Step
@@ -85,27 +85,34 @@ append_none : {A : Type 0} (xs : List A) → xs ≡ xs ++ []
 append_none {A = A} [] = refl
 append_none {A = A} (x ∷ xs) = ap (λ (l : List A). x ∷ l) (append_none xs)
 
-module _ (bytes : List ℕ → List ℕ) (t : Image) (turns : List Turn) (old new : Emitted) (is : IsEmitted bytes t turns old) where
+module _ (bytes : List ℕ → List ℕ) (t : Image) (turns : List Turn) (provenances : List Provenance) (old new : Emitted) (is : IsEmitted bytes t turns provenances old) where
   counted : length old.staged.items ≡ 0 + length (contents_in turns)
   counted = sym (length-map old.staged.items (staged_bytes bytes t)) ∙ ap length is.staged ∙ omega arith
 
   -- nothing becomes of the path
-  pub kept_on : (p : List ℕ) → IsEmitted bytes t (turns ++ (p, Kept) ∷ []) old
+  pub kept_on : (p : List ℕ) → IsEmitted bytes t (turns ++ (p, Kept) ∷ []) (provenances ++ []) old
   kept_on p = record {
     steps = is.steps ∙ append_none (steps_in 0 turns) ∙ sym (steps_more 0 turns (p, Kept));
     staged = is.staged ∙ append_none (contents_in turns) ∙ sym (contents_more turns (p, Kept));
+    provenances_are = is.provenances_are ∙ append_none provenances;
   }
 
   -- a step that puts no file
-  pub step_on : (x : Turn) (s : Step) → last_step x (0 + length (contents_in turns)) ≡ s ∷ [] → with_content x.1 [] ≡ [] → map step_of new.steps.items ≡ map step_of old.steps.items ++ s ∷ [] → new.staged.items ≡ old.staged.items → IsEmitted bytes t (turns ++ x ∷ []) new
+  pub step_on : (x : Turn) (s : Step) → last_step x (0 + length (contents_in turns)) ≡ s ∷ [] → with_content x.1 [] ≡ [] → map step_of new.steps.items ≡ map step_of old.steps.items ++ s ∷ [] → new.staged.items ≡ old.staged.items → IsEmitted bytes t (turns ++ x ∷ []) (provenances ++ []) new
   step_on x s last none more same = record {
     steps = more ∙ ap (λ (l : List Step). l ++ s ∷ []) is.steps ∙ ap (λ (l : List Step). steps_in 0 turns ++ l) (sym last) ∙ sym (steps_more 0 turns x);
     staged = ap (λ (l : List Staged). map (staged_bytes bytes t) l) same ∙ is.staged ∙ append_none (contents_in turns) ∙ ap (λ (l : List (List ℕ)). contents_in turns ++ l) (sym none) ∙ sym (contents_more turns x);
+    provenances_are = ap (λ (l : List Staged). map provenance_of l) same ∙ is.provenances_are ∙ append_none provenances;
   }
 
   -- a step that puts a file with this content
-  pub put_on : (p : List ℕ) (m : ℕ) (b : List ℕ) (content : Staged) → staged_bytes bytes t content ≡ b → map step_of new.steps.items ≡ map step_of old.steps.items ++ Put (length old.staged.items) m p ∷ [] → new.staged.items ≡ old.staged.items ++ content ∷ [] → IsEmitted bytes t (turns ++ (p, Laid (File m b)) ∷ []) new
+  pub put_on : (p : List ℕ) (m : ℕ) (b : List ℕ) (content : Staged) → staged_bytes bytes t content ≡ b → map step_of new.steps.items ≡ map step_of old.steps.items ++ Put (length old.staged.items) m p ∷ [] → new.staged.items ≡ old.staged.items ++ content ∷ [] → IsEmitted bytes t (turns ++ (p, Laid (File m b)) ∷ []) (provenances ++ provenance_of content ∷ []) new
   put_on p m b content of more and_content = record {
     steps = more ∙ ap (λ (l : List Step). l ++ Put (length old.staged.items) m p ∷ []) is.steps ∙ ap (λ (n : ℕ). steps_in 0 turns ++ Put n m p ∷ []) counted ∙ sym (steps_more 0 turns (p, Laid (File m b)));
     staged = ap (λ (l : List Staged). map (staged_bytes bytes t) l) and_content ∙ map-append (staged_bytes bytes t) old.staged.items (content ∷ []) ∙ ap (λ (l : List (List ℕ)). l ++ staged_bytes bytes t content ∷ []) is.staged ∙ ap (λ (c : List ℕ). contents_in turns ++ c ∷ []) of ∙ sym (contents_more turns (p, Laid (File m b)));
+    provenances_are = ap (λ (l : List Staged). map provenance_of l) and_content ∙ map-append provenance_of old.staged.items (content ∷ []) ∙ ap (λ (l : List Provenance). l ++ provenance_of content ∷ []) is.provenances_are;
   }
+
+-- nothing more is staged
+pub no_more : (bytes : List ℕ → List ℕ) (t : Image) (turns : List Turn) (provenances : List Provenance) (e : Emitted) → IsEmitted bytes t turns (provenances ++ []) e → IsEmitted bytes t turns provenances e
+no_more bytes t turns provenances e is = record { steps = is.steps; staged = is.staged; provenances_are = is.provenances_are ∙ sym (append_none provenances) }

@@ -37,10 +37,28 @@ staged_bytes bytes t (Payload name) = bytes (spelling name)
 staged_bytes bytes t (Bytes given) = given.items
 staged_bytes bytes t (Standing path) = bytes_at t path.bytes
 
--- The steps are those of these paths in their order, and what is staged has just their contents.
-pub record IsEmitted (bytes : List ℕ → List ℕ) (t : Image) (turns : List Turn) (e : Emitted) : Type 0 where
+-- Where a content comes from: a payload of the repository, by its spelling, bytes of its own, or the file at a path of the image.
+pub data Provenance : Type 0 where
+  FromPayload : List ℕ → Provenance
+  OwnBytes : List ℕ → Provenance
+  FromFile : List ℕ → Provenance
+
+-- Where what is staged comes from.
+abbrev pub provenance_of : Staged → Provenance
+provenance_of (Payload name) = FromPayload (spelling name)
+provenance_of (Bytes given) = OwnBytes given.items
+provenance_of (Standing path) = FromFile path.bytes
+
+-- Where the content of what becomes of a path by what is wanted comes from, if it has one: a payload.
+abbrev pub provenances_told : Told → List Provenance
+provenances_told (told.File payload mode) = FromPayload (spelling payload.now) ∷ []
+provenances_told other = []
+
+-- The steps are those of these paths in their order, and what is staged has just their contents, which come from there.
+pub record IsEmitted (bytes : List ℕ → List ℕ) (t : Image) (turns : List Turn) (provenances : List Provenance) (e : Emitted) : Type 0 where
   pub steps : map step_of e.steps.items ≡ steps_in 0 turns
   pub staged : map (staged_bytes bytes t) e.staged.items ≡ contents_in turns
+  pub provenances_are : map provenance_of e.staged.items ≡ provenances
 
 -- One step more, that puts no file.
 pub record HasStep (old new : Emitted) (s : Step) : Type 0 where

@@ -7,7 +7,7 @@ ghost use Rattle.ips_steps.specs.Targets.{IsTarget};
 ghost use Rattle.ips_steps.specs.View.{step_of};
 ghost use Rattle.ips_after.specs.Change.{Laid};
 ghost use Rattle.ips_change.specs.Told.{change_told};
-ghost use Rattle.ips_emit.specs.Emitted.{HasPut, HasStep, HasTarget, IsEmitted, Turn, bytes_at};
+ghost use Rattle.ips_emit.specs.Emitted.{FromFile, HasPut, HasStep, HasTarget, IsEmitted, Provenance, OwnBytes, Turn, bytes_at, provenances_told};
 
 use ips_change::Change;
 use ips_journal::Staged;
@@ -27,7 +27,7 @@ pub struct Emitted {
 impl Emitted {
     /// No steps.
     pub fn new(alloc: Global) -> Emitted
-        ensures { (bytes : List ℕ → List ℕ) (t : Image) → IsEmitted bytes t [] result }
+        ensures { (bytes : List ℕ → List ℕ) (t : Image) → IsEmitted bytes t [] [] result }
     {
         Emitted {
             steps: Vec::new(alloc),
@@ -43,7 +43,7 @@ impl Emitted {
         change: Change<'_>,
     ) -> Result<(), AllocError>
         requires { HasTarget change }
-        ensures { OnOk result ((bytes : List ℕ → List ℕ) (t : Image) (turns : List Turn) → IsEmitted bytes t turns self.old → IsEmitted bytes t (turns ++ (path.now.bytes, change_told bytes change.entry) ∷ []) self.new) }
+        ensures { OnOk result ((bytes : List ℕ → List ℕ) (t : Image) (turns : List Turn) (provenances : List Provenance) → IsEmitted bytes t turns provenances self.old → IsEmitted bytes t (turns ++ (path.now.bytes, change_told bytes change.entry) ∷ []) (provenances ++ provenances_told change.entry) self.new) }
     {
         let path = path.copy(alloc)?;
         match change {
@@ -65,7 +65,7 @@ impl Emitted {
         mode: u16,
         text: Vec<u8>,
     ) -> Result<(), AllocError>
-        ensures { OnOk result ((bytes : List ℕ → List ℕ) (t : Image) (turns : List Turn) → IsEmitted bytes t turns self.old → IsEmitted bytes t (turns ++ (path.now.bytes, Laid (File mode text.items)) ∷ []) self.new) }
+        ensures { OnOk result ((bytes : List ℕ → List ℕ) (t : Image) (turns : List Turn) (provenances : List Provenance) → IsEmitted bytes t turns provenances self.old → IsEmitted bytes t (turns ++ (path.now.bytes, Laid (File mode text.items)) ∷ []) (provenances ++ OwnBytes text.items ∷ []) self.new) }
     {
         let path = path.copy(alloc)?;
         self.add_put(path, mode, Staged::Bytes(text))
@@ -79,7 +79,7 @@ impl Emitted {
         mode: u16,
         from: &RelPath,
     ) -> Result<(), AllocError>
-        ensures { OnOk result ((bytes : List ℕ → List ℕ) (t : Image) (turns : List Turn) → IsEmitted bytes t turns self.old → IsEmitted bytes t (turns ++ (path.now.bytes, Laid (File mode (bytes_at t from.now.bytes))) ∷ []) self.new) }
+        ensures { OnOk result ((bytes : List ℕ → List ℕ) (t : Image) (turns : List Turn) (provenances : List Provenance) → IsEmitted bytes t turns provenances self.old → IsEmitted bytes t (turns ++ (path.now.bytes, Laid (File mode (bytes_at t from.now.bytes))) ∷ []) (provenances ++ FromFile from.now.bytes ∷ []) self.new) }
     {
         let path = path.copy(alloc)?;
         let from = from.copy(alloc)?;
@@ -94,7 +94,7 @@ impl Emitted {
         target: &[u8],
     ) -> Result<(), AllocError>
         requires { IsTarget target.now }
-        ensures { OnOk result ((bytes : List ℕ → List ℕ) (t : Image) (turns : List Turn) → IsEmitted bytes t turns self.old → IsEmitted bytes t (turns ++ (path.now.bytes, Laid (Link target.now)) ∷ []) self.new) }
+        ensures { OnOk result ((bytes : List ℕ → List ℕ) (t : Image) (turns : List Turn) (provenances : List Provenance) → IsEmitted bytes t turns provenances self.old → IsEmitted bytes t (turns ++ (path.now.bytes, Laid (Link target.now)) ∷ []) provenances self.new) }
     {
         let path = path.copy(alloc)?;
         self.add_link(alloc, path, target)

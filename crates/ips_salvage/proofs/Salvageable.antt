@@ -51,7 +51,7 @@ file_apart r t p q formed there kept over gives = go (same_path p q) refl
     go false other = above (or_cases _ _ (formed.below_dirs p q over other))
 
 -- so what isn't given up goes with something that is destroyed just where it goes with something other than such a file
-goes_same : (r : Request) (t : Image) (q : List ℕ) → IsImage t → is_some (t.look q) ≡ true → after.given_up (naming r) t q ≡ false → reached (destroys_else (naming r) t) q ≡ reached (salvage.destroys (naming r) t) q
+pub goes_same : (r : Request) (t : Image) (q : List ℕ) → IsImage t → is_some (t.look q) ≡ true → after.given_up (naming r) t q ≡ false → reached (destroys_else (naming r) t) q ≡ reached (salvage.destroys (naming r) t) q
 goes_same r t q formed there kept = both_ways _ _
     (λ h. let x = reach_of (destroys_else (naming r) t) q h in reached_from (salvage.destroys (naming r) t) x.at q x.over (and_parts _ (not (gives_file (naming r) t x.at)) x.holds).0)
     (λ h.

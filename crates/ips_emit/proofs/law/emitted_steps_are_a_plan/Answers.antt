@@ -7,7 +7,7 @@ use Rattle.ips_emit.proofs.law.emitted_steps_are_a_plan.Goals as goal
 
 pub returns : goal.returns
 returns c = record {
-  steps = λ change paths bytes t e is. is.steps ∙ steps_by change 0 paths;
-  staged = λ change paths bytes t e is. is.staged ∙ contents_by change paths;
-  counted = λ bytes t turns e is. ap puts_in is.steps ∙ puts_counted 0 turns ∙ sym (ap length is.staged) ∙ length-map e.staged.items (staged_bytes bytes t);
+  steps = λ change paths bytes t provenances e is. is.steps ∙ steps_by change 0 paths;
+  staged = λ change paths bytes t provenances e is. is.staged ∙ contents_by change paths;
+  counted = λ bytes t turns provenances e is. ap puts_in is.steps ∙ puts_counted 0 turns ∙ sym (ap length is.staged) ∙ length-map e.staged.items (staged_bytes bytes t);
 }
