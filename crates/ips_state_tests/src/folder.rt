@@ -167,7 +167,7 @@ fn each_image_by_its_files(rt: HostRuntime) {
     assert!(rt; cases == 23, "{cases} cases");
 }
 
-// Each call that is made fails in its turn: looks, and reads of what has bytes.
+// Each call that is made fails in its turn, looks and reads of what has bytes, and there is none behind them.
 #[test]
 fn each_call_may_fail(rt: HostRuntime) {
     let alloc = rt.alloc();
@@ -176,13 +176,13 @@ fn each_call_may_fail(rt: HostRuntime) {
         ("lists; avoid=; freeze=; mediators=; history=", 4),
         ("index; image=image 2¶publisher test¶; index=index 1¶", 6),
     ] {
-        for call in 1..=calls {
+        for call in 1..=calls.saturating_add(1) {
             let mut fails = Vec::new(alloc);
             fails.push(call).expect(&rt, "memory");
             let mut source = MemSource::new(image(&rt, alloc, question), fails);
             let answer = told(&rt, alloc, question, &mut source);
             assert!(rt;
-                answer.as_str() == "folder fault",
+                (answer.as_str() == "folder fault") == (call <= calls),
                 "{question}, call {call}: {answer}"
             );
         }

@@ -237,7 +237,7 @@ fn each_image_as_a_whole(rt: HostRuntime) {
     assert!(rt; cases == 69, "{cases} cases");
 }
 
-// Each call that is made fails in its turn.
+// Each call that is made fails in its turn, and there is none behind them.
 #[test]
 fn each_call_of_loading_may_fail(rt: HostRuntime) {
     let alloc = rt.alloc();
@@ -245,14 +245,14 @@ fn each_call_of_loading_may_fail(rt: HostRuntime) {
         ("1; installed=a@1¶; manifests/a=# none¶", 12u64),
         ("2; packages/a=package 2¶version 1¶", 12),
     ] {
-        for call in 1..=calls {
+        for call in 1..=calls.saturating_add(1) {
             let mut fails = Vec::new(alloc);
             fails.push(call).expect(&rt, "memory");
             let tree = image(&rt, alloc, question);
             let mut folder = MemFolder::new(alloc, tree, fails, None).expect(&rt, "memory");
             let answer = told(&rt, alloc, &mut folder);
             assert!(rt;
-                answer.as_str() == "folder fault",
+                (answer.as_str() == "folder fault") == (call <= calls),
                 "{question}, call {call}: {answer}"
             );
         }
