@@ -23,6 +23,7 @@ use Rattle.ips_after.proofs.Fits.{dir_of_wanted}
 use Rattle.ips_links.proofs.Led.{same_any}
 use Rattle.ips_links.proofs.Linked.{is_silent}
 use Rattle.ips_order.specs.Chosen.{chosen, path_in, turned_places}
+use Rattle.ips_order.specs.Marking.{ordered_places, places_in}
 use Rattle.ips_order.specs.declared.group.Group.{Group}
 use Rattle.ips_order.specs.declared.group.Group.TheVariants as group
 use Rattle.ips_order.proofs.Places.{chosen_paths, turned_paths}
@@ -172,9 +173,9 @@ module _ (r : Request) (t : Image) (rows : List Row) (said : List (Option Said))
   more front group a b ha hb = map-append (path_in paths) front group ∙ rw (ha, hb) refl
 
   abbrev of_group : Group → List ℕ
-  of_group g = chosen 0 (map (group_at r t g) paths)
+  of_group g = places_in r t paths g
 
-  pub ordered : map (path_in paths) (turned_places (of_group group.Gone) ++ of_group group.OldDirs ++ of_group group.OldOthers ++ of_group group.NewDirs ++ of_group group.NewOthers ++ of_group group.Accounts ++ of_group group.Hards ++ of_group group.Records) ≡ plan_order (naming r) t
+  pub ordered : map (path_in paths) (ordered_places r t paths) ≡ plan_order (naming r) t
   ordered =
       let a0 = turned (filter (λ p. is_none (r.new.at p) && not (is_apart (naming r) t p)) r.old.keys) in
       let a1 = filter (λ p. is_some (r.old.at p) && is_dir_wanted (r.new.at p)) r.new.keys in

@@ -12,14 +12,28 @@ ghost use Rattle.ips_change.specs.Told.{naming};
 ghost use Rattle.ips_reach.specs.Marks.{IsMarkOf, row_paths};
 ghost use Rattle.ips_spoken.specs.Said.{says_laid};
 ghost use Rattle.ips_spoken.specs.Tables.{IsTable};
-ghost use Rattle.ips_order.specs.Chosen.{chosen, path_in, turned_places};
-ghost use Rattle.ips_order.specs.Groups.{group_at, lays_below};
+ghost use Rattle.ips_order.specs.Chosen.{path_in, turned_places};
+ghost use Rattle.ips_order.specs.declared.group.Group.TheVariants as group;
+ghost use Rattle.ips_order.specs.Marking.{AreAsLong, AreMarks, ordered_places, places_in};
+ghost use Rattle.ips_order.specs.Groups.{group_at};
 
 use crate::choosing::{add, add_back};
 use crate::group::{Facts, Group, is_in};
 use ips_reach::marked_below;
 use ips_spoken::{Said, Table};
 use std::alloc::{AllocError, Global};
+
+// A table, with marks beside its rows.
+#[derive(Drop)]
+struct Marked<'a> {
+    table: &'a Table<'a>,
+    // The paths at which a directory is made for what is made below.
+    supports: &'a [bool],
+    // Those of account files.
+    accounts: &'a [bool],
+    // Those above account files that are laid.
+    above: &'a [bool],
+}
 
 /// The rows of the table in the order of a plan, by their places, each that may have a step once. `supports` marks the paths at which a directory is made
 /// for what is made below, and `accounts` those of account files.
@@ -40,123 +54,72 @@ pub fn order(
     let laid = account_marks(alloc, table, accounts)?;
     let above = marked_below(alloc, &table.rows, &laid)?;
     let mut order = Vec::with_capacity(alloc, table.rows.len())?;
-    let gone = group_marks(alloc, table, supports, accounts, &above, Group::Gone)?;
-    add_back(&gone, &mut order)?;
-    add_group(
-        alloc,
+    let marked = Marked {
         table,
         supports,
         accounts,
-        &above,
-        Group::OldDirs,
-        &mut order,
-    )?;
-    add_group(
-        alloc,
-        table,
-        supports,
-        accounts,
-        &above,
-        Group::OldOthers,
-        &mut order,
-    )?;
-    add_group(
-        alloc,
-        table,
-        supports,
-        accounts,
-        &above,
-        Group::NewDirs,
-        &mut order,
-    )?;
-    add_group(
-        alloc,
-        table,
-        supports,
-        accounts,
-        &above,
-        Group::NewOthers,
-        &mut order,
-    )?;
-    add_group(
-        alloc,
-        table,
-        supports,
-        accounts,
-        &above,
-        Group::Accounts,
-        &mut order,
-    )?;
-    add_group(
-        alloc,
-        table,
-        supports,
-        accounts,
-        &above,
-        Group::Hards,
-        &mut order,
-    )?;
-    add_group(
-        alloc,
-        table,
-        supports,
-        accounts,
-        &above,
-        Group::Records,
-        &mut order,
-    )?;
-    Ok(order)
+        above: &above,
+    };
+    match add_all(alloc, &marked, &mut order) {
+        Ok(()) => Ok(order),
+        Err(fault) => Err(fault),
+    }
+}
+
+// Adds the rows of all groups to none.
+fn add_all(alloc: Global, marked: &Marked<'_>, order: &mut Vec<usize>) -> Result<(), AllocError>
+    requires long { AreAsLong marked.now }
+    requires none { order.old.items ≡ [] }
+    ensures { OnOk result ((r : Request) (t : Image) → AreMarks r t marked.now → order.new.items ≡ ordered_places r t (row_paths marked.now.table.now.rows.items)) }
+{
+    add_gone(alloc, marked, order)?;
+    add_group(alloc, marked, Group::OldDirs, order)?;
+    add_group(alloc, marked, Group::OldOthers, order)?;
+    add_group(alloc, marked, Group::NewDirs, order)?;
+    add_group(alloc, marked, Group::NewOthers, order)?;
+    add_group(alloc, marked, Group::Accounts, order)?;
+    add_group(alloc, marked, Group::Hards, order)?;
+    add_group(alloc, marked, Group::Records, order)
+}
+
+// Adds the rows of what is only old, from the last on.
+fn add_gone(alloc: Global, marked: &Marked<'_>, order: &mut Vec<usize>) -> Result<(), AllocError>
+    requires long { AreAsLong marked.now }
+    ensures { OnOk result ((r : Request) (t : Image) → AreMarks r t marked.now → order.new.items ≡ order.old.items ++ turned_places (places_in r t (row_paths marked.now.table.now.rows.items) group.Gone)) }
+{
+    let marks = group_marks(alloc, marked, Group::Gone)?;
+    add_back(&marks, order)
 }
 
 // Adds the rows of a group.
 fn add_group(
     alloc: Global,
-    table: &Table<'_>,
-    supports: &[bool],
-    accounts: &[bool],
-    above: &[bool],
+    marked: &Marked<'_>,
     group: Group,
     order: &mut Vec<usize>,
 ) -> Result<(), AllocError>
-    requires said { length table.now.said.items ≡ length table.now.rows.items }
-    requires supports { length supports.now ≡ length table.now.rows.items }
-    requires accounts { length accounts.now ≡ length table.now.rows.items }
-    requires above { length above.now ≡ length table.now.rows.items }
-    ensures { OnOk result ((r : Request) (t : Image) → IsTable r table.now.rows.items table.now.said.items
-        → supports.now ≡ map (after.is_support (naming r) t) (row_paths table.now.rows.items) → accounts.now ≡ map r.over.is_account (row_paths table.now.rows.items) → above.now ≡ map (lays_below r) (row_paths table.now.rows.items)
-        → order.new.items ≡ order.old.items ++ chosen 0 (map (group_at r t group) (row_paths table.now.rows.items))) }
+    requires long { AreAsLong marked.now }
+    ensures { OnOk result ((r : Request) (t : Image) → AreMarks r t marked.now → order.new.items ≡ order.old.items ++ places_in r t (row_paths marked.now.table.now.rows.items) group) }
 {
-    let marks = group_marks(alloc, table, supports, accounts, above, group)?;
+    let marks = group_marks(alloc, marked, group)?;
     add(&marks, order)
 }
 
 // At each row whether its path is in the group.
-fn group_marks(
-    alloc: Global,
-    table: &Table<'_>,
-    supports: &[bool],
-    accounts: &[bool],
-    above: &[bool],
-    group: Group,
-) -> Result<Vec<bool>, AllocError>
-    requires said { length table.now.said.items ≡ length table.now.rows.items }
-    requires supports { length supports.now ≡ length table.now.rows.items }
-    requires accounts { length accounts.now ≡ length table.now.rows.items }
-    requires above { length above.now ≡ length table.now.rows.items }
-    ensures { IfOk result (λ marks. (r : Request) (t : Image) → IsTable r table.now.rows.items table.now.said.items
-        → supports.now ≡ map (after.is_support (naming r) t) (row_paths table.now.rows.items) → accounts.now ≡ map r.over.is_account (row_paths table.now.rows.items) → above.now ≡ map (lays_below r) (row_paths table.now.rows.items)
-        → marks.items ≡ map (group_at r t group) (row_paths table.now.rows.items)) }
+fn group_marks(alloc: Global, marked: &Marked<'_>, group: Group) -> Result<Vec<bool>, AllocError>
+    requires long { AreAsLong marked.now }
+    ensures { IfOk result (λ marks. (r : Request) (t : Image) → AreMarks r t marked.now → marks.items ≡ map (group_at r t group) (row_paths marked.now.table.now.rows.items)) }
 {
-    let mut marks = Vec::with_capacity(alloc, table.rows.len())?;
-    for i in 0..table.rows.len() {
-        let row = &table.rows[i];
+    let mut marks = Vec::with_capacity(alloc, marked.table.rows.len())?;
+    for i in 0..marked.table.rows.len() {
+        let row = &marked.table.rows[i];
         let facts = Facts {
             old: row.old,
             new: row.new,
-            said: table.said[i],
-            support: supports[i],
-            account: accounts[i],
-            above: above[i],
+            said: marked.table.said[i],
+            support: marked.supports[i],
+            account: marked.accounts[i],
+            above: marked.above[i],
         };
         marks.push(is_in(group, &facts))?;
     }
