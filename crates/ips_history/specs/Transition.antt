@@ -45,14 +45,14 @@ pub record Creating {F : Type 0} (o : Outside F) (old new : F) : Type 0 where
   pub absent : (o.state old).held.look dir ≡ None
   pub moments : Throughout o from new (Within (covers dir) nowhere (o.state from))
 
--- the state is that one, or what stands at the path isn't safe
-abbrev pub IsUnsafe : List ℕ → State → State → Type 0
-IsUnsafe dir old s = (s ≡ old) ⊎ IsTrue (s.whole dir)
+-- what is made at the path isn't safe yet: nothing is made since that state, or what is made could be lost in a crash
+abbrev pub IsNotYetSafe : List ℕ → State → State → Type 0
+IsNotYetSafe dir old s = (s ≡ old) ⊎ IsTrue (s.whole dir)
 
 -- The directories are made in part: at no moment since the opening sync the first of them stands and is safe.
 pub record CreatingInPart {F : Type 0} (o : Outside F) (old new : F) : Type 0 where
   pub creating : Creating o old new
-  pub moments : Throughout o creating.from new (IsUnsafe creating.dir (o.state creating.from))
+  pub moments : Throughout o creating.from new (IsNotYetSafe creating.dir (o.state creating.from))
 
 -- What a run does to what the folder owes. It is no request, and what was owed stays owed. Or that holds until the opening sync has
 -- answered, and from then on the run is a request. Or it makes directories of the records, of which a crash may leave anything,

@@ -16,7 +16,7 @@ hard_to (Some (WantLink target)) = None
 hard_to (Some (WantHard to)) = Some to
 hard_to None = None
 
--- it is this path
+-- there is such a path, and it is this one
 abbrev pub is_that : Option (List ℕ) → List ℕ → Bool
 is_that (Some to) p = same_path to p
 is_that None p = false

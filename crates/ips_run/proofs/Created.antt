@@ -15,7 +15,7 @@ use Rattle.ips_steps.specs.Private.{records_name, gate_name}
 use Rattle.ips_steps.proofs.Lists.{clash}
 use Rattle.ips_kinds.specs.Tallies.{Carrier}
 use Rattle.ips_history.specs.Directories.{creates, fixes, var_name, with_directories, is_dir_or_free, CanHaveDirectories, IsInTheWay}
-use Rattle.ips_history.specs.Transition.{IsUnsafe}
+use Rattle.ips_history.specs.Transition.{IsNotYetSafe}
 use Rattle.ips_history.specs.Run.{StaysShut}
 use Rattle.ips_history.specs.declared.effect.Effect.{Effect}
 use Rattle.ips_run.specs.declared.creating.Missing.{Missing}
@@ -175,11 +175,11 @@ module _ {F : Type 0} (o : Outside F) (sane : IsOutside o) (old : F) (told : o.t
     making_of missing.Records is kept = inr (record { dir = records_name; is = inr refl; absent = is.1; kept = since (covers records_name) kept })
     making_of missing.Both is kept = inr (record { dir = var_name; is = inl refl; absent = is; kept = since (covers var_name) kept })
 
-    unsafe_of : (dir : List ℕ) → Throughout o mid new (IsUnsafe dir (o.state mid)) → Throughout o old new (IsUnsafe dir (o.state old))
+    unsafe_of : (dir : List ℕ) → Throughout o mid new (IsNotYetSafe dir (o.state mid)) → Throughout o old new (IsNotYetSafe dir (o.state old))
     unsafe_of dir run =
-        let P : State → Type 0 = IsUnsafe dir (o.state old) in
+        let P : State → Type 0 = IsNotYetSafe dir (o.state old) in
         joins o old mid new P (goes_on o old old mid P (started o old P (sane.only_now old) (inl refl)) time (inl same))
-        (weaker o mid new (IsUnsafe dir (o.state mid)) P (λ s is. subst (λ (t : State). IsUnsafe dir t s) same is) run)
+        (weaker o mid new (IsNotYetSafe dir (o.state mid)) P (λ s is. subst (λ (t : State). IsNotYetSafe dir t s) same is) run)
 
     pub failed_of : (m : Missing) → IsMissing held m → HasMade o m mid new → HasMadeInPart o m mid new → SaysOfDirectories o old new fault.Failed
     failed_of missing.Nothing is has part = absurd part

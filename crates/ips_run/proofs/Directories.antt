@@ -15,7 +15,7 @@ use Rattle.ips_steps.specs.Private.{records_name, gate_name}
 use Rattle.ips_steps.proofs.Lists.{clash}
 use Rattle.ips_repo.proofs.Joined.{joined_path}
 use Rattle.ips_history.specs.Directories.{var_name, with_dir, with_directories, is_dir_or_free, CanHaveDirectories, IsInTheWay}
-use Rattle.ips_history.specs.Transition.{IsUnsafe}
+use Rattle.ips_history.specs.Transition.{IsNotYetSafe}
 use Rattle.ips_history.specs.Run.{StaysShut}
 
 -- ---- the names
@@ -170,7 +170,7 @@ on_failure (Ok x) p f = p
 on_failure (Err e) p f = f p
 
 -- what is changed at and below a path isn't safe there
-unsafe_at : (p : List ℕ) (old s : State) → MayChange (covers p) nowhere old s → IsUnsafe p old s
+unsafe_at : (p : List ℕ) (old s : State) → MayChange (covers p) nowhere old s → IsNotYetSafe p old s
 unsafe_at p old s (inl same) = inl same
 unsafe_at p old s (inr changed) = inr (ap (λ (f : List ℕ → Bool). f p) changed.whole ∙ or_left (covers p p) (old.whole p) (covers-self p))
 
@@ -186,8 +186,8 @@ module _ {F : Type 0} (o : Outside F) (sane : IsOutside o) where
   one_change p q same old new told made w = goes_on o old old new (MayChange (covers q) nowhere (o.state old)) (started o old (MayChange (covers q) nowhere (o.state old)) (sane.only_now old) (inl refl)) w.call.time
       (subst (λ (r : List ℕ). MayChange (covers r) nowhere (o.state old) (o.state new)) same (w.only told))
 
-  pub unsafe_since : (p : List ℕ) (old new : F) → Throughout o old new (MayChange (covers p) nowhere (o.state old)) → Throughout o old new (IsUnsafe p (o.state old))
-  unsafe_since p old new run = weaker o old new (MayChange (covers p) nowhere (o.state old)) (IsUnsafe p (o.state old)) (λ s may. unsafe_at p (o.state old) s may) run
+  pub unsafe_since : (p : List ℕ) (old new : F) → Throughout o old new (MayChange (covers p) nowhere (o.state old)) → Throughout o old new (IsNotYetSafe p (o.state old))
+  unsafe_since p old new run = weaker o old new (MayChange (covers p) nowhere (o.state old)) (IsNotYetSafe p (o.state old)) (λ s may. unsafe_at p (o.state old) s may) run
 
   abbrev Shut : State → Type 0
   Shut s = s.held.look gate_name ≡ None
@@ -244,16 +244,16 @@ module _ {F : Type 0} (o : Outside F) (sane : IsOutside o) where
     pub var_failed : Keeps o (covers var_name) nowhere old mid
     var_failed = subst (λ (q : List ℕ). Keeps o (covers q) nowhere old mid) same (one_write o sane old mid (covers p) nowhere (written p (placed p made_dir (o.state old).held) (o.state old)) made told w)
 
-    pub var_in_part : Throughout o old mid (IsUnsafe var_name (o.state old))
+    pub var_in_part : Throughout o old mid (IsNotYetSafe var_name (o.state old))
     var_in_part = unsafe_since var_name old mid (one_change p var_name same old mid told made w)
 
     module _ (is : o.state mid ≡ written p (placed p made_dir (o.state old).held) (o.state old)) where
       var_touched : (o.state mid).whole var_name ≡ true
       var_touched = ap (λ (t : State). t.whole var_name) is ∙ or_left (covers p var_name) ((o.state old).whole var_name) (ap (λ (q : List ℕ). covers q var_name) same ∙ covers-self var_name)
 
-      pub both_in_part : (new : F) {U V : Type 0} (rest : Result U V) → OnErr rest (Throughout o mid new (MayChange (covers records_name) nowhere (o.state mid))) → OnErr rest (Throughout o old new (IsUnsafe var_name (o.state old)))
-      both_in_part new rest later = on_failure rest later (λ run. joins o old mid new (IsUnsafe var_name (o.state old)) var_in_part
-          (weaker o mid new (MayChange (covers records_name) nowhere (o.state mid)) (IsUnsafe var_name (o.state old)) (λ s may. inr (unsafe_still (covers records_name) var_name (o.state mid) s var_touched may)) run))
+      pub both_in_part : (new : F) {U V : Type 0} (rest : Result U V) → OnErr rest (Throughout o mid new (MayChange (covers records_name) nowhere (o.state mid))) → OnErr rest (Throughout o old new (IsNotYetSafe var_name (o.state old)))
+      both_in_part new rest later = on_failure rest later (λ run. joins o old mid new (IsNotYetSafe var_name (o.state old)) var_in_part
+          (weaker o mid new (MayChange (covers records_name) nowhere (o.state mid)) (IsNotYetSafe var_name (o.state old)) (λ s may. inr (unsafe_still (covers records_name) var_name (o.state mid) s var_touched may)) run))
 
       pub var_held : (o.state mid).held ≡ placed var_name made_dir (o.state old).held
       var_held = ap (λ (t : State). t.held) is ∙ ap (λ (q : List ℕ). placed q made_dir (o.state old).held) same

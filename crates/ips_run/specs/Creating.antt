@@ -9,7 +9,7 @@ use Rattle.ips_folder.specs.Calls.{Throughout, Keeps}
 use Rattle.ips_steps.specs.Private.{records_name}
 use Rattle.ips_kinds.specs.Tallies.{Carrier}
 use Rattle.ips_history.specs.Directories.{var_name, with_directories, is_dir_or_free, CanHaveDirectories, IsInTheWay}
-use Rattle.ips_history.specs.Transition.{IsUnsafe}
+use Rattle.ips_history.specs.Transition.{IsNotYetSafe}
 use Rattle.ips_history.specs.Run.{StaysShut}
 use Rattle.ips_run.specs.declared.creating.Missing.{Missing}
 use Rattle.ips_run.specs.declared.creating.Missing.TheVariants as missing
@@ -42,7 +42,7 @@ pub record IsMaking {F : Type 0} (o : Outside F) (old new : F) : Type 0 where
 -- The same, and at no moment the first of them stands and is safe.
 pub record IsMakingInPart {F : Type 0} (o : Outside F) (old new : F) : Type 0 where
   pub making : IsMaking o old new
-  pub moments : Throughout o old new (IsUnsafe making.dir (o.state old))
+  pub moments : Throughout o old new (IsNotYetSafe making.dir (o.state old))
 
 -- nothing has happened to the image
 abbrev pub IsAsBefore : {F : Type 0} → Outside F → F → F → Type 0
@@ -57,8 +57,8 @@ HasMade o missing.Both old new = Keeps o (covers var_name) nowhere old new
 -- the same where that failed: something was missing, and at no moment the first of it stands and is safe
 abbrev pub HasMadeInPart : {F : Type 0} → Outside F → Missing → F → F → Type 0
 HasMadeInPart o missing.Nothing old new = ⊥
-HasMadeInPart o missing.Records old new = Throughout o old new (IsUnsafe records_name (o.state old))
-HasMadeInPart o missing.Both old new = Throughout o old new (IsUnsafe var_name (o.state old))
+HasMadeInPart o missing.Records old new = Throughout o old new (IsNotYetSafe records_name (o.state old))
+HasMadeInPart o missing.Both old new = Throughout o old new (IsNotYetSafe var_name (o.state old))
 
 -- The directories stand, and nothing is touched: just those that were missing are made, or none was. The gate was closed all along.
 pub record AreMade {F : Type 0} (o : Outside F) (old new : F) : Type 0 where

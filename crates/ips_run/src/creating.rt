@@ -12,7 +12,7 @@ ghost use Rattle.ips_steps.specs.Private.{records_name, gate_name};
 ghost use Rattle.ips_steps.specs.declared.step.Sort.{Sort};
 ghost use Rattle.ips_kinds.specs.Tallies.{seen_by, taken};
 ghost use Rattle.ips_history.specs.Directories.{creates, var_name, with_directories};
-ghost use Rattle.ips_history.specs.Transition.{IsUnsafe};
+ghost use Rattle.ips_history.specs.Transition.{IsNotYetSafe};
 ghost use Rattle.ips_history.specs.Run.{StaysShut};
 ghost use Rattle.ips_run.specs.declared.creating.DirectoryFault.TheVariants as fault;
 ghost use Rattle.ips_run.specs.Ending.{EndsAs, is_left, is_folder_fault, is_source_fault, is_spawn_fault};
@@ -216,7 +216,7 @@ fn make_both<F: Folder>(folder: &mut F, var: &RelPath, records: &RelPath) -> Res
         (F.outside.state folder.new ≡ untouched (placed records_name (Some (Dir 493 false)) (placed var_name (Some (Dir 493 false)) (F.outside.state folder.old).held))) }
     ensures shut { IsTrue (F.outside.tells folder.old) → OnOk result (StaysShut F.outside folder.old folder.new) }
     ensures kept { IsTrue (F.outside.tells folder.old) → Keeps F.outside (covers var_name) nowhere folder.old folder.new }
-    ensures in_part { IsTrue (F.outside.tells folder.old) → OnErr result (Throughout F.outside folder.old folder.new (IsUnsafe var_name (F.outside.state folder.old))) }
+    ensures in_part { IsTrue (F.outside.tells folder.old) → OnErr result (Throughout F.outside folder.old folder.new (IsNotYetSafe var_name (F.outside.state folder.old))) }
     ensures cause { HasCause (F.outside.faults folder.old) (F.outside.faults folder.new) (IsErr result) }
     ensures later { F.outside.changes folder.old ≤ F.outside.changes folder.new }
     ensures same_kind { F.outside.tells folder.new ≡ F.outside.tells folder.old }

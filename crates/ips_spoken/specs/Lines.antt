@@ -31,7 +31,7 @@ ranked Greater row spoken = bare spoken
 abbrev pub lesser : Row → Spoken → Line
 lesser row spoken = ranked (slice_cmp nat_cmp row.path.now.bytes spoken.path.now.bytes) row spoken
 
--- the same of the next ones, where there are such
+-- the line of the first of the next row and the next path that is spoken of, where there are such
 abbrev pub first : Option Row → Option Spoken → Option Line
 first (Some row) (Some spoken) = Some (lesser row spoken)
 first (Some row) None = Some (unsaid row)

@@ -13,7 +13,7 @@ use Rattle.ips_spoken.specs.declared.said.Said.{Said}
 use Rattle.ips_spoken.specs.declared.said.Spoken.{Spoken}
 use Rattle.ips_spoken.specs.Said.{said_as}
 
--- these paths
+-- the paths that account files and records name
 abbrev pub spoken_paths : List Spoken → List (List ℕ)
 spoken_paths spoken = map (λ s. s.path.now.bytes) spoken
 
