@@ -1,4 +1,4 @@
-//! An image as it is meant, or with other entries at some paths.
+//! Images, from their entries as text.
 
 ghost use Rattle.std.specs.Prelude.{◌<◌};
 
@@ -21,18 +21,30 @@ const MEANT: [(&str, &str); 10] = [
     ("var/pkg", "d0755"),
 ];
 
-fn path(rt: &impl Abort, alloc: Global, text: &str) -> RelPath {
+/// The path of a text.
+pub fn path(rt: &impl Abort, alloc: Global, text: &str) -> RelPath {
     RelPath::parse(alloc, text.as_bytes())
         .ok()
         .expect(rt, "a path")
 }
 
-/// The image with other entries, as `path=entry` and divided by blanks: an entry is `d` with a mode, `f` with a mode and bytes,
-/// `h` with the path of its file, `l` with a target, or nothing.
+/// The image that is meant, with other entries, as `path=entry` and divided by blanks: an entry is `d` with a mode, `f` with a mode and bytes,
+/// `h` with the path of its file, `l` with a target, `o` for anything else, or nothing.
 pub fn image(rt: &impl Abort, alloc: Global, others: &str) -> Tree {
     let mut tree = Tree::new(alloc);
     for (at, meant) in MEANT {
         add(rt, alloc, &mut tree, at, entry_at(others, at, meant));
+    }
+    tree
+}
+
+/// The image of these entries alone, as `image` has them.
+pub fn image_of(rt: &impl Abort, alloc: Global, entries: &str) -> Tree {
+    let mut tree = Tree::new(alloc);
+    for entry in entries.split(' ') {
+        if let Some((at, given)) = entry.split_once('=') {
+            add(rt, alloc, &mut tree, at, given);
+        }
     }
     tree
 }
@@ -56,6 +68,7 @@ fn add(rt: &impl Abort, alloc: Global, tree: &mut Tree, at: &str, entry: &str) {
         "" => Ok(()),
         "h" => tree.hard(alloc, &place, &path(rt, alloc, behind)),
         "l" => tree.link(alloc, &place, behind.as_bytes()),
+        "o" => tree.other(alloc, &place),
         _ => {
             let (kind, digits) = front.split_at_checked(1).expect(rt, "a kind");
             let mode = mode(rt, digits);

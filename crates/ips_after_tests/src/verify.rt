@@ -1,10 +1,8 @@
 use crate::images::image;
-use ips_filter::Settings;
-use ips_fmri::Version;
+use crate::wants::meaning;
 use ips_folder::MemFolder;
-use ips_manifest::{Manifest, Package};
-use ips_meaning::{Damage, Want, want};
-use ips_text::{Or, Text};
+use ips_meaning::{Damage, Want};
+use ips_text::Or;
 use ips_verify::findings;
 use std::alloc::Global;
 use std::process::Abort;
@@ -22,20 +20,7 @@ file a9993e364706816aba3e25717850c26c9cd0d89d group=sys mode=0644 owner=root pat
 ";
 
 fn wanted(rt: &impl Abort, alloc: Global) -> Want {
-    let manifest = Manifest::read(alloc, MANIFEST.as_bytes())
-        .ok()
-        .expect(rt, "a manifest");
-    let mut packages = Vec::new(alloc);
-    packages
-        .push(Package {
-            stem: Text::new(alloc, "a").ok().expect(rt, "memory"),
-            version: Version::parse(alloc, "1").ok().expect(rt, "a version"),
-            manifest,
-        })
-        .expect(rt, "memory");
-    want(alloc, &packages, &Settings::new(alloc), &[])
-        .ok()
-        .expect(rt, "a meaning")
+    meaning(rt, alloc, MANIFEST)
 }
 
 fn damage_told(damage: Damage) -> &'static str {
