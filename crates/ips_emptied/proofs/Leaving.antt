@@ -19,10 +19,6 @@ use Rattle.ips_emptied.specs.Emptying.{IsEmptiedAt, is_candidate}
 use Rattle.ips_emptied.proofs.Settled.{settled_there}
 use Rattle.ips_emptied.proofs.Placed.{all_at, child_of, fails_at}
 
-none_of : {A : Type 0} (o : Option A) → is_none o ≡ true → o ≡ None
-none_of None h = refl
-none_of (Some x) h = cc
-
 unstated_kept : (r : Request) (o : Option Wanted) (e : Option Entry) → unstated o ≡ true → by_itself r o None e ≡ Kept
 unstated_kept r (Some (WantDir None)) e h = refl
 unstated_kept r (Some (WantDir (Some m))) e h = cc
@@ -45,6 +41,10 @@ kept_at r t q may =
     ∙ ap (linked_as r t q) new
     ∙ ap (λ (o : Option Wanted). by_itself r (r.old.at q) o (t.look q)) new
     ∙ unstated_kept r (r.old.at q) (t.look q) one.0
+  where
+    none_of : {A : Type 0} (o : Option A) → is_none o ≡ true → o ≡ None
+    none_of None h = refl
+    none_of (Some x) h = cc
 
 -- a directory stands there, whole but for foreign names
 whole_is : (e : Option Entry) → whole_dir e ≡ (is_dir e && not (is_foreign e))

@@ -34,10 +34,6 @@ some_moded None = refl
 some_alike : (a b : Option Entry) → with_mode 0 a ≡ with_mode 0 b → is_some a ≡ is_some b
 some_alike a b h = sym (some_moded a) ∙ ap is_some h ∙ some_moded b
 
-file_some : (e : Option Entry) → is_file e ≡ true → is_some e ≡ true
-file_some (Some x) h = refl
-file_some None h = cc
-
 module _ (r : Request) (t : Image) (good : IsRequest r) (formed : IsImage t) where
   abbrev settled : Changes
   settled = after.change_settled r t
@@ -56,6 +52,10 @@ module _ (r : Request) (t : Image) (good : IsRequest r) (formed : IsImage t) whe
   pub settled_there : (x : List ℕ) → is_some ((after.image_settled r t).look x) ≡ (makes (settled x) || (not (cleared settled x) && is_some (t.look x)))
   settled_there x = at (settled x) refl
     where
+      file_some : (e : Option Entry) → is_file e ≡ true → is_some e ≡ true
+      file_some (Some x) h = refl
+      file_some None h = cc
+
       given : Option Entry
       given = with_given settled (after.ranks r) t x (t.look x)
 
