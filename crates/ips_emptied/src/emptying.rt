@@ -52,19 +52,31 @@ pub fn emptied<F: Folder>(
 {
     let replaced = replaced(alloc, table, changes)?;
     let candidates = candidates(alloc, table, changes, supports)?;
-    let mut emptied = vec![in alloc; false; table.rows.len()]?;
-    ask(
-        alloc,
-        folder,
-        &table.rows,
-        &candidates,
-        &replaced,
-        &mut emptied,
-    )?;
+    ask_all(alloc, folder, &table.rows, &candidates, &replaced)
+}
+
+// The marks of the rows whose directories are emptied.
+fn ask_all<F: Folder>(
+    alloc: Global,
+    folder: &mut F,
+    rows: &[Row<'_>],
+    candidates: &[bool],
+    replaced: &[bool],
+) -> Result<Vec<bool>, Or<Failed>>
+    requires order { IsStrictlySortedBy (slice_cmp nat_cmp) (row_paths rows.now) }
+    requires looked { IsTrue (F.outside.tells folder.old) → AllByRecursion (HasLooked (F.outside.state folder.old).held) rows.now }
+    requires candidates { length candidates.now ≡ length rows.now }
+    requires replaced { length replaced.now ≡ length rows.now }
+    ensures long { IfOk result (λ emptied. length emptied.items ≡ length rows.now) }
+    ensures found { IsTrue (F.outside.tells folder.old) → IfOk result (λ emptied. AreAnswers (F.outside.state folder.old).held rows.now candidates.now replaced.now emptied.items) }
+    ensures reads { Reads F.outside folder.old folder.new (HasFailed result) }
+{
+    let mut emptied = vec![in alloc; false; rows.len()]?;
+    ask(alloc, folder, rows, candidates, replaced, &mut emptied)?;
     Ok(emptied)
 }
 
-// Marks the rows whose directories are emptied, from the last on: what is below a path stands behind it.
+// Sets these marks from the last on: what is below a path stands behind it.
 fn ask<F: Folder>(
     alloc: Global,
     folder: &mut F,
