@@ -1,10 +1,10 @@
-use Rattle.std.proofs.Common.{◌≡◌, ◌<◌, ℕ, Bool, false, List, length, map, take_all, is_none, sym, ◌∙◌, ap, subst, arith}
+use Rattle.std.proofs.Common.{◌<◌, ℕ, Bool, false, List, length, map, take_all, is_none, ◌∙◌, ap, arith}
 use Rattle.ips_after.specs.After.{change_settled, is_support}
 use Rattle.ips_after.specs.Change.{makes}
 use Rattle.ips_change.specs.Told.{naming}
 use Rattle.ips_survey.specs.declared.row.Row.{Row}
 use Rattle.ips_survey.specs.Rows.{IsRowOf}
-use Rattle.ips_reach.specs.Marks.{IsMarkOf, holds_below, row_paths}
+use Rattle.ips_reach.specs.Marks.{holds_below, row_paths}
 use Rattle.ips_spoken.proofs.Filling.{said_at}
 use Rattle.ips_links.proofs.Linked.{all_here, at_path, at_row, by_rows, one_more, row_more}
 use Rattle.ips_emptied.specs.Emptying.{is_candidate}
@@ -24,10 +24,7 @@ loop-i-preserved c =
       long = one_more c.loop-i.candidates.items c.push.new.self.items c.may_empty.result i c.in_ok-push.ensures.items c.loop-i.invariant.long;
       so_far = λ r t good table are supports.
           let made : List ℕ → Bool = λ q. makes (change_settled (naming r) t q) in
-          let seen = subst (λ (l : List Row). IsMarkOf made (row_paths l) c.deref-2.result.now) (sym c.deref.ensures.value)
-          (subst (λ (l : List Bool). IsMarkOf made paths l) (sym c.deref-2.ensures.value) (c.in_ok-made.ensures.marks r t good table are)) in
-          let marks : c.in_ok-below.below.items ≡ map (holds_below made paths) paths =
-          subst (λ (l : List Row). c.in_ok-below.below.items ≡ map (holds_below made (row_paths l)) (row_paths l)) c.deref.ensures.value (c.in_ok-below.ensures.below made seen) in
+          let marks = c.in_ok-below.ensures.told r t good table are in
           let own = all_here (IsRowOf r) rows i row lt c.index.ensures table.entries in
           let here = candidate_here r t paths p _ _ said _ _ own.0 (mapped_none _ row.new ∙ ap is_none own.1)
           (c.index-in-loop-i.ensures ∙ at_row (said_at r.over) c.args.table.now.said.items rows i row said table.said lt c.index.ensures)
