@@ -13,10 +13,6 @@ use Rattle.ips_emptied.proofs.Asked.{all_right}
 use Rattle.ips_emptied.proofs.Placed.{marks_are}
 use Rattle.ips_emptied.proofs.emptying.emptied.Goals as goal
 
-both_ok : {X E : Type 0} (r : Result X E) (P Q R : X → Type 0) → ((x : X) → P x → Q x → R x) → IfOk r P → IfOk r Q → IfOk r R
-both_ok (Ok x) P Q R f p q = f x p q
-both_ok (Err e) P Q R f p q = tt
-
 pub returns-clause-marks : goal.returns-clause-marks
 returns-clause-marks g c =
     let rows = c.args.table.now.rows.items in
@@ -36,3 +32,7 @@ returns-clause-found g c = λ told.
     let candidates = c.deref-2.ensures.value ∙ c.in_ok-candidates.ensures.told r t good table are supports in
     all_right r t rows c.args.table.now.said.items good (g.met.F.Source.sane.formed c.args.folder.now told) table emptied.items (long ∙ ap length c.deref.ensures.value ∙ sym (count rows))
     (answers r c.args.table.now.said.items good table marks candidates)) c.ask_all.ensures.long (c.ask_all.ensures.found told)
+  where
+    both_ok : {X E : Type 0} (r : Result X E) (P Q R : X → Type 0) → ((x : X) → P x → Q x → R x) → IfOk r P → IfOk r Q → IfOk r R
+    both_ok (Ok x) P Q R f p q = f x p q
+    both_ok (Err e) P Q R f p q = tt
