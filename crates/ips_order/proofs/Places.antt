@@ -1,7 +1,8 @@
 -- Places that are marked, and the paths at them.
-use Rattle.std.proofs.Common.{◌≡◌, ℕ, zero, suc, ◌+◌, ◌<◌, Bool, true, false, cond, List, [], ◌∷◌, ◌++◌, map, filter, length, take, get_or, refl, sym, ap, ◌∙◌, arith}
+use Rattle.std.proofs.Common.{◌≡◌, ℕ, zero, suc, ◌+◌, ◌<◌, ◌≤◌, Bool, true, false, cond, List, [], ◌∷◌, ◌++◌, map, filter, length, take, get_or, refl, sym, ap, ◌∙◌, arith}
+use Rattle.std.specs.List.{AllByRecursion}
 use Rattle.std.proofs.lemmas.List.{append_assoc, length-take-le, map-append}
-use Rattle.ips_text.proofs.Lists.{take_item}
+use Rattle.ips_text.proofs.Lists.{all_append, take_item}
 use Rattle.ips_after.specs.Lists.{turned}
 use Rattle.ips_order.specs.Chosen.{chosen, path_in, turned_places}
 
@@ -57,3 +58,17 @@ place_on old before after marks i b lt is so_far more =
     more ∙ ap (λ (l : List ℕ). l ++ cond b (i ∷ []) []) so_far ∙ append_assoc old (chosen 0 (take i marks)) (cond b (i ∷ []) [])
     ∙ ap (λ (n : ℕ). old ++ (chosen 0 (take i marks) ++ cond b (n ∷ []) [])) (sym count) ∙ ap (λ (l : List ℕ). old ++ l) (sym (chosen_more 0 (take i marks) b))
     ∙ ap (λ (l : List Bool). old ++ chosen 0 l) (sym (take_item marks i b lt (is ∙ any_default marks i false b lt)))
+
+-- ---- within a list
+
+pub chosen_within : (n k : ℕ) (marks : List Bool) → k + length marks ≤ n → AllByRecursion (λ i. i < n) (chosen k marks)
+chosen_within n k [] le = tt
+chosen_within n k (b ∷ marks) le = go b (chosen_within n (k + 1) marks (omega (arith, le)))
+  where
+    go : (b : Bool) → AllByRecursion (λ i. i < n) (chosen (k + 1) marks) → AllByRecursion (λ i. i < n) (cond b (k ∷ chosen (k + 1) marks) (chosen (k + 1) marks))
+    go true rest = (omega (arith, le), rest)
+    go false rest = rest
+
+pub turned_within : (P : ℕ → Type 0) (xs : List ℕ) → AllByRecursion P xs → AllByRecursion P (turned_places xs)
+turned_within P [] all = tt
+turned_within P (x ∷ xs) all = all_append P (turned_places xs) (x ∷ []) (turned_within P xs all.1) (all.0, tt)

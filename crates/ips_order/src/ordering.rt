@@ -1,6 +1,7 @@
 //! The order of a plan.
 
-ghost use Rattle.std.specs.Prelude.{◌≡◌, ◌++◌, ◌&&◌, [], ℕ, List, IfOk, OnOk, length, map};
+ghost use Rattle.std.specs.Prelude.{◌≡◌, ◌++◌, ◌&&◌, ◌<◌, [], ℕ, List, IfOk, OnOk, length, map};
+ghost use Rattle.std.specs.List.{AllByRecursion};
 ghost use Rattle.std.specs.List.Sorted.{IsStrictlySortedBy};
 ghost use Rattle.std.specs.Ordering.{nat_cmp};
 ghost use Rattle.std.specs.Cmp.Lexicographic.{slice_cmp};
@@ -47,7 +48,8 @@ pub fn order(
     requires said { length table.now.said.items ≡ length table.now.rows.items }
     requires supports { length supports.now ≡ length table.now.rows.items }
     requires accounts { length accounts.now ≡ length table.now.rows.items }
-    ensures { IfOk result (λ order. (r : Request) (t : Image) → IsRequest r → IsTable r table.now.rows.items table.now.said.items
+    ensures within { IfOk result (λ order. AllByRecursion (λ i. i < length table.now.rows.items) order.items) }
+    ensures ordered { IfOk result (λ order. (r : Request) (t : Image) → IsRequest r → IsTable r table.now.rows.items table.now.said.items
         → supports.now ≡ map (after.is_support (naming r) t) (row_paths table.now.rows.items) → accounts.now ≡ map r.over.is_account (row_paths table.now.rows.items)
         → map (path_in (row_paths table.now.rows.items)) order.items ≡ planned.plan_order (naming r) t) }
 {
@@ -70,7 +72,8 @@ pub fn order(
 fn add_all(alloc: Global, marked: &Marked<'_>, order: &mut Vec<usize>) -> Result<(), AllocError>
     requires long { AreAsLong marked.now }
     requires none { order.old.items ≡ [] }
-    ensures { OnOk result ((r : Request) (t : Image) → AreMarks r t marked.now → order.new.items ≡ ordered_places r t (row_paths marked.now.table.now.rows.items)) }
+    ensures within { OnOk result (AllByRecursion (λ i. i < length marked.now.table.now.rows.items) order.new.items) }
+    ensures ordered { OnOk result ((r : Request) (t : Image) → AreMarks r t marked.now → order.new.items ≡ ordered_places r t (row_paths marked.now.table.now.rows.items)) }
 {
     add_gone(alloc, marked, order)?;
     add_group(alloc, marked, Group::OldDirs, order)?;
@@ -85,7 +88,9 @@ fn add_all(alloc: Global, marked: &Marked<'_>, order: &mut Vec<usize>) -> Result
 // Adds the rows of what is only old, from the last on.
 fn add_gone(alloc: Global, marked: &Marked<'_>, order: &mut Vec<usize>) -> Result<(), AllocError>
     requires long { AreAsLong marked.now }
-    ensures { OnOk result ((r : Request) (t : Image) → AreMarks r t marked.now → order.new.items ≡ order.old.items ++ turned_places (places_in r t (row_paths marked.now.table.now.rows.items) group.Gone)) }
+    requires within { AllByRecursion (λ i. i < length marked.now.table.now.rows.items) order.old.items }
+    ensures within { OnOk result (AllByRecursion (λ i. i < length marked.now.table.now.rows.items) order.new.items) }
+    ensures added { OnOk result ((r : Request) (t : Image) → AreMarks r t marked.now → order.new.items ≡ order.old.items ++ turned_places (places_in r t (row_paths marked.now.table.now.rows.items) group.Gone)) }
 {
     let marks = group_marks(alloc, marked, Group::Gone)?;
     add_back(&marks, order)
@@ -99,7 +104,9 @@ fn add_group(
     order: &mut Vec<usize>,
 ) -> Result<(), AllocError>
     requires long { AreAsLong marked.now }
-    ensures { OnOk result ((r : Request) (t : Image) → AreMarks r t marked.now → order.new.items ≡ order.old.items ++ places_in r t (row_paths marked.now.table.now.rows.items) group) }
+    requires within { AllByRecursion (λ i. i < length marked.now.table.now.rows.items) order.old.items }
+    ensures within { OnOk result (AllByRecursion (λ i. i < length marked.now.table.now.rows.items) order.new.items) }
+    ensures added { OnOk result ((r : Request) (t : Image) → AreMarks r t marked.now → order.new.items ≡ order.old.items ++ places_in r t (row_paths marked.now.table.now.rows.items) group) }
 {
     let marks = group_marks(alloc, marked, group)?;
     add(&marks, order)
@@ -108,7 +115,8 @@ fn add_group(
 // At each row whether its path is in the group.
 fn group_marks(alloc: Global, marked: &Marked<'_>, group: Group) -> Result<Vec<bool>, AllocError>
     requires long { AreAsLong marked.now }
-    ensures { IfOk result (λ marks. (r : Request) (t : Image) → AreMarks r t marked.now → marks.items ≡ map (group_at r t group) (row_paths marked.now.table.now.rows.items)) }
+    ensures long { IfOk result (λ marks. length marks.items ≡ length marked.now.table.now.rows.items) }
+    ensures marks { IfOk result (λ marks. (r : Request) (t : Image) → AreMarks r t marked.now → marks.items ≡ map (group_at r t group) (row_paths marked.now.table.now.rows.items)) }
 {
     let mut marks = Vec::with_capacity(alloc, marked.table.rows.len())?;
     for i in 0..marked.table.rows.len() {

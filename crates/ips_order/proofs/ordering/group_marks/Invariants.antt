@@ -1,4 +1,4 @@
-use Rattle.std.proofs.Common.{◌≡◌, map, take}
+use Rattle.std.proofs.Common.{◌≡◌, length, map, take}
 use Rattle.ips_outside.specs.Image.{Image}
 use Rattle.ips_after.specs.Request.{Request}
 use Rattle.ips_links.proofs.Linked.{at_path}
@@ -7,4 +7,7 @@ use Rattle.ips_order.specs.Marking.{AreMarks}
 use Rattle.ips_order.proofs.ordering.group_marks.Given as goal
 
 abbrev pub invariant-loop-i : goal.invariant-loop-i
-invariant-loop-i l = (r : Request) (t : Image) → AreMarks r t l.marked → l.marks.items ≡ map (at_path (group_at r t l.group)) (take l.i l.marked.table.now.rows.items)
+invariant-loop-i l = record {
+  long : length l.marks.items ≡ l.i;
+  so_far : (r : Request) (t : Image) → AreMarks r t l.marked → l.marks.items ≡ map (at_path (group_at r t l.group)) (take l.i l.marked.table.now.rows.items);
+}

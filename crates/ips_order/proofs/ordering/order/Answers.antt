@@ -8,8 +8,8 @@ use Rattle.ips_order.specs.Groups.{lays_below}
 use Rattle.ips_order.proofs.Grouped.{below_is, ordered}
 use Rattle.ips_order.proofs.ordering.order.Goals as goal
 
-pub returns-in-Ok : goal.returns-in-Ok
-returns-in-Ok c = λ r t good table supports accounts.
+pub returns-in-Ok-clause-ordered : goal.returns-in-Ok-clause-ordered
+returns-in-Ok-clause-ordered c = λ r t good table supports accounts.
     let rows = c.args.table.now.rows.items in
     let said = c.args.table.now.said.items in
     let paths = row_paths rows in
@@ -17,4 +17,4 @@ returns-in-Ok c = λ r t good table supports accounts.
     (subst (λ (l : List Bool). IsMarkOf (lays_account r) paths l) (sym c.deref-2.ensures.value) (c.in_ok-laid.ensures.marks r table accounts)) in
     let found = subst (λ (l : List Row). c.in_ok-above.above.items ≡ map (holds_below (lays_account r) (row_paths l)) (row_paths l)) c.deref.ensures.value (c.in_ok-above.ensures.below (lays_account r) mark) in
     let above = found ∙ map_same (holds_below (lays_account r) paths) (lays_below r) paths (below_is r t rows said good table) in
-    ap (map (path_in paths)) (c.in-Ok.ensures r t (record { table = table; supports = supports; accounts = accounts; above = c.deref-3.ensures.value ∙ above })) ∙ ordered r t rows said good table
+    ap (map (path_in paths)) (c.in-Ok.ensures.ordered r t (record { table = table; supports = supports; accounts = accounts; above = c.deref-3.ensures.value ∙ above })) ∙ ordered r t rows said good table

@@ -1,0 +1,4 @@
+pub mod Settled
+pub mod Placed
+pub mod Leaving
+pub mod Asked

@@ -1,0 +1,12 @@
+//! Directories that are emptied: no one stated them, no one wants them any longer, and nothing is left in them.
+//!
+//! In reading order: where something goes or is made, with what account files and records say (`settling`), the directories that may be
+//! emptied as far as rows know (`candidates`), the children of one (`children`), and which are emptied (`emptying`).
+#![tactic(auto)]
+
+mod candidates;
+mod children;
+mod emptying;
+mod settling;
+
+pub use emptying::emptied;
