@@ -12,9 +12,6 @@ use Rattle.ips_records.proofs.Joined.{IsFileName, is_name_byte, joined_path, pkg
 use Rattle.ips_after.specs.Salvage.{lost_front, root_name}
 use Rattle.ips_lost.specs.Moments.{NamesMoment, is_stamp_byte}
 
-var : IsFileName (codes "var")
-var = record { bytes = refl; some = omega arith; few = omega arith; no_dots = refl }
-
 lost : IsFileName (codes "lost+found")
 lost = record { bytes = refl; some = omega arith; few = omega arith; no_dots = refl }
 
@@ -61,13 +58,10 @@ all_digits = decimal_by_steps (λ n ds. list_all is_stamp_byte ds ≡ true)
     (λ n small. and_from _ _ (digit n small) refl)
     (λ n ds large all. list_all-append is_stamp_byte ds ((48 + n % 10) ∷ []) ∙ and_from _ _ all (and_from _ _ (digit (n % 10) (omega arith)) refl))
 
-number_long : (n : ℕ) → n < 2 ^ 64 → length (decimal n) ≤ 20
-number_long n lt = length-decimal-le 20 n (omega arith) (omega arith) lt
-
 -- ---- the whole
 
 whole : (moment rest : List ℕ) → NamesMoment moment → list_all is_name_byte rest ≡ true → length rest ≤ 21 → IsPath (lost_front ++ (moment ++ rest))
-whole moment rest m all few = joined_path (codes "var" ∷ codes "pkg" ∷ codes "lost+found" ∷ (moment ++ rest) ∷ []) (var, (pkg_name, (lost, last_part moment rest m all few))) (omega (arith, length-append moment rest, m.few, few))
+whole moment rest m all few = joined_path (codes "var" ∷ codes "pkg" ∷ codes "lost+found" ∷ (moment ++ rest) ∷ []) (record { bytes = refl; some = omega arith; few = omega arith; no_dots = refl }, (pkg_name, (lost, last_part moment rest m all few))) (omega (arith, length-append moment rest, m.few, few))
 
 pub root_is_path : (moment : List ℕ) (k : ℕ) → NamesMoment moment → k + 1 < 2 ^ 64 → IsPath (root_name moment k)
 root_is_path moment zero m small = subst IsPath (ap (λ (l : List ℕ). lost_front ++ l) (append_none moment)) (whole moment [] m refl (omega arith))
@@ -75,4 +69,4 @@ root_is_path moment zero m small = subst IsPath (ap (λ (l : List ℕ). lost_fro
     append_none : (l : List ℕ) → l ++ [] ≡ l
     append_none [] = refl
     append_none (b ∷ l) = ap (λ (r : List ℕ). b ∷ r) (append_none l)
-root_is_path moment (suc n) m small = whole moment (46 ∷ decimal (n + 2)) m (all_names (decimal (n + 2)) (all_digits (n + 2) (omega (arith, small)))) (let le = number_long (n + 2) (omega (arith, small)) in omega (arith, le))
+root_is_path moment (suc n) m small = whole moment (46 ∷ decimal (n + 2)) m (all_names (decimal (n + 2)) (all_digits (n + 2) (omega (arith, small)))) (let le = length-decimal-le 20 (n + 2) (omega arith) (omega arith) (omega (arith, small)) in omega (arith, le))

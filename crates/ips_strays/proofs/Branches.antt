@@ -1,5 +1,5 @@
 -- The path right below a directory on the way to what stands below it.
-use Rattle.std.proofs.Common.{◌≡◌, inl, inr, ℕ, ◌==◌, Bool, true, false, cond, not, ◌&&◌, ◌||◌, List, [], ◌∷◌, Option, Some, None, is_some, is_none, refl, sym, ◌∙◌, ap}
+use Rattle.std.proofs.Common.{◌≡◌, ◌⊎◌, inl, inr, ℕ, ◌==◌, Bool, true, false, cond, not, ◌&&◌, ◌||◌, List, [], ◌∷◌, Option, Some, None, is_some, is_none, refl, sym, ◌∙◌, ap}
 use Rattle.std.specs.List.{list_any}
 use Rattle.std.proofs.lemmas.Bool.{and_from, and_parts, cases_Bool, eq-eqb, eqb-true, false_from_ne_true, not-true, or_cases}
 use Rattle.ips_text.specs.Ancestry.{behind, covers, is_below, parent, same_path}
@@ -17,9 +17,14 @@ use Rattle.ips_strays.specs.Strays.{branch, first_part}
 same_Some : (a b : List ℕ) → Some a ≡ Some b → a ≡ b
 same_Some a b e = cc
 
-pub none_there : (e : Option Entry) → is_some e ≡ true → is_none e ≡ true → ⊥
-none_there (Some e) h k = cc
-none_there None h k = cc
+-- above something that stands there is a directory
+pub dir_above : (t : Image) (p q : List ℕ) → IsImage t → is_some (t.look q) ≡ true → covers p q ≡ true → same_path p q ≡ false → is_dir (t.look p) ≡ true
+dir_above t p q formed there over apart = go (t.look q) there (or_cases _ _ (formed.below_dirs p q over apart))
+  where
+    go : (e : Option Entry) → is_some e ≡ true → (is_none e ≡ true) ⊎ (is_dir (t.look p) ≡ true) → is_dir (t.look p) ≡ true
+    go (Some e) h (inl none) = cc
+    go None h (inl none) = cc
+    go e h (inr dir) = dir
 
 pub dir_there : (e : Option Entry) → is_dir e ≡ true → is_some e ≡ true
 dir_there (Some e) h = refl
@@ -30,25 +35,18 @@ pub listed_same : (paths : List (List ℕ)) (q : List ℕ) → list_any (λ p. s
 listed_same [] q = refl
 listed_same (p ∷ paths) q = ap (λ (b : Bool). same_path p q || b) (listed_same paths q)
 
-first_over : (q : List ℕ) → covers (first_part q) q ≡ true
-first_over [] = refl
-first_over (b ∷ q) = go (first_over q) (b == 47) refl
+-- the first part of a path is at or above it, and has nothing above
+first_part_is : (q : List ℕ) → (covers (first_part q) q ≡ true) × (parent (first_part q) ≡ None)
+first_part_is [] = (refl, refl)
+first_part_is (b ∷ q) = go (first_part_is q) (b == 47) refl
   where
-    go : covers (first_part q) q ≡ true → (x : Bool) → (b == 47) ≡ x → covers (cond x [] (b ∷ first_part q)) (b ∷ q) ≡ true
-    go rest true h = h
-    go rest false h = and_from (b == b) _ (eq-eqb b b refl) rest
-
-first_bare : (q : List ℕ) → parent (first_part q) ≡ None
-first_bare [] = refl
-first_bare (b ∷ q) = go (first_bare q) (b == 47) refl
-  where
-    go : parent (first_part q) ≡ None → (x : Bool) → (b == 47) ≡ x → parent (cond x [] (b ∷ first_part q)) ≡ None
-    go rest true h = refl
-    go rest false h = ap (behind b) rest ∙ ap (λ (x : Bool). cond x (Some []) None) h
+    go : (covers (first_part q) q ≡ true) × (parent (first_part q) ≡ None) → (x : Bool) → (b == 47) ≡ x → (covers (cond x [] (b ∷ first_part q)) (b ∷ q) ≡ true) × (parent (cond x [] (b ∷ first_part q)) ≡ None)
+    go rest true h = (h, refl)
+    go rest false h = (and_from (b == b) _ (eq-eqb b b refl) rest.0, ap (behind b) rest.1 ∙ ap (λ (x : Bool). cond x (Some []) None) h)
 
 pub branch_parent : (p q : List ℕ) → is_below p q ≡ true → parent (branch p q) ≡ Some p
 branch_parent [] [] h = cc
-branch_parent [] (b ∷ q) h = ap (behind b) (first_bare q) ∙ ap (λ (x : Bool). cond x (Some []) None) (and_parts (b == 47) true h).0
+branch_parent [] (b ∷ q) h = ap (behind b) (first_part_is q).1 ∙ ap (λ (x : Bool). cond x (Some []) None) (and_parts (b == 47) true h).0
 branch_parent (a ∷ p) [] h = cc
 branch_parent (a ∷ p) (b ∷ q) h =
     let parts = and_parts (covers (a ∷ p) (b ∷ q)) (not (same_path (a ∷ p) (b ∷ q))) h in
@@ -59,7 +57,7 @@ branch_parent (a ∷ p) (b ∷ q) h =
 
 pub branch_over : (p q : List ℕ) → is_below p q ≡ true → covers (branch p q) q ≡ true
 branch_over [] [] h = cc
-branch_over [] (b ∷ q) h = and_from (b == b) _ (eq-eqb b b refl) (first_over q)
+branch_over [] (b ∷ q) h = and_from (b == b) _ (eq-eqb b b refl) (first_part_is q).0
 branch_over (a ∷ p) [] h = cc
 branch_over (a ∷ p) (b ∷ q) h =
     let parts = and_parts (covers (a ∷ p) (b ∷ q)) (not (same_path (a ∷ p) (b ∷ q))) h in
@@ -114,10 +112,7 @@ among_children t dir q test paths formed are there = both_ways to from
     stands : (c : List ℕ) → covers c q ≡ true → is_some (t.look c) ≡ true
     stands c over = elim (cases_Bool (same_path c q)) [
       | inl same ↦ ap (λ (x : List ℕ). is_some (t.look x)) (same_path-true c q same) ∙ there
-      | inr apart ↦ dir_there (t.look c) (elim (or_cases _ _ (formed.below_dirs c q over apart)) [
-        | inl none ↦ absurd (none_there (t.look q) there none)
-        | inr dir ↦ dir
-      ])
+      | inr apart ↦ dir_there (t.look c) (dir_above t c q formed there over apart)
     ]
 
     from : (is_below dir q && test (branch dir q)) ≡ true → list_any (λ c. test c && covers c q) paths ≡ true

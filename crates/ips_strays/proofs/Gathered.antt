@@ -1,8 +1,9 @@
 -- Strays added one after another.
-use Rattle.std.proofs.Common.{◌≡◌, ◌⊎◌, inl, inr, ℕ, ◌+◌, ◌<◌, Bool, true, false, not, ◌&&◌, ◌||◌, List, [], ◌∷◌, ◌++◌, Option, Some, None, length, get_or, map, take, is_some, is_none, refl, sym, ◌∙◌, ap, subst}
+use Rattle.std.proofs.Common.{◌≡◌, ℕ, ◌+◌, ◌<◌, Bool, true, false, not, ◌&&◌, ◌||◌, List, [], ◌∷◌, ◌++◌, Option, Some, None, length, get_or, map, take, is_some, refl, sym, ◌∙◌, ap, subst}
 use Rattle.std.specs.Prelude.{nat_lt}
 use Rattle.std.specs.List.{AllByRecursion, list_any}
-use Rattle.std.proofs.lemmas.Bool.{and_parts, false_from_ne_true, lt-ltb, not-true, or_cases}
+use Rattle.std.proofs.lemmas.Bool.{and_parts, false_from_ne_true, lt-ltb, not-true}
+use Rattle.std.proofs.lemmas.List.Folds.{list_any-append}
 use Rattle.ips_text.specs.Ancestry.{covers, is_below, same_path}
 use Rattle.ips_text.specs.Kept.{Kept}
 use Rattle.ips_text.proofs.Ancestry.{parent_length, same_covers, same_path-true}
@@ -20,7 +21,7 @@ use Rattle.ips_strays.specs.declared.stray.Found.{Found}
 use Rattle.ips_strays.specs.declared.stray.Found.TheVariants as found
 use Rattle.ips_strays.specs.declared.stray.Stray.{Stray}
 use Rattle.ips_strays.specs.Strays.{Adds, AreFound, branch, found_of, hangs, seen, stray_paths}
-use Rattle.ips_strays.proofs.Branches.{among_children, branch_parent}
+use Rattle.ips_strays.proofs.Branches.{among_children, branch_parent, dir_above}
 
 abbrev pub Test : Type 0
 Test = List ℕ → Bool
@@ -114,15 +115,7 @@ adds_one t p f old new is there = record {
 pub alone : (t : Image) (p q : List ℕ) → IsImage t → is_dir (t.look p) ≡ false → is_some (t.look q) ≡ true → is_below p q ≡ false
 alone t p q formed other there = false_from_ne_true _ (λ below.
     let parts = and_parts (covers p q) (not (same_path p q)) below in
-    go (or_cases _ _ (formed.below_dirs p q parts.0 (not-true _ parts.1))))
-  where
-    none : (e : Option Entry) → is_some e ≡ true → is_none e ≡ true → ⊥
-    none (Some e) h k = cc
-    none None h k = cc
-
-    go : (is_none (t.look q) ≡ true) ⊎ (is_dir (t.look p) ≡ true) → ⊥
-    go (inl h) = none (t.look q) there h
-    go (inr h) = clash (is_dir (t.look p)) h other
+    clash (is_dir (t.look p)) (dir_above t p q formed there parts.0 (not-true _ parts.1)) other)
 
 -- what is at or below it is it
 covers_alone : (p q : List ℕ) → is_below p q ≡ false → same_path p q ≡ covers p q
@@ -194,10 +187,6 @@ adds_undirected t rows p old formed other = adds_none t (hangs rows p) old (λ q
 
 -- ---- one path of a list after another
 
-pub any_more : (f : Test) (paths : List (List ℕ)) (p : List ℕ) → list_any f (paths ++ p ∷ []) ≡ (list_any f paths || f p)
-any_more f [] p = sym (or_false (f p))
-any_more f (x ∷ paths) p = ap (λ (b : Bool). f x || b) (any_more f paths p) ∙ sym (or_assoc (f x) (list_any f paths) (f p))
-
 -- the first so many of them
 abbrev pub first_of : List Kept → ℕ → List (List ℕ)
 first_of paths i = bytes_of (take i paths)
@@ -207,7 +196,8 @@ bytes_on [] x = refl
 bytes_on (y ∷ xs) x = ap (λ (l : List (List ℕ)). y.bytes ∷ l) (bytes_on xs x)
 
 pub any_next : (f : Test) (paths : List Kept) (i : ℕ) (path : Kept) → i < length paths → path ≡ get_or paths i path → list_any f (first_of paths (i + 1)) ≡ (list_any f (first_of paths i) || f path.bytes)
-any_next f paths i path lt is = ap (λ (l : List Kept). list_any f (bytes_of l)) (take_item paths i path lt is) ∙ ap (list_any f) (bytes_on (take i paths) path) ∙ any_more f (bytes_of (take i paths)) path.bytes
+any_next f paths i path lt is = ap (λ (l : List Kept). list_any f (bytes_of l)) (take_item paths i path lt is) ∙ ap (list_any f) (bytes_on (take i paths) path) ∙ list_any-append f (bytes_of (take i paths)) (path.bytes ∷ [])
+    ∙ ap (λ (b : Bool). list_any f (bytes_of (take i paths)) || b) (sym (or_false (f path.bytes)))
 
 -- one more path of a list, where a flag holds
 pub adds_next : (t : Image) (first : Test) (f : List ℕ → Test) (paths : List Kept) (i : ℕ) (path : Kept) (old mid new : List Stray) → i < length paths → path ≡ get_or paths i path

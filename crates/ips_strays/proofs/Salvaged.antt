@@ -3,16 +3,17 @@ use Rattle.std.proofs.Common.{◌≡◌, ◌⊎◌, inl, inr, ℕ, zero, suc, �
 use Rattle.std.proofs.lemmas.Bool.{and_from, and_parts, cases_Bool, false_from_ne_true, not-true, not_from_false, or_cases, or_left, or_right}
 use Rattle.ips_text.specs.Ancestry.{covers, is_below, parent, same_path}
 use Rattle.ips_text.proofs.Ancestry.{at_parent_of, covers-self, covers_trans, parent_covers, parent_length, same_path-true}
+use Rattle.ips_text.proofs.Truths.{or_false}
 use Rattle.ips_outside.specs.Image.{Dir, Entry, File, Image, IsImage, Link, Other, is_dir}
 use Rattle.ips_action.specs.declared.action.Preserve.{Preserve}
 use Rattle.ips_action.specs.declared.action.Preserve.TheVariants as preserves
 use Rattle.ips_after.specs.After as after
 use Rattle.ips_after.specs.Change.{reached}
 use Rattle.ips_after.specs.Lists.{listed}
-use Rattle.ips_after.specs.Request.{IsRequest, Request, WantDir, WantFile, WantHard, WantLink, Wanted, is_dir_wanted, takes}
+use Rattle.ips_after.specs.Request.{IsRequest, Request, WantDir, WantFile, WantHard, WantLink, Wanted, takes}
 use Rattle.ips_after.specs.Salvage as salvage
 use Rattle.ips_after.proofs.Changed.{both_ways, reach_of, reached_from}
-use Rattle.ips_after.proofs.Fits.{any_from, any_of, below_of}
+use Rattle.ips_after.proofs.Fits.{any_from, any_of, below_of, dir_of_wanted}
 use Rattle.ips_after.proofs.Ordered.{above_parent}
 use Rattle.ips_after.proofs.Saved.{comparable}
 use Rattle.ips_steps.proofs.Lists.{clash}
@@ -26,13 +27,9 @@ use Rattle.ips_links.proofs.Linked.{is_bare}
 use Rattle.ips_salvage.specs.Destroying.{destroys_else, goes_else}
 use Rattle.ips_salvage.proofs.Salvageable.{salvaged_here, top_none}
 use Rattle.ips_strays.specs.Strays.{branch, hangs, hangs_among, opens}
-use Rattle.ips_strays.proofs.Branches.{below_child, branch_only, branch_over, branch_parent, none_there}
+use Rattle.ips_strays.proofs.Branches.{below_child, branch_only, branch_over, branch_parent, dir_above}
 
 -- ---- rows stand below rows alone
-
-some_dir : (w : Option Wanted) → is_dir_wanted w ≡ true → is_some w ≡ true
-some_dir (Some w) h = refl
-some_dir None h = cc
 
 -- above a row there are rows alone
 closed : (r : Request) (rows : List Row) (said : List (Option Said)) (c q : List ℕ) → IsRequest r → IsTable r rows said → covers c q ≡ true → listed (row_paths rows) q ≡ true → listed (row_paths rows) c ≡ true
@@ -42,11 +39,11 @@ closed r rows said c q good table over is = elim (cases_Bool (same_path c q)) [
 ]
   where
     later : is_below c q ≡ true → (is_some (r.new.at q) ≡ true) ⊎ (listed r.over.keys q ≡ true) → (is_some (r.old.at c) || (is_some (r.new.at c) || listed r.over.keys c)) ≡ true
-    later below (inl wanted) = or_right (is_some (r.old.at c)) _ (or_left _ _ (some_dir (r.new.at c) (good.new_want.dirs c q below wanted)))
+    later below (inl wanted) = or_right (is_some (r.old.at c)) _ (or_left _ _ (dir_of_wanted (r.new.at c) (good.new_want.dirs c q below wanted)))
     later below (inr spoken) = or_right (is_some (r.old.at c)) _ (or_right (is_some (r.new.at c)) _ (good.over_fits.closed c q below spoken))
 
     go : is_below c q ≡ true → (is_some (r.old.at q) ≡ true) ⊎ ((is_some (r.new.at q) || listed r.over.keys q) ≡ true) → (is_some (r.old.at c) || (is_some (r.new.at c) || listed r.over.keys c)) ≡ true
-    go below (inl was) = or_left _ _ (some_dir (r.old.at c) (good.old_want.dirs c q below was))
+    go below (inl was) = or_left _ _ (dir_of_wanted (r.old.at c) (good.old_want.dirs c q below was))
     go below (inr more) = later below (or_cases _ _ more)
 
 -- ---- the nearest row above a path without one
@@ -137,17 +134,6 @@ row_above paths test q alone h =
 lower : (test : List ℕ → Bool) (x p : List ℕ) → covers x p ≡ true → reached test x ≡ true → reached test p ≡ true
 lower test x p over h = let y = reach_of test x h in reached_from test y.at p (covers_trans y.at x p y.over over) y.holds
 
-or_none : (b : Bool) → (b || false) ≡ b
-or_none true = refl
-or_none false = refl
-
--- above something that stands there is a directory
-dir_above : (t : Image) (p q : List ℕ) → IsImage t → is_some (t.look q) ≡ true → covers p q ≡ true → same_path p q ≡ false → is_dir (t.look p) ≡ true
-dir_above t p q formed there over apart = elim (or_cases _ _ (formed.below_dirs p q over apart)) [
-  | inl none ↦ absurd (none_there (t.look q) there none)
-  | inr dir ↦ dir
-]
-
 -- an edit that goes is one of a file
 no_edit : (r : Request) (was new : Option Wanted) (e : Option Entry) → is_dir e ≡ true → salvage.drops_edit_as r was new e ≡ false
 no_edit r (Some (WantFile payload m preserve)) None (Some (Dir k f)) h = go preserve
@@ -182,13 +168,13 @@ module _ (r : Request) (t : Image) (rows : List Row) (said : List (Option Said))
   goes : (q : List ℕ) → listed (row_paths rows) q ≡ false → goes_else (naming r) t q ≡ (reached (destroys_else (naming r) t) q || reached (after.is_top (naming r) t) q)
   goes q none =
       ap (λ o. reached (destroys_else (naming r) t) q || (reached (after.is_top (naming r) t) q || salvage.drops_edit_as (naming r) o (r.new.at q) (t.look q))) (is_bare r rows said q table none).old
-      ∙ ap (λ (b : Bool). reached (destroys_else (naming r) t) q || b) (or_none (reached (after.is_top (naming r) t) q))
+      ∙ ap (λ (b : Bool). reached (destroys_else (naming r) t) q || b) (sym (or_false (reached (after.is_top (naming r) t) q)))
 
   -- where a directory stands no edit goes
   opened : (p : List ℕ) → is_dir (t.look p) ≡ true → goes_else (naming r) t p ≡ (reached (destroys_else (naming r) t) p || reached (after.is_top (naming r) t) p)
   opened p dir =
       ap (λ (b : Bool). reached (destroys_else (naming r) t) p || (reached (after.is_top (naming r) t) p || b)) (no_edit (naming r) (r.old.at p) (r.new.at p) (t.look p) dir)
-      ∙ ap (λ (b : Bool). reached (destroys_else (naming r) t) p || b) (or_none (reached (after.is_top (naming r) t) p))
+      ∙ ap (λ (b : Bool). reached (destroys_else (naming r) t) p || b) (sym (or_false (reached (after.is_top (naming r) t) p)))
 
   -- what stands without a row is salvaged where it hangs below a row where something goes
   hanging_salvaged : (q : List ℕ) → (is_some (t.look q) && hangs_among (opens r t) (row_paths rows) (row_paths rows) q) ≡ true → (salvage.salvaged (naming r) t q && not (listed (row_paths rows) q)) ≡ true

@@ -24,15 +24,15 @@ use Rattle.ips_strays.specs.Strays.{AreFound, IsFound, stray_paths}
 abbrev by_path : Stray → Stray → Ordering
 by_path a b = slice_cmp nat_cmp a.path.bytes b.path.bytes
 
-abbrev pub before : Stray → Stray → Bool
-before a b = is_lt (by_path a b)
+abbrev pub earlier : Stray → Stray → Bool
+earlier a b = is_lt (by_path a b)
 
 -- both have one path
 abbrev pub same : Stray → Stray → Bool
 same a b = pointwise ◌==◌ a.path.bytes b.path.bytes
 
-pub before_ranks : IsStrictWeakOrder before
-before_ranks = ranks_by nat_list_cmp_total (λ (s : Stray). s.path.bytes)
+pub earlier_ranks : IsStrictWeakOrder earlier
+earlier_ranks = ranks_by nat_list_cmp_total (λ (s : Stray). s.path.bytes)
 
 strict_paths : (xs : List Stray) → IsStrictlySortedBy by_path xs → IsStrictlySortedBy (slice_cmp nat_cmp) (stray_paths xs)
 unfolding IsStrictlySortedBy
@@ -43,7 +43,7 @@ strict_paths (x ∷ xs) up = (all xs up.0, strict_paths xs up.1)
     all [] h = h
     all (y ∷ ys) h = (h.0, all ys h.1)
 
-pub sorted_once : (xs : List Stray) → IsSortedBy before xs → IsStrictlySortedBy (slice_cmp nat_cmp) (stray_paths (dedup same xs))
+pub sorted_once : (xs : List Stray) → IsSortedBy earlier xs → IsStrictlySortedBy (slice_cmp nat_cmp) (stray_paths (dedup same xs))
 sorted_once xs up = strict_paths (dedup same xs) (IsStrictlySortedBy-dedup (on_total (λ (s : Stray). s.path.bytes) nat_list_cmp_total) (λ x y. texts_ties x.path.bytes y.path.bytes) xs up)
 
 -- ---- the same paths

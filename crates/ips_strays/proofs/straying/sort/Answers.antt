@@ -8,14 +8,14 @@ use Rattle.std.proofs.lemmas.List.Sorted.{answers_always}
 use Rattle.ips_strays.specs.declared.stray.Stray.{Stray}
 use Rattle.ips_strays.specs.Strays.{AreFound, stray_paths}
 use Rattle.ips_after.specs.Lists.{listed}
-use Rattle.ips_strays.proofs.Sorting.{before, before_ranks, found_moved, found_once, listed_moved, listed_once, same, sorted_once}
+use Rattle.ips_strays.proofs.Sorting.{earlier, earlier_ranks, found_moved, found_once, listed_moved, listed_once, same, sorted_once}
 use Rattle.ips_strays.proofs.straying.sort.Goals as goal
 
 pub returns-clause-order : goal.returns-clause-order
 returns-clause-order c =
     let sorted = c.sort_by.new.self.items in
     let once : c.dedup_by.new.self.items ≡ dedup same sorted = dedup_same _ same _ (λ x y b f' x' y' k. search rules) sorted _ c.dedup_by.ensures.filtered in
-    let up = c.in_ok-sort_by.ensures.sorted before before_ranks (answers_always _ _ _ (λ f a r q k. search rules)) in
+    let up = c.in_ok-sort_by.ensures.sorted earlier earlier_ranks (answers_always _ _ _ (λ f a r q k. search rules)) in
     subst (λ (l : List Stray). IsStrictlySortedBy (slice_cmp nat_cmp) (stray_paths l)) (sym once) (sorted_once sorted up)
 
 pub returns-clause-same : goal.returns-clause-same
