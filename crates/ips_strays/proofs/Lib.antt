@@ -1,0 +1,5 @@
+pub mod Branches
+pub mod Gathered
+pub mod Rowed
+pub mod Sorting
+pub mod Salvaged
