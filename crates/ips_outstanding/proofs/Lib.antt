@@ -1,0 +1,7 @@
+mod Answered
+mod Compared
+mod Gone
+mod Marks
+mod Meant
+mod Noting
+mod Searched

@@ -1,0 +1,118 @@
+-- What is noted, path by path.
+use Rattle.std.proofs.Common.{◌≡◌, ℕ, zero, suc, Bool, true, false, cond, ◌||◌, List, [], ◌∷◌, ◌++◌, map, take, Option, Some, None, refl, sym, ap, ◌∙◌, inl, inr}
+use Rattle.std.specs.Prelude.{slice_get, is_some}
+use Rattle.std.specs.Option.{option_map}
+use Rattle.std.proofs.lemmas.Bool.{cases_Bool, or_parts}
+use Rattle.std.proofs.lemmas.Option.{same_Some}
+use Rattle.ips_text.specs.Ancestry.{same_path}
+use Rattle.ips_text.proofs.Ancestry.{same_path-true, same_path-self}
+use Rattle.ips_outside.specs.Image.{Entry}
+use Rattle.ips_after.specs.Lists.{listed}
+use Rattle.ips_due.specs.Due.{Due}
+use Rattle.ips_action.specs.Attrs.{is_same}
+use Rattle.ips_action.proofs.KeyOrder.{same_true}
+use Rattle.ips_outstanding.specs.declared.notes.Notes.{Notes}
+use Rattle.ips_outstanding.specs.declared.verdict.Verdict.{Verdict}
+use Rattle.ips_outstanding.specs.Noted.{Adds, either, noted, shown}
+use Rattle.ips_outstanding.specs.Verdicts.{meant}
+use Rattle.ips_outstanding.proofs.Gone.{one_path}
+
+-- what is said of a path
+abbrev pub Says : Type 0
+Says = Option (Option Entry)
+
+none_more : {X : Type 0} (o : Option X) → o ≡ either o None
+none_more (Some x) = refl
+none_more None = refl
+
+pub adds_none : (due : Due) (notes : Notes) (says : List ℕ → Says) → Adds due notes notes [] says
+adds_none due notes says q = none_more (shown due notes q)
+
+-- one path more of those in a list
+pub listed_next : (paths : List (List ℕ)) (p q : List ℕ) → listed (paths ++ p ∷ []) q ≡ (listed paths q || same_path p q)
+listed_next [] p q = go (same_path p q)
+  where
+    go : (b : Bool) → (b || false) ≡ b
+    go true = refl
+    go false = refl
+listed_next (x ∷ paths) p q = ap (λ (b : Bool). same_path x q || b) (listed_next paths p q) ∙ go (same_path x q)
+  where
+    go : (a : Bool) → (a || (listed paths q || same_path p q)) ≡ ((a || listed paths q) || same_path p q)
+    go true = refl
+    go false = refl
+
+step : (old mid new : Option Says) (there same : Bool) (says own : Says) → mid ≡ either old (cond there (Some says) None) → new ≡ either mid (cond (same || false) (Some own) None)
+    → (same ≡ true → there ≡ false → own ≡ says) → new ≡ either old (cond (there || same) (Some says) None)
+step (Some x) mid new there same says own is more one = more ∙ ap (λ (o : Option Says). either o (cond (same || false) (Some own) None)) is
+step None mid new true same says own is more one = more ∙ ap (λ (o : Option Says). either o (cond (same || false) (Some own) None)) is
+step None mid new false true says own is more one = more ∙ ap (λ (o : Option Says). either o (Some own)) is ∙ ap (λ (s : Says). Some s) (one refl refl)
+step None mid new false false says own is more one = more ∙ ap (λ (o : Option Says). either o None) is
+
+-- one path more is noted, of which the same is said if it wasn't among those before
+pub adds_more : (due : Due) (first mid new : Notes) (paths : List (List ℕ)) (p : List ℕ) (says : List ℕ → Says) (own : Says) → Adds due first mid paths says → Adds due mid new (p ∷ []) (λ q. own)
+    → (listed paths p ≡ false → own ≡ says p) → Adds due first new (paths ++ p ∷ []) says
+adds_more due first mid new paths p says own so_far more one q =
+    step (shown due first q) (shown due mid q) (shown due new q) (listed paths q) (same_path p q) (says q) own (so_far q) (more q)
+    (λ same apart. let is = same_path-true p q same in one (ap (listed paths) is ∙ apart) ∙ ap says is)
+    ∙ ap (λ (b : Bool). either (shown due first q) (cond b (Some (says q)) None)) (sym (listed_next paths p q))
+
+-- nothing new is noted where something was
+pub adds_had : (due : Due) (notes : Notes) (p : List ℕ) (says : List ℕ → Says) → is_some (shown due notes p) ≡ true → Adds due notes notes (p ∷ []) says
+adds_had due notes p says had q = elim (cases_Bool (same_path p q)) [
+  | inl same ↦ go (shown due notes q) (same_path p q || false) (ap (λ (x : List ℕ). is_some (shown due notes x)) (sym (same_path-true p q same)) ∙ had)
+  | inr apart ↦ none_more (shown due notes q) ∙ ap (λ (b : Bool). either (shown due notes q) (cond (b || false) (Some (says q)) None)) (sym apart)
+]
+  where
+    go : (o : Option Says) (b : Bool) → is_some o ≡ true → o ≡ either o (cond b (Some (says q)) None)
+    go (Some x) b is = refl
+    go None b is = cc
+
+-- ---- one path
+
+-- what is noted of one path, of which nothing was, is noted with no other
+pub adds_noted : (due : Due) (old new : Notes) (p : List ℕ) (v : Option Verdict) → noted old p ≡ None → ((q : List ℕ) → noted new q ≡ cond (is_same q p) (Some v) (noted old q)) → Adds due old new (p ∷ []) (λ q. meant due v)
+adds_noted due old new p v fresh is q =
+    ap (option_map (meant due)) (is q) ∙ go (is_same q p) refl ∙ ap (λ (b : Bool). either (shown due old q) (cond (b || false) (Some (meant due v)) None)) (sym (one_path p q))
+  where
+    go : (b : Bool) → is_same q p ≡ b → option_map (meant due) (cond b (Some v) (noted old q)) ≡ either (shown due old q) (cond (b || false) (Some (meant due v)) None)
+    go true same = sym (ap (λ (o : Option Says). either o (Some (meant due v))) (ap (shown due old) (same_true q p same) ∙ ap (option_map (meant due)) fresh))
+    go false apart = none_more (shown due old q)
+
+pub is_shown : (due : Due) (notes : Notes) (p : List ℕ) → is_some (noted notes p) ≡ true → is_some (shown due notes p) ≡ true
+is_shown due notes p is = go (noted notes p) is
+  where
+    go : (o : Option (Option Verdict)) → is_some o ≡ true → is_some (option_map (meant due) o) ≡ true
+    go (Some v) h = refl
+    go None h = cc
+
+pub not_noted : (o : Option (Option Verdict)) → is_some o ≡ false → o ≡ None
+not_noted (Some v) is = cc
+not_noted None is = refl
+
+pub adds_as : (due : Due) (old new : Notes) (paths : List (List ℕ)) (says other : List ℕ → Says) → Adds due old new paths says → ((q : List ℕ) → says q ≡ other q) → Adds due old new paths other
+adds_as due old new paths says other adds same q = adds q ∙ ap (λ (s : Says). either (shown due old q) (cond (listed paths q) (Some s) None)) (same q)
+
+-- ---- the first of a list at a path
+
+module _ {X Y : Type 0} (key : X → List ℕ) (value : X → Y) where
+  -- what the first of the list at a path has
+  abbrev pub first_at : List X → List ℕ → Option Y
+  first_at [] q = None
+  first_at (x ∷ xs) q = cond (same_path (key x) q) (Some (value x)) (first_at xs q)
+
+  pub first_listed : (xs : List X) (q : List ℕ) → listed (map key xs) q ≡ is_some (first_at xs q)
+  first_listed [] q = refl
+  first_listed (x ∷ xs) q = go (same_path (key x) q) (first_listed xs q)
+    where
+      go : (b : Bool) → listed (map key xs) q ≡ is_some (first_at xs q) → (b || listed (map key xs) q) ≡ is_some (cond b (Some (value x)) (first_at xs q))
+      go true rest = refl
+      go false rest = rest
+
+  pub first_here : (xs : List X) (n : ℕ) (x : X) → slice_get xs n ≡ Some x → listed (map key (take n xs)) (key x) ≡ false → first_at xs (key x) ≡ Some (value x)
+  first_here [] n x is apart = cc
+  first_here (y ∷ xs) zero x is apart =
+      let same : y ≡ x = same_Some y x is in
+      ap (λ (b : Bool). cond b (Some (value y)) (first_at xs (key x))) (ap (λ (z : X). same_path (key z) (key x)) same ∙ same_path-self (key x)) ∙ ap (λ (z : X). Some (value z)) same
+  first_here (y ∷ xs) (suc n) x is apart =
+      let parts = or_parts (same_path (key y) (key x)) (listed (map key (take n xs)) (key x)) apart in
+      ap (λ (b : Bool). cond b (Some (value y)) (first_at xs (key x))) parts.0 ∙ first_here xs n x is parts.1

@@ -1,0 +1,5 @@
+pub mod Parts
+pub mod Verdicts
+pub mod Noted
+pub mod Outstanding
+pub mod Laying

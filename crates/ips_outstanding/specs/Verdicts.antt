@@ -1,0 +1,54 @@
+-- What is said of a path, and by which part of what is due.
+use Rattle.std.specs.Prelude.{ℕ, false, List, map, Option, Some, None, slice_get}
+use Rattle.ips_outside.specs.Image.{Entry, Dir, File}
+use Rattle.ips_due.specs.Due.{Due, DueFile, said_folder, said_gone}
+use Rattle.ips_spoken.specs.declared.said.Said.{Said}
+use Rattle.ips_spoken.specs.declared.said.Said.TheVariants.{Lays, Takes}
+use Rattle.ips_outstanding.specs.declared.asking.Role.{Role}
+use Rattle.ips_outstanding.specs.declared.asking.Role.TheVariants as role
+use Rattle.ips_outstanding.specs.declared.verdict.Verdict.{Verdict}
+use Rattle.ips_outstanding.specs.declared.verdict.Verdict.TheVariants as verdict
+use Rattle.ips_outstanding.specs.declared.verdict.Named.{Named}
+
+-- A folder that is laid.
+abbrev pub folder : Entry
+folder = Dir 493 false
+
+-- The entry of an account file; where there is none of that number, a folder.
+abbrev pub account_entry : Option DueFile → Entry
+account_entry (Some f) = File f.mode f.bytes
+account_entry None = folder
+
+-- The entry of a record; where there is none of that number, a folder.
+abbrev pub record_entry : Option (List ℕ × List ℕ) → Entry
+record_entry (Some r) = File 420 r.1
+record_entry None = folder
+
+-- What is laid, or nothing where what stands is taken away.
+abbrev pub entry_by : Due → Verdict → Option Entry
+entry_by due (verdict.Account n) = Some (account_entry (slice_get due.accounts n))
+entry_by due (verdict.Record n) = Some (record_entry (slice_get due.records n))
+entry_by due verdict.Folder = Some folder
+entry_by due verdict.Gone = None
+
+-- What is said of a path by this verdict, where there is one.
+abbrev pub meant : Due → Option Verdict → Option (Option Entry)
+meant due None = None
+meant due (Some v) = Some (entry_by due v)
+
+-- The same without what is laid.
+abbrev pub said_of : Verdict → Said
+said_of (verdict.Account n) = Lays
+said_of (verdict.Record n) = Lays
+said_of verdict.Folder = Lays
+said_of verdict.Gone = Takes
+
+-- What is said of a path of this role.
+abbrev pub role_said : Role → Option Entry → Option (Option Entry)
+role_said role.Renewed e = Some (Some folder)
+role_said role.Folder e = said_folder e
+role_said role.Gone e = said_gone e
+
+-- The paths that are named.
+abbrev pub named_paths : List Named → List (List ℕ)
+named_paths named = map (λ n. n.path.bytes) named
