@@ -142,7 +142,11 @@ fn judged(rt: &impl Abort, alloc: Global, question: &str) -> String {
     let line = format!(in alloc; "depend {attributes}").expect(rt, "memory");
     let chosen = chosen_of(rt, alloc, words);
     let answer = match read(rt, alloc, line.as_str()).as_slice() {
-        [test] => if is_held(&chosen, test) { "holds" } else { "fails" },
+        [test] => if is_held(&chosen, test) {
+            "holds"
+        } else {
+            "fails"
+        },
         _ => "not one",
     };
     String::from_str(alloc, answer).expect(rt, "memory")
