@@ -5,3 +5,4 @@ pub mod Made
 pub mod Lines
 pub mod Absence
 pub mod Wanted
+pub mod Sparing

@@ -11,7 +11,7 @@ ghost use Rattle.ips_depend.specs.Kept.{conditional_made, conditional_of, depend
 use crate::copying::copy_kept;
 use crate::dependency_type::DependencyType;
 use crate::holding::holds;
-use crate::view::View;
+use crate::places::Places;
 use ips_fmri::Fmri;
 use std::alloc::{AllocError, Global};
 use std::marker::Model;
@@ -92,7 +92,10 @@ impl Test {
     /// - `parent`: always.
     /// - `origin`: it is on the image that the system runs from, or the old selection has no version of its stem, or one at least
     ///   its own where it has one.
-    pub fn holds<V: View>(&self, view: &V) -> bool
+    ///
+    /// The view is asked by the places of the FMRIs that the dependency mentions.
+    pub fn holds<V: Places>(&self, view: &V) -> bool
+        requires { V.stems view.now ≡ dependency.stems (dependency.mentions self.now) }
         ensures { result ≡ judged.holds (V.selection view.now) (V.old_selection view.now) (V.spares view.now) self.now }
     {
         holds(&self.kept, view)

@@ -11,11 +11,11 @@ mod dependency;
 mod dependency_type;
 mod holding;
 mod laws;
+mod places;
 mod reading;
-mod view;
 
 pub use dependency::Test;
 pub use holding::reaches;
 pub use laws::{asks_for_one_list, judged_by_mentions, only_wanted_drawn_in, versions_are_matched};
+pub use places::Places;
 pub use reading::{BadDepend, tests_of};
-pub use view::View;

@@ -1,7 +1,8 @@
-ghost use Rattle.std.specs.Prelude.{if◌then◌else◌, bytes_eq, codes, false, None};
+ghost use Rattle.std.specs.Prelude.{◌≡◌, if◌then◌else◌, bytes_eq, codes, false, None, option_map};
+ghost use Rattle.ips_depend.specs.Dependency as dependency;
 
 use crate::table::{Ask, columns, holds, text};
-use ips_depend::{BadDepend, Test, View, tests_of};
+use ips_depend::{BadDepend, Places, Test, tests_of};
 use ips_filter::Settings;
 use ips_fmri::{Fmri, Version};
 use ips_manifest::Manifest;
@@ -19,14 +20,10 @@ struct Chosen {
     b_spared: bool,
 }
 
-impl View for Chosen {
-    ghost selection = { λ v stem. if bytes_eq stem (codes "a") then v.a else (if bytes_eq stem (codes "b") then v.b else None) };
-
-    ghost old_selection = { λ v stem. if bytes_eq stem (codes "a") then v.old_a else None };
-
-    ghost spares = { λ v stem. if bytes_eq stem (codes "a") then v.a_spared else (if bytes_eq stem (codes "b") then v.b_spared else false) };
-
-    fn version(&self, stem: &str) -> Option<&Version> {
+impl Chosen {
+    fn version(&self, stem: &str) -> Option<&Version>
+        ensures { option_map (λ v. v.now) result ≡ (if bytes_eq stem.now (codes "a") then self.now.a else (if bytes_eq stem.now (codes "b") then self.now.b else None)) }
+    {
         if stem == "a" {
             return self.a.as_ref();
         }
@@ -36,14 +33,9 @@ impl View for Chosen {
         None
     }
 
-    fn before(&self, stem: &str) -> Option<&Version> {
-        if stem == "a" {
-            return self.old_a.as_ref();
-        }
-        None
-    }
-
-    fn spared(&self, stem: &str) -> bool {
+    fn is_spared(&self, stem: &str) -> bool
+        ensures { result ≡ (if bytes_eq stem.now (codes "a") then self.now.a_spared else (if bytes_eq stem.now (codes "b") then self.now.b_spared else false)) }
+    {
         if stem == "a" {
             return self.a_spared;
         }
@@ -51,6 +43,38 @@ impl View for Chosen {
             return self.b_spared;
         }
         false
+    }
+}
+
+// What is chosen, asked by the places of these FMRIs.
+#[derive(Drop)]
+struct Asking<'a> {
+    chosen: &'a Chosen,
+    fmris: &'a [Fmri],
+}
+
+impl Places for Asking<'_> {
+    ghost selection = { λ v stem. if bytes_eq stem (codes "a") then v.chosen.now.a else (if bytes_eq stem (codes "b") then v.chosen.now.b else None) };
+
+    ghost old_selection = { λ v stem. if bytes_eq stem (codes "a") then v.chosen.now.old_a else None };
+
+    ghost spares = { λ v stem. if bytes_eq stem (codes "a") then v.chosen.now.a_spared else (if bytes_eq stem (codes "b") then v.chosen.now.b_spared else false) };
+
+    ghost stems = { λ v. dependency.stems v.fmris.now };
+
+    fn version(&self, place: usize) -> Option<&Version> {
+        self.chosen.version(self.fmris[place].stem.as_str())
+    }
+
+    fn before(&self, stem: &str) -> Option<&Version> {
+        if stem == "a" {
+            return self.chosen.old_a.as_ref();
+        }
+        None
+    }
+
+    fn spared(&self, place: usize) -> bool {
+        self.chosen.is_spared(self.fmris[place].stem.as_str())
     }
 }
 
@@ -65,7 +89,7 @@ fn read(rt: &impl Abort, alloc: Global, text: &str) -> Vec<Test> {
 }
 
 // What the words say is chosen, as `a=1.9 b=2 spared`, where `a` is spared; `old=1` is what `a` was before.
-fn view_of(rt: &impl Abort, alloc: Global, words: &str) -> Chosen {
+fn chosen_of(rt: &impl Abort, alloc: Global, words: &str) -> Chosen {
     let mut chosen = Chosen {
         a: None,
         b: None,
@@ -116,12 +140,22 @@ impl Ask for Asked {
 fn judged(rt: &impl Abort, alloc: Global, question: &str) -> String {
     let (attributes, words) = columns(question);
     let line = format!(in alloc; "depend {attributes}").expect(rt, "memory");
-    let view = view_of(rt, alloc, words);
+    let chosen = chosen_of(rt, alloc, words);
     let answer = match read(rt, alloc, line.as_str()).as_slice() {
-        [test] => if test.holds(&view) { "holds" } else { "fails" },
+        [test] => if is_held(&chosen, test) {
+            "holds"
+        } else {
+            "fails"
+        },
         _ => "not one",
     };
     String::from_str(alloc, answer).expect(rt, "memory")
+}
+
+// Whether the dependency holds where so much is chosen.
+fn is_held(chosen: &Chosen, test: &Test) -> bool {
+    let fmris = test.mentions();
+    test.holds(&Asking { chosen, fmris })
 }
 
 // The attributes of a dependency, what is chosen, and whether it holds.

@@ -10,8 +10,6 @@ use Rattle.std.proofs.lemmas.Option.{slice_get_within, get_or_from_slice_get}
 use Rattle.ips_fmri.specs.Version.{Parts}
 use Rattle.ips_filter.specs.Settings.{Set}
 use Rattle.ips_depend.specs.Dependency.{Dependency}
-use Rattle.ips_manifest.specs.declared.package.Package.{Package}
-use Rattle.ips_state.specs.State.{Installed, installed}
 use Rattle.ips_repo.specs.Manifest.{manifest_limit}
 use Rattle.ips_request.specs.declared.fault.ProblemFault.{ProblemFault}
 use Rattle.ips_request.specs.declared.read.Read.{Read}

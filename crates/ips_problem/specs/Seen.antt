@@ -8,7 +8,9 @@ use Rattle.ips_request.specs.Stems.{stems_of}
 use Rattle.ips_problem.specs.declared.rows.Row as declared
 use Rattle.ips_problem.specs.declared.rows.Numbered as numbered
 use Rattle.ips_problem.specs.declared.rows.Numbers.{Numbers}
-use Rattle.ips_problem.specs.Posed.{Offer, Row, Numbered, Posed}
+use Rattle.ips_fmri.specs.declared.fmri.Fmri.{Fmri}
+use Rattle.ips_depend.specs.Dependency.{mentions}
+use Rattle.ips_problem.specs.Posed.{Offer, Row, Numbered, Posed, number_of}
 
 -- what a version that was read offers
 abbrev pub seen_read : Read → Offer
@@ -27,9 +29,13 @@ seen_row r = record { before = r.before; spared = r.spared; candidates = map (se
 abbrev pub seen_test : numbered.Numbered → Numbered
 seen_test n = record { stem = n.stem; candidate = n.candidate; dependency = n.test }
 
--- the stems of a test
-abbrev pub seen_numbers : Numbers → List ℕ
-seen_numbers m = m.stems.items
+-- the numbers of the stems that a test mentions, each where it is in reach, in their order
+abbrev pub seen_numbers : Numbers → List (Option ℕ)
+seen_numbers m = m.mentioned.items
+
+-- the same, by the puzzle
+abbrev pub numbers_mentioned : Posed → Numbered → List (Option ℕ)
+numbers_mentioned p n = map (λ (f : Fmri). number_of p f.stem) (mentions n.dependency)
 
 -- the puzzle of these stems and rows, without tests
 abbrev pub puzzle_of : List (String Global) → List declared.Row → Posed

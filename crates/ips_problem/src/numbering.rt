@@ -1,14 +1,13 @@
-//! The numbers of the stems of tests.
+//! The numbers of the stems that tests mention.
 
-ghost use Rattle.std.specs.Prelude.{◌≡◌, ◌∷◌, ◌++◌, ◌<◌, ◌^◌, All, IfOk, IfSome, OnOk, length, map, position, vec_len};
+ghost use Rattle.std.specs.Prelude.{◌≡◌, ◌∷◌, ◌<◌, ◌^◌, All, IfOk, length, map, position, vec_len};
 ghost use Rattle.std.specs.List.{filter_map};
-ghost use Rattle.std.specs.Option.{option_to_list};
 ghost use Rattle.std.specs.Str.{bytes_eq};
 ghost use Rattle.ips_fmri.specs.declared.fmri.Fmri as declared;
 ghost use Rattle.ips_request.specs.Stems.{stems_of};
 ghost use Rattle.ips_problem.specs.Held.{posed_of};
 ghost use Rattle.ips_problem.specs.Posed.{greatest_of, stems_of_test};
-ghost use Rattle.ips_problem.specs.Seen.{puzzle_of, seen_numbers, seen_row, seen_test};
+ghost use Rattle.ips_problem.specs.Seen.{numbers_mentioned, puzzle_of, seen_numbers, seen_row, seen_test};
 
 use crate::problem::Problem;
 use crate::rows::{Numbered, Numbers, Row};
@@ -50,7 +49,7 @@ impl Problem {
     }
 }
 
-// The numbers of the stems of each test.
+// The numbers of the stems that each test mentions.
 fn numbers_of(
     alloc: Global,
     stems: &IndexSet<String>,
@@ -58,55 +57,52 @@ fn numbers_of(
     tests: &[Numbered],
 ) -> Result<Vec<Numbers>, AllocError>
     requires { length stems.now.keys < 2 ^ 32 }
-    ensures numbered { IfOk result (λ all. map seen_numbers all.items ≡ map (λ n. stems_of_test (puzzle_of stems.now.keys rows.now) (seen_test n)) tests.now) }
-    ensures last { IfOk result (λ all. All (λ m. m.last ≡ greatest_of m.stems.items) all.items) }
+    ensures numbered { IfOk result (λ all. map seen_numbers all.items ≡ map (λ n. numbers_mentioned (puzzle_of stems.now.keys rows.now) (seen_test n)) tests.now) }
+    ensures last { IfOk result (λ all. map (λ m. m.last) all.items ≡ map (λ n. greatest_of (stems_of_test (puzzle_of stems.now.keys rows.now) (seen_test n))) tests.now) }
 {
     let mut all = Vec::with_capacity(alloc, tests.len())?;
     for test in tests {
-        let stems = numbers_in(alloc, stems, test.stem, test.test.mentions())?;
-        let last = greatest(&stems);
-        all.push(Numbers { stems, last })?;
+        let mentioned = numbers_in(alloc, stems, test.test.mentions())?;
+        let last = greatest(test.stem, &mentioned);
+        all.push(Numbers { mentioned, last })?;
     }
     Ok(all)
 }
 
-// The number of a stem, and those of the stems that are mentioned, where they have one.
+// By the place of an FMRI, the number of its stem, where it has one.
 fn numbers_in(
     alloc: Global,
     stems: &IndexSet<String>,
-    own: u32,
     mentions: &[Fmri],
-) -> Result<Vec<u32>, AllocError>
+) -> Result<Vec<Option<u32>>, AllocError>
     requires { length stems.now.keys < 2 ^ 32 }
-    ensures { IfOk result (λ all. all.items ≡ own ∷ filter_map (λ (f : declared.Fmri). position (bytes_eq f.stem) (stems_of stems.now.keys)) mentions.now) }
+    ensures { IfOk result (λ all. all.items ≡ map (λ (f : declared.Fmri). position (bytes_eq f.stem) (stems_of stems.now.keys)) mentions.now) }
 {
-    let mut all = Vec::new(alloc);
-    all.push(own)?;
+    let mut all = Vec::with_capacity(alloc, mentions.len())?;
     for fmri in mentions {
-        let number = number(stems, fmri.stem.as_str());
-        add_number(&mut all, number)?;
+        all.push(number_in(stems, fmri.stem.as_str()))?;
     }
     Ok(all)
 }
 
-// Adds the number, where there is one.
-fn add_number(all: &mut Vec<u32>, number: Option<usize>) -> Result<(), AllocError>
-    requires { IfSome number (λ i. i < 2 ^ 32) }
-    ensures { OnOk result (all.new.items ≡ all.old.items ++ option_to_list number) }
+// The number of a stem, where it has one.
+fn number_in(stems: &IndexSet<String>, stem: &str) -> Option<u32>
+    requires { length stems.now.keys < 2 ^ 32 }
+    ensures { result ≡ position (bytes_eq stem.now) (stems_of stems.now.keys) }
 {
-    if let Some(number) = number {
-        all.push(number as u32)?;
+    match number(stems, stem) {
+        Some(number) => Some(number as u32),
+        None => None,
     }
-    Ok(())
 }
 
-// The greatest of the numbers, 0 where there are none.
-fn greatest(numbers: &[u32]) -> u32
-    ensures { result ≡ greatest_of numbers.now }
+// The greatest of a test's own number and those that it mentions.
+fn greatest(own: u32, mentioned: &[Option<u32>]) -> u32
+    ensures { result ≡ greatest_of (own ∷ filter_map (λ o. o) mentioned.now) }
 {
-    let mut greatest = 0;
-    for number in numbers {
-        greatest = greatest.max(*number);
+    let mut greatest = own;
+    for number in mentioned {
+        greatest = greatest.max(number.unwrap_or(0));
     }
     greatest
 }

@@ -1,64 +1,83 @@
 //! The selection that a set of candidates makes.
 
-ghost use Rattle.std.specs.Prelude.{◌≡◌, ◌∷◌, Some, slice_get};
-ghost use Rattle.std.specs.Option.{option_map};
+ghost use Rattle.std.specs.Prelude.{◌≡◌, ◌∷◌, Some, map, position, slice_get};
+ghost use Rattle.std.specs.List.{list_all};
+ghost use Rattle.std.specs.Option.{option_map, option_to_list};
+ghost use Rattle.std.specs.Str.{bytes_eq};
+ghost use Rattle.std.proofs.Props.{props};
+ghost use Rattle.ips_fmri.specs.declared.fmri.Fmri as declared;
+ghost use Rattle.ips_depend.specs.Dependency as dependency;
 ghost use Rattle.ips_refute.specs.Meaning.{OnePerStem};
+ghost use Rattle.ips_request.specs.Stems.{stems_of};
 ghost use Rattle.ips_problem.specs.Posed as posed;
 ghost use Rattle.ips_problem.specs.Posed.{candidate_of, decides, picked, spared, tells_spared};
 ghost use Rattle.ips_problem.specs.Seen.{puzzle_of, seen_row};
 
 use crate::rows::Row;
 use indexmap::IndexSet;
-use ips_depend::View;
+use ips_depend::{Places, Test};
 use ips_fmri::Version;
 use ips_refute::Pair;
 use ips_request::number;
 
-/// The selection that a set of candidates with one more makes, over the stems in reach: what has no candidate in it is absent.
+/// The selection that a set of candidates with one more makes, over the stems in reach: what has no candidate in it is absent. It
+/// is asked for the stems that one dependency mentions, and has their numbers.
 #[derive(Drop)]
 pub struct Picked<'a> {
     stems: &'a IndexSet<String>,
     rows: &'a [Row],
+    test: &'a Test,
+    mentioned: &'a [Option<u32>],
     set: &'a [Pair],
     more: Pair,
+    ghost numbered: { mentioned.now ≡ map (λ (f : declared.Fmri). position (bytes_eq f.stem) (stems_of stems.now.keys)) (dependency.mentions test.now) } by { Prim.hlevel props },
     ghost one_per_stem: { OnePerStem (more ∷ set.now) },
 }
 
 impl Picked<'_> {
-    /// The selection that the set makes with the pair `more`. No two of the pairs are of one stem.
+    /// The selection that the set makes with the pair `more`, for a dependency that mentions stems with these numbers. No two of
+    /// the pairs are of one stem.
     pub fn new<'a>(
         stems: &'a IndexSet<String>,
         rows: &'a [Row],
+        test: &'a Test,
+        mentioned: &'a [Option<u32>],
         set: &'a [Pair],
         more: Pair,
     ) -> Picked<'a>
-        requires { OnePerStem (more ∷ set.now) }
+        requires numbered { mentioned.now ≡ map (λ (f : declared.Fmri). position (bytes_eq f.stem) (stems_of stems.now.keys)) (dependency.mentions test.now) }
+        requires one_per_stem { OnePerStem (more ∷ set.now) }
         ensures stems { result.stems ≡ stems.entry }
         ensures rows { result.rows ≡ rows.entry }
+        ensures test { result.test ≡ test.entry }
         ensures set { result.set ≡ set.entry }
         ensures more { result.more ≡ more }
     {
         Picked {
             stems,
             rows,
+            test,
+            mentioned,
             set,
             more,
         }
     }
 }
 
-impl View for Picked<'_> {
+impl Places for Picked<'_> {
     ghost selection = { λ v. picked (puzzle_of v.stems.now.keys v.rows.now) (v.more ∷ v.set.now) };
 
     ghost old_selection = { λ v. posed.before (puzzle_of v.stems.now.keys v.rows.now) };
 
     ghost spares = { λ v. spared (puzzle_of v.stems.now.keys v.rows.now) };
 
-    fn version(&self, stem: &str) -> Option<&Version> {
-        let Some(number) = number(self.stems, stem) else {
-            return None;
-        };
-        version_at(self.rows, self.set, self.more, number)
+    ghost stems = { λ v. dependency.stems (dependency.mentions v.test.now) };
+
+    fn version(&self, place: usize) -> Option<&Version> {
+        match self.mentioned[place] {
+            Some(number) => version_at(self.rows, self.set, self.more, number as usize),
+            None => None,
+        }
     }
 
     fn before(&self, stem: &str) -> Option<&Version> {
@@ -68,9 +87,9 @@ impl View for Picked<'_> {
         version_before(self.rows, number)
     }
 
-    fn spared(&self, stem: &str) -> bool {
-        match number(self.stems, stem) {
-            Some(number) => spared_at(self.rows, number),
+    fn spared(&self, place: usize) -> bool {
+        match self.mentioned[place] {
+            Some(number) => spared_at(self.rows, number as usize),
             None => false,
         }
     }
@@ -130,13 +149,12 @@ pub fn candidate(set: &[Pair], more: Pair, stem: usize) -> Option<u32>
     candidate_in(set, stem)
 }
 
-// The candidate that the set has for the stem with this number. In a choice, or a part of one, the pair of a stem stands at a place
-// that its stem tells.
+// The candidate that the set has for the stem with this number.
 fn candidate_in(set: &[Pair], stem: usize) -> Option<u32>
     requires { OnePerStem set.now }
     ensures { result ≡ candidate_of set.now stem }
 {
-    let place = place_in_choice(set, stem);
+    let place = place_of(set, stem);
     if place < set.len() {
         let pair = set[place];
         if pair.stem as usize == stem {
@@ -151,22 +169,42 @@ fn candidate_in(set: &[Pair], stem: usize) -> Option<u32>
     None
 }
 
-fn place_in_choice(set: &[Pair], stem: usize) -> usize {
-    match set {
+// The place of the stem's pair in a set that is in the order of its stems, where it has one. In a choice, or a part of one, the stem
+// tells it at once.
+fn place_of(set: &[Pair], stem: usize) -> usize {
+    let place = match set {
         [first, ..] if first.stem as usize <= stem => stem - first.stem as usize,
         _ => 0,
+    };
+    if set
+        .get(place)
+        .is_some_and(|pair| pair.stem as usize == stem)
+    {
+        return place;
     }
+    set.partition_point(|pair| (pair.stem as usize) < stem)
 }
 
-/// Whether the set, with the pair `more`, has a candidate for each of the stems with these numbers.
-pub fn decides_all(set: &[Pair], more: Pair, stems: &[u32]) -> bool
+/// Whether the set, with the pair `more`, has a candidate for each of these numbers.
+pub fn decides_all(set: &[Pair], more: Pair, numbers: &[Option<u32>]) -> bool
     requires { OnePerStem (more ∷ set.now) }
-    ensures { result ≡ decides (more ∷ set.now) stems.now }
+    ensures { result ≡ list_all (λ o. decides (more ∷ set.now) (option_to_list o)) numbers.now }
 {
-    for stem in stems {
-        if candidate(set, more, *stem as usize).is_none() {
+    for number in numbers {
+        if !decides_one(set, more, *number) {
             return false;
         }
     }
     true
+}
+
+// Whether the set, with the pair `more`, has a candidate for the number, where there is one.
+fn decides_one(set: &[Pair], more: Pair, number: Option<u32>) -> bool
+    requires { OnePerStem (more ∷ set.now) }
+    ensures { result ≡ decides (more ∷ set.now) (option_to_list number) }
+{
+    match number {
+        Some(number) => candidate(set, more, number as usize).is_some(),
+        None => true,
+    }
 }

@@ -3,7 +3,7 @@
 ghost use Rattle.std.specs.Prelude.{◌≡◌, ◌<◌, ◌^◌, All, length, map, vec_len, IfOk, IfSome};
 ghost use Rattle.std.proofs.Props.{props};
 ghost use Rattle.ips_problem.specs.Posed.{greatest_of, stems_of_test};
-ghost use Rattle.ips_problem.specs.Seen.{puzzle_of, seen_numbers, seen_test};
+ghost use Rattle.ips_problem.specs.Seen.{numbers_mentioned, puzzle_of, seen_numbers, seen_test};
 
 use crate::rows::{Numbered, Numbers, Row};
 use indexmap::IndexSet;
@@ -24,6 +24,6 @@ pub struct Problem {
     ghost rows_known: { length rows.items ≡ length stems.keys },
     ghost tests_known: { All (λ n. n.stem < length stems.keys) tests.items },
     ghost each: { length numbers.items ≡ length tests.items },
-    ghost numbered: { map seen_numbers numbers.items ≡ map (λ n. stems_of_test (puzzle_of stems.keys rows.items) (seen_test n)) tests.items } by { Prim.hlevel props },
-    ghost last: { All (λ m. m.last ≡ greatest_of m.stems.items) numbers.items },
+    ghost numbered: { map seen_numbers numbers.items ≡ map (λ n. numbers_mentioned (puzzle_of stems.keys rows.items) (seen_test n)) tests.items } by { Prim.hlevel props },
+    ghost last: { map (λ m. m.last) numbers.items ≡ map (λ n. greatest_of (stems_of_test (puzzle_of stems.keys rows.items) (seen_test n))) tests.items } by { Prim.hlevel props },
 }

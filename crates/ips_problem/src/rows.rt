@@ -28,11 +28,11 @@ pub struct Numbered {
     pub test: Test,
 }
 
-/// The stems of a test, by their numbers.
+/// The stems that a test mentions, by their numbers.
 #[derive(Drop)]
 pub struct Numbers {
-    /// Its own, and those that the dependency mentions, where they are in reach.
-    pub stems: Vec<u32>,
-    /// The greatest of these.
+    /// By the place of an FMRI among those that the dependency mentions, the number of its stem, where it is in reach.
+    pub mentioned: Vec<Option<u32>>,
+    /// The greatest of these and of the test's own stem.
     pub last: u32,
 }
