@@ -6,8 +6,8 @@ use Rattle.ips_after.specs.Request.{Request}
 use Rattle.ips_change.specs.Told.{naming}
 use Rattle.ips_change.specs.declared.change.Change.{Change as Told}
 use Rattle.ips_change.specs.declared.change.Change.TheVariants as told
-use Rattle.ips_spoken.specs.declared.said.Said.{Said}
-use Rattle.ips_spoken.specs.declared.said.Said.TheVariants.{Lays, Takes}
+use Rattle.ips_survey.specs.declared.said.Said.{Said}
+use Rattle.ips_survey.specs.declared.said.Said.TheVariants.{Lays, Takes}
 use Rattle.ips_order.specs.Chosen.{path_in}
 use Rattle.ips_emit.specs.Emitted.{OwnBytes, Provenance, Turn, provenances_told}
 

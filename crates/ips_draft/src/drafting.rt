@@ -7,9 +7,9 @@ ghost use Rattle.ips_after.specs.After as after;
 ghost use Rattle.ips_after.specs.Change as outcome;
 ghost use Rattle.ips_after.specs.Request.{Request};
 ghost use Rattle.ips_change.specs.Told.{change_told, naming};
-ghost use Rattle.ips_reach.specs.Marks.{row_paths};
-ghost use Rattle.ips_spoken.specs.Said.{said_as};
-ghost use Rattle.ips_spoken.specs.Tables.{IsTable};
+ghost use Rattle.ips_survey.specs.Marks.{row_paths};
+ghost use Rattle.ips_survey.specs.Said.{said_as};
+ghost use Rattle.ips_survey.specs.Tables.{IsTable};
 ghost use Rattle.ips_order.specs.Chosen.{path_in};
 ghost use Rattle.ips_emit.specs.Emitted.{HasTarget, IsEmitted, Provenance, Turn};
 ghost use Rattle.ips_draft.specs.Laying.{LaysFor};
@@ -18,7 +18,7 @@ ghost use Rattle.ips_draft.specs.Drafting.{provenances_at, provenances_in, prove
 use crate::laying::{Laid, Laying};
 use ips_change::Change;
 use ips_emit::Emitted;
-use ips_spoken::{Said, Table};
+use ips_survey::{Said, Table};
 use ips_text::RelPath;
 use std::alloc::{AllocError, Global};
 

@@ -18,9 +18,9 @@ use Rattle.ips_change.specs.declared.stands.Stands.TheVariants as stands
 use Rattle.ips_change.specs.Stands.{is_dir_seen, is_unasked, seen_of, stands_of}
 use Rattle.ips_change.specs.Told.{naming}
 use Rattle.ips_survey.specs.declared.row.Row.{Row}
-use Rattle.ips_reach.specs.Marks.{IsMarkOf, holds_below, row_paths}
-use Rattle.ips_spoken.specs.declared.said.Said.{Said}
-use Rattle.ips_spoken.specs.Tables.{IsTable}
+use Rattle.ips_survey.specs.Marks.{IsMarkOf, holds_below, row_paths}
+use Rattle.ips_survey.specs.declared.said.Said.{Said}
+use Rattle.ips_survey.specs.Tables.{IsTable}
 use Rattle.ips_links.proofs.Linked.{is_bare}
 use Rattle.ips_emptied.specs.Emptying.{IsEmptiedAt, goes_by, is_candidate, marked_in}
 use Rattle.ips_emptied.proofs.Leaving.{Known, all_taken, by_children, each_emptied, holds_made, may_parts, may_whole, not_may}

@@ -14,7 +14,7 @@ use Rattle.ips_after.specs.Request.{IsRequest, Request, WantDir, WantFile, WantH
 use Rattle.ips_after.proofs.Changed.{reach_of, reached_from}
 use Rattle.ips_after.proofs.Fits.{any_from, any_of, below_covers, below_of, below_trans}
 use Rattle.ips_after.proofs.Ordered.{above_parent}
-use Rattle.ips_reach.specs.Marks.{holds_below}
+use Rattle.ips_survey.specs.Marks.{holds_below}
 use Rattle.ips_emptied.specs.Emptying.{IsEmptiedAt, is_candidate}
 use Rattle.ips_emptied.proofs.Settled.{settled_there}
 use Rattle.ips_emptied.proofs.Placed.{all_at, child_of, fails_at}

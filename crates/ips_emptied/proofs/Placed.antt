@@ -12,8 +12,8 @@ use Rattle.ips_text.proofs.Ancestry.{at_parent_of, covers-self, covers_trans, pa
 use Rattle.ips_steps.proofs.Lists.{clash}
 use Rattle.ips_after.proofs.Fits.{below_of}
 use Rattle.ips_after.specs.Lists.{any_above, downward, listed, unrepeated}
-use Rattle.ips_reach.specs.Marks.{IsMarkOf}
-use Rattle.ips_reach.proofs.Marking.{mark_there}
+use Rattle.ips_survey.specs.Marks.{IsMarkOf}
+use Rattle.ips_survey.proofs.Marking.{mark_there}
 use Rattle.ips_emptied.specs.Emptying.{marked_in}
 
 -- ---- marks by paths

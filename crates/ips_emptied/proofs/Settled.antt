@@ -15,11 +15,11 @@ use Rattle.ips_after.proofs.Changed.{reached_from}
 use Rattle.ips_after.proofs.Fits.{Spares, any_of, fits_after, given_but, target_plain}
 use Rattle.ips_change.specs.Told.{naming}
 use Rattle.ips_survey.specs.declared.row.Row.{Row}
-use Rattle.ips_reach.specs.Marks.{holds_below, row_paths}
-use Rattle.ips_spoken.specs.declared.said.Said.{Said}
-use Rattle.ips_spoken.specs.Said.{said_as}
-use Rattle.ips_spoken.specs.Tables.{IsTable}
-use Rattle.ips_spoken.proofs.Filling.{or_none}
+use Rattle.ips_survey.specs.Marks.{holds_below, row_paths}
+use Rattle.ips_survey.specs.declared.said.Said.{Said}
+use Rattle.ips_survey.specs.Said.{said_as}
+use Rattle.ips_survey.specs.Tables.{IsTable}
+use Rattle.ips_survey.proofs.Filling.{or_none}
 use Rattle.ips_links.proofs.Linked.{IsBare, and_second, is_bare, is_silent}
 use Rattle.ips_emptied.specs.Emptying.{is_candidate}
 use Rattle.ips_emptied.specs.Settling.{makes_by, replaces_by}

@@ -8,9 +8,9 @@ use Rattle.ips_after.specs.Request.{IsRequest, Request}
 use Rattle.ips_change.specs.Told.{naming}
 use Rattle.ips_survey.specs.declared.row.Row.{Row}
 use Rattle.ips_survey.specs.Rows.{IsRowOf}
-use Rattle.ips_reach.specs.Marks.{IsMarkOf, holds_below, row_paths}
-use Rattle.ips_spoken.specs.declared.said.Said.{Said}
-use Rattle.ips_spoken.specs.Tables.{IsTable}
+use Rattle.ips_survey.specs.Marks.{IsMarkOf, holds_below, row_paths}
+use Rattle.ips_survey.specs.declared.said.Said.{Said}
+use Rattle.ips_survey.specs.Tables.{IsTable}
 
 -- the mark of the row of a path; none is marked that has no row
 abbrev pub marked_in : List (List ℕ) → List Bool → List ℕ → Bool

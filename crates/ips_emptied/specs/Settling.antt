@@ -1,8 +1,8 @@
 -- What becomes of a path by what account files and records say of it, or else by what becomes of it without.
 use Rattle.std.specs.Prelude.{Bool, true, false, Option, Some, None}
 use Rattle.ips_after.specs.Change as after
-use Rattle.ips_spoken.specs.declared.said.Said.{Said}
-use Rattle.ips_spoken.specs.declared.said.Said.TheVariants.{Lays, Takes}
+use Rattle.ips_survey.specs.declared.said.Said.{Said}
+use Rattle.ips_survey.specs.declared.said.Said.TheVariants.{Lays, Takes}
 
 -- what stands goes, or something takes its place
 abbrev pub replaces_by : Option Said → after.Change → Bool

@@ -11,16 +11,14 @@ ghost use Rattle.ips_after.specs.Change.{makes};
 ghost use Rattle.ips_after.specs.Request.{IsRequest, Request};
 ghost use Rattle.ips_wanted.specs.Wanted.{wanted_of};
 ghost use Rattle.ips_change.specs.Told.{change_told, naming};
-ghost use Rattle.ips_reach.specs.Marks.{holds_below, row_paths};
-ghost use Rattle.ips_spoken.specs.Tables.{IsTable};
+ghost use Rattle.ips_survey.specs.Marks.{holds_below, row_paths};
+ghost use Rattle.ips_survey.specs.Tables.{IsTable};
 ghost use Rattle.ips_emptied.specs.Emptying.{is_candidate};
 
 use crate::settling::made;
 use ips_change::Change;
 use ips_meaning::Entry;
-use ips_reach::marked_below;
-use ips_spoken::{Said, Table};
-use ips_survey::Row;
+use ips_survey::{Row, Said, Table, marked_below};
 use std::alloc::{AllocError, Global};
 
 /// At each row whether its directory may be emptied, as far as rows know: nothing is made there or below, by what becomes of each path with the

@@ -9,13 +9,12 @@ ghost use Rattle.ips_outside.specs.Image.{is_dir};
 ghost use Rattle.ips_outside.specs.Outside.{Reads};
 ghost use Rattle.ips_folder.specs.Listing.{IsListing};
 ghost use Rattle.ips_content.specs.Failing.{HasFailed};
-ghost use Rattle.ips_reach.specs.Marks.{row_paths};
+ghost use Rattle.ips_survey.specs.Marks.{row_paths};
 ghost use Rattle.ips_emptied.specs.Emptying.{goes_by};
 
 use ips_folder::{Folder, ListFault, Listing};
 use ips_outside::Failed;
-use ips_reach::is_marked;
-use ips_survey::Row;
+use ips_survey::{Row, is_marked};
 use ips_text::{Or, RelPath};
 use std::alloc::Global;
 

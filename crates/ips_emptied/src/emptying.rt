@@ -12,8 +12,8 @@ ghost use Rattle.ips_content.specs.Failing.{HasFailed};
 ghost use Rattle.ips_change.specs.Stands.{is_dir_seen};
 ghost use Rattle.ips_change.specs.Told.{change_told, naming};
 ghost use Rattle.ips_survey.specs.Rows.{HasLooked};
-ghost use Rattle.ips_reach.specs.Marks.{IsMarkOf, row_paths};
-ghost use Rattle.ips_spoken.specs.Tables.{IsTable};
+ghost use Rattle.ips_survey.specs.Marks.{IsMarkOf, row_paths};
+ghost use Rattle.ips_survey.specs.Tables.{IsTable};
 ghost use Rattle.ips_emptied.specs.Emptying.{AreAnswers, IsAnswer, marked_in};
 
 use crate::candidates::candidates;
@@ -22,9 +22,7 @@ use crate::settling::replaced;
 use ips_change::{Change, Stands};
 use ips_folder::Folder;
 use ips_outside::Failed;
-use ips_reach::is_reached;
-use ips_spoken::Table;
-use ips_survey::Row;
+use ips_survey::{Row, Table, is_reached};
 use ips_text::Or;
 use std::alloc::Global;
 

@@ -6,13 +6,13 @@ ghost use Rattle.ips_after.specs.After as after;
 ghost use Rattle.ips_after.specs.Change as outcome;
 ghost use Rattle.ips_after.specs.Request.{IsRequest, Request};
 ghost use Rattle.ips_change.specs.Told.{change_told, naming};
-ghost use Rattle.ips_reach.specs.Marks.{IsMarkOf, row_paths};
-ghost use Rattle.ips_spoken.specs.Tables.{IsTable};
+ghost use Rattle.ips_survey.specs.Marks.{IsMarkOf, row_paths};
+ghost use Rattle.ips_survey.specs.Tables.{IsTable};
 ghost use Rattle.ips_emptied.specs.Settling.{makes_by, replaces_by};
 
 use ips_change::Change;
 use ips_links::makes;
-use ips_spoken::{Said, Table};
+use ips_survey::{Said, Table};
 use std::alloc::{AllocError, Global};
 
 /// The marks of the rows at which what stands goes or is replaced, by what becomes of each with the directories that are made for what is

@@ -15,11 +15,11 @@ use Rattle.ips_after.proofs.Fits.{any_from, any_of}
 use Rattle.ips_steps.proofs.Lists.{clash, same_path-sym}
 use Rattle.ips_change.specs.Told.{naming}
 use Rattle.ips_survey.specs.declared.row.Row.{Row}
-use Rattle.ips_reach.specs.Marks.{row_paths}
-use Rattle.ips_reach.proofs.Marking.{map_same}
-use Rattle.ips_spoken.specs.declared.said.Said.{Said}
-use Rattle.ips_spoken.specs.Tables.{IsTable}
-use Rattle.ips_spoken.proofs.Filling.{rows_more}
+use Rattle.ips_survey.specs.Marks.{row_paths}
+use Rattle.ips_survey.proofs.Marking.{map_same}
+use Rattle.ips_survey.specs.declared.said.Said.{Said}
+use Rattle.ips_survey.specs.Tables.{IsTable}
+use Rattle.ips_survey.proofs.Filling.{rows_more}
 use Rattle.ips_links.specs.Leading.{hard_to, is_led, is_that}
 
 pub leads_that : (w : Option Wanted) (p : List ℕ) → leads_to p w ≡ is_that (hard_to w) p

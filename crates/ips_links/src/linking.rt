@@ -13,17 +13,15 @@ ghost use Rattle.ips_after.specs.Request.{IsRequest, Request};
 ghost use Rattle.ips_wanted.specs.Wanted.{wanted_of};
 ghost use Rattle.ips_change.specs.Told.{change_told, naming};
 ghost use Rattle.ips_survey.specs.Rows.{HasLooked, IsRowOf};
-ghost use Rattle.ips_reach.specs.Marks.{IsMarkOf, row_paths};
-ghost use Rattle.ips_spoken.specs.Said.{says_laid};
-ghost use Rattle.ips_spoken.specs.Tables.{IsTable};
+ghost use Rattle.ips_survey.specs.Marks.{IsMarkOf, row_paths};
+ghost use Rattle.ips_survey.specs.Said.{says_laid};
+ghost use Rattle.ips_survey.specs.Tables.{IsTable};
 ghost use Rattle.ips_links.specs.Leading.{linked_by};
 
 use crate::asking::{lays, lead, makes};
 use ips_change::Change;
 use ips_meaning::Entry;
-use ips_reach::is_marked;
-use ips_spoken::{Said, Table};
-use ips_survey::Row;
+use ips_survey::{Row, Said, Table, is_marked};
 use std::alloc::{AllocError, Global};
 
 /// What becomes of each row's path, with the files that hard links need, as these marks say, and the hard links of files that are laid.

@@ -15,15 +15,13 @@ ghost use Rattle.ips_after.specs.Request.{IsRequest, Request};
 ghost use Rattle.ips_content.specs.Failing.{HasFailed};
 ghost use Rattle.ips_change.specs.Told.{naming};
 ghost use Rattle.ips_survey.specs.Rows.{HasLooked, IsRowOf};
-ghost use Rattle.ips_reach.specs.Marks.{row_paths};
-ghost use Rattle.ips_spoken.specs.Tables.{IsTable};
+ghost use Rattle.ips_survey.specs.Marks.{row_paths};
+ghost use Rattle.ips_survey.specs.Tables.{IsTable};
 ghost use Rattle.ips_links.specs.Leading.{is_led, is_that};
 
 use crate::asking::{lead, makes};
 use ips_outside::{Failed, Source};
-use ips_reach::mark;
-use ips_spoken::{Said, Table, is_file_at};
-use ips_survey::Row;
+use ips_survey::{Row, Said, Table, is_file_at, mark};
 use ips_text::{Or, RelPath};
 use std::alloc::{AllocError, Global};
 

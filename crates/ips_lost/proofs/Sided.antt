@@ -9,9 +9,9 @@ use Rattle.ips_after.specs.Request.{Request}
 use Rattle.ips_after.specs.Salvage.{dir_or_other}
 use Rattle.ips_survey.specs.Rows.{IsRowOf}
 use Rattle.ips_survey.specs.declared.row.Row.{Row}
-use Rattle.ips_reach.specs.Marks.{row_paths}
-use Rattle.ips_spoken.specs.Tables.{IsTable}
-use Rattle.ips_spoken.specs.declared.said.Said.{Said}
+use Rattle.ips_survey.specs.Marks.{row_paths}
+use Rattle.ips_survey.specs.Tables.{IsTable}
+use Rattle.ips_survey.specs.declared.said.Said.{Said}
 use Rattle.ips_links.proofs.Linked.{all_here, is_bare}
 use Rattle.ips_lost.specs.Sides.{dir_or_other_looked}
 

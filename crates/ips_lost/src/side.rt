@@ -9,15 +9,14 @@ ghost use Rattle.ips_after.specs.Request.{Request};
 ghost use Rattle.ips_after.specs.Salvage as salvage;
 ghost use Rattle.ips_content.specs.Failing.{HasFailed};
 ghost use Rattle.ips_change.specs.Told.{naming};
-ghost use Rattle.ips_reach.specs.Marks.{row_paths};
-ghost use Rattle.ips_spoken.specs.Tables.{IsTable};
-ghost use Rattle.ips_spoken.specs.declared.said.Said.{Said};
+ghost use Rattle.ips_survey.specs.Marks.{row_paths};
+ghost use Rattle.ips_survey.specs.Tables.{IsTable};
+ghost use Rattle.ips_survey.specs.declared.said.Said.{Said};
 ghost use Rattle.ips_lost.specs.Sides.{dir_or_other_looked};
 
 use ips_content::look_at;
 use ips_outside::{Failed, Look, Source};
-use ips_reach::place;
-use ips_survey::Row;
+use ips_survey::{Row, place};
 use ips_text::{Or, RelPath};
 
 /// Whether a side name can't be used beside its path: it was or is wanted, or something other than a file or a symbolic link stands there. It

@@ -13,11 +13,11 @@ use Rattle.ips_after.specs.Planned.{is_apart, is_early, is_late, is_spare, lays_
 use Rattle.ips_after.specs.Request.{IsRequest, Request, Wanted, is_dir_wanted, is_hard_wanted, lays}
 use Rattle.ips_change.specs.Told.{naming}
 use Rattle.ips_survey.specs.declared.row.Row.{Row}
-use Rattle.ips_reach.specs.Marks.{row_paths}
-use Rattle.ips_spoken.specs.declared.said.Said.{Said}
-use Rattle.ips_spoken.specs.Said.{said_as, says_laid}
-use Rattle.ips_spoken.specs.Tables.{IsTable}
-use Rattle.ips_spoken.proofs.Marked.{is_laid, is_spoken}
+use Rattle.ips_survey.specs.Marks.{row_paths}
+use Rattle.ips_survey.specs.declared.said.Said.{Said}
+use Rattle.ips_survey.specs.Said.{said_as, says_laid}
+use Rattle.ips_survey.specs.Tables.{IsTable}
+use Rattle.ips_survey.proofs.Marked.{is_laid, is_spoken}
 use Rattle.ips_order.specs.Groups.{belongs, group_at, lays_below}
 use Rattle.ips_after.proofs.Fits.{dir_of_wanted}
 use Rattle.ips_links.proofs.Led.{same_any}

@@ -7,8 +7,8 @@ use Rattle.ips_after.specs.After.{is_support}
 use Rattle.ips_after.specs.Planned.{lays_account}
 use Rattle.ips_after.specs.Request.{Request, Wanted, is_dir_wanted, is_hard_wanted}
 use Rattle.ips_change.specs.Told.{naming}
-use Rattle.ips_spoken.specs.declared.said.Said.{Said}
-use Rattle.ips_spoken.specs.Said.{said_as}
+use Rattle.ips_survey.specs.declared.said.Said.{Said}
+use Rattle.ips_survey.specs.Said.{said_as}
 use Rattle.ips_order.specs.declared.group.Group.{Group}
 use Rattle.ips_order.specs.declared.group.Group.TheVariants.{Gone, OldDirs, OldOthers, NewDirs, NewOthers, Accounts, Hards, Records}
 

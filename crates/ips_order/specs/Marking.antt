@@ -4,8 +4,8 @@ use Rattle.ips_outside.specs.Image.{Image}
 use Rattle.ips_after.specs.After.{is_support}
 use Rattle.ips_after.specs.Request.{Request}
 use Rattle.ips_change.specs.Told.{naming}
-use Rattle.ips_reach.specs.Marks.{row_paths}
-use Rattle.ips_spoken.specs.Tables.{IsTable}
+use Rattle.ips_survey.specs.Marks.{row_paths}
+use Rattle.ips_survey.specs.Tables.{IsTable}
 use Rattle.ips_order.specs.declared.group.Group.{Group}
 use Rattle.ips_order.specs.declared.group.Group.TheVariants.{Gone, OldDirs, OldOthers, NewDirs, NewOthers, Accounts, Hards, Records}
 use Rattle.ips_order.specs.declared.ordering.Marked.{Marked}

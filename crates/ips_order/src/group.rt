@@ -7,7 +7,7 @@ ghost use Rattle.ips_wanted.specs.Wanted.{wanted_of};
 ghost use Rattle.ips_order.specs.Groups as spec;
 
 use ips_meaning::Entry;
-use ips_spoken::Said;
+use ips_survey::Said;
 
 /// The groups of a plan's order, in that order.
 #[derive(Clone, Copy)]

@@ -10,9 +10,9 @@ ghost use Rattle.ips_after.specs.After as after;
 ghost use Rattle.ips_after.specs.Planned as planned;
 ghost use Rattle.ips_after.specs.Request.{IsRequest, Request};
 ghost use Rattle.ips_change.specs.Told.{naming};
-ghost use Rattle.ips_reach.specs.Marks.{IsMarkOf, row_paths};
-ghost use Rattle.ips_spoken.specs.Said.{says_laid};
-ghost use Rattle.ips_spoken.specs.Tables.{IsTable};
+ghost use Rattle.ips_survey.specs.Marks.{IsMarkOf, row_paths};
+ghost use Rattle.ips_survey.specs.Said.{says_laid};
+ghost use Rattle.ips_survey.specs.Tables.{IsTable};
 ghost use Rattle.ips_order.specs.Chosen.{path_in, turned_places};
 ghost use Rattle.ips_order.specs.declared.group.Group.TheVariants as group;
 ghost use Rattle.ips_order.specs.Marking.{AreAsLong, AreMarks, ordered_places, places_in};
@@ -20,8 +20,7 @@ ghost use Rattle.ips_order.specs.Groups.{group_at};
 
 use crate::choosing::{add, add_back};
 use crate::group::{Facts, Group, is_in};
-use ips_reach::marked_below;
-use ips_spoken::{Said, Table};
+use ips_survey::{Said, Table, marked_below};
 use std::alloc::{AllocError, Global};
 
 // A table, with marks beside its rows.

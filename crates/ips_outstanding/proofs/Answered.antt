@@ -20,9 +20,9 @@ use Rattle.ips_conflict.proofs.Kept.{is_same_self, tied}
 use Rattle.ips_after.specs.Lists.{listed}
 use Rattle.ips_after.specs.Request.{Over}
 use Rattle.ips_due.specs.Due.{Due, IsOverOf, said}
-use Rattle.ips_spoken.specs.declared.said.Spoken.{Spoken}
-use Rattle.ips_spoken.specs.Said.{said_as}
-use Rattle.ips_spoken.specs.Tables.{AreNamed, spoken_paths}
+use Rattle.ips_survey.specs.declared.said.Spoken.{Spoken}
+use Rattle.ips_survey.specs.Said.{said_as}
+use Rattle.ips_survey.specs.Tables.{AreNamed, spoken_paths}
 use Rattle.ips_outstanding.specs.declared.notes.Notes.{Notes}
 use Rattle.ips_outstanding.specs.declared.verdict.Named.{Named}
 use Rattle.ips_outstanding.specs.declared.verdict.Verdict.{Verdict}

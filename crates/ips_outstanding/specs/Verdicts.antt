@@ -2,8 +2,8 @@
 use Rattle.std.specs.Prelude.{ℕ, false, List, map, Option, Some, None, slice_get}
 use Rattle.ips_outside.specs.Image.{Entry, Dir, File}
 use Rattle.ips_due.specs.Due.{Due, DueFile, said_folder, said_gone}
-use Rattle.ips_spoken.specs.declared.said.Said.{Said}
-use Rattle.ips_spoken.specs.declared.said.Said.TheVariants.{Lays, Takes}
+use Rattle.ips_survey.specs.declared.said.Said.{Said}
+use Rattle.ips_survey.specs.declared.said.Said.TheVariants.{Lays, Takes}
 use Rattle.ips_outstanding.specs.declared.asking.Role.{Role}
 use Rattle.ips_outstanding.specs.declared.asking.Role.TheVariants as role
 use Rattle.ips_outstanding.specs.declared.verdict.Verdict.{Verdict}

@@ -5,13 +5,13 @@ ghost use Rattle.std.specs.Option.{option_map};
 ghost use Rattle.ips_outside.specs.Image.{Image};
 ghost use Rattle.ips_after.specs.Request.{Over};
 ghost use Rattle.ips_due.specs.Due.{Due, IsOverOf};
-ghost use Rattle.ips_spoken.specs.Tables.{AreNamed, spoken_paths};
+ghost use Rattle.ips_survey.specs.Tables.{AreNamed, spoken_paths};
 ghost use Rattle.ips_outstanding.specs.Outstanding.{AreOutstanding};
 ghost use Rattle.ips_outstanding.specs.Verdicts.{named_paths};
 ghost use Rattle.ips_outstanding.specs.Verdicts as spec;
 
 use crate::verdict::{Named, said_of};
-use ips_spoken::Spoken;
+use ips_survey::Spoken;
 use std::alloc::{AllocError, Global};
 
 /// The paths that account files and records name, in the order of their bytes.

@@ -4,7 +4,7 @@ ghost use Rattle.std.specs.Prelude.{◌≡◌};
 ghost use Rattle.std.specs.Option.{option_map};
 ghost use Rattle.ips_outstanding.specs.Verdicts as spec;
 
-use ips_spoken::Said;
+use ips_survey::Said;
 use ips_text::RelPath;
 
 /// What is said of a path, and by which part of what is due.

@@ -24,10 +24,10 @@ use Rattle.ips_change.specs.declared.stands.Stands.TheVariants as stands
 use Rattle.ips_change.specs.Stands.{is_unasked, seen_of, stands_of}
 use Rattle.ips_change.specs.Told.{naming}
 use Rattle.ips_survey.specs.declared.row.Row.{Row}
-use Rattle.ips_reach.specs.Marks.{row_paths}
-use Rattle.ips_spoken.specs.declared.said.Said.{Said}
-use Rattle.ips_spoken.specs.Tables.{IsTable}
-use Rattle.ips_spoken.proofs.Filling.{or_none}
+use Rattle.ips_survey.specs.Marks.{row_paths}
+use Rattle.ips_survey.specs.declared.said.Said.{Said}
+use Rattle.ips_survey.specs.Tables.{IsTable}
+use Rattle.ips_survey.proofs.Filling.{or_none}
 use Rattle.ips_links.proofs.Linked.{and_second, is_bare, unwanted_makes}
 use Rattle.ips_salvage.specs.Destroying.{destroys_else, gives_file, needs_no_salvage}
 

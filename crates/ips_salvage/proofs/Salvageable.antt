@@ -13,9 +13,9 @@ use Rattle.ips_after.proofs.Changed.{reach_of, reached_from}
 use Rattle.ips_wanted.specs.Named.{is_payload_of}
 use Rattle.ips_change.specs.Told.{naming}
 use Rattle.ips_survey.specs.declared.row.Row.{Row}
-use Rattle.ips_reach.specs.Marks.{row_paths}
-use Rattle.ips_spoken.specs.declared.said.Said.{Said}
-use Rattle.ips_spoken.specs.Tables.{IsTable}
+use Rattle.ips_survey.specs.Marks.{row_paths}
+use Rattle.ips_survey.specs.declared.said.Said.{Said}
+use Rattle.ips_survey.specs.Tables.{IsTable}
 use Rattle.ips_links.proofs.Linked.{and_second, is_bare}
 use Rattle.ips_salvage.specs.Destroying.{destroys_else, gives_file, goes_else}
 use Rattle.ips_salvage.proofs.Destruction.{none_both}

@@ -6,7 +6,7 @@ use Rattle.ips_after.specs.Request.{Request, Want}
 use Rattle.ips_wanted.specs.Wanted.{want_of}
 use Rattle.ips_survey.specs.declared.row.Row.{Row}
 use Rattle.ips_survey.specs.Rows.{AreRows, HasBoth, IsRowOf, row_pair}
-use Rattle.ips_spoken.specs.Tables.{AreRowsOf}
+use Rattle.ips_survey.specs.Tables.{AreRowsOf}
 
 pub rows_of : (r : Request) (old new : List (List ℕ × Entry)) (rows : List Row) → r.old ≡ want_of old → r.new ≡ want_of new → AreRows old new (map row_pair rows) → AreRowsOf r rows
 rows_of r old new rows from to are = record {

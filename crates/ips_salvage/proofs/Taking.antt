@@ -3,11 +3,11 @@ use Rattle.std.proofs.Common.{◌≡◌, List, Option, Some, None, map, refl}
 use Rattle.ips_outside.specs.Image.{Entry}
 use Rattle.ips_after.specs.Request.{Request, takes}
 use Rattle.ips_survey.specs.declared.row.Row.{Row}
-use Rattle.ips_reach.specs.Marks.{IsMarkOf, row_paths}
-use Rattle.ips_spoken.specs.declared.said.Said.{Said}
-use Rattle.ips_spoken.specs.Said.{said_as}
-use Rattle.ips_spoken.specs.Tables.{IsTable}
-use Rattle.ips_spoken.proofs.Marked.{said_marked}
+use Rattle.ips_survey.specs.Marks.{IsMarkOf, row_paths}
+use Rattle.ips_survey.specs.declared.said.Said.{Said}
+use Rattle.ips_survey.specs.Said.{said_as}
+use Rattle.ips_survey.specs.Tables.{IsTable}
+use Rattle.ips_survey.proofs.Marked.{said_marked}
 use Rattle.ips_salvage.specs.Destroying.{says_taken}
 
 is_away : (o : Option (Option Entry)) → says_taken (said_as o) ≡ takes o

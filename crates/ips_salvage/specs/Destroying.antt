@@ -8,8 +8,8 @@ use Rattle.ips_after.specs.Change.{reached}
 use Rattle.ips_after.specs.Request.{Request}
 use Rattle.ips_after.specs.Salvage.{destroys, drops_edit_as, saved_as}
 use Rattle.ips_change.specs.Stands.{is_unasked}
-use Rattle.ips_spoken.specs.declared.said.Said.{Said}
-use Rattle.ips_spoken.specs.declared.said.Said.TheVariants.{Lays, Takes}
+use Rattle.ips_survey.specs.declared.said.Said.{Said}
+use Rattle.ips_survey.specs.declared.said.Said.TheVariants.{Lays, Takes}
 
 -- what stands is taken away
 abbrev pub says_taken : Option Said → Bool

@@ -2,11 +2,11 @@
 
 ghost use Rattle.std.specs.Prelude.{◌≡◌, IfOk, length};
 ghost use Rattle.ips_after.specs.Request.{Request, takes};
-ghost use Rattle.ips_reach.specs.Marks.{IsMarkOf, row_paths};
-ghost use Rattle.ips_spoken.specs.Tables.{IsTable};
+ghost use Rattle.ips_survey.specs.Marks.{IsMarkOf, row_paths};
+ghost use Rattle.ips_survey.specs.Tables.{IsTable};
 ghost use Rattle.ips_salvage.specs.Destroying.{says_taken};
 
-use ips_spoken::{Said, Table};
+use ips_survey::{Said, Table};
 use std::alloc::{AllocError, Global};
 
 /// The marks of the rows at which account files and records take away what stands.

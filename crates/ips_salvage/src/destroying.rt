@@ -10,14 +10,13 @@ ghost use Rattle.ips_after.specs.Change as changes;
 ghost use Rattle.ips_after.specs.Request.{IsRequest, Request};
 ghost use Rattle.ips_change.specs.Told.{change_told, naming};
 ghost use Rattle.ips_survey.specs.Rows.{HasLooked, IsRowOf};
-ghost use Rattle.ips_reach.specs.Marks.{IsMarkOf, row_paths};
-ghost use Rattle.ips_spoken.specs.Tables.{IsTable};
+ghost use Rattle.ips_survey.specs.Marks.{IsMarkOf, row_paths};
+ghost use Rattle.ips_survey.specs.Tables.{IsTable};
 ghost use Rattle.ips_salvage.specs.Destroying.{destroys_else, needs_no_salvage};
 
 use ips_change::{Change, Stands, given_up, saved};
 use ips_links::makes;
-use ips_spoken::Table;
-use ips_survey::Row;
+use ips_survey::{Row, Table};
 use ips_text::covers;
 use std::alloc::{AllocError, Global};
 

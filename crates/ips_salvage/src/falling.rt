@@ -10,14 +10,12 @@ ghost use Rattle.ips_after.specs.After as after;
 ghost use Rattle.ips_after.specs.Request.{Request};
 ghost use Rattle.ips_change.specs.Told.{naming};
 ghost use Rattle.ips_survey.specs.Rows.{HasLooked, IsRowOf};
-ghost use Rattle.ips_reach.specs.Marks.{IsMarkOf, row_paths};
-ghost use Rattle.ips_spoken.specs.Tables.{IsTable};
+ghost use Rattle.ips_survey.specs.Marks.{IsMarkOf, row_paths};
+ghost use Rattle.ips_survey.specs.Tables.{IsTable};
 ghost use Rattle.ips_salvage.specs.Destroying.{destroys_else, goes_else};
 
 use ips_change::drops_edit;
-use ips_reach::{is_reached, is_top};
-use ips_spoken::Table;
-use ips_survey::Row;
+use ips_survey::{Row, Table, is_reached, is_top};
 use std::alloc::{AllocError, Global};
 
 /// At each row whether what stands at its path goes with something that is destroyed, as these marks say, or with a directory with a stated mode, or

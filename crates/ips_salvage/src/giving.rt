@@ -13,14 +13,13 @@ ghost use Rattle.ips_wanted.specs.Wanted.{wanted_of};
 ghost use Rattle.ips_content.specs.Failing.{HasFailed};
 ghost use Rattle.ips_change.specs.Told.{naming};
 ghost use Rattle.ips_survey.specs.Rows.{HasLooked, IsRowOf};
-ghost use Rattle.ips_reach.specs.Marks.{IsMarkOf, row_paths};
-ghost use Rattle.ips_spoken.specs.Kinds.{is_unlooked};
+ghost use Rattle.ips_survey.specs.Marks.{IsMarkOf, row_paths};
+ghost use Rattle.ips_survey.specs.Kinds.{is_unlooked};
 
 use ips_change::{Stands, given_up, stand_at};
 use ips_folder::Folder;
 use ips_outside::Failed;
-use ips_reach::is_reached;
-use ips_survey::Row;
+use ips_survey::{Row, is_reached};
 use ips_text::Or;
 use std::alloc::Global;
 

@@ -6,7 +6,7 @@ ghost use Rattle.ips_after.specs.Request.{Request};
 ghost use Rattle.ips_wanted.specs.Wanted.{want_of};
 ghost use Rattle.ips_survey.specs.declared.row.Row.{Row};
 ghost use Rattle.ips_survey.specs.Rows.{AreRows, row_pair};
-ghost use Rattle.ips_spoken.specs.Tables.{AreRowsOf};
+ghost use Rattle.ips_survey.specs.Tables.{AreRowsOf};
 
 /// The rows of a survey are those of each request from and to what it surveyed.
 pub fn surveyed_rows_are_of_the_request()

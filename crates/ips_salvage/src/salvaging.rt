@@ -12,8 +12,8 @@ ghost use Rattle.ips_after.specs.Salvage as salvage;
 ghost use Rattle.ips_content.specs.Failing.{HasFailed};
 ghost use Rattle.ips_change.specs.Told.{naming};
 ghost use Rattle.ips_survey.specs.Rows.{HasLooked, IsRowOf};
-ghost use Rattle.ips_reach.specs.Marks.{IsMarkOf, row_paths};
-ghost use Rattle.ips_spoken.specs.Tables.{IsTable};
+ghost use Rattle.ips_survey.specs.Marks.{IsMarkOf, row_paths};
+ghost use Rattle.ips_survey.specs.Tables.{IsTable};
 ghost use Rattle.ips_salvage.specs.Destroying.{destroys_else, goes_else};
 
 use crate::away::taken_away;
@@ -23,8 +23,7 @@ use crate::there::is_there;
 use ips_files::CHUNK;
 use ips_folder::Folder;
 use ips_outside::Failed;
-use ips_spoken::Table;
-use ips_survey::Row;
+use ips_survey::{Row, Table};
 use ips_text::Or;
 use std::alloc::Global;
 

@@ -4,7 +4,7 @@ ghost use Rattle.std.specs.Prelude.{◌≡◌, false, IsTrue, IfOk, is_some};
 ghost use Rattle.ips_outside.specs.Outside.{Reads};
 ghost use Rattle.ips_content.specs.Failing.{HasFailed};
 ghost use Rattle.ips_survey.specs.Rows.{HasLooked};
-ghost use Rattle.ips_spoken.specs.Kinds.{is_unlooked};
+ghost use Rattle.ips_survey.specs.Kinds.{is_unlooked};
 ghost use Rattle.ips_salvage.specs.Destroying.{is_something};
 
 use ips_change::Stands;

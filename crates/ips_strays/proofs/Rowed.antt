@@ -10,8 +10,8 @@ use Rattle.std.proofs.lemmas.List.Folds.{list_any-append}
 use Rattle.ips_outside.specs.Image.{Image}
 use Rattle.ips_after.specs.Lists.{listed}
 use Rattle.ips_survey.specs.declared.row.Row.{Row}
-use Rattle.ips_reach.specs.Marks.{row_paths}
-use Rattle.ips_spoken.proofs.Filling.{rows_more}
+use Rattle.ips_survey.specs.Marks.{row_paths}
+use Rattle.ips_survey.proofs.Filling.{rows_more}
 use Rattle.ips_strays.specs.declared.stray.Stray.{Stray}
 use Rattle.ips_strays.specs.Strays.{Adds}
 use Rattle.ips_strays.proofs.Gathered.{Test, adds_as, adds_then}

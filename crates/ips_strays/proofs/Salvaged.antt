@@ -20,9 +20,9 @@ use Rattle.ips_steps.proofs.Lists.{clash}
 use Rattle.ips_change.specs.Told.{naming}
 use Rattle.ips_wanted.specs.Named.{is_payload_of}
 use Rattle.ips_survey.specs.declared.row.Row.{Row}
-use Rattle.ips_reach.specs.Marks.{IsMarkOf, row_paths}
-use Rattle.ips_spoken.specs.declared.said.Said.{Said}
-use Rattle.ips_spoken.specs.Tables.{IsTable}
+use Rattle.ips_survey.specs.Marks.{IsMarkOf, row_paths}
+use Rattle.ips_survey.specs.declared.said.Said.{Said}
+use Rattle.ips_survey.specs.Tables.{IsTable}
 use Rattle.ips_links.proofs.Linked.{is_bare}
 use Rattle.ips_salvage.specs.Destroying.{destroys_else, goes_else}
 use Rattle.ips_salvage.proofs.Salvageable.{salvaged_here, top_none}

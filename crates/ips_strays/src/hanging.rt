@@ -11,16 +11,14 @@ ghost use Rattle.ips_outside.specs.Children.{bytes_of};
 ghost use Rattle.ips_after.specs.Lists.{listed};
 ghost use Rattle.ips_content.specs.Failing.{HasFailed};
 ghost use Rattle.ips_survey.specs.Rows.{HasLooked};
-ghost use Rattle.ips_reach.specs.Marks.{row_paths};
+ghost use Rattle.ips_survey.specs.Marks.{row_paths};
 ghost use Rattle.ips_strays.specs.Strays.{Adds, hangs};
 
 use crate::gathering::gather;
 use crate::stray::Stray;
 use ips_folder::{Folder, ListFault};
 use ips_outside::Failed;
-use ips_reach::place;
-use ips_spoken::is_dir_at;
-use ips_survey::Row;
+use ips_survey::{Row, is_dir_at, place};
 use ips_text::{Or, RelPath};
 use std::alloc::Global;
 

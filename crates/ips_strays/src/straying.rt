@@ -13,8 +13,8 @@ ghost use Rattle.ips_after.specs.Salvage as salvage;
 ghost use Rattle.ips_content.specs.Failing.{HasFailed};
 ghost use Rattle.ips_change.specs.Told.{naming};
 ghost use Rattle.ips_survey.specs.Rows.{HasLooked};
-ghost use Rattle.ips_reach.specs.Marks.{IsMarkOf, row_paths};
-ghost use Rattle.ips_spoken.specs.Tables.{IsTable};
+ghost use Rattle.ips_survey.specs.Marks.{IsMarkOf, row_paths};
+ghost use Rattle.ips_survey.specs.Tables.{IsTable};
 ghost use Rattle.ips_salvage.specs.Destroying.{destroys_else, goes_else};
 ghost use Rattle.ips_strays.specs.Strays.{Adds, AreFound, hangs_among, opens, stray_paths};
 
@@ -22,10 +22,8 @@ use crate::hanging::gather_below;
 use crate::stray::Stray;
 use ips_folder::Folder;
 use ips_outside::Failed;
-use ips_reach::is_reached;
+use ips_survey::{Row, Table, is_reached};
 use ips_salvage::{going, taken_away};
-use ips_spoken::Table;
-use ips_survey::Row;
 use ips_text::Or;
 use std::alloc::{AllocError, Global};
 

@@ -1,1 +1,7 @@
-mod Merging
+mod Paired
+pub mod Placed
+mod Reached
+mod Topping
+pub mod Marking
+pub mod Filling
+pub mod Marked

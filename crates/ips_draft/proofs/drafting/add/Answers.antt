@@ -1,7 +1,7 @@
 use Rattle.std.proofs.Common.{◌≡◌, Some, ◌∙◌, ap}
 use Rattle.std.proofs.lemmas.Result.{on_ok_weaker}
-use Rattle.ips_spoken.specs.declared.said.Said.{Said}
-use Rattle.ips_spoken.specs.declared.said.Said.TheVariants.{Lays, Takes}
+use Rattle.ips_survey.specs.declared.said.Said.{Said}
+use Rattle.ips_survey.specs.declared.said.Said.TheVariants.{Lays, Takes}
 use Rattle.ips_draft.proofs.Drafted.{emitted_as, gone_here, laid_here, laid_one, own_here, taken_here}
 use Rattle.ips_draft.proofs.drafting.add.Goals as goal
 

@@ -3,9 +3,9 @@ use Rattle.std.proofs.lemmas.List.{get_or_default}
 use Rattle.ips_after.specs.After.{change_after, over_or, supported}
 use Rattle.ips_after.specs.Change.{Removed}
 use Rattle.ips_change.specs.Told.{change_told, naming}
-use Rattle.ips_reach.specs.Marks.{row_paths}
-use Rattle.ips_reach.proofs.Placed.{path_at}
-use Rattle.ips_spoken.proofs.Filling.{said_at}
+use Rattle.ips_survey.specs.Marks.{row_paths}
+use Rattle.ips_survey.proofs.Placed.{path_at}
+use Rattle.ips_survey.proofs.Filling.{said_at}
 use Rattle.ips_order.specs.Chosen.{path_in}
 use Rattle.ips_emit.specs.Emitted.{IsEmitted, Provenance, Turn}
 use Rattle.ips_links.proofs.Linked.{at_row, told_here}

@@ -3,8 +3,8 @@ use Rattle.ips_outside.specs.Image.{Image}
 use Rattle.ips_after.specs.After.{supported}
 use Rattle.ips_after.specs.Request.{Request}
 use Rattle.ips_change.specs.Told.{change_told, naming}
-use Rattle.ips_reach.specs.Marks.{row_paths}
-use Rattle.ips_spoken.specs.Tables.{IsTable}
+use Rattle.ips_survey.specs.Marks.{row_paths}
+use Rattle.ips_survey.specs.Tables.{IsTable}
 use Rattle.ips_order.specs.Chosen.{path_in}
 use Rattle.ips_emit.specs.Emitted.{IsEmitted, Provenance, Turn}
 use Rattle.ips_draft.specs.Laying.{LaysFor}

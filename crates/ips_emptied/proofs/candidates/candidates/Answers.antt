@@ -4,8 +4,8 @@ use Rattle.ips_after.specs.Change.{makes}
 use Rattle.ips_change.specs.Told.{naming}
 use Rattle.ips_survey.specs.declared.row.Row.{Row}
 use Rattle.ips_survey.specs.Rows.{IsRowOf}
-use Rattle.ips_reach.specs.Marks.{holds_below, row_paths}
-use Rattle.ips_spoken.proofs.Filling.{said_at}
+use Rattle.ips_survey.specs.Marks.{holds_below, row_paths}
+use Rattle.ips_survey.proofs.Filling.{said_at}
 use Rattle.ips_links.proofs.Linked.{all_here, at_path, at_row, by_rows, one_more, row_more}
 use Rattle.ips_emptied.specs.Emptying.{is_candidate}
 use Rattle.ips_emptied.proofs.Settled.{candidate_here, mapped_none}

@@ -3,8 +3,8 @@ use Rattle.ips_outside.specs.Image.{Image}
 use Rattle.ips_after.specs.After.{is_support, supported}
 use Rattle.ips_after.specs.Request.{IsRequest, Request}
 use Rattle.ips_change.specs.Told.{change_told, naming}
-use Rattle.ips_reach.specs.Marks.{row_paths}
-use Rattle.ips_spoken.specs.Tables.{IsTable}
+use Rattle.ips_survey.specs.Marks.{row_paths}
+use Rattle.ips_survey.specs.Tables.{IsTable}
 use Rattle.ips_links.proofs.Linked.{at_path}
 use Rattle.ips_emptied.specs.Emptying.{is_candidate}
 use Rattle.ips_emptied.proofs.candidates.candidates.Given as goal

@@ -4,7 +4,7 @@ use Rattle.ips_after.specs.After.{change_settled}
 use Rattle.ips_after.specs.Change.{makes}
 use Rattle.ips_change.specs.Told.{naming}
 use Rattle.ips_survey.specs.declared.row.Row.{Row}
-use Rattle.ips_reach.specs.Marks.{IsMarkOf, holds_below, row_paths}
+use Rattle.ips_survey.specs.Marks.{IsMarkOf, holds_below, row_paths}
 use Rattle.ips_emptied.proofs.candidates.made_below.Goals as goal
 
 pub returns-clause-told : goal.returns-clause-told

@@ -2,7 +2,7 @@ use Rattle.std.proofs.Common.{take_all, sym, ◌∙◌, ap, arith}
 use Rattle.std.specs.List.{list_all}
 use Rattle.std.proofs.lemmas.List.Folds.{list_all-map, list_all_at}
 use Rattle.ips_text.specs.Kept.{Kept}
-use Rattle.ips_reach.specs.Marks.{row_paths}
+use Rattle.ips_survey.specs.Marks.{row_paths}
 use Rattle.ips_emptied.specs.Emptying.{goes_by}
 use Rattle.ips_emptied.proofs.children.all_go.Goals as goal
 

@@ -1,6 +1,6 @@
 use Rattle.std.proofs.Common.{◌≡◌, true, take}
 use Rattle.std.specs.List.{list_all}
-use Rattle.ips_reach.specs.Marks.{row_paths}
+use Rattle.ips_survey.specs.Marks.{row_paths}
 use Rattle.ips_emptied.specs.Emptying.{goes_by}
 use Rattle.ips_emptied.proofs.children.all_go.Given as goal
 

@@ -1,8 +1,8 @@
 use Rattle.std.proofs.Common.{◌||◌, Bool, sym, ◌∙◌, ap}
 use Rattle.std.proofs.lemmas.Bool.{or_left}
 use Rattle.ips_after.proofs.Sorted.{sorted_once}
-use Rattle.ips_reach.specs.Marks.{row_paths}
-use Rattle.ips_reach.proofs.Placed.{count}
+use Rattle.ips_survey.specs.Marks.{row_paths}
+use Rattle.ips_survey.proofs.Placed.{count}
 use Rattle.ips_emptied.specs.Emptying.{marked_in}
 use Rattle.ips_emptied.proofs.Placed.{marks_are}
 use Rattle.ips_emptied.proofs.children.goes.Goals as goal

@@ -9,8 +9,8 @@ use Rattle.ips_after.proofs.Sorted.{sorted_downward}
 use Rattle.ips_content.specs.Failing.{HasFailed}
 use Rattle.ips_change.specs.Told.{naming}
 use Rattle.ips_survey.specs.Rows.{IsRowOf}
-use Rattle.ips_reach.specs.Marks.{row_paths}
-use Rattle.ips_reach.proofs.Placed.{count, path_at}
+use Rattle.ips_survey.specs.Marks.{row_paths}
+use Rattle.ips_survey.proofs.Placed.{count, path_at}
 use Rattle.ips_links.proofs.Linked.{all_here, at_row}
 use Rattle.ips_emptied.specs.Emptying.{IsAnswer, IsEmptiedAt, is_candidate}
 use Rattle.ips_emptied.proofs.Placed.{behind, set_more}

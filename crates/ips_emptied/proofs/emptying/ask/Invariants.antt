@@ -4,9 +4,9 @@ use Rattle.ips_after.specs.After.{change_settled}
 use Rattle.ips_after.specs.Change.{replaces}
 use Rattle.ips_after.specs.Request.{IsRequest, Request}
 use Rattle.ips_change.specs.Told.{naming}
-use Rattle.ips_reach.specs.Marks.{IsMarkOf, row_paths}
-use Rattle.ips_spoken.specs.declared.said.Said.{Said}
-use Rattle.ips_spoken.specs.Tables.{IsTable}
+use Rattle.ips_survey.specs.Marks.{IsMarkOf, row_paths}
+use Rattle.ips_survey.specs.declared.said.Said.{Said}
+use Rattle.ips_survey.specs.Tables.{IsTable}
 use Rattle.ips_emptied.specs.Emptying.{IsEmptiedAt, is_candidate}
 use Rattle.ips_emptied.proofs.emptying.ask.Given as goal
 

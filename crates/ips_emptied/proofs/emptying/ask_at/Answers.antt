@@ -6,8 +6,8 @@ use Rattle.std.specs.Prelude.{is_none}
 use Rattle.ips_wanted.specs.Named.{is_payload_of}
 use Rattle.ips_change.specs.Told.{naming}
 use Rattle.ips_survey.specs.Rows.{row_pair}
-use Rattle.ips_reach.specs.Marks.{row_paths}
-use Rattle.ips_reach.proofs.Placed.{count}
+use Rattle.ips_survey.specs.Marks.{row_paths}
+use Rattle.ips_survey.proofs.Placed.{count}
 use Rattle.ips_emptied.specs.Emptying.{IsEmptiedAt, goes_by}
 use Rattle.ips_emptied.proofs.Asked.{candidate, children_say, no_candidate, no_dir, no_whole, seen_dir, taken, unseen_dir}
 use Rattle.ips_emptied.proofs.emptying.ask_at.Goals as goal

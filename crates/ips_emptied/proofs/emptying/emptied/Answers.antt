@@ -6,8 +6,8 @@ use Rattle.ips_after.specs.Change.{replaces}
 use Rattle.ips_after.proofs.Sorted.{sorted_once}
 use Rattle.ips_change.specs.Told.{naming}
 use Rattle.ips_survey.specs.declared.row.Row.{Row}
-use Rattle.ips_reach.specs.Marks.{IsMarkOf, row_paths}
-use Rattle.ips_reach.proofs.Placed.{count}
+use Rattle.ips_survey.specs.Marks.{IsMarkOf, row_paths}
+use Rattle.ips_survey.proofs.Placed.{count}
 use Rattle.ips_emptied.specs.Emptying.{AreAnswers, marked_in}
 use Rattle.ips_emptied.proofs.Asked.{all_right}
 use Rattle.ips_emptied.proofs.Placed.{marks_are}

@@ -5,7 +5,7 @@ use Rattle.ips_after.specs.After.{change_settled, supported}
 use Rattle.ips_after.specs.Change.{makes}
 use Rattle.ips_change.specs.Told.{change_told, naming}
 use Rattle.ips_survey.specs.declared.row.Row.{Row}
-use Rattle.ips_spoken.proofs.Filling.{said_at}
+use Rattle.ips_survey.proofs.Filling.{said_at}
 use Rattle.ips_links.proofs.Linked.{at_path, at_row, by_rows, one_more, row_more, told_here}
 use Rattle.ips_emptied.specs.Settling.{makes_by}
 use Rattle.ips_emptied.proofs.Settled.{makes_same, settled_bare, settled_here}

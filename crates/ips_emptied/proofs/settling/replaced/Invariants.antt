@@ -4,8 +4,8 @@ use Rattle.ips_after.specs.After.{change_settled, supported}
 use Rattle.ips_after.specs.Change.{replaces}
 use Rattle.ips_after.specs.Request.{Request}
 use Rattle.ips_change.specs.Told.{change_told, naming}
-use Rattle.ips_reach.specs.Marks.{row_paths}
-use Rattle.ips_spoken.specs.Tables.{IsTable}
+use Rattle.ips_survey.specs.Marks.{row_paths}
+use Rattle.ips_survey.specs.Tables.{IsTable}
 use Rattle.ips_links.proofs.Linked.{at_path}
 use Rattle.ips_emptied.proofs.settling.replaced.Given as goal
 

@@ -4,7 +4,7 @@ use Rattle.ips_after.specs.Change.{makes}
 use Rattle.ips_change.specs.Told.{change_told, naming}
 use Rattle.ips_survey.specs.declared.row.Row.{Row}
 use Rattle.ips_survey.specs.Rows.{HasLooked, IsRowOf}
-use Rattle.ips_spoken.proofs.Filling.{said_at}
+use Rattle.ips_survey.proofs.Filling.{said_at}
 use Rattle.ips_links.proofs.Linked.{all_here, at_path, at_row, by_rows, laid_here, laid_none, one_more, row_more}
 use Rattle.ips_links.proofs.linking.laid.Goals as goal
 

@@ -4,7 +4,7 @@ use Rattle.ips_after.specs.After as after
 use Rattle.ips_change.specs.Told.{change_told, naming}
 use Rattle.ips_survey.specs.declared.row.Row.{Row}
 use Rattle.ips_survey.specs.Rows.{HasLooked, IsRowOf}
-use Rattle.ips_reach.specs.Marks.{IsMarkOf, row_paths}
+use Rattle.ips_survey.specs.Marks.{IsMarkOf, row_paths}
 use Rattle.ips_links.proofs.Linked.{all_here, at_path, at_row, by_rows, one_more, row_more}
 use Rattle.ips_links.proofs.linking.links.Goals as goal
 

@@ -1,7 +1,7 @@
 use Rattle.std.proofs.Common.{◌≡◌, List, ℕ, Some, false, ◌∙◌, subst}
 use Rattle.std.specs.Prelude.{slice_get}
 use Rattle.ips_after.specs.Lists.{listed}
-use Rattle.ips_reach.specs.Marks.{row_paths}
+use Rattle.ips_survey.specs.Marks.{row_paths}
 use Rattle.ips_lost.proofs.Sided.{wanted_here, wanted_none}
 use Rattle.ips_lost.proofs.side.is_wanted.Goals as goal
 

@@ -3,7 +3,7 @@ use Rattle.std.proofs.lemmas.Option.{get_or_from_slice_get}
 use Rattle.ips_text.proofs.Lists.{element}
 use Rattle.ips_after.specs.Planned.{lays_account}
 use Rattle.ips_survey.specs.declared.row.Row.{Row}
-use Rattle.ips_spoken.proofs.Filling.{said_at}
+use Rattle.ips_survey.proofs.Filling.{said_at}
 use Rattle.ips_links.proofs.Linked.{at_path, at_row, by_rows, one_more, row_more}
 use Rattle.ips_order.proofs.Grouped.{account_here, account_none}
 use Rattle.ips_order.proofs.ordering.account_marks.Goals as goal

@@ -3,7 +3,7 @@ use Rattle.ips_after.specs.After.{is_support}
 use Rattle.ips_change.specs.Told.{naming}
 use Rattle.ips_survey.specs.declared.row.Row.{Row}
 use Rattle.ips_survey.specs.Rows.{IsRowOf}
-use Rattle.ips_spoken.proofs.Filling.{said_at}
+use Rattle.ips_survey.proofs.Filling.{said_at}
 use Rattle.ips_links.proofs.Linked.{all_here, at_path, at_row, by_rows, one_more, row_more}
 use Rattle.ips_order.specs.Groups.{group_at, lays_below}
 use Rattle.ips_order.proofs.Grouped.{group_here}

@@ -1,8 +1,8 @@
 use Rattle.std.proofs.Common.{◌≡◌, Bool, List, map, ap, sym, subst, ◌∙◌}
 use Rattle.ips_after.specs.Planned.{lays_account}
 use Rattle.ips_survey.specs.declared.row.Row.{Row}
-use Rattle.ips_reach.specs.Marks.{IsMarkOf, holds_below, row_paths}
-use Rattle.ips_reach.proofs.Marking.{map_same}
+use Rattle.ips_survey.specs.Marks.{IsMarkOf, holds_below, row_paths}
+use Rattle.ips_survey.proofs.Marking.{map_same}
 use Rattle.ips_order.specs.Chosen.{path_in}
 use Rattle.ips_order.specs.Groups.{lays_below}
 use Rattle.ips_order.proofs.Grouped.{below_is, ordered}

@@ -1,7 +1,7 @@
 use Rattle.std.proofs.Common.{◌∷◌, ◌++◌, [], Bool, List, length, map, take, take_all, sym, ◌∙◌, ap, subst, arith}
 use Rattle.std.proofs.lemmas.List.{length-map}
 use Rattle.ips_after.specs.Request.{takes}
-use Rattle.ips_reach.specs.Marks.{IsMarkOf, row_paths}
+use Rattle.ips_survey.specs.Marks.{IsMarkOf, row_paths}
 use Rattle.ips_text.proofs.Lists.{map_item}
 use Rattle.ips_salvage.specs.Destroying.{says_taken}
 use Rattle.ips_salvage.proofs.Taking.{away_marked}

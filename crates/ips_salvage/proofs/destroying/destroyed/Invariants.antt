@@ -5,8 +5,8 @@ use Rattle.ips_after.specs.After.{supported}
 use Rattle.ips_after.specs.Request.{Request}
 use Rattle.ips_change.specs.Told.{change_told, naming}
 use Rattle.ips_survey.specs.Rows.{HasLooked}
-use Rattle.ips_reach.specs.Marks.{row_paths}
-use Rattle.ips_spoken.specs.Tables.{IsTable}
+use Rattle.ips_survey.specs.Marks.{row_paths}
+use Rattle.ips_survey.specs.Tables.{IsTable}
 use Rattle.ips_links.proofs.Linked.{at_path}
 use Rattle.ips_salvage.specs.Destroying.{destroys_else}
 use Rattle.ips_salvage.proofs.destroying.destroyed.Given as goal

@@ -3,7 +3,7 @@ use Rattle.ips_after.specs.After.{is_top}
 use Rattle.ips_change.specs.Told.{naming}
 use Rattle.ips_survey.specs.declared.row.Row.{Row}
 use Rattle.ips_survey.specs.Rows.{HasLooked, IsRowOf}
-use Rattle.ips_reach.specs.Marks.{IsMarkOf, row_paths}
+use Rattle.ips_survey.specs.Marks.{IsMarkOf, row_paths}
 use Rattle.ips_links.proofs.Linked.{all_here, at_path, by_rows, one_more, row_more}
 use Rattle.ips_salvage.specs.Destroying.{destroys_else, goes_else}
 use Rattle.ips_salvage.proofs.falling.going.Goals as goal

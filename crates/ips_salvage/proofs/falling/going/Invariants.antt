@@ -4,8 +4,8 @@ use Rattle.ips_outside.specs.Image.{Image}
 use Rattle.ips_after.specs.Request.{Request}
 use Rattle.ips_change.specs.Told.{naming}
 use Rattle.ips_survey.specs.Rows.{HasLooked}
-use Rattle.ips_reach.specs.Marks.{IsMarkOf, row_paths}
-use Rattle.ips_spoken.specs.Tables.{IsTable}
+use Rattle.ips_survey.specs.Marks.{IsMarkOf, row_paths}
+use Rattle.ips_survey.specs.Tables.{IsTable}
 use Rattle.ips_links.proofs.Linked.{at_path}
 use Rattle.ips_salvage.specs.Destroying.{destroys_else, goes_else}
 use Rattle.ips_salvage.proofs.falling.going.Given as goal

@@ -5,7 +5,7 @@ use Rattle.ips_after.specs.After.{is_top}
 use Rattle.ips_after.specs.Request.{Request}
 use Rattle.ips_change.specs.Told.{naming}
 use Rattle.ips_survey.specs.Rows.{HasLooked}
-use Rattle.ips_spoken.specs.Tables.{IsTable}
+use Rattle.ips_survey.specs.Tables.{IsTable}
 use Rattle.ips_links.proofs.Linked.{at_path}
 use Rattle.ips_salvage.proofs.falling.marked_tops.Given as goal
 

@@ -9,7 +9,7 @@ use Rattle.ips_content.specs.Failing.{HasFailed}
 use Rattle.ips_change.specs.Told.{naming}
 use Rattle.ips_survey.specs.declared.row.Row.{Row}
 use Rattle.ips_survey.specs.Rows.{HasLooked, IsRowOf}
-use Rattle.ips_reach.specs.Marks.{IsMarkOf, row_paths}
+use Rattle.ips_survey.specs.Marks.{IsMarkOf, row_paths}
 use Rattle.ips_links.proofs.Linked.{all_here, at_path, at_row, by_rows, one_more, row_more}
 use Rattle.ips_salvage.specs.Destroying.{goes_else}
 use Rattle.ips_salvage.proofs.Salvageable.{salvaged_here}

@@ -1,6 +1,6 @@
 use Rattle.std.proofs.Common.{Bool, List, sym, ◌∙◌, subst}
 use Rattle.ips_after.specs.Request.{takes}
-use Rattle.ips_reach.specs.Marks.{IsMarkOf, row_paths}
+use Rattle.ips_survey.specs.Marks.{IsMarkOf, row_paths}
 use Rattle.ips_salvage.proofs.salvaging.salvaged.Goals as goal
 
 pub returns-clause-found : goal.returns-clause-found

@@ -6,7 +6,7 @@ use Rattle.ips_outside.proofs.Reading.{reads_then}
 use Rattle.ips_content.specs.Failing.{HasFailed}
 use Rattle.ips_change.specs.Told.{naming}
 use Rattle.ips_after.specs.Request.{Request, takes}
-use Rattle.ips_reach.specs.Marks.{IsMarkOf, row_paths}
+use Rattle.ips_survey.specs.Marks.{IsMarkOf, row_paths}
 use Rattle.ips_links.proofs.Linked.{at_row}
 use Rattle.ips_salvage.specs.Destroying.{goes_else}
 use Rattle.ips_strays.specs.declared.stray.Stray.{Stray}

@@ -1,6 +1,6 @@
 use Rattle.std.proofs.Common.{◌&&◌, ◌||◌, List, is_some, sym, ◌∙◌, ap, subst}
 use Rattle.ips_after.specs.Lists.{listed}
-use Rattle.ips_reach.specs.Marks.{row_paths}
+use Rattle.ips_survey.specs.Marks.{row_paths}
 use Rattle.ips_strays.specs.declared.stray.Stray.{Stray}
 use Rattle.ips_strays.specs.Strays.{AreFound, hangs_among, opens, stray_paths}
 use Rattle.ips_strays.proofs.Salvaged.{strays_are}

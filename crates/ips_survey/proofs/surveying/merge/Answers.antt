@@ -9,7 +9,7 @@ use Rattle.ips_wanted.specs.Wanted.{wanted_of}
 use Rattle.ips_content.specs.Failing.{HasFailed}
 use Rattle.ips_survey.specs.Pairs.{first, pair_seen}
 use Rattle.ips_survey.specs.Rows.{HasLooked, row_pair}
-use Rattle.ips_survey.proofs.Merging.{goes, next_pair, row_added, rows_ended, stays_within, taken_map}
+use Rattle.ips_survey.proofs.Paired.{goes, next_pair, row_added, rows_ended, stays_within, taken_map}
 use Rattle.ips_survey.proofs.surveying.merge.Goals as goal
 
 pub loop-pair-preserved : goal.loop-pair-preserved

@@ -3,7 +3,7 @@ use Rattle.std.specs.List.{AllByRecursion}
 use Rattle.ips_outside.specs.Outside.{Reads}
 use Rattle.ips_survey.specs.Pairs.{Pair}
 use Rattle.ips_survey.specs.Rows.{HasLooked, row_pair}
-use Rattle.ips_survey.proofs.Merging.{Merges}
+use Rattle.ips_survey.proofs.Paired.{Merges}
 use Rattle.ips_survey.proofs.surveying.merge.Given as goal
 
 abbrev pub invariant-loop-pair : goal.invariant-loop-pair

@@ -1,6 +1,6 @@
 use Rattle.std.proofs.Common.{◌≡◌, map, take}
 use Rattle.std.specs.Option.{option_map}
-use Rattle.ips_spoken.specs.Tables.{spoken_paths}
+use Rattle.ips_survey.specs.Tables.{spoken_paths}
 use Rattle.ips_outstanding.specs.Verdicts.{named_paths, said_of}
 use Rattle.ips_outstanding.proofs.answer.Outstanding.spoken.Given as goal
 

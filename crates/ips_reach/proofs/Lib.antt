@@ -1,4 +1,0 @@
-pub mod Placed
-mod Reached
-mod Topping
-pub mod Marking

@@ -1,4 +1,0 @@
-pub mod Said
-pub mod Tables
-pub mod Lines
-pub mod Kinds
