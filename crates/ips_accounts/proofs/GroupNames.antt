@@ -9,9 +9,9 @@ use Rattle.ips_action.specs.Attrs.{is_same, values_of}
 use Rattle.ips_action.specs.Action.{Fields}
 use Rattle.ips_action.specs.Check.{IsField}
 use Rattle.ips_books.specs.declared.fault.AccountFault.{AccountFault}
-use Rattle.ips_books.specs.Lines.{Line}
+use Rattle.ips_books.specs.Lines.{AccountLine}
 use Rattle.ips_books.specs.Accounts.{is_kept, is_of, field, fields, line_at, members_of, Accounts}
-use Rattle.ips_books.specs.Writing.{at_first, put, with_members}
+use Rattle.ips_books.specs.Writing.{at_first, with_line, with_members}
 use Rattle.ips_turnover.specs.Turnover.{left_by, user_name, group_name, groups_in, name_cmp, is_fresh, is_named_in, fresh_groups, fresh_users, after_gone, number_given}
 use Rattle.ips_accounts.specs.Editing.{joined_by, in_groups, edited_books, number_for, group_text, standing_members, passwd_text, with_shadow, gid_of, with_group, with_user, each, if_known}
 use Rattle.ips_accounts.specs.Laws.{is_gone_user, is_gone_group}
@@ -36,7 +36,7 @@ first_plain : (parts : List (List ℕ)) → AllByRecursion IsField parts → IsF
 first_plain [] all = refl
 first_plain (p ∷ parts) all = all.0
 
-pub name_plain : (line : Line) → IsField (field 0 line)
+pub name_plain : (line : AccountLine) → IsField (field 0 line)
 name_plain line = first_plain (fields line) (parts_plain line.text)
 
 -- ---- lines of groups
@@ -45,18 +45,18 @@ pub apart_of : (k s : Bool) → k ≡ false → (not k && s) ≡ false → s ≡
 apart_of k s kept e = sym (ap (λ (t : Bool). not t && s) kept) ∙ e
 
 -- A line with other members speaks of the name that it spoke of.
-pub with_apart : (name : List ℕ) (members : List (List ℕ)) (line : Line) → is_kept line ≡ false → is_of name line ≡ false → is_of name (with_members members line) ≡ false
+pub with_apart : (name : List ℕ) (members : List (List ℕ)) (line : AccountLine) → is_kept line ≡ false → is_of name line ≡ false → is_of name (with_members members line) ≡ false
 with_apart name members line kept apart =
     not_of name (with_members members line) (field 0 line) (written_name (field 0 line) (with_members members line).text _ line.ended (name_plain line) refl) (apart_of (is_kept line) (is_same name (field 0 line)) kept apart)
 
-pub joined_apart : (name user : List ℕ) (line : Line) → is_kept line ≡ false → is_of name line ≡ false → is_of name (joined_by user line) ≡ false
+pub joined_apart : (name user : List ℕ) (line : AccountLine) → is_kept line ≡ false → is_of name line ≡ false → is_of name (joined_by user line) ≡ false
 joined_apart name user line kept apart = go (list_any (λ member. is_same member user) (members_of line)) (with_apart name (members_of line ++ user ∷ []) line kept apart)
   where
     go : (t : Bool) → is_of name (with_members (members_of line ++ user ∷ []) line) ≡ false → is_of name (cond t line (with_members (members_of line ++ user ∷ []) line)) ≡ false
     go true e = apart
     go false e = e
 
-lacks_joined : (name user group : List ℕ) (lines : List Line) → Lacks name lines → Lacks name (at_first (is_of group) (joined_by user) lines)
+lacks_joined : (name user group : List ℕ) (lines : List AccountLine) → Lacks name lines → Lacks name (at_first (is_of group) (joined_by user) lines)
 lacks_joined name user group [] lacks = tt
 lacks_joined name user group (line ∷ lines) lacks = go (is_of group line) refl (lacks_joined name user group lines lacks.1)
   where
@@ -64,7 +64,7 @@ lacks_joined name user group (line ∷ lines) lacks = go (is_of group line) refl
     go true e rest = (joined_apart name user line (not_true (is_kept line) (and_parts (not (is_kept line)) (is_same group (field 0 line)) e).0) lacks.0, lacks.1)
     go false e rest = (lacks.0, rest)
 
-lacks_in : (name user : List ℕ) (groups : List (List ℕ)) (lines : List Line) → Lacks name lines → Lacks name (in_groups user groups lines)
+lacks_in : (name user : List ℕ) (groups : List (List ℕ)) (lines : List AccountLine) → Lacks name lines → Lacks name (in_groups user groups lines)
 lacks_in name user [] lines lacks = lacks
 lacks_in name user (group ∷ groups) lines lacks = lacks_in name user groups (at_first (is_of group) (joined_by user) lines) (lacks_joined name user group lines lacks)
 
@@ -81,13 +81,13 @@ all_apart name_of name (a ∷ actions) e all =
     let parts = or_parts (is_same name (name_of a)) (is_named_in name_of actions name) e in
     (record { apart = parts.0; plain = all.0 }, all_apart name_of name actions parts.1 all.1)
 
-pub group_gives : (a : Fields) (b c : Accounts) → with_group a b ≡ Ok c → (gid : ℕ) × (c.group ≡ put (group_name a) (group_text (group_name a) gid (standing_members b.group (group_name a))) b.group)
+pub group_gives : (a : Fields) (b c : Accounts) → with_group a b ≡ Ok c → (gid : ℕ) × (c.group ≡ with_line (group_name a) (group_text (group_name a) gid (standing_members b.group (group_name a))) b.group)
 group_gives a b c e = go (number_for b.group (group_name a) (number_given (codes "gid") a)) e
   where
-    go : (r : Result ℕ AccountFault) → (r >>= λ gid. Ok (record { passwd = b.passwd; shadow = b.shadow; group = put (group_name a) (group_text (group_name a) gid (standing_members b.group (group_name a))) b.group })) ≡ Ok c
-        → (gid : ℕ) × (c.group ≡ put (group_name a) (group_text (group_name a) gid (standing_members b.group (group_name a))) b.group)
+    go : (r : Result ℕ AccountFault) → (r >>= λ gid. Ok (record { passwd = b.passwd; shadow = b.shadow; group = with_line (group_name a) (group_text (group_name a) gid (standing_members b.group (group_name a))) b.group })) ≡ Ok c
+        → (gid : ℕ) × (c.group ≡ with_line (group_name a) (group_text (group_name a) gid (standing_members b.group (group_name a))) b.group)
     go (Ok gid) e =
-        let same = ok_value (record { passwd = b.passwd; shadow = b.shadow; group = put (group_name a) (group_text (group_name a) gid (standing_members b.group (group_name a))) b.group }) c e in
+        let same = ok_value (record { passwd = b.passwd; shadow = b.shadow; group = with_line (group_name a) (group_text (group_name a) gid (standing_members b.group (group_name a))) b.group }) c e in
         (gid, sym (ap (λ (x : Accounts). x.group) same))
     go (Err f) e = absurd (err_no f c e)
 
@@ -95,13 +95,13 @@ pub user_joins : (a : Fields) (b c : Accounts) → with_user a b ≡ Ok c → c.
 user_joins a b c e = go (number_for b.passwd (user_name a) (number_given (codes "uid") a)) e
   where
     go : (r : Result ℕ AccountFault) → (r >>= λ uid. Ok (record {
-      passwd = put (user_name a) (passwd_text a uid (unwrap_or (gid_of b.group a) 0)) b.passwd;
+      passwd = with_line (user_name a) (passwd_text a uid (unwrap_or (gid_of b.group a) 0)) b.passwd;
       shadow = with_shadow a b.shadow;
       group = in_groups (user_name a) (values_of (codes "group-list") a.attrs) b.group;
     })) ≡ Ok c → c.group ≡ in_groups (user_name a) (values_of (codes "group-list") a.attrs) b.group
     go (Ok uid) e =
         sym (ap (λ (x : Accounts). x.group) (ok_value (record {
-          passwd = put (user_name a) (passwd_text a uid (unwrap_or (gid_of b.group a) 0)) b.passwd;
+          passwd = with_line (user_name a) (passwd_text a uid (unwrap_or (gid_of b.group a) 0)) b.passwd;
           shadow = with_shadow a b.shadow;
           group = in_groups (user_name a) (values_of (codes "group-list") a.attrs) b.group;
         }) c e))

@@ -10,9 +10,9 @@ use Rattle.ips_text.proofs.Truths.{not_true, or_true}
 use Rattle.ips_action.specs.Attrs.{is_same}
 use Rattle.ips_action.specs.Check.{IsAccount, IsField, begins_with_mark}
 use Rattle.ips_action.proofs.KeyOrder.{same_self}
-use Rattle.ips_books.specs.Lines.{Line}
+use Rattle.ips_books.specs.Lines.{AccountLine}
 use Rattle.ips_books.specs.Accounts.{is_kept, is_of, field, fields, number_in, number_of, number_by, members_in, members_of, line_at, gid_at, known, known_groups}
-use Rattle.ips_books.specs.Writing.{at_first, with_members, is_of_other, is_taken}
+use Rattle.ips_books.specs.Writing.{at_first, with_members, is_of_other, is_number_taken}
 use Rattle.ips_accounts.specs.Editing.{joined_by, in_groups}
 use Rattle.ips_accounts.specs.Laws.{IsMemberOf}
 use Rattle.ips_books.proofs.Written.{later}
@@ -43,63 +43,63 @@ nth_plain [] i all = refl
 nth_plain (p ∷ parts) zero all = all.0
 nth_plain (p ∷ parts) (suc i) all = nth_plain parts i all.1
 
-pub field_plain : (i : ℕ) (line : Line) → IsField (field i line)
+pub field_plain : (i : ℕ) (line : AccountLine) → IsField (field i line)
 field_plain i line = nth_plain (fields line) i (parts_plain line.text)
 
-pub with_fields : (members : List (List ℕ)) (line : Line) → fields (with_members members line) ≡ field 0 line ∷ field 1 line ∷ field 2 line ∷ slice_split (λ b. eqb b 58) (join_with_byte 44 members)
+pub with_fields : (members : List (List ℕ)) (line : AccountLine) → fields (with_members members line) ≡ field 0 line ∷ field 1 line ∷ field 2 line ∷ slice_split (λ b. eqb b 58) (join_with_byte 44 members)
 with_fields members line =
     split_at (field 0 line) _ (field_plain 0 line)
     ∙ ap (λ (l : List (List ℕ)). field 0 line ∷ l) (split_at (field 1 line) _ (field_plain 1 line) ∙ ap (λ (l : List (List ℕ)). field 1 line ∷ l) (split_at (field 2 line) _ (field_plain 2 line)))
 
 -- One line speaks as the other does: of the same name, with the same number.
-pub record SpeaksAs (x y : Line) : Type 0 where
+pub record SpeaksAs (x y : AccountLine) : Type 0 where
   pub kept : is_kept x ≡ is_kept y
   pub name : field 0 x ≡ field 0 y
   pub number : number_of x ≡ number_of y
 
-itself : (x : Line) → SpeaksAs x x
+itself : (x : AccountLine) → SpeaksAs x x
 itself x = record { kept = refl; name = refl; number = refl }
 
-pub with_speaks : (members : List (List ℕ)) (line : Line) → is_kept line ≡ false → SpeaksAs (with_members members line) line
+pub with_speaks : (members : List (List ℕ)) (line : AccountLine) → is_kept line ≡ false → SpeaksAs (with_members members line) line
 with_speaks members line kept = record {
   kept = kept_front line.text _ line.ended line.ended kept ∙ sym kept;
   name = ap (λ (parts : List (List ℕ)). unwrap_or (slice_get parts 0) []) (with_fields members line);
   number = ap (λ (parts : List (List ℕ)). number_in (unwrap_or (slice_get parts 2) [])) (with_fields members line);
 }
 
-by_joined : (P : Line → Type 0) (user : List ℕ) (line : Line) → P line → P (with_members (members_of line ++ user ∷ []) line) → P (joined_by user line)
+by_joined : (P : AccountLine → Type 0) (user : List ℕ) (line : AccountLine) → P line → P (with_members (members_of line ++ user ∷ []) line) → P (joined_by user line)
 by_joined P user line one two = go (list_any (λ member. is_same member user) (members_of line))
   where
     go : (t : Bool) → P (cond t line (with_members (members_of line ++ user ∷ []) line))
     go true = one
     go false = two
 
-pub joined_speaks : (user : List ℕ) (line : Line) → is_kept line ≡ false → SpeaksAs (joined_by user line) line
+pub joined_speaks : (user : List ℕ) (line : AccountLine) → is_kept line ≡ false → SpeaksAs (joined_by user line) line
 joined_speaks user line kept = by_joined (λ x. SpeaksAs x line) user line (itself line) (with_speaks (members_of line ++ user ∷ []) line kept)
 
-pub of_same : (name : List ℕ) (x y : Line) → SpeaksAs x y → is_of name x ≡ is_of name y
+pub of_same : (name : List ℕ) (x y : AccountLine) → SpeaksAs x y → is_of name x ≡ is_of name y
 of_same name x y same = (λ i. not (same.kept i) && is_same name (same.name i))
 
-other_same : (name : List ℕ) (id : ℕ) (x y : Line) → SpeaksAs x y → is_of_other name id x ≡ is_of_other name id y
+other_same : (name : List ℕ) (id : ℕ) (x y : AccountLine) → SpeaksAs x y → is_of_other name id x ≡ is_of_other name id y
 other_same name id x y same = (λ i. (not (same.kept i) && option_eq eqb (same.number i) (Some id)) && not (of_same name x y same i))
 
-pub of_kept : (name : List ℕ) (line : Line) → is_of name line ≡ true → is_kept line ≡ false
+pub of_kept : (name : List ℕ) (line : AccountLine) → is_of name line ≡ true → is_kept line ≡ false
 of_kept name line of = not_true (is_kept line) (and_parts (not (is_kept line)) (is_same name (field 0 line)) of).0
 
 -- ---- lines that speak as others do
 
-AllSpeak : List Line → List Line → Type 0
+AllSpeak : List AccountLine → List AccountLine → Type 0
 AllSpeak [] [] = Unit {0}
 AllSpeak [] (y ∷ ys) = ⊥
 AllSpeak (x ∷ xs) [] = ⊥
 AllSpeak (x ∷ xs) (y ∷ ys) = SpeaksAs x y × AllSpeak xs ys
 
-all_themselves : (xs : List Line) → AllSpeak xs xs
+all_themselves : (xs : List AccountLine) → AllSpeak xs xs
 unfolding AllSpeak
 all_themselves [] = tt
 all_themselves (x ∷ xs) = (itself x, all_themselves xs)
 
-all_through : (xs ys zs : List Line) → AllSpeak xs ys → AllSpeak ys zs → AllSpeak xs zs
+all_through : (xs ys zs : List AccountLine) → AllSpeak xs ys → AllSpeak ys zs → AllSpeak xs zs
 unfolding AllSpeak
 all_through [] [] [] a b = tt
 all_through [] [] (z ∷ zs) a b = absurd b
@@ -108,7 +108,7 @@ all_through (x ∷ xs) [] zs a b = absurd a
 all_through (x ∷ xs) (y ∷ ys) [] a b = absurd b
 all_through (x ∷ xs) (y ∷ ys) (z ∷ zs) a b = (record { kept = a.0.kept ∙ b.0.kept; name = a.0.name ∙ b.0.name; number = a.0.number ∙ b.0.number }, all_through xs ys zs a.1 b.1)
 
-first_speaks : (user group : List ℕ) (lines : List Line) → AllSpeak (at_first (is_of group) (joined_by user) lines) lines
+first_speaks : (user group : List ℕ) (lines : List AccountLine) → AllSpeak (at_first (is_of group) (joined_by user) lines) lines
 unfolding AllSpeak
 first_speaks user group [] = tt
 first_speaks user group (x ∷ lines) = go (is_of group x) refl (first_speaks user group lines)
@@ -117,12 +117,12 @@ first_speaks user group (x ∷ lines) = go (is_of group x) refl (first_speaks us
     go true e rest = (joined_speaks user x (of_kept group x e), all_themselves lines)
     go false e rest = (itself x, rest)
 
-in_speak : (user : List ℕ) (groups : List (List ℕ)) (lines : List Line) → AllSpeak (in_groups user groups lines) lines
+in_speak : (user : List ℕ) (groups : List (List ℕ)) (lines : List AccountLine) → AllSpeak (in_groups user groups lines) lines
 in_speak user [] lines = all_themselves lines
 in_speak user (group ∷ groups) lines =
     all_through (in_groups user groups (at_first (is_of group) (joined_by user) lines)) (at_first (is_of group) (joined_by user) lines) lines (in_speak user groups (at_first (is_of group) (joined_by user) lines)) (first_speaks user group lines)
 
-number_same : (name : List ℕ) (other : Option ℕ) (xs ys : List Line) → AllSpeak xs ys → number_by (line_at xs name) other ≡ number_by (line_at ys name) other
+number_same : (name : List ℕ) (other : Option ℕ) (xs ys : List AccountLine) → AllSpeak xs ys → number_by (line_at xs name) other ≡ number_by (line_at ys name) other
 unfolding AllSpeak
 number_same name other [] [] all = refl
 number_same name other [] (y ∷ ys) all = absurd all
@@ -133,7 +133,7 @@ number_same name other (x ∷ xs) (y ∷ ys) all = ap (λ (t : Bool). number_by 
     go true rest = all.0.number
     go false rest = rest
 
-taken_same : (name : List ℕ) (id : ℕ) (xs ys : List Line) → AllSpeak xs ys → is_taken xs name id ≡ is_taken ys name id
+taken_same : (name : List ℕ) (id : ℕ) (xs ys : List AccountLine) → AllSpeak xs ys → is_number_taken xs name id ≡ is_number_taken ys name id
 unfolding AllSpeak
 taken_same name id [] [] all = refl
 taken_same name id [] (y ∷ ys) all = absurd all
@@ -141,15 +141,15 @@ taken_same name id (x ∷ xs) [] all = absurd all
 taken_same name id (x ∷ xs) (y ∷ ys) all = (λ i. other_same name id x y all.0 i || taken_same name id xs ys all.1 i)
 
 -- Users that join groups change no group's number.
-pub gid_joined : (name user : List ℕ) (groups : List (List ℕ)) (lines : List Line) → gid_at (in_groups user groups lines) name ≡ gid_at lines name
+pub gid_joined : (name user : List ℕ) (groups : List (List ℕ)) (lines : List AccountLine) → gid_at (in_groups user groups lines) name ≡ gid_at lines name
 gid_joined name user groups lines = number_same name (known known_groups name) (in_groups user groups lines) lines (in_speak user groups lines)
 
-pub taken_joined : (name : List ℕ) (id : ℕ) (user : List ℕ) (groups : List (List ℕ)) (lines : List Line) → is_taken (in_groups user groups lines) name id ≡ is_taken lines name id
+pub taken_joined : (name : List ℕ) (id : ℕ) (user : List ℕ) (groups : List (List ℕ)) (lines : List AccountLine) → is_number_taken (in_groups user groups lines) name id ≡ is_number_taken lines name id
 taken_joined name id user groups lines = taken_same name id (in_groups user groups lines) lines (in_speak user groups lines)
 
 -- ---- members
 
-pub has : List ℕ → Line → Bool
+pub has : List ℕ → AccountLine → Bool
 has user line = list_any (λ member. is_same member user) (members_of line)
 
 pub some_joined : (x z : List ℕ) → is_nothing (x ++ 44 ∷ z) ≡ false
@@ -166,7 +166,7 @@ some_members (m ∷ []) user some = some_joined m user
 some_members (m ∷ n ∷ members) user some = some_joined m (join_with_byte 44 (n ∷ members ++ user ∷ []))
 
 back : (x : List ℕ) (xs : List (List ℕ)) → AllByRecursion (λ m. list_any (λ b. eqb b 44) m ≡ false) (x ∷ xs) → AllByRecursion (λ m. list_any (λ b. eqb b 58) m ≡ false) (x ∷ xs) → is_nothing (join_with_byte 44 (x ∷ xs)) ≡ false
-    → (line : Line) → members_of (with_members (x ∷ xs) line) ≡ x ∷ xs
+    → (line : AccountLine) → members_of (with_members (x ∷ xs) line) ≡ x ∷ xs
 back x xs commas colons some line =
     ap (λ (parts : List (List ℕ)). members_in (unwrap_or (slice_get parts 3) [])) (with_fields (x ∷ xs) line)
     ∙ ap (λ (parts : List (List ℕ)). members_in (unwrap_or (slice_get parts 0) [])) (cut_none 58 (join_with_byte 44 (x ∷ xs)) (joined_lack 44 58 (x ∷ xs) refl colons))
@@ -175,25 +175,25 @@ back x xs commas colons some line =
 
 -- a line with the user behind its members has just these
 members_back : (user : List ℕ) (members : List (List ℕ)) → AllByRecursion (λ m. list_any (λ b. eqb b 44) m ≡ false) (members ++ user ∷ []) → AllByRecursion (λ m. list_any (λ b. eqb b 58) m ≡ false) (members ++ user ∷ []) → is_nothing (join_with_byte 44 (members ++ user ∷ [])) ≡ false
-    → (line : Line) → members_of (with_members (members ++ user ∷ []) line) ≡ members ++ user ∷ []
+    → (line : AccountLine) → members_of (with_members (members ++ user ∷ []) line) ≡ members ++ user ∷ []
 members_back user [] commas colons some line = back user [] commas colons some line
 members_back user (m ∷ members) commas colons some line = back m (members ++ user ∷ []) commas colons some line
 
-joined_members : (user : List ℕ) (line : Line) → IsAccount user → members_of (with_members (members_of line ++ user ∷ []) line) ≡ members_of line ++ user ∷ []
+joined_members : (user : List ℕ) (line : AccountLine) → IsAccount user → members_of (with_members (members_of line ++ user ∷ []) line) ≡ members_of line ++ user ∷ []
 joined_members user line account =
     members_back user (members_of line)
     (all_append (λ m. list_any (λ b. eqb b 44) m ≡ false) (members_of line) (user ∷ []) (commas_of line) (account.single, tt))
     (all_append (λ m. list_any (λ b. eqb b 58) m ≡ false) (members_of line) (user ∷ []) (colons_of line) (account.field, tt))
     (some_members (members_of line) user account.some) line
 
-joined_test : (user name : List ℕ) (line : Line) → IsAccount user → has name (with_members (members_of line ++ user ∷ []) line) ≡ (has name line || (is_same user name || false))
+joined_test : (user name : List ℕ) (line : AccountLine) → IsAccount user → has name (with_members (members_of line ++ user ∷ []) line) ≡ (has name line || (is_same user name || false))
 unfolding has
 joined_test user name line account =
     ap (list_any (λ m. is_same m name)) (joined_members user line account)
     ∙ list_any-append (λ m. is_same m name) (members_of line) (user ∷ [])
 
 -- who joins is a member
-joined_has : (user : List ℕ) (line : Line) → IsAccount user → has user (joined_by user line) ≡ true
+joined_has : (user : List ℕ) (line : AccountLine) → IsAccount user → has user (joined_by user line) ≡ true
 unfolding has
 joined_has user line account = go (list_any (λ member. is_same member user) (members_of line)) refl
   where
@@ -202,18 +202,18 @@ joined_has user line account = go (list_any (λ member. is_same member user) (me
     go false e = joined_test user user line account ∙ ap (λ (t : Bool). has user line || (t || false)) (same_self user user refl) ∙ or_true (has user line)
 
 -- and who is a member stays one
-pub joined_keeps : (user name : List ℕ) (line : Line) → IsAccount user → has name line ≡ true → has name (joined_by user line) ≡ true
+pub joined_keeps : (user name : List ℕ) (line : AccountLine) → IsAccount user → has name line ≡ true → has name (joined_by user line) ≡ true
 joined_keeps user name line account e = by_joined (λ x. has name x ≡ true) user line e (joined_test user name line account ∙ ap (λ (t : Bool). t || (is_same user name || false)) e)
 
-pub unfold_has : (user : List ℕ) (line : Line) → has user line ≡ true → list_any (λ member. is_same member user) (members_of line) ≡ true
+pub unfold_has : (user : List ℕ) (line : AccountLine) → has user line ≡ true → list_any (λ member. is_same member user) (members_of line) ≡ true
 unfolding has
 unfold_has user line e = e
 
-pub fold_has : (user : List ℕ) (line : Line) → list_any (λ member. is_same member user) (members_of line) ≡ true → has user line ≡ true
+pub fold_has : (user : List ℕ) (line : AccountLine) → list_any (λ member. is_same member user) (members_of line) ≡ true → has user line ≡ true
 unfolding has
 fold_has user line e = e
 
-own_member : (user group : List ℕ) (lines : List Line) → IsAccount user → IsMemberOf (at_first (is_of group) (joined_by user) lines) user group
+own_member : (user group : List ℕ) (lines : List AccountLine) → IsAccount user → IsMemberOf (at_first (is_of group) (joined_by user) lines) user group
 own_member user group [] account = tt
 own_member user group (x ∷ lines) account = go (is_of group x) refl (own_member user group lines account)
   where
@@ -224,11 +224,11 @@ own_member user group (x ∷ lines) account = go (is_of group x) refl (own_membe
     go false e rest =
         subst (λ (t : Bool). IfSome (cond t (Some x) (line_at (at_first (is_of group) (joined_by user) lines) group)) (λ line. list_any (λ member. is_same member user) (members_of line) ≡ true)) (sym e) rest
 
-keeps_member : (name group user other : List ℕ) (lines : List Line) → IsAccount other → IsMemberOf lines user name → IsMemberOf (at_first (is_of group) (joined_by other) lines) user name
+keeps_member : (name group user other : List ℕ) (lines : List AccountLine) → IsAccount other → IsMemberOf lines user name → IsMemberOf (at_first (is_of group) (joined_by other) lines) user name
 keeps_member name group user other [] account is = tt
 keeps_member name group user other (x ∷ lines) account is = go (is_of group x) refl (is_of name x) refl is (keeps_member name group user other lines account)
   where
-    Has : Line → Type 0
+    Has : AccountLine → Type 0
     Has line = list_any (λ member. is_same member user) (members_of line) ≡ true
 
     go : (t : Bool) → is_of group x ≡ t → (s : Bool) → is_of name x ≡ s → IfSome (cond s (Some x) (line_at lines name)) (λ line. list_any (λ member. is_same member user) (members_of line) ≡ true) → (IsMemberOf lines user name → IsMemberOf (at_first (is_of group) (joined_by other) lines) user name)
@@ -244,16 +244,16 @@ keeps_member name group user other (x ∷ lines) account is = go (is_of group x)
         subst (λ (t : Bool). IfSome (cond t (Some x) (line_at (at_first (is_of group) (joined_by other) lines) name)) (λ line. list_any (λ member. is_same member user) (members_of line) ≡ true)) (sym f) (more has_it)
 
 -- A member stays one as others join groups.
-pub member_stays : (name user other : List ℕ) (groups : List (List ℕ)) (lines : List Line) → IsAccount other → IsMemberOf lines user name → IsMemberOf (in_groups other groups lines) user name
+pub member_stays : (name user other : List ℕ) (groups : List (List ℕ)) (lines : List AccountLine) → IsAccount other → IsMemberOf lines user name → IsMemberOf (in_groups other groups lines) user name
 member_stays name user other [] lines account is = is
 member_stays name user other (group ∷ groups) lines account is = member_stays name user other groups (at_first (is_of group) (joined_by other) lines) account (keeps_member name group user other lines account is)
 
 -- Who joins groups is a member of each.
-pub members_of_all : (user : List ℕ) (groups : List (List ℕ)) (lines : List Line) → IsAccount user → AllByRecursion (IsMemberOf (in_groups user groups lines) user) groups
+pub members_of_all : (user : List ℕ) (groups : List (List ℕ)) (lines : List AccountLine) → IsAccount user → AllByRecursion (IsMemberOf (in_groups user groups lines) user) groups
 members_of_all user [] lines account = tt
 members_of_all user (group ∷ groups) lines account =
     (member_stays group user user groups (at_first (is_of group) (joined_by user) lines) account (own_member user group lines account), members_of_all user groups (at_first (is_of group) (joined_by user) lines) account)
 
-pub all_members_stay : (user other : List ℕ) (joining groups : List (List ℕ)) (lines : List Line) → IsAccount other → AllByRecursion (IsMemberOf lines user) groups → AllByRecursion (IsMemberOf (in_groups other joining lines) user) groups
+pub all_members_stay : (user other : List ℕ) (joining groups : List (List ℕ)) (lines : List AccountLine) → IsAccount other → AllByRecursion (IsMemberOf lines user) groups → AllByRecursion (IsMemberOf (in_groups other joining lines) user) groups
 all_members_stay user other joining [] lines account all = tt
 all_members_stay user other joining (group ∷ groups) lines account all = (member_stays group user other joining lines account all.0, all_members_stay user other joining groups lines account all.1)

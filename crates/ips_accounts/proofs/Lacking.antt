@@ -14,19 +14,19 @@ use Rattle.ips_conflict.specs.Key.{value_of}
 use Rattle.ips_action.specs.Check.{IsField}
 use Rattle.ips_books.specs.declared.fault.AccountFault.{AccountFault}
 use Rattle.ips_books.specs.declared.fault.AccountFault.TheVariants.{UnknownGroup}
-use Rattle.ips_books.specs.Lines.{Line, last_ended}
-use Rattle.ips_books.specs.Accounts.{is_kept, is_of, field, joined, line_at, Accounts}
+use Rattle.ips_books.specs.Lines.{AccountLine, last_ended}
+use Rattle.ips_books.specs.Accounts.{is_kept, is_of, field, fields_text, line_at, Accounts}
 use Rattle.ips_accounts.specs.Laws.{is_gone_user}
-use Rattle.ips_books.specs.Writing.{at_first, rewritten, added, put}
+use Rattle.ips_books.specs.Writing.{at_first, rewritten, added, with_line}
 use Rattle.ips_turnover.proofs.Sorting.{all_placed}
-use Rattle.ips_turnover.specs.Turnover.{placed, ordered, ordered_with, without, user_name, group_name, number_given, users_in, name_cmp, is_fresh, fresh_groups, fresh_users, after_gone, is_named_in}
+use Rattle.ips_turnover.specs.Turnover.{by_place, ordered, ordered_with, without, user_name, group_name, number_given, users_in, name_cmp, is_fresh, fresh_groups, fresh_users, after_gone, is_named_in}
 use Rattle.ips_accounts.specs.Editing.{with_group, with_user, with_shadow, in_groups, number_for, gid_of, passwd_text, shadow_text, edited_books, standing_members, if_known, each}
 
 -- ---- lists of actions
 
 all_ordered_with : (P : Fields → Type 0) (cmp : Fields → Fields → Ordering) (actions sorted : List Fields) → AllByRecursion P actions → AllByRecursion P sorted → AllByRecursion P (ordered_with cmp actions sorted)
 all_ordered_with P cmp [] sorted all done = done
-all_ordered_with P cmp (a ∷ actions) sorted all done = all_ordered_with P cmp actions (placed cmp a sorted) all.1 (all_placed P cmp a sorted all.0 done)
+all_ordered_with P cmp (a ∷ actions) sorted all done = all_ordered_with P cmp actions (by_place cmp a sorted) all.1 (all_placed P cmp a sorted all.0 done)
 
 pub all_ordered : (P : Fields → Type 0) (cmp : Fields → Fields → Ordering) (actions : List Fields) → AllByRecursion P actions → AllByRecursion P (ordered cmp actions)
 all_ordered P cmp actions all = all_ordered_with P cmp actions [] all tt
@@ -53,10 +53,10 @@ name_others name (a ∷ actions) e all =
 -- ---- lines
 
 -- No line speaks of the name.
-abbrev pub Lacks : List ℕ → List Line → Type 0
+abbrev pub Lacks : List ℕ → List AccountLine → Type 0
 Lacks name lines = AllByRecursion (λ line. is_of name line ≡ false) lines
 
-pub none_at : (name : List ℕ) (lines : List Line) → Lacks name lines → line_at lines name ≡ None
+pub none_at : (name : List ℕ) (lines : List AccountLine) → Lacks name lines → line_at lines name ≡ None
 none_at name [] lacks = refl
 none_at name (line ∷ lines) lacks = ap (λ (t : Bool). cond t (Some line) (find (is_of name) lines)) lacks.0 ∙ none_at name lines lacks.1
 
@@ -77,27 +77,27 @@ pub and_false : (b : Bool) → (b && false) ≡ false
 and_false true = refl
 and_false false = refl
 
-pub not_of : (name : List ℕ) (line : Line) (first : List ℕ) → field 0 line ≡ first → is_same name first ≡ false → is_of name line ≡ false
+pub not_of : (name : List ℕ) (line : AccountLine) (first : List ℕ) → field 0 line ≡ first → is_same name first ≡ false → is_of name line ≡ false
 not_of name line first e apart =
     ap (λ (f : List ℕ). not (is_kept line) && is_same name f) e
     ∙ ap (λ (t : Bool). not (is_kept line) && t) apart
     ∙ and_false (not (is_kept line))
 
 -- a line that speaks of a name speaks of no other
-pub apart_line : (name other : List ℕ) (line : Line) → is_same name other ≡ false → is_of other line ≡ true → is_of name line ≡ false
+pub apart_line : (name other : List ℕ) (line : AccountLine) → is_same name other ≡ false → is_of other line ≡ true → is_of name line ≡ false
 apart_line name other line apart of =
     let parts = and_parts (not (is_kept line)) (is_same other (field 0 line)) of in
     not_of name line other (sym (same_true other (field 0 line) parts.1)) apart
 
-lacks_ended : (name : List ℕ) (lines : List Line) → Lacks name lines → Lacks name (last_ended lines)
+lacks_ended : (name : List ℕ) (lines : List AccountLine) → Lacks name lines → Lacks name (last_ended lines)
 lacks_ended name [] lacks = tt
 lacks_ended name (line ∷ []) lacks = (lacks.0, tt)
 lacks_ended name (line ∷ next ∷ lines) lacks = (lacks.0, lacks_ended name (next ∷ lines) lacks.1)
 
-lacks_added : (name text : List ℕ) (lines : List Line) → is_of name (record { text = text; ended = true }) ≡ false → Lacks name lines → Lacks name (added text lines)
+lacks_added : (name text : List ℕ) (lines : List AccountLine) → is_of name (record { text = text; ended = true }) ≡ false → Lacks name lines → Lacks name (added text lines)
 lacks_added name text lines new lacks = all_append (λ line. is_of name line ≡ false) (last_ended lines) (record { text = text; ended = true } ∷ []) (lacks_ended name lines lacks) (new, tt)
 
-lacks_first : (name text : List ℕ) (test : Line → Bool) (lines : List Line) → ((e : Bool) → is_of name (record { text = text; ended = e }) ≡ false) → Lacks name lines → Lacks name (at_first test (rewritten text) lines)
+lacks_first : (name text : List ℕ) (test : AccountLine → Bool) (lines : List AccountLine) → ((e : Bool) → is_of name (record { text = text; ended = e }) ≡ false) → Lacks name lines → Lacks name (at_first test (rewritten text) lines)
 lacks_first name text test [] new lacks = tt
 lacks_first name text test (line ∷ lines) new lacks = go (test line) (lacks_first name text test lines new lacks.1)
   where
@@ -105,7 +105,7 @@ lacks_first name text test (line ∷ lines) new lacks = go (test line) (lacks_fi
     go true rest = (new line.ended, lacks.1)
     go false rest = (lacks.0, rest)
 
-pub lacks_put : (name other text : List ℕ) (lines : List Line) → ((e : Bool) → is_of name (record { text = text; ended = e }) ≡ false) → Lacks name lines → Lacks name (put other text lines)
+pub lacks_put : (name other text : List ℕ) (lines : List AccountLine) → ((e : Bool) → is_of name (record { text = text; ended = e }) ≡ false) → Lacks name lines → Lacks name (with_line other text lines)
 lacks_put name other text lines new lacks = go (list_any (is_of other) lines)
   where
     go : (t : Bool) → Lacks name (cond t (at_first (is_of other) (rewritten text) lines) (added text lines))
@@ -113,7 +113,7 @@ lacks_put name other text lines new lacks = go (list_any (is_of other) lines)
     go false = lacks_added name text lines (new true) lacks
 
 -- Lines of a gone name go.
-pub lacks_without : (gone : List ℕ → Bool) (name : List ℕ) (lines : List Line) → gone name ≡ true → Lacks name (without gone lines)
+pub lacks_without : (gone : List ℕ → Bool) (name : List ℕ) (lines : List AccountLine) → gone name ≡ true → Lacks name (without gone lines)
 lacks_without gone name [] e = tt
 lacks_without gone name (line ∷ lines) e = go (is_kept line) (gone (field 0 line)) (is_same name (field 0 line)) refl refl refl (lacks_without gone name lines e)
   where
@@ -136,11 +136,11 @@ ok_value x y e = cc
 pub err_no : (f : AccountFault) (y : Accounts) → ◌≡◌ {A = Result Accounts AccountFault} (Err f) (Ok y) → ⊥
 err_no f y e = true≢false (ap is_err e)
 
-lacks_user : (name : List ℕ) (a : Fields) (uid gid : ℕ) (lines : List Line) → NamesOther name a → Lacks name lines → Lacks name (put (user_name a) (passwd_text a uid gid) lines)
+lacks_user : (name : List ℕ) (a : Fields) (uid gid : ℕ) (lines : List AccountLine) → NamesOther name a → Lacks name lines → Lacks name (with_line (user_name a) (passwd_text a uid gid) lines)
 lacks_user name a uid gid lines other lacks = lacks_put name (user_name a) (passwd_text a uid gid) lines (λ e.
     not_of name (record { text = passwd_text a uid gid; ended = e }) (user_name a) (written_name (user_name a) (passwd_text a uid gid) _ e other.plain refl) other.apart) lacks
 
-lacks_shadow : (name : List ℕ) (a : Fields) (lines : List Line) → NamesOther name a → Lacks name lines → Lacks name (with_shadow a lines)
+lacks_shadow : (name : List ℕ) (a : Fields) (lines : List AccountLine) → NamesOther name a → Lacks name lines → Lacks name (with_shadow a lines)
 lacks_shadow name a lines other lacks = go (list_any (is_of (user_name a)) lines) (not_of name (record { text = shadow_text a; ended = true }) (user_name a) (written_name (user_name a) (shadow_text a) _ true other.plain refl) other.apart)
   where
     go : (t : Bool) → is_of name (record { text = shadow_text a; ended = true }) ≡ false → Lacks name (cond t lines (added (shadow_text a) lines))
@@ -154,12 +154,12 @@ users_lack name (a ∷ users) books after others lack e = go (number_for books.p
   where
     go : (r : Result ℕ AccountFault) → ((b : Accounts) → BothLack name b → each with_user users b ≡ Ok after → BothLack name after)
         → ((r >>= λ uid. Ok (record {
-          passwd = put (user_name a) (passwd_text a uid (unwrap_or (gid_of books.group a) 0)) books.passwd;
+          passwd = with_line (user_name a) (passwd_text a uid (unwrap_or (gid_of books.group a) 0)) books.passwd;
           shadow = with_shadow a books.shadow;
           group = in_groups (user_name a) (values_of (codes "group-list") a.attrs) books.group;
         })) >>= each with_user users) ≡ Ok after → BothLack name after
     go (Ok uid) later e = later (record {
-      passwd = put (user_name a) (passwd_text a uid (unwrap_or (gid_of books.group a) 0)) books.passwd;
+      passwd = with_line (user_name a) (passwd_text a uid (unwrap_or (gid_of books.group a) 0)) books.passwd;
       shadow = with_shadow a books.shadow;
       group = in_groups (user_name a) (values_of (codes "group-list") a.attrs) books.group;
     }) (record { passwd = lacks_user name a uid (unwrap_or (gid_of books.group a) 0) books.passwd others.0 lack.passwd; shadow = lacks_shadow name a books.shadow others.0 lack.shadow }) e
@@ -171,8 +171,8 @@ groups_lack name [] books after lack e = subst (BothLack name) (ok_value books a
 groups_lack name (a ∷ groups) books after lack e = go (number_for books.group (group_name a) (number_given (codes "gid") a)) (λ next. groups_lack name groups next after) e
   where
     go : (r : Result ℕ AccountFault) → ((b : Accounts) → BothLack name b → each with_group groups b ≡ Ok after → BothLack name after)
-        → ((r >>= λ gid. Ok (record { passwd = books.passwd; shadow = books.shadow; group = put (group_name a) (joined (group_name a ∷ [] ∷ decimal gid ∷ standing_members books.group (group_name a) ∷ [])) books.group })) >>= each with_group groups) ≡ Ok after → BothLack name after
-    go (Ok gid) later e = later (record { passwd = books.passwd; shadow = books.shadow; group = put (group_name a) (joined (group_name a ∷ [] ∷ decimal gid ∷ standing_members books.group (group_name a) ∷ [])) books.group }) (record { passwd = lack.passwd; shadow = lack.shadow }) e
+        → ((r >>= λ gid. Ok (record { passwd = books.passwd; shadow = books.shadow; group = with_line (group_name a) (fields_text (group_name a ∷ [] ∷ decimal gid ∷ standing_members books.group (group_name a) ∷ [])) books.group })) >>= each with_group groups) ≡ Ok after → BothLack name after
+    go (Ok gid) later e = later (record { passwd = books.passwd; shadow = books.shadow; group = with_line (group_name a) (fields_text (group_name a ∷ [] ∷ decimal gid ∷ standing_members books.group (group_name a) ∷ [])) books.group }) (record { passwd = lack.passwd; shadow = lack.shadow }) e
     go (Err f) later e = absurd (err_no f after e)
 
 known_lack : (name : List ℕ) (users : List Fields) (books after : Accounts) → BothLack name books → if_known users books ≡ Ok after → BothLack name after

@@ -14,9 +14,9 @@ use Rattle.ips_action.specs.Action.{Fields}
 use Rattle.ips_conflict.specs.Key.{first_value}
 use Rattle.ips_books.specs.declared.fault.AccountFault.{AccountFault}
 use Rattle.ips_books.specs.declared.fault.AccountFault.TheVariants.{IdTaken}
-use Rattle.ips_books.specs.Lines.{Line}
+use Rattle.ips_books.specs.Lines.{AccountLine}
 use Rattle.ips_books.specs.Accounts.{field, number_in, number_of, line_at}
-use Rattle.ips_books.specs.Writing.{is_taken}
+use Rattle.ips_books.specs.Writing.{is_number_taken}
 use Rattle.ips_turnover.specs.Turnover.{number_given}
 use Rattle.ips_accounts.specs.Editing.{free_number, standing_number, wanted_number, number_for}
 
@@ -57,11 +57,11 @@ unfolding IfLow
 or_zero None h = omega arith
 or_zero (Some n) h = h
 
-standing_low : (lines : List Line) (name : List ℕ) → IfLow (standing_number lines name)
+standing_low : (lines : List AccountLine) (name : List ℕ) → IfLow (standing_number lines name)
 unfolding IfLow
 standing_low lines name = go (line_at lines name)
   where
-    go : (o : Option Line) → IfLow (option_map (λ line. unwrap_or (number_of line) 0) o)
+    go : (o : Option AccountLine) → IfLow (option_map (λ line. unwrap_or (number_of line) 0) o)
     go None = tt
     go (Some line) = or_zero (number_of line) (in_low (field 2 line))
 
@@ -74,8 +74,8 @@ wanted_low free None None lt hi hs = lt
 wanted_low free None (Some n) lt hi hs = hs
 wanted_low free (Some n) standing lt hi hs = hi
 
-pub for_low : (lines : List Line) (name : List ℕ) (id : Option ℕ) (n : ℕ) → IfLow id → number_for lines name id ≡ Ok n → n < 2 ^ 32
-for_low lines name id n low e = go (is_taken lines name (wanted_number lines name id)) e
+pub for_low : (lines : List AccountLine) (name : List ℕ) (id : Option ℕ) (n : ℕ) → IfLow id → number_for lines name id ≡ Ok n → n < 2 ^ 32
+for_low lines name id n low e = go (is_number_taken lines name (wanted_number lines name id)) e
   where
     go : (t : Bool) → (let r : Result ℕ AccountFault = cond t (Err (IdTaken (wanted_number lines name id))) (Ok (wanted_number lines name id)) in r ≡ Ok n) → n < 2 ^ 32
     go true h = absurd cc

@@ -22,9 +22,9 @@ use Rattle.ips_action.proofs.KeyOrder.{same_true, same_self}
 use Rattle.ips_conflict.specs.Key.{first_value}
 use Rattle.ips_books.specs.declared.fault.AccountFault.{AccountFault}
 use Rattle.ips_books.specs.declared.fault.AccountFault.TheVariants.{IdTaken}
-use Rattle.ips_books.specs.Lines.{Line, last_ended}
-use Rattle.ips_books.specs.Accounts.{is_kept, is_of, field, fields, joined, number_in, number_of, line_at, members_in, members_of, Accounts}
-use Rattle.ips_books.specs.Writing.{at_first, rewritten, added, put, with_members, is_taken}
+use Rattle.ips_books.specs.Lines.{AccountLine, last_ended}
+use Rattle.ips_books.specs.Accounts.{is_kept, is_of, field, fields, fields_text, number_in, number_of, line_at, members_in, members_of, Accounts}
+use Rattle.ips_books.specs.Writing.{at_first, rewritten, added, with_line, with_members, is_number_taken}
 use Rattle.ips_turnover.specs.Turnover.{stays, left_by, user_name, group_name, users_in, groups_in, name_cmp, is_fresh, is_named_in, fresh_groups, fresh_users, after_gone, number_given}
 use Rattle.ips_accounts.specs.Editing.{joined_by, in_groups, edited_books, number_for, free_number, free_from, wanted_number, group_text, standing_members, with_group, with_user, each, if_known}
 use Rattle.ips_accounts.specs.Laws.{is_gone_user, is_gone_group, is_member}
@@ -94,7 +94,7 @@ nth_lacks mark [] i all = refl
 nth_lacks mark (p ∷ parts) zero all = all.0
 nth_lacks mark (p ∷ parts) (suc i) all = nth_lacks mark parts i all.1
 
-field_lacks : (i : ℕ) (line : Line) → Lacks 58 (field i line)
+field_lacks : (i : ℕ) (line : AccountLine) → Lacks 58 (field i line)
 field_lacks i line = nth_lacks 58 (fields line) i (pieces_lack 58 line.text)
 
 members_lack : (mark : ℕ) (bytes : List ℕ) → AllByRecursion (Lacks mark) (pieces 44 bytes) → AllByRecursion (Lacks mark) (members_in bytes)
@@ -118,23 +118,23 @@ has_back name (m ∷ members) all e = go (is_nothing (join_with_byte 44 (m ∷ m
     go false = ap (has name) (pieces_back 44 m members all) ∙ e
 
 -- The line doesn't have the name among its members.
-abbrev IsWithout : List ℕ → Line → Type 0
+abbrev IsWithout : List ℕ → AccountLine → Type 0
 IsWithout name line = (not (is_kept line) && has name (members_of line)) ≡ false
 
-of_four : (name a b c d : List ℕ) (e : Bool) → Lacks 58 a → Lacks 58 b → Lacks 58 c → Lacks 58 d → has name (members_in d) ≡ false → IsWithout name (record { text = joined (a ∷ b ∷ c ∷ d ∷ []); ended = e })
+of_four : (name a b c d : List ℕ) (e : Bool) → Lacks 58 a → Lacks 58 b → Lacks 58 c → Lacks 58 d → has name (members_in d) ≡ false → IsWithout name (record { text = fields_text (a ∷ b ∷ c ∷ d ∷ []); ended = e })
 of_four name a b c d e pa pb pc pd out =
-    let line : Line = record { text = joined (a ∷ b ∷ c ∷ d ∷ []); ended = e } in
+    let line : AccountLine = record { text = fields_text (a ∷ b ∷ c ∷ d ∷ []); ended = e } in
     let last : field 3 line ≡ d = ap (λ (parts : List (List ℕ)). unwrap_or (slice_get parts 3) []) (pieces_back 58 a (b ∷ c ∷ d ∷ []) (pa, (pb, (pc, (pd, tt))))) in
     ap (λ (t : Bool). not (is_kept line) && t) (ap (λ (l : List ℕ). has name (members_in l)) last ∙ out) ∙ and_false (not (is_kept line))
 
-with_out : (name : List ℕ) (members : List (List ℕ)) (line : Line) → AllByRecursion (Lacks 44) members → AllByRecursion (Lacks 58) members → has name members ≡ false → IsWithout name (with_members members line)
+with_out : (name : List ℕ) (members : List (List ℕ)) (line : AccountLine) → AllByRecursion (Lacks 44) members → AllByRecursion (Lacks 58) members → has name members ≡ false → IsWithout name (with_members members line)
 with_out name members line commas colons out =
     of_four name (field 0 line) (field 1 line) (field 2 line) (join_with_byte 44 members) line.ended (field_lacks 0 line) (field_lacks 1 line) (field_lacks 2 line) (joined_lack 44 58 members refl colons) (has_back name members commas out)
 
-pub commas_of : (line : Line) → AllByRecursion (Lacks 44) (members_of line)
+pub commas_of : (line : AccountLine) → AllByRecursion (Lacks 44) (members_of line)
 commas_of line = members_lack 44 (field 3 line) (pieces_lack 44 (field 3 line))
 
-pub colons_of : (line : Line) → AllByRecursion (Lacks 58) (members_of line)
+pub colons_of : (line : AccountLine) → AllByRecursion (Lacks 58) (members_of line)
 colons_of line = members_lack 58 (field 3 line) (pieces_keep 44 58 (field 3 line) (field_lacks 3 line))
 
 -- ---- gone names leave
@@ -160,7 +160,7 @@ none_left gone name (m ∷ members) g = go (gone m) refl (none_left gone name me
     go true e rest = rest
     go false e rest = ap (λ (t : Bool). t || has name (filter (λ m. not (gone m)) members)) (no_same gone name m g e) ∙ rest
 
-left_without : (gone : List ℕ → Bool) (name : List ℕ) (line : Line) → gone name ≡ true → IsWithout name (left_by gone line)
+left_without : (gone : List ℕ → Bool) (name : List ℕ) (line : AccountLine) → gone name ≡ true → IsWithout name (left_by gone line)
 left_without gone name line g = go (is_kept line) (list_any gone (members_of line)) refl refl
   where
     go : (k a : Bool) → is_kept line ≡ k → list_any gone (members_of line) ≡ a → IsWithout name (cond (not k && a) (with_members (filter (λ m. not (gone m)) (members_of line)) line) line)
@@ -168,7 +168,7 @@ left_without gone name line g = go (is_kept line) (list_any gone (members_of lin
     go false true ke ae = with_out name (filter (λ m. not (gone m)) (members_of line)) line (all_filtered (Lacks 44) (λ m. not (gone m)) (members_of line) (commas_of line)) (all_filtered (Lacks 58) (λ m. not (gone m)) (members_of line) (colons_of line)) (none_left gone name (members_of line) g)
     go false false ke ae = ap (λ (t : Bool). not (is_kept line) && t) (none_gone gone name (members_of line) g ae) ∙ and_false (not (is_kept line))
 
-all_left : (gone : List ℕ → Bool) (name : List ℕ) (lines : List Line) → gone name ≡ true → AllByRecursion (IsWithout name) (map (left_by gone) lines)
+all_left : (gone : List ℕ → Bool) (name : List ℕ) (lines : List AccountLine) → gone name ≡ true → AllByRecursion (IsWithout name) (map (left_by gone) lines)
 all_left gone name [] g = tt
 all_left gone name (line ∷ lines) g = (left_without gone name line g, all_left gone name lines g)
 
@@ -195,7 +195,7 @@ or_zero_fits : (o : Option ℕ) → ((n : ℕ) → o ≡ Some n → n < 2 ^ 64) 
 or_zero_fits None f = omega arith
 or_zero_fits (Some n) f = f n refl
 
-standing_fits : (o : Option Line) (free : ℕ) → free < 2 ^ 64 → unwrap_or (option_map (λ line. unwrap_or (number_of line) 0) o) free < 2 ^ 64
+standing_fits : (o : Option AccountLine) (free : ℕ) → free < 2 ^ 64 → unwrap_or (option_map (λ line. unwrap_or (number_of line) 0) o) free < 2 ^ 64
 standing_fits None free h = h
 standing_fits (Some line) free h = or_zero_fits (number_of line) (number_fits (field 2 line))
 
@@ -203,7 +203,7 @@ given_fits : (o : Option (List ℕ)) (n : ℕ) → option_and_then number_in o �
 given_fits None n e = absurd (cc)
 given_fits (Some bytes) n e = number_fits bytes n e
 
-wanted_fits : (lines : List Line) (name : List ℕ) (id : Option ℕ) → ((n : ℕ) → id ≡ Some n → n < 2 ^ 64) → wanted_number lines name id < 2 ^ 64
+wanted_fits : (lines : List AccountLine) (name : List ℕ) (id : Option ℕ) → ((n : ℕ) → id ≡ Some n → n < 2 ^ 64) → wanted_number lines name id < 2 ^ 64
 wanted_fits lines name None f = standing_fits (line_at lines name) (free_number lines) (least (free_from lines 1 _))
   where
     least : (n : ℕ) → min n (2 ^ 32 - 1) < 2 ^ 64
@@ -214,13 +214,13 @@ number_is : (t : Bool) (wanted n : ℕ) (fault : AccountFault) → (let r : Resu
 number_is true wanted n fault e = absurd (cc)
 number_is false wanted n fault e = cc
 
-numbered_fits : (lines : List Line) (name : List ℕ) (id : Option ℕ) (n : ℕ) → ((n : ℕ) → id ≡ Some n → n < 2 ^ 64) → number_for lines name id ≡ Ok n → n < 2 ^ 64
+numbered_fits : (lines : List AccountLine) (name : List ℕ) (id : Option ℕ) (n : ℕ) → ((n : ℕ) → id ≡ Some n → n < 2 ^ 64) → number_for lines name id ≡ Ok n → n < 2 ^ 64
 numbered_fits lines name id n f e =
-    let same = number_is (is_taken lines name (wanted_number lines name id)) (wanted_number lines name id) n (IdTaken (wanted_number lines name id)) e in
+    let same = number_is (is_number_taken lines name (wanted_number lines name id)) (wanted_number lines name id) n (IdTaken (wanted_number lines name id)) e in
     subst (λ (k : ℕ). k < 2 ^ 64) same (wanted_fits lines name id f)
 
 -- the members that stand are those of a line
-pub standing_lack : (group : List ℕ) (lines : List Line) → Lacks 58 (standing_members lines group)
+pub standing_lack : (group : List ℕ) (lines : List AccountLine) → Lacks 58 (standing_members lines group)
 standing_lack group [] = refl
 standing_lack group (line ∷ lines) = go (is_of group line) (standing_lack group lines)
   where
@@ -228,7 +228,7 @@ standing_lack group (line ∷ lines) = go (is_of group line) (standing_lack grou
     go true rest = field_lacks 3 line
     go false rest = rest
 
-standing_without : (name group : List ℕ) (lines : List Line) → AllByRecursion (IsWithout name) lines → has name (members_in (standing_members lines group)) ≡ false
+standing_without : (name group : List ℕ) (lines : List AccountLine) → AllByRecursion (IsWithout name) lines → has name (members_in (standing_members lines group)) ≡ false
 standing_without name group [] all = refl
 standing_without name group (line ∷ lines) all = go (is_of group line) refl (standing_without name group lines all.1)
   where
@@ -236,7 +236,7 @@ standing_without name group (line ∷ lines) all = go (is_of group line) refl (s
     go true e rest = apart_of (is_kept line) (has name (members_of line)) (not_true (is_kept line) (and_parts (not (is_kept line)) (is_same group (field 0 line)) e).0) all.0
     go false e rest = rest
 
-first_without : (name text : List ℕ) (test : Line → Bool) (lines : List Line) → ((e : Bool) → IsWithout name (record { text = text; ended = e })) → AllByRecursion (IsWithout name) lines → AllByRecursion (IsWithout name) (at_first test (rewritten text) lines)
+first_without : (name text : List ℕ) (test : AccountLine → Bool) (lines : List AccountLine) → ((e : Bool) → IsWithout name (record { text = text; ended = e })) → AllByRecursion (IsWithout name) lines → AllByRecursion (IsWithout name) (at_first test (rewritten text) lines)
 first_without name text test [] new all = tt
 first_without name text test (line ∷ lines) new all = go (test line) (first_without name text test lines new all.1)
   where
@@ -244,12 +244,12 @@ first_without name text test (line ∷ lines) new all = go (test line) (first_wi
     go true rest = (new line.ended, all.1)
     go false rest = (all.0, rest)
 
-ended_without : (name : List ℕ) (lines : List Line) → AllByRecursion (IsWithout name) lines → AllByRecursion (IsWithout name) (last_ended lines)
+ended_without : (name : List ℕ) (lines : List AccountLine) → AllByRecursion (IsWithout name) lines → AllByRecursion (IsWithout name) (last_ended lines)
 ended_without name [] all = tt
 ended_without name (line ∷ []) all = (all.0, tt)
 ended_without name (line ∷ next ∷ lines) all = (all.0, ended_without name (next ∷ lines) all.1)
 
-put_without : (name group text : List ℕ) (lines : List Line) → ((e : Bool) → IsWithout name (record { text = text; ended = e })) → AllByRecursion (IsWithout name) lines → AllByRecursion (IsWithout name) (put group text lines)
+put_without : (name group text : List ℕ) (lines : List AccountLine) → ((e : Bool) → IsWithout name (record { text = text; ended = e })) → AllByRecursion (IsWithout name) lines → AllByRecursion (IsWithout name) (with_line group text lines)
 put_without name group text lines new all = go (list_any (is_of group) lines)
   where
     go : (t : Bool) → AllByRecursion (IsWithout name) (cond t (at_first (is_of group) (rewritten text) lines) (added text lines))
@@ -259,9 +259,9 @@ put_without name group text lines new all = go (list_any (is_of group) lines)
 group_without : (name : List ℕ) (a : Fields) (b c : Accounts) → IsField (group_name a) → AllByRecursion (IsWithout name) b.group → with_group a b ≡ Ok c → AllByRecursion (IsWithout name) c.group
 group_without name a b c plain all e = go (number_for b.group (group_name a) (number_given (codes "gid") a)) (λ n. numbered_fits b.group (group_name a) (number_given (codes "gid") a) n (given_fits (first_value (codes "gid") a))) e
   where
-    go : (r : Result ℕ AccountFault) → ((n : ℕ) → r ≡ Ok n → n < 2 ^ 64) → (r >>= λ gid. Ok (record { passwd = b.passwd; shadow = b.shadow; group = put (group_name a) (group_text (group_name a) gid (standing_members b.group (group_name a))) b.group })) ≡ Ok c → AllByRecursion (IsWithout name) c.group
+    go : (r : Result ℕ AccountFault) → ((n : ℕ) → r ≡ Ok n → n < 2 ^ 64) → (r >>= λ gid. Ok (record { passwd = b.passwd; shadow = b.shadow; group = with_line (group_name a) (group_text (group_name a) gid (standing_members b.group (group_name a))) b.group })) ≡ Ok c → AllByRecursion (IsWithout name) c.group
     go (Ok gid) fits e =
-        let same = ok_value (record { passwd = b.passwd; shadow = b.shadow; group = put (group_name a) (group_text (group_name a) gid (standing_members b.group (group_name a))) b.group }) c e in
+        let same = ok_value (record { passwd = b.passwd; shadow = b.shadow; group = with_line (group_name a) (group_text (group_name a) gid (standing_members b.group (group_name a))) b.group }) c e in
         subst (λ (x : Accounts). AllByRecursion (IsWithout name) x.group) same (put_without name (group_name a) (group_text (group_name a) gid (standing_members b.group (group_name a))) b.group
         (λ t. of_four name (group_name a) [] (decimal gid) (standing_members b.group (group_name a)) t plain refl (decimal_lacks gid (fits gid refl)) (standing_lack (group_name a) b.group) (standing_without name (group_name a) b.group all)) all)
     go (Err f) fits e = absurd (err_no f c e)
@@ -286,7 +286,7 @@ all_join name (a ∷ users) e all =
     let parts = or_parts (is_same name (user_name a)) (is_named_in user_name users name) e in
     (record { apart = parts.0; account = all.0 }, all_join name users parts.1 all.1)
 
-joined_without : (name user : List ℕ) (line : Line) → is_same name user ≡ false → IsAccount user → is_kept line ≡ false → IsWithout name line → IsWithout name (joined_by user line)
+joined_without : (name user : List ℕ) (line : AccountLine) → is_same name user ≡ false → IsAccount user → is_kept line ≡ false → IsWithout name line → IsWithout name (joined_by user line)
 joined_without name user line apart account kept out = go (list_any (λ member. is_same member user) (members_of line)) joined
   where
     absent : has name (members_of line) ≡ false
@@ -303,7 +303,7 @@ joined_without name user line apart account kept out = go (list_any (λ member. 
     go true e = out
     go false e = e
 
-at_without : (name user group : List ℕ) (lines : List Line) → is_same name user ≡ false → IsAccount user → AllByRecursion (IsWithout name) lines → AllByRecursion (IsWithout name) (at_first (is_of group) (joined_by user) lines)
+at_without : (name user group : List ℕ) (lines : List AccountLine) → is_same name user ≡ false → IsAccount user → AllByRecursion (IsWithout name) lines → AllByRecursion (IsWithout name) (at_first (is_of group) (joined_by user) lines)
 at_without name user group [] apart account all = tt
 at_without name user group (line ∷ lines) apart account all = go (is_of group line) refl (at_without name user group lines apart account all.1)
   where
@@ -311,11 +311,11 @@ at_without name user group (line ∷ lines) apart account all = go (is_of group 
     go true e rest = (joined_without name user line apart account (not_true (is_kept line) (and_parts (not (is_kept line)) (is_same group (field 0 line)) e).0) all.0, all.1)
     go false e rest = (all.0, rest)
 
-in_without : (name user : List ℕ) (groups : List (List ℕ)) (lines : List Line) → is_same name user ≡ false → IsAccount user → AllByRecursion (IsWithout name) lines → AllByRecursion (IsWithout name) (in_groups user groups lines)
+in_without : (name user : List ℕ) (groups : List (List ℕ)) (lines : List AccountLine) → is_same name user ≡ false → IsAccount user → AllByRecursion (IsWithout name) lines → AllByRecursion (IsWithout name) (in_groups user groups lines)
 in_without name user [] lines apart account all = all
 in_without name user (group ∷ groups) lines apart account all = in_without name user groups (at_first (is_of group) (joined_by user) lines) apart account (at_without name user group lines apart account all)
 
-none_member : (name : List ℕ) (lines : List Line) → AllByRecursion (IsWithout name) lines → is_member lines name ≡ false
+none_member : (name : List ℕ) (lines : List AccountLine) → AllByRecursion (IsWithout name) lines → is_member lines name ≡ false
 none_member name [] all = refl
 none_member name (line ∷ lines) all = ap (λ (t : Bool). t || is_member lines name) all.0 ∙ none_member name lines all.1
 

@@ -10,9 +10,9 @@ use Rattle.ips_action.specs.Attrs.{is_same, values_of}
 use Rattle.ips_action.specs.Check.{IsAccount, IsField}
 use Rattle.ips_action.specs.Action.{Fields}
 use Rattle.ips_books.specs.declared.fault.AccountFault.{AccountFault}
-use Rattle.ips_books.specs.Lines.{Line}
-use Rattle.ips_books.specs.Accounts.{is_kept, is_of, field, joined, number_in, number_of, members_of, Accounts}
-use Rattle.ips_books.specs.Writing.{at_first, put, with_members, is_taken}
+use Rattle.ips_books.specs.Lines.{AccountLine}
+use Rattle.ips_books.specs.Accounts.{is_kept, is_of, field, fields_text, number_in, number_of, members_of, Accounts}
+use Rattle.ips_books.specs.Writing.{at_first, with_line, with_members, is_number_taken}
 use Rattle.ips_turnover.specs.Turnover.{group_name, groups_in, user_name, name_cmp, is_fresh, fresh_groups, fresh_users, after_gone, number_given}
 use Rattle.ips_accounts.specs.Editing.{joined_by, in_groups, edited_books, if_known, with_group, with_user, standing_members, number_for, group_text, each}
 use Rattle.ips_accounts.specs.Laws.{NamedOnce, text_at, GroupStands}
@@ -33,7 +33,7 @@ group_fields name gid members plain lt =
     ∙ ap (λ (l : List (List ℕ)). name ∷ l) (split_at [] (decimal gid ++ 58 ∷ members) refl ∙ ap (λ (l : List (List ℕ)). [] ∷ l) (split_at (decimal gid) members (decimal_plain gid lt)))
 
 -- a group's line with other members
-joined_text : (name user : List ℕ) (gid : ℕ) (members : List ℕ) (line : Line) → IsField name → gid < 2 ^ 32 → line.text ≡ group_text name gid members → (next : List ℕ) × ((joined_by user line).text ≡ group_text name gid next)
+joined_text : (name user : List ℕ) (gid : ℕ) (members : List ℕ) (line : AccountLine) → IsField name → gid < 2 ^ 32 → line.text ≡ group_text name gid members → (next : List ℕ) × ((joined_by user line).text ≡ group_text name gid next)
 joined_text name user gid members line plain lt e = go (list_any (λ member. is_same member user) (members_of line))
   where
     fields : slice_split (λ b. eqb b 58) line.text ≡ name ∷ [] ∷ decimal gid ∷ slice_split (λ b. eqb b 58) members
@@ -41,37 +41,37 @@ joined_text name user gid members line plain lt e = go (list_any (λ member. is_
 
     go : (t : Bool) → (next : List ℕ) × ((cond t line (with_members (members_of line ++ user ∷ []) line)).text ≡ group_text name gid next)
     go true = (members, e)
-    go false = (join_with_byte 44 (members_of line ++ user ∷ []), ap (λ (l : List (List ℕ)). joined (unwrap_or (slice_get l 0) [] ∷ unwrap_or (slice_get l 1) [] ∷ unwrap_or (slice_get l 2) [] ∷ join_with_byte 44 (members_of line ++ user ∷ []) ∷ [])) fields)
+    go false = (join_with_byte 44 (members_of line ++ user ∷ []), ap (λ (l : List (List ℕ)). fields_text (unwrap_or (slice_get l 0) [] ∷ unwrap_or (slice_get l 1) [] ∷ unwrap_or (slice_get l 2) [] ∷ join_with_byte 44 (members_of line ++ user ∷ []) ∷ [])) fields)
 
 -- ---- users join groups
 
 -- the first line of the name is that of the group, with some members
-pub HasGroup : List ℕ → ℕ → List Line → Type 0
+pub HasGroup : List ℕ → ℕ → List AccountLine → Type 0
 HasGroup name gid lines = (members : List ℕ) × (text_at lines name ≡ Some (group_text name gid members))
 
-own_of : (name : List ℕ) (gid : ℕ) (members : List ℕ) (line : Line) → IsAccount name → line.text ≡ group_text name gid members → is_of name line ≡ true
+own_of : (name : List ℕ) (gid : ℕ) (members : List ℕ) (line : AccountLine) → IsAccount name → line.text ≡ group_text name gid members → is_of name line ≡ true
 own_of name gid members line account e = own_line name line.text _ line.ended account e
 
-has_joined : (name user group : List ℕ) (gid : ℕ) (lines : List Line) → IsAccount name → gid < 2 ^ 32 → HasGroup name gid lines → HasGroup name gid (at_first (is_of group) (joined_by user) lines)
+has_joined : (name user group : List ℕ) (gid : ℕ) (lines : List AccountLine) → IsAccount name → gid < 2 ^ 32 → HasGroup name gid lines → HasGroup name gid (at_first (is_of group) (joined_by user) lines)
 unfolding HasGroup
 has_joined name user group gid [] account lt has = has
 has_joined name user group gid (x ∷ lines) account lt has = go (is_of name x) refl (is_of group x) refl (λ h. has_joined name user group gid lines account lt h) has
   where
     go : (own : Bool) → is_of name x ≡ own → (there : Bool) → is_of group x ≡ there → (HasGroup name gid lines → HasGroup name gid (at_first (is_of group) (joined_by user) lines))
-        → ((members : List ℕ) × (option_map (λ (l : Line). l.text) (cond own (Some x) (find (is_of name) lines)) ≡ Some (group_text name gid members)))
+        → ((members : List ℕ) × (option_map (λ (l : AccountLine). l.text) (cond own (Some x) (find (is_of name) lines)) ≡ Some (group_text name gid members)))
         → (members : List ℕ) × (text_at (cond there (joined_by user x ∷ lines) (x ∷ at_first (is_of group) (joined_by user) lines)) name ≡ Some (group_text name gid members))
     go true eo true et more h =
         let next = joined_text name user gid h.0 x account.field lt (some_text x.text (group_text name gid h.0) h.1) in
-        (next.0, ap (λ (t : Bool). option_map (λ (l : Line). l.text) (cond t (Some (joined_by user x)) (find (is_of name) lines))) (own_of name gid next.0 (joined_by user x) account next.1) ∙ ap (λ (t : List ℕ). Some t) next.1)
-    go true eo false et more h = (h.0, ap (λ (t : Bool). option_map (λ (l : Line). l.text) (cond t (Some x) (find (is_of name) (at_first (is_of group) (joined_by user) lines)))) eo ∙ h.1)
+        (next.0, ap (λ (t : Bool). option_map (λ (l : AccountLine). l.text) (cond t (Some (joined_by user x)) (find (is_of name) lines))) (own_of name gid next.0 (joined_by user x) account next.1) ∙ ap (λ (t : List ℕ). Some t) next.1)
+    go true eo false et more h = (h.0, ap (λ (t : Bool). option_map (λ (l : AccountLine). l.text) (cond t (Some x) (find (is_of name) (at_first (is_of group) (joined_by user) lines)))) eo ∙ h.1)
     go false eo true et more h =
         let kept = not_true (is_kept x) (and_parts (not (is_kept x)) (is_same group (field 0 x)) et).0 in
-        (h.0, ap (λ (t : Bool). option_map (λ (l : Line). l.text) (cond t (Some (joined_by user x)) (find (is_of name) lines))) (joined_apart name user x kept eo) ∙ h.1)
+        (h.0, ap (λ (t : Bool). option_map (λ (l : AccountLine). l.text) (cond t (Some (joined_by user x)) (find (is_of name) lines))) (joined_apart name user x kept eo) ∙ h.1)
     go false eo false et more h =
         let later = more h in
-        (later.0, ap (λ (t : Bool). option_map (λ (l : Line). l.text) (cond t (Some x) (find (is_of name) (at_first (is_of group) (joined_by user) lines)))) eo ∙ later.1)
+        (later.0, ap (λ (t : Bool). option_map (λ (l : AccountLine). l.text) (cond t (Some x) (find (is_of name) (at_first (is_of group) (joined_by user) lines)))) eo ∙ later.1)
 
-has_in : (name user : List ℕ) (groups : List (List ℕ)) (gid : ℕ) (lines : List Line) → IsAccount name → gid < 2 ^ 32 → HasGroup name gid lines → HasGroup name gid (in_groups user groups lines)
+has_in : (name user : List ℕ) (groups : List (List ℕ)) (gid : ℕ) (lines : List AccountLine) → IsAccount name → gid < 2 ^ 32 → HasGroup name gid lines → HasGroup name gid (in_groups user groups lines)
 has_in name user [] gid lines account lt has = has
 has_in name user (group ∷ groups) gid lines account lt has = has_in name user groups gid (at_first (is_of group) (joined_by user) lines) account lt (has_joined name user group gid lines account lt has)
 
@@ -81,15 +81,15 @@ has_in name user (group ∷ groups) gid lines account lt has = has_in name user 
 pub record GroupLeft (a : Fields) (b c : Accounts) : Type 0 where
   pub gid : ℕ
   pub number : number_for b.group (group_name a) (number_given (codes "gid") a) ≡ Ok gid
-  pub group : c.group ≡ put (group_name a) (group_text (group_name a) gid (standing_members b.group (group_name a))) b.group
+  pub group : c.group ≡ with_line (group_name a) (group_text (group_name a) gid (standing_members b.group (group_name a))) b.group
 
 pub group_left : (a : Fields) (b c : Accounts) → with_group a b ≡ Ok c → GroupLeft a b c
 group_left a b c e = go (number_for b.group (group_name a) (number_given (codes "gid") a)) refl e
   where
     go : (r : Result ℕ AccountFault) → number_for b.group (group_name a) (number_given (codes "gid") a) ≡ r
-        → (r >>= λ gid. Ok (record { passwd = b.passwd; shadow = b.shadow; group = put (group_name a) (group_text (group_name a) gid (standing_members b.group (group_name a))) b.group })) ≡ Ok c → GroupLeft a b c
+        → (r >>= λ gid. Ok (record { passwd = b.passwd; shadow = b.shadow; group = with_line (group_name a) (group_text (group_name a) gid (standing_members b.group (group_name a))) b.group })) ≡ Ok c → GroupLeft a b c
     go (Ok gid) n h =
-        let same = ok_value (record { passwd = b.passwd; shadow = b.shadow; group = put (group_name a) (group_text (group_name a) gid (standing_members b.group (group_name a))) b.group }) c h in
+        let same = ok_value (record { passwd = b.passwd; shadow = b.shadow; group = with_line (group_name a) (group_text (group_name a) gid (standing_members b.group (group_name a))) b.group }) c h in
         record { gid = gid; number = n; group = sym (ap (λ (x : Accounts). x.group) same) }
     go (Err f) n h = absurd (err_no f c h)
 
@@ -99,7 +99,7 @@ pub record Stands (a : Fields) (b : Accounts) : Type 0 where
   pub low : gid < 2 ^ 32
   pub has : HasGroup (group_name a) gid b.group
   pub given : IfSome (number_given (codes "gid") a) (λ id. gid ≡ id)
-  pub alone : is_taken b.group (group_name a) gid ≡ false
+  pub alone : is_number_taken b.group (group_name a) gid ≡ false
 
 group_number : (name : List ℕ) (gid : ℕ) (members : List ℕ) (e : Bool) → IsField name → gid < 2 ^ 32 → number_of (record { text = group_text name gid members; ended = e }) ≡ Some gid
 group_number name gid members e plain lt =
@@ -113,9 +113,9 @@ stands_first a b c account e =
     record {
       gid = left.gid;
       low = for_low b.group (group_name a) (number_given (codes "gid") a) left.gid (given_low (codes "gid") a) left.number;
-      has = (standing_members b.group (group_name a), ap (λ (l : List Line). text_at l (group_name a)) left.group ∙ put_own (group_name a) text b.group (λ t. own_line (group_name a) text _ t account refl));
+      has = (standing_members b.group (group_name a), ap (λ (l : List AccountLine). text_at l (group_name a)) left.group ∙ put_own (group_name a) text b.group (λ t. own_line (group_name a) text _ t account refl));
       given = given_is b.group (group_name a) (number_given (codes "gid") a) left.gid left.number;
-      alone = ap (λ (l : List Line). is_taken l (group_name a) left.gid) left.group
+      alone = ap (λ (l : List AccountLine). is_number_taken l (group_name a) left.gid) left.group
           ∙ none_put (group_name a) (group_name a) left.gid text b.group (λ t. own_apart (group_name a) left.gid (record { text = text; ended = t }) (own_line (group_name a) text _ t account refl)) (told_free b.group (group_name a) (number_given (codes "gid") a) left.gid left.number);
     }
 
@@ -131,10 +131,10 @@ stands_on a other b c account names stands e =
       low = stands.low;
       has = (
         stands.has.0,
-        ap (λ (l : List Line). text_at l (group_name a)) left.group ∙ put_other (group_name a) (group_name other) text b.group names.apart (λ t. other_line (group_name a) (group_name other) text _ t names.plain names.apart refl) ∙ stands.has.1,
+        ap (λ (l : List AccountLine). text_at l (group_name a)) left.group ∙ put_other (group_name a) (group_name other) text b.group names.apart (λ t. other_line (group_name a) (group_name other) text _ t names.plain names.apart refl) ∙ stands.has.1,
       );
       given = stands.given;
-      alone = ap (λ (l : List Line). is_taken l (group_name a) stands.gid) left.group
+      alone = ap (λ (l : List AccountLine). is_number_taken l (group_name a) stands.gid) left.group
           ∙ none_put (group_name a) (group_name other) stands.gid text b.group (λ t. numbered_apart (group_name a) stands.gid left.gid (record { text = text; ended = t }) (group_number (group_name other) left.gid (standing_members b.group (group_name other)) t names.plain low) apart) stands.alone;
     }
 
@@ -159,7 +159,7 @@ behind_users users (a ∷ groups) books done accounts all e =
       low = stands.low;
       has = subst (HasGroup (group_name a) stands.gid) (sym (user_joins u b c s)) (has_in (group_name a) (user_name u) (values_of (codes "group-list") u.attrs) stands.gid b.group accounts.0 stands.low stands.has);
       given = stands.given;
-      alone = ap (λ (l : List Line). is_taken l (group_name a) stands.gid) (user_joins u b c s) ∙ taken_joined (group_name a) stands.gid (user_name u) (values_of (codes "group-list") u.attrs) b.group ∙ stands.alone;
+      alone = ap (λ (l : List AccountLine). is_number_taken l (group_name a) stands.gid) (user_joins u b c s) ∙ taken_joined (group_name a) stands.gid (user_name u) (values_of (codes "group-list") u.attrs) b.group ∙ stands.alone;
     }) users books done (all_units users) all.0 e in
     (record { gid = last.gid; members = last.has.0; line = last.has.1; given = last.given; alone = last.alone }, behind_users users groups books done accounts.1 all.1 e)
 

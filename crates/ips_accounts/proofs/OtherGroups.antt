@@ -9,9 +9,9 @@ use Rattle.ips_action.proofs.KeyOrder.{same_true, same_self}
 use Rattle.ips_action.specs.Attrs.{is_same, values_of}
 use Rattle.ips_action.specs.Check.{IsAccount}
 use Rattle.ips_action.specs.Action.{Fields}
-use Rattle.ips_books.specs.Lines.{Line}
+use Rattle.ips_books.specs.Lines.{AccountLine}
 use Rattle.ips_books.specs.Accounts.{is_kept, is_of, field, Accounts}
-use Rattle.ips_books.specs.Writing.{at_first, put}
+use Rattle.ips_books.specs.Writing.{at_first, with_line}
 use Rattle.ips_turnover.specs.Turnover.{left_by, user_name, group_name, users_in, groups_in, name_cmp, is_fresh, is_named_in, fresh_groups, fresh_users, after_gone}
 use Rattle.ips_accounts.specs.Editing.{joined_by, in_groups, edited_books, group_text, standing_members, with_group, with_user, each, if_known}
 use Rattle.ips_accounts.specs.Laws.{is_gone_user, is_gone_group, is_asked_for, is_other_group, bytes_of, OthersStay}
@@ -67,13 +67,13 @@ all_ask [] = tt
 all_ask (a ∷ users) = (record { asked = own_asked a users (values_of (codes "group-list") a.attrs) (all_in (values_of (codes "group-list") a.attrs)) }, all_ask_more a users users (all_ask users))
 
 module _ (old new : List Fields) where
-  abbrev passes : Line → Bool
+  abbrev passes : AccountLine → Bool
   passes = is_other_group old new
 
   abbrev told : List ℕ → Bool
   told name = is_gone_group old new name || (is_named_in group_name (fresh_groups old new) name || is_asked_for (fresh_users old new) name)
 
-  no_other : (line : Line) → is_kept line ≡ false → told (field 0 line) ≡ true → passes line ≡ false
+  no_other : (line : AccountLine) → is_kept line ≡ false → told (field 0 line) ≡ true → passes line ≡ false
   no_other line kept about = (λ i. kept i || not (about i))
 
   gone_told : (name : List ℕ) → is_gone_group old new name ≡ true → told name ≡ true
@@ -88,25 +88,25 @@ module _ (old new : List Fields) where
       ∙ ap (λ (t : Bool). is_gone_group old new name || t) (or_true (is_named_in group_name (fresh_groups old new) name))
       ∙ or_true (is_gone_group old new name)
 
-  first_field : (name : List ℕ) (line : Line) → is_of name line ≡ true → field 0 line ≡ name
+  first_field : (name : List ℕ) (line : AccountLine) → is_of name line ≡ true → field 0 line ≡ name
   first_field name line of = sym (same_true name (field 0 line) (and_parts (not (is_kept line)) (is_same name (field 0 line)) of).1)
 
-  standing_told : (name : List ℕ) (line : Line) → told name ≡ true → is_of name line ≡ true → passes line ≡ false
+  standing_told : (name : List ℕ) (line : AccountLine) → told name ≡ true → is_of name line ≡ true → passes line ≡ false
   standing_told name line about of = no_other line (of_kept name line of) (ap told (first_field name line of) ∙ about)
 
-  group_stays : (a : Fields) (gid : ℕ) (members : List ℕ) (lines : List Line) → WritesGroup (fresh_groups old new) a → bytes_of passes (put (group_name a) (group_text (group_name a) gid members) lines) ≡ bytes_of passes lines
+  group_stays : (a : Fields) (gid : ℕ) (members : List ℕ) (lines : List AccountLine) → WritesGroup (fresh_groups old new) a → bytes_of passes (with_line (group_name a) (group_text (group_name a) gid members) lines) ≡ bytes_of passes lines
   group_stays a gid members lines writes = stay_put passes (group_name a) (group_text (group_name a) gid members) lines (λ line. refl)
       (λ e. no_other (record { text = group_text (group_name a) gid members; ended = e }) (not_kept (group_name a) _ e writes.account) (ap told (written_name (group_name a) (group_text (group_name a) gid members) _ e writes.account.field refl) ∙ named_told (group_name a) writes.named))
       (λ line of. standing_told (group_name a) line (named_told (group_name a) writes.named) of)
 
-  join_stays : (user group : List ℕ) (lines : List Line) → is_asked_for (fresh_users old new) group ≡ true → bytes_of passes (at_first (is_of group) (joined_by user) lines) ≡ bytes_of passes lines
+  join_stays : (user group : List ℕ) (lines : List AccountLine) → is_asked_for (fresh_users old new) group ≡ true → bytes_of passes (at_first (is_of group) (joined_by user) lines) ≡ bytes_of passes lines
   join_stays user group lines asked = stay_changed passes (is_of group) (joined_by user) lines
       (λ line of.
       let same = joined_speaks user line (of_kept group line of) in
       no_other (joined_by user line) (same.kept ∙ of_kept group line of) (ap told (same.name ∙ first_field group line of) ∙ asked_told group asked))
       (λ line of. standing_told group line (asked_told group asked) of)
 
-  joins_stay : (user : List ℕ) (groups : List (List ℕ)) (lines : List Line) → AllByRecursion (λ g. is_asked_for (fresh_users old new) g ≡ true) groups → bytes_of passes (in_groups user groups lines) ≡ bytes_of passes lines
+  joins_stay : (user : List ℕ) (groups : List (List ℕ)) (lines : List AccountLine) → AllByRecursion (λ g. is_asked_for (fresh_users old new) g ≡ true) groups → bytes_of passes (in_groups user groups lines) ≡ bytes_of passes lines
   joins_stay user [] lines asked = refl
   joins_stay user (group ∷ groups) lines asked = joins_stay user groups (at_first (is_of group) (joined_by user) lines) asked.1 ∙ join_stays user group lines asked.0
 

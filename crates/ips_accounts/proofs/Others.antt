@@ -14,9 +14,9 @@ use Rattle.ips_action.specs.Action.{Fields}
 use Rattle.ips_conflict.specs.Key.{value_of}
 use Rattle.ips_books.specs.declared.fault.AccountFault.{AccountFault}
 use Rattle.ips_books.specs.declared.fault.AccountFault.TheVariants.{UnknownGroup}
-use Rattle.ips_books.specs.Lines.{Line, ended}
-use Rattle.ips_books.specs.Accounts.{is_kept, is_of, field, joined, Accounts}
-use Rattle.ips_books.specs.Writing.{at_first, rewritten, added, put}
+use Rattle.ips_books.specs.Lines.{AccountLine, ended}
+use Rattle.ips_books.specs.Accounts.{is_kept, is_of, field, fields_text, Accounts}
+use Rattle.ips_books.specs.Writing.{at_first, rewritten, added, with_line}
 use Rattle.ips_turnover.specs.Turnover.{without, user_name, group_name, users_in, name_cmp, is_fresh, fresh_groups, fresh_users, after_gone, number_given, is_named_in}
 use Rattle.ips_accounts.specs.Editing.{edited_books, standing_members, if_known, with_group, with_user, with_shadow, in_groups, number_for, gid_of, passwd_text, shadow_text, each}
 use Rattle.ips_accounts.specs.Laws.{is_gone_user, is_other_user, bytes_of, UsersStay}
@@ -24,33 +24,33 @@ use Rattle.ips_accounts.proofs.Lacking.{bind_ok, err_no, ok_value, written_name,
 use Rattle.ips_books.proofs.Written.{later}
 
 -- The bytes of a list with one more line in front, by whether that passes.
-in_front : (passes : Line → Bool) (line : Line) (one two : List Line) → bytes_of passes one ≡ bytes_of passes two → bytes_of passes (line ∷ one) ≡ bytes_of passes (line ∷ two)
+in_front : (passes : AccountLine → Bool) (line : AccountLine) (one two : List AccountLine) → bytes_of passes one ≡ bytes_of passes two → bytes_of passes (line ∷ one) ≡ bytes_of passes (line ∷ two)
 in_front passes line one two e = go (passes line)
   where
-    go : (t : Bool) → map (λ (l : Line). l.text) (cond t (line ∷ filter passes one) (filter passes one)) ≡ map (λ (l : Line). l.text) (cond t (line ∷ filter passes two) (filter passes two))
+    go : (t : Bool) → map (λ (l : AccountLine). l.text) (cond t (line ∷ filter passes one) (filter passes one)) ≡ map (λ (l : AccountLine). l.text) (cond t (line ∷ filter passes two) (filter passes two))
     go true = ap (λ (texts : List (List ℕ)). line.text ∷ texts) e
     go false = e
 
-left_out : (passes : Line → Bool) (line : Line) (lines : List Line) → passes line ≡ false → bytes_of passes (line ∷ lines) ≡ bytes_of passes lines
-left_out passes line lines e = ap (λ (t : Bool). map (λ (l : Line). l.text) (cond t (line ∷ filter passes lines) (filter passes lines))) e
+left_out : (passes : AccountLine → Bool) (line : AccountLine) (lines : List AccountLine) → passes line ≡ false → bytes_of passes (line ∷ lines) ≡ bytes_of passes lines
+left_out passes line lines e = ap (λ (t : Bool). map (λ (l : AccountLine). l.text) (cond t (line ∷ filter passes lines) (filter passes lines))) e
 
 -- Whether a line passes doesn't hang on its newline.
-abbrev pub IgnoresEnds : (Line → Bool) → Type 0
-IgnoresEnds passes = (line : Line) → passes (ended line) ≡ passes line
+abbrev pub IgnoresEnds : (AccountLine → Bool) → Type 0
+IgnoresEnds passes = (line : AccountLine) → passes (ended line) ≡ passes line
 
-pub stay_added : (passes : Line → Bool) (text : List ℕ) (lines : List Line) → IgnoresEnds passes → passes (record { text = text; ended = true }) ≡ false → bytes_of passes (added text lines) ≡ bytes_of passes lines
+pub stay_added : (passes : AccountLine → Bool) (text : List ℕ) (lines : List AccountLine) → IgnoresEnds passes → passes (record { text = text; ended = true }) ≡ false → bytes_of passes (added text lines) ≡ bytes_of passes lines
 stay_added passes text [] ends e = left_out passes (record { text = text; ended = true }) [] e
 stay_added passes text (line ∷ []) ends e =
-    ap (λ (t : Bool). map (λ (l : Line). l.text) (cond t (ended line ∷ filter passes (record { text = text; ended = true } ∷ [])) (filter passes (record { text = text; ended = true } ∷ [])))) (ends line)
+    ap (λ (t : Bool). map (λ (l : AccountLine). l.text) (cond t (ended line ∷ filter passes (record { text = text; ended = true } ∷ [])) (filter passes (record { text = text; ended = true } ∷ [])))) (ends line)
     ∙ go (passes line) (left_out passes (record { text = text; ended = true }) [] e)
   where
     go : (t : Bool) → bytes_of passes (record { text = text; ended = true } ∷ []) ≡ []
-        → map (λ (l : Line). l.text) (cond t (ended line ∷ filter passes (record { text = text; ended = true } ∷ [])) (filter passes (record { text = text; ended = true } ∷ []))) ≡ map (λ (l : Line). l.text) (cond t (line ∷ []) [])
+        → map (λ (l : AccountLine). l.text) (cond t (ended line ∷ filter passes (record { text = text; ended = true } ∷ [])) (filter passes (record { text = text; ended = true } ∷ []))) ≡ map (λ (l : AccountLine). l.text) (cond t (line ∷ []) [])
     go true rest = ap (λ (texts : List (List ℕ)). line.text ∷ texts) rest
     go false rest = rest
 stay_added passes text (line ∷ next ∷ lines) ends e = in_front passes line (added text (next ∷ lines)) (next ∷ lines) (stay_added passes text (next ∷ lines) ends e)
 
-pub stay_changed : (passes test : Line → Bool) (change : Line → Line) (lines : List Line) → ((line : Line) → test line ≡ true → passes (change line) ≡ false) → ((line : Line) → test line ≡ true → passes line ≡ false) → bytes_of passes (at_first test change lines) ≡ bytes_of passes lines
+pub stay_changed : (passes test : AccountLine → Bool) (change : AccountLine → AccountLine) (lines : List AccountLine) → ((line : AccountLine) → test line ≡ true → passes (change line) ≡ false) → ((line : AccountLine) → test line ≡ true → passes line ≡ false) → bytes_of passes (at_first test change lines) ≡ bytes_of passes lines
 stay_changed passes test change [] new old = refl
 stay_changed passes test change (line ∷ lines) new old = go (test line) refl (stay_changed passes test change lines new old)
   where
@@ -58,7 +58,7 @@ stay_changed passes test change (line ∷ lines) new old = go (test line) refl (
     go true e rest = left_out passes (change line) lines (new line e) ∙ sym (left_out passes line lines (old line e))
     go false e rest = in_front passes line (at_first test change lines) lines rest
 
-pub stay_put : (passes : Line → Bool) (name text : List ℕ) (lines : List Line) → IgnoresEnds passes → ((e : Bool) → passes (record { text = text; ended = e }) ≡ false) → ((line : Line) → is_of name line ≡ true → passes line ≡ false) → bytes_of passes (put name text lines) ≡ bytes_of passes lines
+pub stay_put : (passes : AccountLine → Bool) (name text : List ℕ) (lines : List AccountLine) → IgnoresEnds passes → ((e : Bool) → passes (record { text = text; ended = e }) ≡ false) → ((line : AccountLine) → is_of name line ≡ true → passes line ≡ false) → bytes_of passes (with_line name text lines) ≡ bytes_of passes lines
 stay_put passes name text lines ends fresh standing = go (list_any (is_of name) lines)
   where
     go : (t : Bool) → bytes_of passes (cond t (at_first (is_of name) (rewritten text) lines) (added text lines)) ≡ bytes_of passes lines
@@ -66,7 +66,7 @@ stay_put passes name text lines ends fresh standing = go (list_any (is_of name) 
     go false = stay_added passes text lines ends (fresh true)
 
 -- What goes with gone names is no other line.
-pub stay_without : (passes : Line → Bool) (gone : List ℕ → Bool) (lines : List Line) → ((line : Line) → is_kept line ≡ false → gone (field 0 line) ≡ true → passes line ≡ false) → bytes_of passes (without gone lines) ≡ bytes_of passes lines
+pub stay_without : (passes : AccountLine → Bool) (gone : List ℕ → Bool) (lines : List AccountLine) → ((line : AccountLine) → is_kept line ≡ false → gone (field 0 line) ≡ true → passes line ≡ false) → bytes_of passes (without gone lines) ≡ bytes_of passes lines
 stay_without passes gone [] goes = refl
 stay_without passes gone (line ∷ lines) goes = go (is_kept line) (gone (field 0 line)) refl refl (stay_without passes gone lines goes)
   where
@@ -75,7 +75,7 @@ stay_without passes gone (line ∷ lines) goes = go (is_kept line) (gone (field 
     go false false ke ge rest = in_front passes line (without gone lines) lines rest
     go false true ke ge rest = rest ∙ sym (left_out passes line lines (goes line ke ge))
 
-gone_no_other : (old new : List Fields) (line : Line) → is_kept line ≡ false → is_gone_user old new (field 0 line) ≡ true → is_other_user old new line ≡ false
+gone_no_other : (old new : List Fields) (line : AccountLine) → is_kept line ≡ false → is_gone_user old new (field 0 line) ≡ true → is_other_user old new line ≡ false
 gone_no_other old new line ke ge =
     ap (λ (t : Bool). t || not (is_gone_user old new (field 0 line) || is_named_in user_name (fresh_users old new) (field 0 line))) ke
     ∙ ap (λ (t : Bool). not (t || is_named_in user_name (fresh_users old new) (field 0 line))) ge
@@ -95,19 +95,19 @@ not_kept [] behind e account = absurd (none account.some)
 not_kept (b ∷ name) behind e account = ap (λ (t : Bool). t || begins_with_mark (b ∷ name)) (later (length (name ++ 58 ∷ behind))) ∙ account.unmarked
 
 -- A line that isn't kept and has the name of a user that is written is no other line.
-no_other : (old new : List Fields) (line : Line) (name : List ℕ) → is_kept line ≡ false → field 0 line ≡ name → is_named_in user_name (fresh_users old new) name ≡ true → is_other_user old new line ≡ false
+no_other : (old new : List Fields) (line : AccountLine) (name : List ℕ) → is_kept line ≡ false → field 0 line ≡ name → is_named_in user_name (fresh_users old new) name ≡ true → is_other_user old new line ≡ false
 no_other old new line name kept first named =
     ap (λ (t : Bool). t || not (is_gone_user old new (field 0 line) || is_named_in user_name (fresh_users old new) (field 0 line))) kept
     ∙ ap (λ (f : List ℕ). not (is_gone_user old new f || is_named_in user_name (fresh_users old new) f)) first
     ∙ ap (λ (t : Bool). not (is_gone_user old new name || t)) named
     ∙ ap not (or_true (is_gone_user old new name))
 
-standing_no_other : (old new : List Fields) (line : Line) (name : List ℕ) → is_named_in user_name (fresh_users old new) name ≡ true → is_of name line ≡ true → is_other_user old new line ≡ false
+standing_no_other : (old new : List Fields) (line : AccountLine) (name : List ℕ) → is_named_in user_name (fresh_users old new) name ≡ true → is_of name line ≡ true → is_other_user old new line ≡ false
 standing_no_other old new line name named of =
     let parts = and_parts (not (is_kept line)) (is_same name (field 0 line)) of in
     no_other old new line name (not_true (is_kept line) parts.0) (sym (same_true name (field 0 line) parts.1)) named
 
-pub user_stays : (old new : List Fields) (a : Fields) (uid gid : ℕ) (lines : List Line) → Writes (fresh_users old new) a → bytes_of (is_other_user old new) (put (user_name a) (passwd_text a uid gid) lines) ≡ bytes_of (is_other_user old new) lines
+pub user_stays : (old new : List Fields) (a : Fields) (uid gid : ℕ) (lines : List AccountLine) → Writes (fresh_users old new) a → bytes_of (is_other_user old new) (with_line (user_name a) (passwd_text a uid gid) lines) ≡ bytes_of (is_other_user old new) lines
 user_stays old new a uid gid lines writes = stay_put (is_other_user old new) (user_name a) (passwd_text a uid gid) lines (λ line. refl)
     (λ e. no_other old new (record { text = passwd_text a uid gid; ended = e }) (user_name a) (not_kept (user_name a) _ e writes.account) (written_name (user_name a) (passwd_text a uid gid) _ e writes.account.field refl) writes.named)
     (λ line of. standing_no_other old new line (user_name a) writes.named of)
@@ -129,30 +129,30 @@ all_units (a ∷ actions) = (tt, all_units actions)
 pub group_keeps : (a : Fields) (b c : Accounts) → with_group a b ≡ Ok c → (c.passwd ≡ b.passwd) × (c.shadow ≡ b.shadow)
 group_keeps a b c e = go (number_for b.group (group_name a) (number_given (codes "gid") a)) e
   where
-    go : (r : Result ℕ AccountFault) → (r >>= λ gid. Ok (record { passwd = b.passwd; shadow = b.shadow; group = put (group_name a) (joined (group_name a ∷ [] ∷ decimal gid ∷ standing_members b.group (group_name a) ∷ [])) b.group })) ≡ Ok c → (c.passwd ≡ b.passwd) × (c.shadow ≡ b.shadow)
+    go : (r : Result ℕ AccountFault) → (r >>= λ gid. Ok (record { passwd = b.passwd; shadow = b.shadow; group = with_line (group_name a) (fields_text (group_name a ∷ [] ∷ decimal gid ∷ standing_members b.group (group_name a) ∷ [])) b.group })) ≡ Ok c → (c.passwd ≡ b.passwd) × (c.shadow ≡ b.shadow)
     go (Ok gid) e =
-        let same = ok_value (record { passwd = b.passwd; shadow = b.shadow; group = put (group_name a) (joined (group_name a ∷ [] ∷ decimal gid ∷ standing_members b.group (group_name a) ∷ [])) b.group }) c e in
+        let same = ok_value (record { passwd = b.passwd; shadow = b.shadow; group = with_line (group_name a) (fields_text (group_name a ∷ [] ∷ decimal gid ∷ standing_members b.group (group_name a) ∷ [])) b.group }) c e in
         (sym (ap (λ (x : Accounts). x.passwd) same), sym (ap (λ (x : Accounts). x.shadow) same))
     go (Err f) e = absurd (err_no f c e)
 
-user_gives : (a : Fields) (b c : Accounts) → with_user a b ≡ Ok c → (uid : ℕ) × (c.passwd ≡ put (user_name a) (passwd_text a uid (unwrap_or (gid_of b.group a) 0)) b.passwd) × (c.shadow ≡ with_shadow a b.shadow)
+user_gives : (a : Fields) (b c : Accounts) → with_user a b ≡ Ok c → (uid : ℕ) × (c.passwd ≡ with_line (user_name a) (passwd_text a uid (unwrap_or (gid_of b.group a) 0)) b.passwd) × (c.shadow ≡ with_shadow a b.shadow)
 user_gives a b c e = go (number_for b.passwd (user_name a) (number_given (codes "uid") a)) e
   where
     go : (r : Result ℕ AccountFault) → (r >>= λ uid. Ok (record {
-      passwd = put (user_name a) (passwd_text a uid (unwrap_or (gid_of b.group a) 0)) b.passwd;
+      passwd = with_line (user_name a) (passwd_text a uid (unwrap_or (gid_of b.group a) 0)) b.passwd;
       shadow = with_shadow a b.shadow;
       group = in_groups (user_name a) (values_of (codes "group-list") a.attrs) b.group;
-    })) ≡ Ok c → (uid : ℕ) × (c.passwd ≡ put (user_name a) (passwd_text a uid (unwrap_or (gid_of b.group a) 0)) b.passwd) × (c.shadow ≡ with_shadow a b.shadow)
+    })) ≡ Ok c → (uid : ℕ) × (c.passwd ≡ with_line (user_name a) (passwd_text a uid (unwrap_or (gid_of b.group a) 0)) b.passwd) × (c.shadow ≡ with_shadow a b.shadow)
     go (Ok uid) e =
         let same = ok_value (record {
-          passwd = put (user_name a) (passwd_text a uid (unwrap_or (gid_of b.group a) 0)) b.passwd;
+          passwd = with_line (user_name a) (passwd_text a uid (unwrap_or (gid_of b.group a) 0)) b.passwd;
           shadow = with_shadow a b.shadow;
           group = in_groups (user_name a) (values_of (codes "group-list") a.attrs) b.group;
         }) c e in
         (uid, sym (ap (λ (x : Accounts). x.passwd) same), sym (ap (λ (x : Accounts). x.shadow) same))
     go (Err f) e = absurd (err_no f c e)
 
-shadow_stays : (old new : List Fields) (a : Fields) (lines : List Line) → Writes (fresh_users old new) a → bytes_of (is_other_user old new) (with_shadow a lines) ≡ bytes_of (is_other_user old new) lines
+shadow_stays : (old new : List Fields) (a : Fields) (lines : List AccountLine) → Writes (fresh_users old new) a → bytes_of (is_other_user old new) (with_shadow a lines) ≡ bytes_of (is_other_user old new) lines
 shadow_stays old new a lines writes = go (list_any (is_of (user_name a)) lines)
     (no_other old new (record { text = shadow_text a; ended = true }) (user_name a) (not_kept (user_name a) _ true writes.account) (written_name (user_name a) (shadow_text a) _ true writes.account.field refl) writes.named)
   where

@@ -10,9 +10,9 @@ use Rattle.ips_action.specs.Action.{Fields}
 use Rattle.ips_conflict.specs.Key.{value_of}
 use Rattle.ips_books.specs.declared.fault.AccountFault.{AccountFault}
 use Rattle.ips_books.specs.declared.fault.AccountFault.TheVariants.{UnknownGroup}
-use Rattle.ips_books.specs.Lines.{Line}
+use Rattle.ips_books.specs.Lines.{AccountLine}
 use Rattle.ips_books.specs.Accounts.{Accounts}
-use Rattle.ips_books.specs.Writing.{put}
+use Rattle.ips_books.specs.Writing.{with_line}
 use Rattle.ips_turnover.specs.Turnover.{group_name, user_name, number_given, fresh_groups, fresh_users, after_gone}
 use Rattle.ips_books.specs.Reading.{Texts, read_books, texts_of}
 use Rattle.ips_accounts.specs.Editing.{each, if_known, gid_of, in_groups, number_for, group_text, standing_members, passwd_text, with_shadow, with_group, with_user, edited_books, edited}
@@ -78,18 +78,18 @@ known_done items i books past known = sym known ∙ seen_all (λ l. if_known l b
 
 -- ---- a group, and a user
 
-pub group_added : (a : Fields) (books : Accounts) (gid : ℕ) (new : List Line) → number_for books.group (group_name a) (number_given (codes "gid") a) ≡ Ok gid
-    → new ≡ put (group_name a) (group_text (group_name a) gid (standing_members books.group (group_name a))) books.group → with_group a books ≡ Ok (record { passwd = books.passwd; shadow = books.shadow; group = new })
+pub group_added : (a : Fields) (books : Accounts) (gid : ℕ) (new : List AccountLine) → number_for books.group (group_name a) (number_given (codes "gid") a) ≡ Ok gid
+    → new ≡ with_line (group_name a) (group_text (group_name a) gid (standing_members books.group (group_name a))) books.group → with_group a books ≡ Ok (record { passwd = books.passwd; shadow = books.shadow; group = new })
 group_added a books gid new numbered is =
-    then_on (number_for books.group (group_name a) (number_given (codes "gid") a)) gid (λ gid. Ok (record { passwd = books.passwd; shadow = books.shadow; group = put (group_name a) (group_text (group_name a) gid (standing_members books.group (group_name a))) books.group })) numbered
-    ∙ ap (λ (g : List Line). Ok (record { passwd = books.passwd; shadow = books.shadow; group = g })) (sym is)
+    then_on (number_for books.group (group_name a) (number_given (codes "gid") a)) gid (λ gid. Ok (record { passwd = books.passwd; shadow = books.shadow; group = with_line (group_name a) (group_text (group_name a) gid (standing_members books.group (group_name a))) books.group })) numbered
+    ∙ ap (λ (g : List AccountLine). Ok (record { passwd = books.passwd; shadow = books.shadow; group = g })) (sym is)
 
-pub user_added : (a : Fields) (books : Accounts) (uid : ℕ) (passwd shadow group : List Line) → number_for books.passwd (user_name a) (number_given (codes "uid") a) ≡ Ok uid
-    → passwd ≡ put (user_name a) (passwd_text a uid (unwrap_or (gid_of books.group a) 0)) books.passwd → shadow ≡ with_shadow a books.shadow → group ≡ in_groups (user_name a) (values_of (codes "group-list") a.attrs) books.group
+pub user_added : (a : Fields) (books : Accounts) (uid : ℕ) (passwd shadow group : List AccountLine) → number_for books.passwd (user_name a) (number_given (codes "uid") a) ≡ Ok uid
+    → passwd ≡ with_line (user_name a) (passwd_text a uid (unwrap_or (gid_of books.group a) 0)) books.passwd → shadow ≡ with_shadow a books.shadow → group ≡ in_groups (user_name a) (values_of (codes "group-list") a.attrs) books.group
     → with_user a books ≡ Ok (record { passwd = passwd; shadow = shadow; group = group })
 user_added a books uid passwd shadow group numbered p s g =
     then_on (number_for books.passwd (user_name a) (number_given (codes "uid") a)) uid (λ uid. Ok (record {
-      passwd = put (user_name a) (passwd_text a uid (unwrap_or (gid_of books.group a) 0)) books.passwd;
+      passwd = with_line (user_name a) (passwd_text a uid (unwrap_or (gid_of books.group a) 0)) books.passwd;
       shadow = with_shadow a books.shadow;
       group = in_groups (user_name a) (values_of (codes "group-list") a.attrs) books.group;
     })) numbered

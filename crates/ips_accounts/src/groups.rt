@@ -104,7 +104,7 @@ fn join_group(
 // Makes the user a member of the group whose line stands at the place.
 fn join_at(alloc: Global, lines: &mut Numbered, user: &str, place: usize) -> Result<(), AllocError>
     requires { place < length lines.old }
-    ensures { OnOk result ((line : lines_spec.Line) → line ≡ slice_index_or lines.old place line → lines.new ≡ slice_set lines.old place (spec.joined_by user.now line)) }
+    ensures { OnOk result ((line : lines_spec.AccountLine) → line ≡ slice_index_or lines.old place line → lines.new ≡ slice_set lines.old place (spec.joined_by user.now line)) }
 {
     match joined_line(alloc, &lines.named().lines()[place], user)? {
         Some(line) => lines.replace(alloc, place, line),

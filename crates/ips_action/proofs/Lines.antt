@@ -11,7 +11,7 @@ use Rattle.ips_line.specs.declared.words.Pair.{Pair}
 use Rattle.ips_line.specs.declared.words.Word.{Word}
 use Rattle.ips_line.specs.declared.words.Words.{Words}
 use Rattle.ips_line.specs.declared.fault.WordFault.{WordFault}
-use Rattle.ips_line.specs.Line.{Line, Attribute, IsAttribute, IsWrittenLine, line_written, words_of, pair_of, Said, Says, IsRun, in_key}
+use Rattle.ips_line.specs.Line.{Line, Attribute, IsAttribute, IsWrittenLine, line_written, words_of, pair_of, Said, Says, IsRunOfBytes, in_key}
 use Rattle.ips_line.specs.Reading.{read_words}
 use Rattle.ips_line.specs.Seen.{seen, seen_payload}
 use Rattle.ips_action.specs.declared.kind.ActionKind.{ActionKind}
@@ -19,7 +19,7 @@ use Rattle.ips_action.specs.declared.fault.ActionFault.{ActionFault}
 use Rattle.ips_action.specs.declared.fault.ActionFault.TheVariants.{UnknownAction, BadWord, OpenQuote, MissingKey, BadValue}
 use Rattle.ips_action.specs.declared.attrs.Attr.{Attr}
 use Rattle.ips_action.specs.Kind.{kind_name}
-use Rattle.ips_action.specs.Table.{Row}
+use Rattle.ips_action.specs.Table.{AttributeRow}
 use Rattle.ips_action.specs.Attrs.{is_same, AreAttrs, values_of, values_in, Gathers}
 use Rattle.ips_action.specs.Judging.{KeepsRow, Finds, FindsFirst, standing, path_of, rows_of, takes_payload}
 use Rattle.ips_action.specs.Action.{Fields, IsAction, IfName, IfTaken, payload_word}
@@ -30,7 +30,7 @@ use Rattle.ips_action.proofs.One.{one_said, fault_not_said, one_fault}
 -- ---- keys
 
 abbrev pub KeysRun : List Pair → Type 0
-KeysRun pairs = AllByRecursion (λ (p : Pair). IsRun in_key p.key) pairs
+KeysRun pairs = AllByRecursion (λ (p : Pair). IsRunOfBytes in_key p.key) pairs
 
 keys_written : (attributes : List Attribute) → AllByRecursion IsAttribute attributes → KeysRun (map pair_of attributes)
 keys_written [] h = tt
@@ -61,8 +61,8 @@ keys_stand P (a ∷ attrs) h f =
     go key some true = h.0
     go key some false = some
 
-keys_gathered : (pairs : List Pair) (attrs : List Attr) → KeysRun pairs → AreAttrs attrs → Gathers pairs attrs → AllByRecursion (λ (a : Attr). IsRun in_key a.key) attrs
-keys_gathered pairs attrs h a g = keys_stand (IsRun in_key) attrs a (λ key some. key_given (IsRun in_key) pairs key h (let P : List (List ℕ) → Type 0 = λ l. 0 < length l in subst P (g key) some))
+keys_gathered : (pairs : List Pair) (attrs : List Attr) → KeysRun pairs → AreAttrs attrs → Gathers pairs attrs → AllByRecursion (λ (a : Attr). IsRunOfBytes in_key a.key) attrs
+keys_gathered pairs attrs h a g = keys_stand (IsRunOfBytes in_key) attrs a (λ key some. key_given (IsRunOfBytes in_key) pairs key h (let P : List (List ℕ) → Type 0 = λ l. 0 < length l in subst P (g key) some))
 
 -- ---- payloads
 
@@ -93,7 +93,7 @@ is_action kind payload name pairs attrs keys taken ordered gathers rows word nam
 
 -- ---- from the words of a line
 
-none_first : (payload : Option (List ℕ)) (attrs : List Attr) (rows : List Row) (fault : ActionFault) → ((path : List ℕ) (values : List (List ℕ)) (row : Row) → Finds path values row fault → ⊥) → FindsFirst payload attrs rows fault → ⊥
+none_first : (payload : Option (List ℕ)) (attrs : List Attr) (rows : List AttributeRow) (fault : ActionFault) → ((path : List ℕ) (values : List (List ℕ)) (row : AttributeRow) → Finds path values row fault → ⊥) → FindsFirst payload attrs rows fault → ⊥
 none_first payload attrs [] fault f h = h
 none_first payload attrs (row ∷ rows) fault f (inl h) = f (path_of attrs) (standing payload attrs row) row h
 none_first payload attrs (row ∷ rows) fault f (inr h) = none_first payload attrs rows fault f h.1

@@ -15,9 +15,9 @@ use Rattle.ips_action.specs.declared.fault.ActionFault.{ActionFault}
 use Rattle.ips_action.specs.declared.fault.ActionFault.TheVariants.{UnknownAction, BadWord, OpenQuote, MissingKey, BadValue}
 use Rattle.ips_action.specs.declared.attrs.Attr.{Attr}
 use Rattle.ips_action.specs.Kind.{kind_name}
-use Rattle.ips_action.specs.Table.{Row}
+use Rattle.ips_action.specs.Table.{AttributeRow}
 use Rattle.ips_action.specs.Attrs.{is_same, IsBefore, AreAttrs, values_of, Gathers}
-use Rattle.ips_action.specs.Judging.{Keeps, KeepsRow, Finds, FindsFirst, path_of, standing, rows_of, takes_payload}
+use Rattle.ips_action.specs.Judging.{MeetsRow, KeepsRow, Finds, FindsFirst, path_of, standing, rows_of, takes_payload}
 use Rattle.ips_action.specs.Action.{Fields, IfName, IfTaken, payload_word}
 use Rattle.ips_action.specs.Meaning.{held, word_of, IsSaid, IsJudged, IsNotTaken, FaultOf}
 use Rattle.ips_action.proofs.KeyOrder.{by_bytes, same_true, same_self, after_other, before_trans, equal_is, turned}
@@ -110,14 +110,14 @@ one_gathered pairs attrs others ha hb ga gb = one_list attrs others ha hb (λ ke
 
 -- ---- faults
 
-found_not_kept : (path : List ℕ) (values : List (List ℕ)) (row : Row) (fault : ActionFault) → Finds path values row fault → Keeps path values row → ⊥
+found_not_kept : (path : List ℕ) (values : List (List ℕ)) (row : AttributeRow) (fault : ActionFault) → Finds path values row fault → MeetsRow path values row → ⊥
 found_not_kept path values row (UnknownAction place) f k = f
 found_not_kept path values row (BadWord place) f k = f
 found_not_kept path values row (OpenQuote place) f k = f
 found_not_kept path values row (MissingKey name) f k = omega (arith, k.enough, f.1)
 found_not_kept path values row (BadValue name) f k = f.1.1 k
 
-one_found : (path : List ℕ) (values : List (List ℕ)) (row : Row) (f g : ActionFault) → Finds path values row f → Finds path values row g → f ≡ g
+one_found : (path : List ℕ) (values : List (List ℕ)) (row : AttributeRow) (f g : ActionFault) → Finds path values row f → Finds path values row g → f ≡ g
 one_found path values row (UnknownAction m) g a b = absurd a
 one_found path values row (BadWord m) g a b = absurd a
 one_found path values row (OpenQuote m) g a b = absurd a
@@ -132,12 +132,12 @@ one_found path values row (BadValue m) (OpenQuote n) a b = absurd b
 one_found path values row (BadValue m) (MissingKey n) a b = absurd (omega (arith, a.1.0, b.1))
 one_found path values row (BadValue m) (BadValue n) a b = ap BadValue (a.0 ∙ sym b.0)
 
-first_not_kept : (payload : Option (List ℕ)) (attrs : List Attr) (rows : List Row) (fault : ActionFault) → FindsFirst payload attrs rows fault → AllByRecursion (KeepsRow payload attrs) rows → ⊥
+first_not_kept : (payload : Option (List ℕ)) (attrs : List Attr) (rows : List AttributeRow) (fault : ActionFault) → FindsFirst payload attrs rows fault → AllByRecursion (KeepsRow payload attrs) rows → ⊥
 first_not_kept payload attrs [] fault f k = f
 first_not_kept payload attrs (row ∷ rows) fault (inl f) k = found_not_kept (path_of attrs) (standing payload attrs row) row fault f k.0
 first_not_kept payload attrs (row ∷ rows) fault (inr f) k = first_not_kept payload attrs rows fault f.1 k.1
 
-one_first : (payload : Option (List ℕ)) (attrs : List Attr) (rows : List Row) (f g : ActionFault) → FindsFirst payload attrs rows f → FindsFirst payload attrs rows g → f ≡ g
+one_first : (payload : Option (List ℕ)) (attrs : List Attr) (rows : List AttributeRow) (f g : ActionFault) → FindsFirst payload attrs rows f → FindsFirst payload attrs rows g → f ≡ g
 one_first payload attrs [] f g a b = absurd a
 one_first payload attrs (row ∷ rows) f g (inl a) (inl b) = one_found (path_of attrs) (standing payload attrs row) row f g a b
 one_first payload attrs (row ∷ rows) f g (inl a) (inr b) = absurd (found_not_kept (path_of attrs) (standing payload attrs row) row f a b.0)

@@ -9,15 +9,15 @@ use Rattle.ips_text.specs.declared.path.PathFault.TheVariants.{Absolute}
 use Rattle.ips_text.specs.Path.{begins_at_root}
 use Rattle.ips_digest.specs.declared.name.PayloadName.{PayloadName}
 use Rattle.ips_line.specs.declared.words.Pair.{Pair}
-use Rattle.ips_line.specs.Line.{IsRun, in_word, in_key}
-use Rattle.ips_line.specs.Canonical.{AreWords, IfPayload, payload_placed, said}
+use Rattle.ips_line.specs.Line.{IsRunOfBytes, in_word, in_key}
+use Rattle.ips_line.specs.Canonical.{AreWords, IfPayload, payload_placed, canonical_words}
 use Rattle.ips_action.specs.declared.kind.ActionKind.{ActionKind}
 use Rattle.ips_action.specs.declared.kind.ActionKind.TheVariants.{Set, Depend, Dir, File, Link, Hardlink, User, Group, Driver, License, Legacy, Signature}
 use Rattle.ips_action.specs.declared.check.Check.{Check}
 use Rattle.ips_action.specs.declared.check.Check.TheVariants.{Anything, Path, Mode, Payload, Preserve, Overlay, LinkTarget, HardlinkTarget, Numbers, Priority, Account, Id, Field, FileName, Flag, FacetTag}
 use Rattle.ips_action.specs.declared.attrs.Attr.{Attr}
 use Rattle.ips_action.specs.Kind.{kind_name}
-use Rattle.ips_action.specs.Table.{Row, table}
+use Rattle.ips_action.specs.Table.{AttributeRow, table}
 use Rattle.ips_action.specs.Check.{Meets, IsActionPath}
 use Rattle.ips_action.specs.Attrs.{is_same, IsBefore, AreAttrs, values_of, values_in}
 use Rattle.ips_action.specs.Judging.{KeepsRow, is_payload, path_of, facet_rows}
@@ -32,7 +32,7 @@ use Rattle.ips_text.proofs.Lists.{all_append}
 
 -- ---- the words of a canonical line
 
-name_run : (kind : ActionKind) → IsRun in_word (kind_name kind)
+name_run : (kind : ActionKind) → IsRunOfBytes in_word (kind_name kind)
 name_run Set = refl
 name_run Depend = refl
 name_run Dir = refl
@@ -50,13 +50,13 @@ word_runs : (payload : Option PayloadName) → IfName payload → IfPayload (pay
 word_runs None h = tt
 word_runs (Some name) h = name_runs name h
 
-keys_of_one : (key : List ℕ) (values : List (List ℕ)) → IsRun in_key key → AllByRecursion (λ (p : Pair). IsRun in_key p.key) (map (λ value. record { key = key; value = value }) values)
+keys_of_one : (key : List ℕ) (values : List (List ℕ)) → IsRunOfBytes in_key key → AllByRecursion (λ (p : Pair). IsRunOfBytes in_key p.key) (map (λ value. record { key = key; value = value }) values)
 keys_of_one key [] h = tt
 keys_of_one key (value ∷ values) h = (h, keys_of_one key values h)
 
-keys_of : (attrs : List Attr) → AllByRecursion (λ (a : Attr). IsRun in_key a.key) attrs → AllByRecursion (λ (p : Pair). IsRun in_key p.key) (pairs_of attrs)
+keys_of : (attrs : List Attr) → AllByRecursion (λ (a : Attr). IsRunOfBytes in_key a.key) attrs → AllByRecursion (λ (p : Pair). IsRunOfBytes in_key p.key) (pairs_of attrs)
 keys_of [] h = tt
-keys_of (attr ∷ attrs) h = all_append (λ (p : Pair). IsRun in_key p.key) (pairs_of_one attr) (pairs_of attrs) (keys_of_one attr.key attr.values h.0) (keys_of attrs h.1)
+keys_of (attr ∷ attrs) h = all_append (λ (p : Pair). IsRunOfBytes in_key p.key) (pairs_of_one attr) (pairs_of attrs) (keys_of_one attr.key attr.values h.0) (keys_of attrs h.1)
 
 pub are_words : (a : Fields) → IsAction a → AreWords (kind_name a.kind) (payload_word a.payload) (pairs_of a.attrs)
 are_words a h = record { is_name = name_run a.kind; is_payload = word_runs a.payload h.named; are_keys = keys_of a.attrs h.keys }
@@ -135,19 +135,19 @@ no_payload FileName e = refl
 no_payload Flag e = refl
 no_payload FacetTag e = refl
 
-row_paths : (payload : Option (List ℕ)) (attrs : List Attr) (row : Row) (key : List ℕ) → (is_path row.check && is_same row.name key) ≡ true → KeepsRow payload attrs row → AllByRecursion IsActionPath (values_of key attrs)
+row_paths : (payload : Option (List ℕ)) (attrs : List Attr) (row : AttributeRow) (key : List ℕ) → (is_path row.check && is_same row.name key) ≡ true → KeepsRow payload attrs row → AllByRecursion IsActionPath (values_of key attrs)
 row_paths payload attrs row key e h =
     let parts = and_parts (is_path row.check) (is_same row.name key) e in
     let P : List ℕ → Type 0 = λ k. AllByRecursion IsActionPath (values_of k attrs) in
     let none = no_payload row.check parts.0 in
     subst P (same_true row.name key parts.1) (all_paths row.check (path_of attrs) (values_of row.name attrs) parts.0 (rw none at h.each))
 
-kept_paths : (payload : Option (List ℕ)) (attrs : List Attr) (rows more : List Row) (key : List ℕ) → list_any (λ (row : Row). is_path row.check && is_same row.name key) rows ≡ true → AllByRecursion (KeepsRow payload attrs) (rows ++ more) → AllByRecursion IsActionPath (values_of key attrs)
+kept_paths : (payload : Option (List ℕ)) (attrs : List Attr) (rows more : List AttributeRow) (key : List ℕ) → list_any (λ (row : AttributeRow). is_path row.check && is_same row.name key) rows ≡ true → AllByRecursion (KeepsRow payload attrs) (rows ++ more) → AllByRecursion IsActionPath (values_of key attrs)
 kept_paths payload attrs [] more key e h = absurd cc
 kept_paths payload attrs (row ∷ rows) more key e h = go (is_path row.check && is_same row.name key) refl e (λ f. kept_paths payload attrs rows more key f h.1)
   where
-    go : (t : Bool) → (is_path row.check && is_same row.name key) ≡ t → (t || list_any (λ (r : Row). is_path r.check && is_same r.name key) rows) ≡ true
-        → (list_any (λ (r : Row). is_path r.check && is_same r.name key) rows ≡ true → AllByRecursion IsActionPath (values_of key attrs)) → AllByRecursion IsActionPath (values_of key attrs)
+    go : (t : Bool) → (is_path row.check && is_same row.name key) ≡ t → (t || list_any (λ (r : AttributeRow). is_path r.check && is_same r.name key) rows) ≡ true
+        → (list_any (λ (r : AttributeRow). is_path r.check && is_same r.name key) rows ≡ true → AllByRecursion IsActionPath (values_of key attrs)) → AllByRecursion IsActionPath (values_of key attrs)
     go true f g rest = row_paths payload attrs row key f h.0
     go false f g rest = rest g
 
@@ -200,7 +200,7 @@ word_placed name None = refl
 word_placed name (Some word) = refl
 
 -- what the canonical line says is the action
-pub said_back : (a : Fields) → IsAction a → IsSaid (said (kind_name a.kind) (payload_word a.payload) (pairs_of a.attrs)) a
+pub said_back : (a : Fields) → IsAction a → IsSaid (canonical_words (kind_name a.kind) (payload_word a.payload) (pairs_of a.attrs)) a
 said_back a h = record {
   kind = refl;
   payload = word_placed (kind_name a.kind) (payload_word a.payload);

@@ -9,7 +9,7 @@ use Rattle.std.proofs.lemmas.List.Elements.{recursion_from_All}
 use Rattle.ips_digest.specs.declared.name.PayloadName.{PayloadName}
 use Rattle.ips_digest.specs.Name.{IsName, AreNameDigits, is_lower_digit, spelling}
 use Rattle.ips_digest.proofs.Names.{read_only}
-use Rattle.ips_line.specs.Line.{IsRun, in_payload}
+use Rattle.ips_line.specs.Line.{IsRunOfBytes, in_payload}
 use Rattle.ips_line.specs.Canonical.{pair_text}
 use Rattle.ips_action.specs.declared.attrs.Attr.{Attr}
 use Rattle.ips_action.specs.Action.{pairs_of, pairs_of_one, attr_text}
@@ -43,11 +43,11 @@ not_counted : (text : List ℕ) → text ≡ [] → (length text ≡ 40) ⊎ (le
 not_counted text none (inl e) = omega (arith, ap length none)
 not_counted text none (inr e) = omega (arith, ap length none)
 
-digits_run : (text : List ℕ) → AreNameDigits text → IsRun in_payload text
+digits_run : (text : List ℕ) → AreNameDigits text → IsRunOfBytes in_payload text
 digits_run [] h = absurd (not_counted [] refl h.count)
 digits_run (b ∷ text) h = all_run (b ∷ text) (recursion_from_All (λ b. is_lower_digit b ≡ true) (b ∷ text) h.digits)
 
-run_of : (text : List ℕ) → ((IsRun in_payload text → ⊥) → ⊥) → IsRun in_payload text
+run_of : (text : List ℕ) → ((IsRunOfBytes in_payload text → ⊥) → ⊥) → IsRunOfBytes in_payload text
 run_of [] h = absurd (h (λ r. r))
 run_of (b ∷ text) h = go (list_all in_payload (b ∷ text)) h
   where
@@ -55,7 +55,7 @@ run_of (b ∷ text) h = go (list_all in_payload (b ∷ text)) h
     go true g = refl
     go false g = absurd (g (λ e. cc))
 
-pub name_runs : (name : PayloadName) → IsName name → IsRun in_payload (spelling name)
+pub name_runs : (name : PayloadName) → IsName name → IsRunOfBytes in_payload (spelling name)
 name_runs name h = run_of (spelling name) (λ none. spelled_so name (spelling name) h refl (λ digits. none (digits_run (spelling name) digits)))
 
 -- ---- the canonical `key=value`

@@ -6,14 +6,14 @@ use Rattle.ips_action.specs.declared.kind.ActionKind.{ActionKind}
 use Rattle.ips_action.specs.declared.kind.ActionKind.TheVariants.{Set, Depend, Dir, File, Link, Hardlink, User, Group, Driver, License, Legacy, Signature}
 use Rattle.ips_action.specs.declared.attrs.Attr.{Attr}
 use Rattle.ips_action.specs.declared.action.Preserve.{Preserve}
-use Rattle.ips_action.specs.Table.{Row}
+use Rattle.ips_action.specs.Table.{AttributeRow}
 use Rattle.ips_action.specs.Check.{IsOneOf, preserve_words}
 use Rattle.ips_action.specs.Attrs.{values_of}
 use Rattle.ips_action.specs.Judging.{least, KeepsRow, rows_of, is_payload}
 use Rattle.ips_action.specs.Action.{naming_key, preserve_values}
 
 -- a row that is kept, of an attribute that has to stand
-stands : (payload : Option (List ℕ)) (attrs : List Attr) (row : Row) → KeepsRow payload attrs row → is_payload row.check ≡ false → 0 < least row.times → (name : List ℕ) → Some row.name ≡ Some name → values_of name attrs ≡ [] → ⊥
+stands : (payload : Option (List ℕ)) (attrs : List Attr) (row : AttributeRow) → KeepsRow payload attrs row → is_payload row.check ≡ false → 0 < least row.times → (name : List ℕ) → Some row.name ≡ Some name → values_of name attrs ≡ [] → ⊥
 stands payload attrs row h e some name is none =
     let same : row.name ≡ name = cc in
     let empty : values_of row.name attrs ≡ [] = ap (λ (k : List ℕ). values_of k attrs) same ∙ none in

@@ -11,7 +11,7 @@ use Rattle.ips_line.specs.declared.fault.Part.TheVariants as part
 use Rattle.ips_line.specs.declared.fault.WordFault.{WordFault}
 use Rattle.ips_line.specs.declared.fault.WordFault.TheVariants as words
 use Rattle.ips_line.specs.Line.{Line, IsWrittenLine, line_written, words_of, Said, Says, IsLine, IsFault, EndsInQuote}
-use Rattle.ips_line.specs.Canonical.{said}
+use Rattle.ips_line.specs.Canonical.{canonical_words}
 use Rattle.ips_line.specs.Reading.{read_line, said_line, placed, fault_of, read_words}
 use Rattle.ips_line.proofs.Whole.{line_only, line_found}
 use Rattle.ips_line.proofs.Opened.{open_told, fault_told}
@@ -55,7 +55,7 @@ said_from text s e = go (read_line text) e
 
 pub line_means : (a : Fields) → IsAction a → Means (line_text a) a
 line_means a h =
-    let s = said (kind_name a.kind) (payload_word a.payload) (pairs_of a.attrs) in
+    let s = canonical_words (kind_name a.kind) (payload_word a.payload) (pairs_of a.attrs) in
     (s, words_found (line_text a) s (said_from (line_text a) s (reads_back (kind_name a.kind) (payload_word a.payload) (pairs_of a.attrs) (are_words a h))), said_back a h)
 
 pub one_text : (a b : Fields) → IsAction a → IsAction b → line_text a ≡ line_text b → a ≡ b

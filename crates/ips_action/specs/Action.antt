@@ -3,7 +3,7 @@ use Rattle.std.specs.Prelude.{◌≡◌, ℕ, true, if◌then◌else◌, List, [
 use Rattle.std.specs.List.{AllByRecursion, flat_map}
 use Rattle.std.specs.Option.{option_map}
 use Rattle.ips_line.specs.declared.words.Pair.{Pair}
-use Rattle.ips_line.specs.Line.{in_key, IsRun}
+use Rattle.ips_line.specs.Line.{in_key, IsRunOfBytes}
 use Rattle.ips_line.specs.Canonical.{words_text, pair_text}
 use Rattle.ips_digest.specs.declared.name.PayloadName.{PayloadName}
 use Rattle.ips_digest.specs.Name.{IsName, spelling}
@@ -12,7 +12,7 @@ use Rattle.ips_action.specs.declared.attrs.Attr.{Attr}
 use Rattle.ips_action.specs.declared.action.Preserve.{Preserve}
 use Rattle.ips_action.specs.declared.action.Preserve.TheVariants as preserve
 use Rattle.ips_action.specs.Kind.{kind_name}
-use Rattle.ips_action.specs.Table.{Row, table}
+use Rattle.ips_action.specs.Table.{AttributeRow, table}
 use Rattle.ips_action.specs.Attrs.{AreAttrs}
 use Rattle.ips_action.specs.Judging.{KeepsRow, rows_of, takes_payload, is_payload}
 
@@ -39,13 +39,13 @@ IfTaken kind (Some payload) = takes_payload kind ≡ true
 -- the action is one of the table: its attributes stand by their keys, and all rows are kept
 pub record IsAction (a : Fields) : Type 0 where
   pub ordered : AreAttrs a.attrs
-  pub keys : AllByRecursion (λ (attr : Attr). IsRun in_key attr.key) a.attrs
+  pub keys : AllByRecursion (λ (attr : Attr). IsRunOfBytes in_key attr.key) a.attrs
   pub named : IfName a.payload
   pub taken : IfTaken a.kind a.payload
   pub rows : AllByRecursion (KeepsRow (payload_word a.payload) a.attrs) (rows_of a.kind a.attrs)
 
 -- the key of the attribute that names an action by these rows: that of the first row, where it is about no payload
-abbrev pub first_key : List Row → Option (List ℕ)
+abbrev pub first_key : List AttributeRow → Option (List ℕ)
 first_key [] = None
 first_key (row ∷ rows) = if is_payload row.check then None else Some row.name
 

@@ -10,7 +10,7 @@ use Rattle.ips_action.specs.declared.table.Times.TheVariants.{Once, OnceOrMore, 
 use Rattle.ips_action.specs.declared.fault.ActionFault.{ActionFault}
 use Rattle.ips_action.specs.declared.fault.ActionFault.TheVariants.{UnknownAction, BadWord, OpenQuote, MissingKey, BadValue}
 use Rattle.ips_action.specs.declared.attrs.Attr.{Attr}
-use Rattle.ips_action.specs.Table.{Row, table, any_times}
+use Rattle.ips_action.specs.Table.{AttributeRow, table, any_times}
 use Rattle.ips_action.specs.Check.{Meets}
 use Rattle.ips_action.specs.Attrs.{values_of}
 
@@ -29,21 +29,21 @@ is_single AtMostOnce = true
 is_single AnyTimes = false
 
 -- the values are as the row asks: often enough, not too often, and each what it must be in an action at this path
-pub record Keeps (path : List ℕ) (values : List (List ℕ)) (row : Row) : Type 0 where
+pub record MeetsRow (path : List ℕ) (values : List (List ℕ)) (row : AttributeRow) : Type 0 where
   pub enough : least row.times ≤ length values
   pub single : is_single row.times ≡ true → length values ≤ 1
   pub each : AllByRecursion (Meets row.check path) values
 
 -- the attribute has to stand, and doesn't
-abbrev pub IsMissing : List (List ℕ) → Row → Type 0
+abbrev pub IsMissing : List (List ℕ) → AttributeRow → Type 0
 IsMissing values row = length values < least row.times
 
 -- the attribute stands where it has to, but too often, or with a value that isn't what it must be
-abbrev pub IsBad : List ℕ → List (List ℕ) → Row → Type 0
-IsBad path values row = (least row.times ≤ length values) × (Keeps path values row → ⊥)
+abbrev pub IsBad : List ℕ → List (List ℕ) → AttributeRow → Type 0
+IsBad path values row = (least row.times ≤ length values) × (MeetsRow path values row → ⊥)
 
 -- the fault that a row finds in the values
-abbrev pub Finds : List ℕ → List (List ℕ) → Row → ActionFault → Type 0
+abbrev pub Finds : List ℕ → List (List ℕ) → AttributeRow → ActionFault → Type 0
 Finds path values row (UnknownAction place) = ⊥
 Finds path values row (BadWord place) = ⊥
 Finds path values row (OpenQuote place) = ⊥
@@ -70,7 +70,7 @@ is_payload Flag = false
 is_payload FacetTag = false
 
 -- what stands for a row: the payload word, where there is one, or the values of the attribute
-abbrev pub standing : Option (List ℕ) → List Attr → Row → List (List ℕ)
+abbrev pub standing : Option (List ℕ) → List Attr → AttributeRow → List (List ℕ)
 standing payload attrs row = if is_payload row.check then option_to_list payload else values_of row.name attrs
 
 -- the first of the values
@@ -83,11 +83,11 @@ abbrev pub path_of : List Attr → List ℕ
 path_of attrs = first_of (values_of (codes "path") attrs)
 
 -- what stands for the row is as it asks
-abbrev pub KeepsRow : Option (List ℕ) → List Attr → Row → Type 0
-KeepsRow payload attrs row = Keeps (path_of attrs) (standing payload attrs row) row
+abbrev pub KeepsRow : Option (List ℕ) → List Attr → AttributeRow → Type 0
+KeepsRow payload attrs row = MeetsRow (path_of attrs) (standing payload attrs row) row
 
 -- the fault is the first that the rows find, one after the other
-abbrev pub FindsFirst : Option (List ℕ) → List Attr → List Row → ActionFault → Type 0
+abbrev pub FindsFirst : Option (List ℕ) → List Attr → List AttributeRow → ActionFault → Type 0
 FindsFirst payload attrs [] fault = ⊥
 FindsFirst payload attrs (row ∷ rows) fault = Finds (path_of attrs) (standing payload attrs row) row fault ⊎ (KeepsRow payload attrs row × FindsFirst payload attrs rows fault)
 
@@ -96,14 +96,14 @@ abbrev pub is_facet : List ℕ → Bool
 is_facet key = starts_with ◌==◌ key (codes "facet.")
 
 -- the rows of the facets' tags, by the bytes of their keys; they may stand in every action
-abbrev pub facet_rows : List Attr → List Row
+abbrev pub facet_rows : List Attr → List AttributeRow
 facet_rows [] = []
 facet_rows (attr ∷ attrs) = if is_facet attr.key then any_times attr.key FacetTag ∷ facet_rows attrs else facet_rows attrs
 
 -- all rows by which an action of the kind is judged: first those of the table
-abbrev pub rows_of : ActionKind → List Attr → List Row
+abbrev pub rows_of : ActionKind → List Attr → List AttributeRow
 rows_of kind attrs = table kind ++ facet_rows attrs
 
 -- the kind of action has a payload
 abbrev pub takes_payload : ActionKind → Bool
-takes_payload kind = list_any (λ (row : Row). is_payload row.check) (table kind)
+takes_payload kind = list_any (λ (row : AttributeRow). is_payload row.check) (table kind)

@@ -13,7 +13,7 @@ use Rattle.ips_action.specs.declared.fault.ActionFault.{ActionFault}
 use Rattle.ips_action.specs.declared.fault.ActionFault.TheVariants.{UnknownAction, BadWord, OpenQuote, MissingKey, BadValue}
 use Rattle.ips_action.specs.declared.attrs.Attr.{Attr}
 use Rattle.ips_action.specs.Kind.{kind_name}
-use Rattle.ips_action.specs.Table.{Row, table}
+use Rattle.ips_action.specs.Table.{AttributeRow, table}
 use Rattle.ips_action.specs.Attrs.{is_same, AreAttrs, Gathers}
 use Rattle.ips_action.specs.Judging.{FindsFirst, rows_of, takes_payload}
 use Rattle.ips_action.specs.Action.{Fields, IsAction, IfTaken, payload_word}
@@ -39,7 +39,7 @@ is_path FacetTag = false
 
 -- the key is that of a path in an action of this kind
 abbrev pub is_path_key : ActionKind → List ℕ → Bool
-is_path_key kind key = list_any (λ (row : Row). is_path row.check && is_same row.name key) (table kind)
+is_path_key kind key = list_any (λ (row : AttributeRow). is_path row.check && is_same row.name key) (table kind)
 
 -- a path without the `/` before it
 abbrev pub without_slashes : List ℕ → List ℕ

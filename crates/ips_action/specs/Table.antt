@@ -9,33 +9,33 @@ use Rattle.ips_action.specs.declared.table.Times.TheVariants.{Once, OnceOrMore, 
 use Rattle.ips_action.specs.declared.table.Row as declared
 
 -- a row: the key of an attribute, how often it may stand, and what each of its values must be
-pub record Row : Type 0 where
+pub record AttributeRow : Type 0 where
   pub name : List ℕ
   pub times : Times
   pub check : Check
 
 -- a row of the code, with the bytes of its name
-abbrev pub row_seen : declared.Row → Row
+abbrev pub row_seen : declared.Row → AttributeRow
 row_seen r = record { name = r.name.now; times = r.times; check = r.check }
 
 -- an attribute that stands exactly once
-abbrev pub once : List ℕ → Check → Row
+abbrev pub once : List ℕ → Check → AttributeRow
 once name check = record { name = name; times = Once; check = check }
 
 -- an attribute that stands once or more
-abbrev pub once_or_more : List ℕ → Check → Row
+abbrev pub once_or_more : List ℕ → Check → AttributeRow
 once_or_more name check = record { name = name; times = OnceOrMore; check = check }
 
 -- an attribute that stands once or not at all
-abbrev pub at_most_once : List ℕ → Check → Row
+abbrev pub at_most_once : List ℕ → Check → AttributeRow
 at_most_once name check = record { name = name; times = AtMostOnce; check = check }
 
 -- an attribute that stands as often as one likes
-abbrev pub any_times : List ℕ → Check → Row
+abbrev pub any_times : List ℕ → Check → AttributeRow
 any_times name check = record { name = name; times = AnyTimes; check = check }
 
 -- what links of both sorts may have: the mediator whose choice lays them
-abbrev pub mediated : List Row
+abbrev pub mediated : List AttributeRow
 mediated =
     at_most_once (codes "mediator") Anything
     ∷ at_most_once (codes "mediator-version") Numbers
@@ -44,7 +44,7 @@ mediated =
     ∷ []
 
 -- the rows of each kind of action, in the order in which they are judged
-abbrev pub table : ActionKind → List Row
+abbrev pub table : ActionKind → List AttributeRow
 table Set =
     once (codes "name") Anything
     ∷ any_times (codes "value") Anything

@@ -3,7 +3,7 @@
 ghost use Rattle.std.specs.Prelude.{◌≡◌, ◌≢◌, ◌∷◌, ◌&&◌, List, ℕ, IfOk, MatchOption, map};
 ghost use Rattle.std.specs.List.{list_any};
 ghost use Rattle.ips_text.specs.Path as paths;
-ghost use Rattle.ips_action.specs.Table.{Row as DefinedRow, row_seen};
+ghost use Rattle.ips_action.specs.Table.{AttributeRow as DefinedRow, row_seen};
 ghost use Rattle.ips_action.specs.Attrs.{is_same};
 ghost use Rattle.ips_action.specs.Meaning as meaning;
 

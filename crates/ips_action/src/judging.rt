@@ -4,11 +4,11 @@ ghost use Rattle.std.specs.Prelude.{◌≡◌, ◌==◌, ◌≤◌, ◌∷◌, [
 ghost use Rattle.std.specs.List.{AllByRecursion, list_any};
 ghost use Rattle.std.specs.Option.{option_map};
 ghost use Rattle.ips_text.specs.Reading.{IfBad};
-ghost use Rattle.ips_action.specs.Table.{Row as DefinedRow, row_seen};
+ghost use Rattle.ips_action.specs.Table.{AttributeRow as DefinedRow, row_seen};
 ghost use Rattle.ips_action.specs.declared.attrs.Attr.{Attr as DefinedAttr};
 ghost use Rattle.ips_action.specs.Check.{Meets};
 ghost use Rattle.ips_action.specs.Judging as judging;
-ghost use Rattle.ips_action.specs.Judging.{Keeps, KeepsRow, Finds, FindsFirst, facet_rows, rows_of};
+ghost use Rattle.ips_action.specs.Judging.{MeetsRow, KeepsRow, Finds, FindsFirst, facet_rows, rows_of};
 
 use crate::attrs::{Attr, Attrs};
 use crate::check::{Check, meets};
@@ -168,7 +168,7 @@ fn judge_values(
     values: &[Text],
     row: &Row<'_>,
 ) -> Result<(), Or<ActionFault>>
-    ensures kept { OnOk result (Keeps path.now values.now (row_seen row.now)) }
+    ensures kept { OnOk result (MeetsRow path.now values.now (row_seen row.now)) }
     ensures fault { IfBad result (λ fault. Finds path.now values.now (row_seen row.now) fault) }
 {
     if values.len() < row.times.least() {

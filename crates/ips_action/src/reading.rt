@@ -5,7 +5,7 @@ ghost use Rattle.std.specs.List.{AllByRecursion};
 ghost use Rattle.std.specs.Option.{option_map};
 ghost use Rattle.ips_text.specs.Reading.{Gives, IfBad};
 ghost use Rattle.ips_line.specs.declared.words.Pair as line_pair;
-ghost use Rattle.ips_line.specs.Line.{IsRun, in_key};
+ghost use Rattle.ips_line.specs.Line.{IsRunOfBytes, in_key};
 ghost use Rattle.ips_line.specs.Seen.{seen};
 ghost use Rattle.ips_digest.specs.Name.{AreNameDigits};
 ghost use Rattle.ips_action.specs.declared.attrs.Attr.{Attr};
@@ -55,7 +55,7 @@ fn fault_of(fault: WordFault) -> ActionFault
 
 // The action that the words of a line are, or their first fault.
 fn action_of(alloc: Global, words: Words<'_>) -> Result<Action, Or<ActionFault>>
-    requires { AllByRecursion (λ (p : line_pair.Pair). IsRun in_key p.key) words.pairs.items }
+    requires { AllByRecursion (λ (p : line_pair.Pair). IsRunOfBytes in_key p.key) words.pairs.items }
     ensures found { IfOk result (λ action. IsSaid (seen words.entry) action) }
     ensures first { IfBad result (λ fault. FaultOf (seen words.entry) fault) }
 {
@@ -83,7 +83,7 @@ fn judged(
     payload: Option<&str>,
     pairs: Vec<Pair>,
 ) -> Result<Action, Or<ActionFault>>
-    requires keys { AllByRecursion (λ (p : line_pair.Pair). IsRun in_key p.key) pairs.items }
+    requires keys { AllByRecursion (λ (p : line_pair.Pair). IsRunOfBytes in_key p.key) pairs.items }
     requires taken { IfTaken kind payload }
     ensures found { IfOk result (λ action. IsReadAs kind (option_map (λ w. w.now) payload.entry) pairs.items action) }
     ensures first { IfBad result (λ fault. IsRefusedAs kind (option_map (λ w. w.now) payload.entry) pairs.items fault) }

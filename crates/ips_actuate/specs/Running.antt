@@ -17,9 +17,9 @@ Ends list ran (Err (Failed index status)) = (words : List (List ℕ)) × (slice_
 Ends list ran (Err (Spawn index)) = (words : List (List ℕ)) × (slice_get list index ≡ Some words) × (ran ≡ map succeeded (take index list))
 
 -- the fault is at a place of the list, and a status that is told isn't 0
-abbrev pub IsFaultOf : List (List (List ℕ)) → ActFault → Type 0
-IsFaultOf list (Failed index status) = (index < length list) × (status ≢ 0)
-IsFaultOf list (Spawn index) = index < length list
+abbrev pub IsFaultOfRun : List (List (List ℕ)) → ActFault → Type 0
+IsFaultOfRun list (Failed index status) = (index < length list) × (status ≢ 0)
+IsFaultOfRun list (Spawn index) = index < length list
 
 -- a run couldn't be made
 abbrev pub IsSpawn : Result (Unit {0}) ActFault → Type 0

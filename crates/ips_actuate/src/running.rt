@@ -3,7 +3,7 @@
 ghost use Rattle.std.specs.Prelude.{◌≡◌, ◌≢◌, ◌<◌, ◌++◌, List, IfErr, IsTrue, length, take};
 ghost use Rattle.ips_outside.specs.Outside.{HasCause};
 ghost use Rattle.ips_outside.specs.Running.{Run};
-ghost use Rattle.ips_actuate.specs.Running.{Ends, IsSpawn, IsFaultOf};
+ghost use Rattle.ips_actuate.specs.Running.{Ends, IsSpawn, IsFaultOfRun};
 
 use crate::run::Words;
 use ips_outside::{Failed, Spawner};
@@ -20,7 +20,7 @@ pub enum ActFault {
 /// Runs the words of the list in order, and stops at the first fault.
 pub fn run_all<P: Spawner>(spawner: &mut P, list: &[Words]) -> Result<(), ActFault>
     ensures ran { IsTrue (P.running.tells spawner.old) → (ran : List Run) × (P.running.ran spawner.new ≡ P.running.ran spawner.old ++ ran) × Ends list.now ran result }
-    ensures fault { IfErr result (IsFaultOf list.now) }
+    ensures fault { IfErr result (IsFaultOfRun list.now) }
     ensures cause { HasCause (P.running.faults spawner.old) (P.running.faults spawner.new) (IsSpawn result) }
     ensures same_kind { P.running.tells spawner.new ≡ P.running.tells spawner.old }
 {

@@ -4,7 +4,7 @@ use Rattle.std.proofs.lemmas.Bool.{and_parts, and_from, and_right, or_parts, or_
 use Rattle.ips_text.specs.Ancestry.{same_path, covers, parent, is_below}
 use Rattle.ips_outside.specs.Image.{Entry, Dir, File, Link, Other, Image, IsImage, is_file}
 use Rattle.ips_outside.specs.Change.{names}
-use Rattle.ips_steps.specs.Steps.{Stage, bytes_of, freed, at_parent, parent_freed, sound, named, distinct}
+use Rattle.ips_steps.specs.Steps.{Stage, content_bytes, freed, at_parent, parent_freed, sound, named, distinct}
 use Rattle.ips_steps.specs.Outcome.{with_modes}
 use Rattle.ips_after.specs.Change.{Change, Changes, Given, IsPlanned, Joined, Kept, Laid, Removed, change_at, cleared, remoded, replaces, staged, with_given}
 use Rattle.ips_after.specs.Lists.{listed, unrepeated}
@@ -97,7 +97,7 @@ module _ (change : Changes) where
       go Kept is ok new has rec = unsaid p q rest _ is new (rec k has)
       go Removed is ok new has rec = said p q rest Removed Removed _ is refl (rec k has)
       go (Laid (Dir m f)) is ok new has rec = said p q rest (Laid (Dir m f)) _ _ is (dir m f ok) (rec k has)
-      go (Laid (File m b)) is ok new has rec = said p q rest (Laid (File m b)) (Laid (File m (bytes_of (stage k)))) _ is (ap (λ (x : Option (List ℕ)). Laid (File m (bytes_of x))) has.0) (rec (k + 1) has.1)
+      go (Laid (File m b)) is ok new has rec = said p q rest (Laid (File m b)) (Laid (File m (content_bytes (stage k)))) _ is (ap (λ (x : Option (List ℕ)). Laid (File m (content_bytes x))) has.0) (rec (k + 1) has.1)
       go (Laid (Link g)) is ok new has rec = said p q rest (Laid (Link g)) _ _ is refl (rec k has)
       go (Laid Other) is ok new has rec = cc
       go (Joined to) is ok new has rec = said p q rest (Joined to) _ _ is refl (rec k has)

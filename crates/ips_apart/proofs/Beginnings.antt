@@ -10,7 +10,7 @@ use Rattle.ips_counts.specs.declared.sorts.Sorts.{Sorts}
 use Rattle.ips_meaning.specs.declared.finding.Finding.{Finding}
 use Rattle.ips_meaning.specs.declared.finding.Damage.{Damage}
 use Rattle.ips_meaning.specs.declared.finding.Damage.TheVariants.{Missing, WrongKind, WrongContent, WrongMode, WrongTarget, NotSame}
-use Rattle.ips_report.specs.Report.{damage_text, done_text, finding_text, folder_text, line, lines_of, recovered_text, report_text}
+use Rattle.ips_report.specs.Report.{damage_text, done_text, finding_text, folder_text, line, prefixed_lines, recovered_text, report_text}
 use Rattle.ips_report.specs.declared.outcome.Outcome.{Outcome}
 use Rattle.ips_report.specs.declared.outcome.Outcome.TheVariants.{Usage, Unfinished, BadJournal, Recovered, NoImage, ImageExists, BadImage, OldFormat, NoIndex, NoRepository, BadCatalog, NoMatch, Ambiguous, ManifestMissing, BadManifest, BadDepend, NoSolution, SearchSpent, NothingToDo, Reserved, Clash, BadAccountLine, IdTaken, UnknownOwner, LicenseNeeded, Unmovable, PayloadMissing, PayloadDamaged, Compressed, TooLarge, ActuatorFailed, SpawnFault, SourceFault, FolderFault, Damaged, Done, Shown, OutOfMemory}
 use Rattle.ips_apart.specs.Kind.{kind_of, shows}
@@ -72,7 +72,7 @@ folder_kind : (unfinished : Bool) → told_in beginnings (folder_text unfinished
 folder_kind true = refl
 folder_kind false = refl
 
-license_kind : (list : List (List ℕ)) → told_in beginnings (lines_of (codes "license needed: ") list) ≡ codes "license needed"
+license_kind : (list : List (List ℕ)) → told_in beginnings (prefixed_lines (codes "license needed: ") list) ≡ codes "license needed"
 license_kind [] = refl
 license_kind (x ∷ rest) = refl
 

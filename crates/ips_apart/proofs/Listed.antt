@@ -17,10 +17,10 @@ use Rattle.ips_counts.specs.declared.sorts.Sorts.{Sorts}
 use Rattle.ips_meaning.specs.declared.finding.Finding.{Finding}
 use Rattle.ips_meaning.specs.declared.finding.Damage.{Damage}
 use Rattle.ips_meaning.specs.declared.finding.Damage.TheVariants.{Missing, WrongKind, WrongContent, WrongMode, WrongTarget, NotSame}
-use Rattle.ips_report.specs.Report.{behind_blanks, candidate_text, counts_text, damage_text, done_text, finding_text, line, lines_of, sorts_text, three, tried_text, tried_texts}
+use Rattle.ips_report.specs.Report.{behind_blanks, candidate_text, counts_text, damage_text, done_text, finding_text, line, prefixed_lines, sorts_text, three, tried_text, tried_texts}
 use Rattle.ips_report.specs.declared.unsolved.Tried.{Tried}
 use Rattle.ips_fmri.specs.Version.{Parts, version_text}
-use Rattle.ips_refute.specs.Text.{Entry, entry_text, refutation_text}
+use Rattle.ips_refute.specs.Text.{RefutationEntry, entry_text, refutation_text}
 use Rattle.ips_apart.specs.Kind.{AllLack, AreSmallCounts, AreSmallSorts, HasPath, HasWords, candidate_word, found, tried_words}
 use Rattle.ips_apart.proofs.Pieces.{comma, cut_last, is_no_digit, line_before, newline, number_before, words_apart}
 
@@ -87,14 +87,14 @@ findings_apart (x ∷ xs) (y ∷ ys) a b hx hy e =
 
 -- lines in front of a text that begins otherwise
 licenses_apart : (xs ys : List (List ℕ)) (a b : List ℕ) → AllLack 10 xs → AllLack 10 ys
-    → lines_of (codes "license: ") xs ++ (105 ∷ a) ≡ lines_of (codes "license: ") ys ++ (105 ∷ b) → (xs ≡ ys) × (a ≡ b)
+    → prefixed_lines (codes "license: ") xs ++ (105 ∷ a) ≡ prefixed_lines (codes "license: ") ys ++ (105 ∷ b) → (xs ≡ ys) × (a ≡ b)
 licenses_apart [] [] a b hx hy e = (refl, cc)
 licenses_apart [] (y ∷ ys) a b hx hy e = absurd (false≢true (ap (begins (codes "l")) e))
 licenses_apart (x ∷ xs) [] a b hx hy e = absurd (false≢true (ap (begins (codes "l")) (sym e)))
 licenses_apart (x ∷ xs) (y ∷ ys) a b hx hy e =
     let front = codes "license: " in
-    let whole = sym (append_assoc (line (front ++ x)) (lines_of front xs) (105 ∷ a)) ∙ e ∙ append_assoc (line (front ++ y)) (lines_of front ys) (105 ∷ b) in
-    let first = line_before (front ++ x) (lines_of front xs ++ (105 ∷ a)) (front ++ y) (lines_of front ys ++ (105 ∷ b)) (lacks_append 10 front x refl hx.0) (lacks_append 10 front y refl hy.0) whole in
+    let whole = sym (append_assoc (line (front ++ x)) (prefixed_lines front xs) (105 ∷ a)) ∙ e ∙ append_assoc (line (front ++ y)) (prefixed_lines front ys) (105 ∷ b) in
+    let first = line_before (front ++ x) (prefixed_lines front xs ++ (105 ∷ a)) (front ++ y) (prefixed_lines front ys ++ (105 ∷ b)) (lacks_append 10 front x refl hx.0) (lacks_append 10 front y refl hy.0) whole in
     let rest = licenses_apart xs ys a b hx.1 hy.1 first.1 in
     (rw (append_cancel_left front x y first.0, rest.0) refl, rest.1)
 
@@ -119,8 +119,8 @@ three_apart k is a b c x y z x' y' z' r r' hx hy hz hx' hy' hz' e =
 abbrev behind_licenses : Counts → Sorts → List ℕ
 behind_licenses c s = counts_text c ++ (sorts_text s ++ line (codes "done"))
 
-done_flat : (c : Counts) (s : Sorts) (licenses : List (List ℕ)) → done_text c s licenses ≡ lines_of (codes "license: ") licenses ++ behind_licenses c s
-done_flat c s licenses = append_assoc (lines_of (codes "license: ") licenses ++ counts_text c) (sorts_text s) (line (codes "done")) ∙ append_assoc (lines_of (codes "license: ") licenses) (counts_text c) (sorts_text s ++ line (codes "done"))
+done_flat : (c : Counts) (s : Sorts) (licenses : List (List ℕ)) → done_text c s licenses ≡ prefixed_lines (codes "license: ") licenses ++ behind_licenses c s
+done_flat c s licenses = append_assoc (prefixed_lines (codes "license: ") licenses ++ counts_text c) (sorts_text s) (line (codes "done")) ∙ append_assoc (prefixed_lines (codes "license: ") licenses) (counts_text c) (sorts_text s ++ line (codes "done"))
 
 counts_apart : (c d : Counts) (a b : List ℕ) → AreSmallCounts c → AreSmallCounts d → counts_text c ++ a ≡ counts_text d ++ b → (c ≡ d) × (a ≡ b)
 counts_apart c d a b hc hd e =
@@ -201,7 +201,7 @@ unsolved_apart i (x ∷ xs) (y ∷ ys) a b hx hy e =
     let rest = unsolved_apart (i + 1) xs ys a b hx.1 hy.1 first.1 in
     (rw (words, rest.0) refl, rest.1)
 
-pub refuted_apart : (xs ys : List Tried) (es fs : List Entry) → AllByRecursion HasWords xs → AllByRecursion HasWords ys
+pub refuted_apart : (xs ys : List Tried) (es fs : List RefutationEntry) → AllByRecursion HasWords xs → AllByRecursion HasWords ys
     → tried_texts 0 xs ++ refutation_text es ≡ tried_texts 0 ys ++ refutation_text fs → (map tried_words xs ≡ map tried_words ys) × (refutation_text es ≡ refutation_text fs)
 refuted_apart xs ys es fs hx hy e =
     let parts = unsolved_apart 0 xs ys (codes "efutation 2\n" ++ flat_map entry_text es) (codes "efutation 2\n" ++ flat_map entry_text fs) hx hy e in

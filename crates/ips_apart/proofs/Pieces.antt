@@ -8,7 +8,7 @@ use Rattle.std.proofs.lemmas.Fmt.{decimal_injective, decimal_is_IsNumeral}
 use Rattle.std.proofs.lemmas.List.{append_assoc, append_cancel_left, append_cancel_right}
 use Rattle.ips_text.specs.Cut.{has_byte}
 use Rattle.ips_text.proofs.Cuts.{cut_once, lacks_append, not_cut}
-use Rattle.ips_report.specs.Report.{behind_blanks, line, lines_of}
+use Rattle.ips_report.specs.Report.{behind_blanks, line, prefixed_lines}
 use Rattle.ips_apart.specs.Kind.{AllLack}
 
 -- ---- a text with fixed pieces around others
@@ -116,10 +116,10 @@ pub line_there : (a b : List ℕ) → line a ++ b ≡ [] → ⊥
 line_there [] b e = cc
 line_there (x ∷ a) b e = cc
 
-pub lines_apart : (front : List ℕ) (xs ys : List (List ℕ)) → has_byte 10 front ≡ false → AllLack 10 xs → AllLack 10 ys → lines_of front xs ≡ lines_of front ys → xs ≡ ys
+pub lines_apart : (front : List ℕ) (xs ys : List (List ℕ)) → has_byte 10 front ≡ false → AllLack 10 xs → AllLack 10 ys → prefixed_lines front xs ≡ prefixed_lines front ys → xs ≡ ys
 lines_apart front [] [] hf hx hy e = refl
-lines_apart front [] (y ∷ ys) hf hx hy e = absurd (line_there (front ++ y) (lines_of front ys) (sym e))
-lines_apart front (x ∷ xs) [] hf hx hy e = absurd (line_there (front ++ x) (lines_of front xs) e)
+lines_apart front [] (y ∷ ys) hf hx hy e = absurd (line_there (front ++ y) (prefixed_lines front ys) (sym e))
+lines_apart front (x ∷ xs) [] hf hx hy e = absurd (line_there (front ++ x) (prefixed_lines front xs) e)
 lines_apart front (x ∷ xs) (y ∷ ys) hf hx hy e =
-    let parts = line_before (front ++ x) (lines_of front xs) (front ++ y) (lines_of front ys) (lacks_append 10 front x hf hx.0) (lacks_append 10 front y hf hy.0) e in
+    let parts = line_before (front ++ x) (prefixed_lines front xs) (front ++ y) (prefixed_lines front ys) (lacks_append 10 front x hf hx.0) (lacks_append 10 front y hf hy.0) e in
     rw (append_cancel_left front x y parts.0, lines_apart front xs ys hf hx.1 hy.1 parts.1) refl

@@ -16,9 +16,9 @@ ghost use Rattle.std.specs.List.{AllByRecursion, flat_map};
 ghost use Rattle.ips_counts.specs.declared.counts.Counts.{Counts};
 ghost use Rattle.ips_counts.specs.declared.sorts.Sorts.{Sorts};
 ghost use Rattle.ips_meaning.specs.declared.finding.Finding.{Finding};
-ghost use Rattle.ips_report.specs.Report.{behind_blanks, done_text, finding_text, line, lines_of, tried_texts};
+ghost use Rattle.ips_report.specs.Report.{behind_blanks, done_text, finding_text, line, prefixed_lines, tried_texts};
 ghost use Rattle.ips_report.specs.declared.unsolved.Tried.{Tried};
-ghost use Rattle.ips_refute.specs.Text.{Entry, refutation_text};
+ghost use Rattle.ips_refute.specs.Text.{RefutationEntry, refutation_text};
 ghost use Rattle.ips_apart.specs.Kind.{AllLack, AreSmallCounts, AreSmallSorts, HasPath, found, HasWords, kind_of, shows, tried_words};
 
 /// Outcomes with one text are of one kind, unless one shows a text as it stands.
@@ -57,12 +57,12 @@ pub fn reports_tell_what_they_say()
 /// choice fits, before the text of the refutation, what is damaged, and what was
 /// changed with the licenses to display.
 pub fn reports_tell_their_lists()
-    ensures licenses { (xs ys : List (List ℕ)) → AllLack 10 xs → AllLack 10 ys → lines_of (codes "license needed: ") xs ≡ lines_of (codes "license needed: ") ys → xs ≡ ys }
+    ensures licenses { (xs ys : List (List ℕ)) → AllLack 10 xs → AllLack 10 ys → prefixed_lines (codes "license needed: ") xs ≡ prefixed_lines (codes "license needed: ") ys → xs ≡ ys }
     ensures stems { (p q : List ℕ) (xs ys : List (List ℕ)) → AllLack 32 (p ∷ xs) → AllLack 32 (q ∷ ys)
         → line (codes "ambiguous " ++ p ++ codes ":" ++ behind_blanks xs) ≡ line (codes "ambiguous " ++ q ++ codes ":" ++ behind_blanks ys) → (p ≡ q) × (xs ≡ ys) }
     ensures clash { (k f s l g u : List ℕ) → AllLack 32 (f ∷ s ∷ []) → AllLack 32 (g ∷ u ∷ [])
         → line (codes "clash " ++ k ++ codes " " ++ f ++ codes " " ++ s) ≡ line (codes "clash " ++ l ++ codes " " ++ g ++ codes " " ++ u) → (k ≡ l) × (f ≡ g) × (s ≡ u) }
-    ensures unsolved { (xs ys : List Tried) (es fs : List Entry) → AllByRecursion HasWords xs → AllByRecursion HasWords ys
+    ensures unsolved { (xs ys : List Tried) (es fs : List RefutationEntry) → AllByRecursion HasWords xs → AllByRecursion HasWords ys
         → tried_texts 0 xs ++ refutation_text es ≡ tried_texts 0 ys ++ refutation_text fs → (map tried_words xs ≡ map tried_words ys) × (refutation_text es ≡ refutation_text fs) }
     ensures damages { (xs ys : List Finding) (a b : List ℕ) → AllByRecursion HasPath xs → AllByRecursion HasPath ys
         → flat_map finding_text xs ++ line (codes "damaged " ++ a) ≡ flat_map finding_text ys ++ line (codes "damaged " ++ b) → map found xs ≡ map found ys }

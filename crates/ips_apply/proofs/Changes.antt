@@ -3,11 +3,11 @@ use Rattle.std.proofs.Common.{◌≡◌, ℕ, Bool, true, false, ◌||◌, List,
 use Rattle.std.proofs.lemmas.Bool.{and_from, or_parts, or_from, false_from_ne_true}
 use Rattle.ips_text.specs.Ancestry.{same_path, covers}
 use Rattle.ips_outside.specs.Image.{Image}
-use Rattle.ips_outside.specs.Change.{placed, names}
+use Rattle.ips_outside.specs.Change.{with_entry_at, names}
 use Rattle.ips_outside.specs.State.{State, nowhere}
 use Rattle.ips_outside.specs.Outside.{Outside, IsOutside, Reads, readable}
-use Rattle.ips_folder.specs.Calls.{Writes, Keeps, IsSole}
-use Rattle.ips_steps.specs.Steps.{Step, Gone, Fresh, Mode, Put, Symlink, Hard, path_of, frees, freed, meets, stage_of, stage_path, bytes_of}
+use Rattle.ips_folder.specs.Calls.{Writes, ChangesOnly, IsSole}
+use Rattle.ips_steps.specs.Steps.{Step, Gone, Fresh, Mode, Put, Symlink, Hard, path_of, frees, freed, meets, stage_of, stage_path, content_bytes}
 use Rattle.ips_steps.specs.Journal.{step_allowed}
 use Rattle.ips_steps.specs.View.{sort_of}
 use Rattle.ips_steps.specs.declared.step.Sort.TheVariants as sort
@@ -28,7 +28,7 @@ module _ {F : Type 0} (o : Outside F) (sane : IsOutside o) (s : Step) where
   idle old = begun o (frees s) _ old (sane.only_now old)
 
   -- calls at the step's path
-  pub run_at_path : (p : List ℕ) (old new : F) → ((q : List ℕ) → frees s q ≡ covers p q) → Keeps o (covers p) nowhere old new → ChangedBy o s old new
+  pub run_at_path : (p : List ℕ) (old new : F) → ((q : List ℕ) → frees s q ≡ covers p q) → ChangesOnly o (covers p) nowhere old new → ChangedBy o s old new
   run_at_path p old new same run = keeps_wider o (covers p) nowhere (frees s) (λ q. frees s q || meets s (o.state old).held q) old new (λ q off. sym (same q) ∙ off) (λ q off. refl) run
 
   pub call_at_path : (p : List ℕ) (old new : F) (to : State) {T E : Type 0} (result : Result T E) → ((q : List ℕ) → frees s q ≡ covers p q) → o.tells old ≡ true → Writes o (covers p) nowhere to old new result → ChangedBy o s old new
@@ -42,7 +42,7 @@ module _ {F : Type 0} (o : Outside F) (sane : IsOutside o) (s : Step) where
       (one_write o sane old new nowhere (names (o.state old).held p) to result told w)
 
   -- another mode of what the step meets
-  pub modes_met : (p : List ℕ) (old new : F) → ((q : List ℕ) → meets s (o.state old).held q ≡ names (o.state old).held p q) → Keeps o nowhere (names (o.state old).held p) old new → ChangedBy o s old new
+  pub modes_met : (p : List ℕ) (old new : F) → ((q : List ℕ) → meets s (o.state old).held q ≡ names (o.state old).held p q) → ChangesOnly o nowhere (names (o.state old).held p) old new → ChangedBy o s old new
   modes_met p old new same run = keeps_wider o nowhere (names (o.state old).held p) (frees s) (λ q. frees s q || meets s (o.state old).held q) old new
       (λ q off. refl) (λ q off. sym (same q) ∙ (or_parts (frees s q) _ off).1) run
 
@@ -59,10 +59,10 @@ module _ {F : Type 0} (o : Outside F) (sane : IsOutside o) (s : Step) where
 
 -- a look, and then another mode
 pub looked_then_set : {F : Type 0} (o : Outside F) (sane : IsOutside o) (p : List ℕ) (old mid new : F) (failure : Type 0) → Reads o old mid failure → (to : State) {T E : Type 0} (result : Result T E) → Writes o nowhere (names (o.state mid).held p) to mid new result
-    → o.tells old ≡ true → Keeps o nowhere (names (o.state old).held p) old new
+    → o.tells old ≡ true → ChangesOnly o nowhere (names (o.state old).held p) old new
 looked_then_set o sane p old mid new failure read to result w told = keeps_then o nowhere (names (o.state old).held p) old mid new
     (one_read o sane nowhere (names (o.state old).held p) old mid failure read)
-    (subst (λ (t : State). Keeps o nowhere (names t.held p) mid new) read.kept (one_write o sane mid new nowhere (names (o.state mid).held p) to result (read.call.same_kind ∙ told) w))
+    (subst (λ (t : State). ChangesOnly o nowhere (names t.held p) mid new) read.kept (one_write o sane mid new nowhere (names (o.state mid).held p) to result (read.call.same_kind ∙ told) w))
 
 -- a step other than a mode frees what is at and below its path
 pub frees_path : (s : Step) → (sort_of s ≡ sort.Mode → ⊥) → (q : List ℕ) → frees s q ≡ covers (path_of s) q
@@ -73,7 +73,7 @@ frees_path (Put n m p) other q = refl
 frees_path (Symlink p target) other q = refl
 frees_path (Hard p to) other q = refl
 
-cleared_path : (s : Step) (t : Image) → (sort_of s ≡ sort.Mode → ⊥) → cleared s t ≡ placed (path_of s) None t
+cleared_path : (s : Step) (t : Image) → (sort_of s ≡ sort.Mode → ⊥) → cleared s t ≡ with_entry_at (path_of s) None t
 cleared_path (Gone p) t other = refl
 cleared_path (Fresh m p) t other = refl
 cleared_path (Mode m p) t other = absurd (other refl)
@@ -88,12 +88,12 @@ content_apart n m p f may is =
     subst (λ (q : List ℕ). covers p q ≡ false) one (or_parts (covers p (stage_path n)) false (content_kept (Put n m p ∷ []) n (and_from (step_allowed (Put n m p)) true may refl))).0
 
 -- the bytes of a content are those that can be read of its file
-pub content_read : (t : Image) (n : ℕ) (f : List ℕ) → Some (stage_path n) ≡ Some f → length (bytes_of (stage_of t n)) ≡ length (readable (t.look f))
+pub content_read : (t : Image) (n : ℕ) (f : List ℕ) → Some (stage_path n) ≡ Some f → length (content_bytes (stage_of t n)) ≡ length (readable (t.look f))
 content_read t n f is =
     let one : stage_path n ≡ f = cc in
     ap length (same (stage_of t n)) ∙ ap (λ (q : List ℕ). length (readable (t.look q))) one
   where
-    same : (bytes : Option (List ℕ)) → bytes_of bytes ≡ unwrap_or bytes []
+    same : (bytes : Option (List ℕ)) → content_bytes bytes ≡ unwrap_or bytes []
     same (Some bytes) = refl
     same None = refl
 
@@ -106,4 +106,4 @@ pub read_then_changed : {F : Type 0} (o : Outside F) (sane : IsOutside o) (s : S
 read_then_changed o sane s old mid new failure read step =
     let loose : List ℕ → Bool = λ q. frees s q || meets s (o.state old).held q in
     keeps_then o (frees s) loose old mid new (one_read o sane (frees s) loose old mid failure read)
-    (subst (λ (t : State). Keeps o (frees s) (λ q. frees s q || meets s t.held q) mid new) read.kept step)
+    (subst (λ (t : State). ChangesOnly o (frees s) (λ q. frees s q || meets s t.held q) mid new) read.kept step)

@@ -6,7 +6,7 @@ use Rattle.ips_outside.specs.Image.{Image}
 use Rattle.ips_outside.specs.Change.{appended}
 use Rattle.ips_outside.specs.State.{State, nowhere, written}
 use Rattle.ips_outside.specs.Outside.{Outside, IsOutside, Reads, readable, IsRead}
-use Rattle.ips_folder.specs.Calls.{Writes, Keeps, IsSole}
+use Rattle.ips_folder.specs.Calls.{Writes, ChangesOnly, IsSole}
 use Rattle.ips_outside.proofs.Reading.{answered}
 use Rattle.ips_folder.proofs.Runs.{begun, keeps_then, one_read, one_write}
 use Rattle.ips_journal.proofs.Writers.{sole_appended}
@@ -23,7 +23,7 @@ module _ {F : Type 0} (o : Outside F) (p from : List ℕ) where
     pub faults : o.faults now ≡ o.faults start
     pub changes : o.changes start ≤ o.changes now
     pub held : o.tells start ≡ true → (o.state now).held ≡ appended p (take count (source_of start)) (o.state start).held
-    pub moments : o.tells start ≡ true → Keeps o (covers p) nowhere start now
+    pub moments : o.tells start ≡ true → ChangesOnly o (covers p) nowhere start now
 
 module _ {F : Type 0} (o : Outside F) (sane : IsOutside o) (p from : List ℕ) where
   abbrev source : F → List ℕ
@@ -42,7 +42,7 @@ module _ {F : Type 0} (o : Outside F) (sane : IsOutside o) (p from : List ℕ) w
   }
 
   -- a run behind a call that only reads
-  pub kept_behind : (start mid new : F) (failure : Type 0) → Reads o start mid failure → Keeps o (covers p) nowhere mid new → Keeps o (covers p) nowhere start new
+  pub kept_behind : (start mid new : F) (failure : Type 0) → Reads o start mid failure → ChangesOnly o (covers p) nowhere mid new → ChangesOnly o (covers p) nowhere start new
   kept_behind start mid new failure read run = keeps_then o (covers p) nowhere start mid new (one_read o sane (covers p) nowhere start mid failure read) run
 
   module _ (apart : covers p from ≡ false) (start now : F) (count : ℕ) (c : CopiedTo start now count) where
@@ -54,7 +54,7 @@ module _ {F : Type 0} (o : Outside F) (sane : IsOutside o) (p from : List ℕ) w
     sole_stays told own = subst (λ (t : Image). IsSole t p) (sym (c.held told)) (sole_appended p (take count (source start)) (o.state start).held own)
 
     -- a call on it that only reads, whatever it answers
-    pub kept_reading : (mid : F) (failure : Type 0) → Reads o now mid failure → o.tells start ≡ true → Keeps o (covers p) nowhere start mid
+    pub kept_reading : (mid : F) (failure : Type 0) → Reads o now mid failure → o.tells start ≡ true → ChangesOnly o (covers p) nowhere start mid
     kept_reading mid failure read told = keeps_then o (covers p) nowhere start now mid (c.moments told) (one_read o sane (covers p) nowhere now mid failure read)
 
     module _ (mid : F) (failure : Type 0) (read : Reads o now mid failure) where
@@ -64,7 +64,7 @@ module _ {F : Type 0} (o : Outside F) (sane : IsOutside o) (p from : List ℕ) w
       pub sole_mid : o.tells start ≡ true → IsSole (o.state start).held p → IsSole (o.state mid).held p
       sole_mid told own = subst (λ (s : State). IsSole s.held p) (sym read.kept) (sole_stays told own)
 
-      pub kept_writing : (new : F) (to : State) {T E : Type 0} (result : Result T E) → Writes o (covers p) nowhere to mid new result → o.tells start ≡ true → Keeps o (covers p) nowhere start new
+      pub kept_writing : (new : F) (to : State) {T E : Type 0} (result : Result T E) → Writes o (covers p) nowhere to mid new result → o.tells start ≡ true → ChangesOnly o (covers p) nowhere start new
       kept_writing new to result w told = keeps_then o (covers p) nowhere start mid new (kept_reading mid failure read told)
           (one_write o sane mid new (covers p) nowhere to result (told_mid told) w)
 

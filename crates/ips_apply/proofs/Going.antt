@@ -10,14 +10,14 @@ use Rattle.ips_steps.specs.declared.step.Sort.{Sort}
 use Rattle.ips_kinds.specs.Tallies.{Carrier, taken, counted, all_counted}
 use Rattle.ips_kinds.proofs.Counting.{counted_more, taken_stays}
 use Rattle.ips_folder.proofs.Runs.{begun}
-use Rattle.ips_journal.specs.Reading.{Reading, IsAt, Means, TellsLine, TellsNext, journal_of}
+use Rattle.ips_journal.specs.Reading.{ReaderState, IsAt, NextAnswers, TellsLine, TellsNext, journal_of}
 use Rattle.ips_journal.specs.declared.fault.StepFault.{StepFault}
 use Rattle.ips_journal.specs.declared.fault.StepFault.TheVariants.{BadJournal, FolderFault}
 use Rattle.ips_apply.specs.Applied.{ChangedBy, OnBadJournal, AreLaid, IsReadTo, StopsBy, Ends, Applied, AppliedPart}
 use Rattle.ips_apply.proofs.Turns.{allowed_behind, laid_then_read, journal_stays, changed_more, held_none, held_one, laid_one_more}
 
 -- So many steps are finished, and the reader stands behind them.
-pub record Going {F : Type 0} (o : Outside F) (old now : F) (start r : Reading) (before kinds : List Carrier) (count : ℕ) : Type 0 where
+pub record Going {F : Type 0} (o : Outside F) (old now : F) (start r : ReaderState) (before kinds : List Carrier) (count : ℕ) : Type 0 where
   pub done : List Step
   pub tallies : kinds ≡ all_counted done before
   pub number : length done ≡ count
@@ -27,7 +27,7 @@ pub record Going {F : Type 0} (o : Outside F) (old now : F) (start r : Reading) 
   pub changes : o.changes old ≤ o.changes now
   pub told : o.tells old ≡ true → (front : List Step) → IsAt (journal_of (o.state old).held) front start → IsAt (journal_of (o.state old).held) (front ++ done) r × AreLaid o done old now
 
-pub going_start : {F : Type 0} (o : Outside F) (sane : IsOutside o) (old : F) (r : Reading) (before : List Carrier) → r.is_open ≡ true → Going o old old r r before before 0
+pub going_start : {F : Type 0} (o : Outside F) (sane : IsOutside o) (old : F) (r : ReaderState) (before : List Carrier) → r.is_open ≡ true → Going o old old r r before before 0
 going_start o sane old r before is_open = record {
   done = [];
   tallies = refl;
@@ -42,22 +42,22 @@ going_start o sane old r before is_open = record {
   );
 }
 
-abbrev WhatIsRead : {F : Type 0} → Outside F → F → Reading → Reading → Result Bool StepFault → Type 0
-WhatIsRead o now r s answer = o.tells now ≡ true → (front : List Step) → IsAt (journal_of (o.state now).held) front r → Means (journal_of (o.state now).held) front s answer
+abbrev WhatIsRead : {F : Type 0} → Outside F → F → ReaderState → ReaderState → Result Bool StepFault → Type 0
+WhatIsRead o now r s answer = o.tells now ≡ true → (front : List Step) → IsAt (journal_of (o.state now).held) front r → NextAnswers (journal_of (o.state now).held) front s answer
 
 -- what a fault of the reader tells
-abbrev WhatComesNext : {F : Type 0} → Outside F → F → Reading → Result Bool StepFault → Type 0
+abbrev WhatComesNext : {F : Type 0} → Outside F → F → ReaderState → Result Bool StepFault → Type 0
 WhatComesNext o now r answer = o.tells now ≡ true → (front : List Step) → IsAt (journal_of (o.state now).held) front r → IfErr answer (TellsNext (journal_of (o.state now).held) front)
 
-module _ {F : Type 0} (o : Outside F) (sane : IsOutside o) (old now mid : F) (start r s : Reading) (before kinds : List Carrier) (count : ℕ) (g : Going o old now start r before kinds count)
+module _ {F : Type 0} (o : Outside F) (sane : IsOutside o) (old now mid : F) (start r s : ReaderState) (before kinds : List Carrier) (count : ℕ) (g : Going o old now start r before kinds count)
     (failure : Type 0) (reads : Reads o now mid failure) (answer : Result Bool StepFault) (means : WhatIsRead o now r s answer) (most : ℕ) (room : count < most) where
   -- what the answer means for the text at the start
-  meant : o.tells old ≡ true → (front : List Step) → IsAt (journal_of (o.state old).held) front start → Means (journal_of (o.state old).held) (front ++ g.done) s answer
+  meant : o.tells old ≡ true → (front : List Step) → IsAt (journal_of (o.state old).held) front start → NextAnswers (journal_of (o.state old).held) (front ++ g.done) s answer
   meant told front at =
       let both = g.told told front at in
       let may : allowed g.done ≡ true = allowed_behind front g.done both.0.1.listed.names in
       let same : journal_of (o.state now).held ≡ journal_of (o.state old).held = journal_stays o sane g.done old now may both.1 in
-      subst (λ (text : List ℕ). Means text (front ++ g.done) s answer) same
+      subst (λ (text : List ℕ). NextAnswers text (front ++ g.done) s answer) same
       (means (g.same_kind ∙ told) (front ++ g.done) (subst (λ (text : List ℕ). IsAt text (front ++ g.done) r) (sym same) both.0))
 
   -- the end line
@@ -70,7 +70,7 @@ module _ {F : Type 0} (o : Outside F) (sane : IsOutside o) (old now mid : F) (st
     full = λ off. absurd (let bad : true ≡ false = off in cc);
     fewer = λ off. omega (arith, g.number, room);
     ends = λ told front at.
-        let whole = subst (Means (journal_of (o.state old).held) (front ++ g.done) s) is (meant told front at) in
+        let whole = subst (NextAnswers (journal_of (o.state old).held) (front ++ g.done) s) is (meant told front at) in
         ((whole.0, whole.1), laid_then_read o sane g.done old now mid failure (g.told told front at).1 reads);
   }
 
@@ -93,7 +93,7 @@ module _ {F : Type 0} (o : Outside F) (sane : IsOutside o) (old now mid : F) (st
     ends_reading (BadJournal line) is = stopped mid (BadJournal line)
         (λ told front at. (
           laid_then_read o sane g.done old now mid failure (g.told told front at).1 reads,
-          inl (subst (Means (journal_of (o.state old).held) (front ++ g.done) s) is (meant told front at)),
+          inl (subst (NextAnswers (journal_of (o.state old).held) (front ++ g.done) s) is (meant told front at)),
           comes_next line is told front at,
         ))
     ends_reading FolderFault is = stopped mid FolderFault
@@ -112,7 +112,7 @@ module _ {F : Type 0} (o : Outside F) (sane : IsOutside o) (old now mid : F) (st
   module _ (x : Step) (is : answer ≡ Ok true) (lent : s.step ≡ Some x) where
     next_at : o.tells old ≡ true → (front : List Step) → IsAt (journal_of (o.state old).held) front start → IsAt (journal_of (o.state old).held) ((front ++ g.done) ++ x ∷ []) s
     next_at told front at =
-        let found = subst (Means (journal_of (o.state old).held) (front ++ g.done) s) is (meant told front at) in
+        let found = subst (NextAnswers (journal_of (o.state old).held) (front ++ g.done) s) is (meant told front at) in
         let one : found.0 ≡ x = let both = sym found.2 ∙ lent in cc in
         subst (λ (y : Step). IsAt (journal_of (o.state old).held) ((front ++ g.done) ++ y ∷ []) s) one found.1
 
@@ -180,11 +180,11 @@ module _ {F : Type 0} (o : Outside F) (sane : IsOutside o) (old now mid : F) (st
     }
 
 -- what all kinds together take stays
-pub takers_stay : {F : Type 0} (o : Outside F) (old now : F) (start r : Reading) (before kinds : List Carrier) (count : ℕ) → Going o old now start r before kinds count → ((t : Sort) → taken before t ≡ true) → (t : Sort) → taken kinds t ≡ true
+pub takers_stay : {F : Type 0} (o : Outside F) (old now : F) (start r : ReaderState) (before kinds : List Carrier) (count : ℕ) → Going o old now start r before kinds count → ((t : Sort) → taken before t ≡ true) → (t : Sort) → taken kinds t ≡ true
 takers_stay o old now start r before kinds count g all t = ap (λ (l : List Carrier). taken l t) g.tallies ∙ taken_stays g.done t before ∙ all t
 
 -- as many are laid as were asked for
-pub ends_full : {F : Type 0} (o : Outside F) (most : ℕ) (old now : F) (start r : Reading) (before kinds : List Carrier) (count : ℕ) → Going o old now start r before kinds count → count ≡ most
+pub ends_full : {F : Type 0} (o : Outside F) (most : ℕ) (old now : F) (start r : ReaderState) (before kinds : List Carrier) (count : ℕ) → Going o old now start r before kinds count → count ≡ most
     → AppliedPart o most old now start r before kinds (Ok (count, false))
 ends_full o most old now start r before kinds count g last = record {
   steps = g.done;
@@ -198,7 +198,7 @@ ends_full o most old now start r before kinds count g last = record {
 
 -- ---- a run without an end
 
-module _ {F : Type 0} (o : Outside F) (sane : IsOutside o) (old mid : F) (start r : Reading) (before kinds : List Carrier) where
+module _ {F : Type 0} (o : Outside F) (sane : IsOutside o) (old mid : F) (start r : ReaderState) (before kinds : List Carrier) where
   abbrev Part : Result (ℕ × Bool) StepFault → Type 0
   Part result = AppliedPart o 18446744073709551615 old mid start r before kinds result
 
@@ -219,7 +219,7 @@ module _ {F : Type 0} (o : Outside F) (sane : IsOutside o) (old mid : F) (start 
 
   -- what is read behind the last step that a journal can list
   module _ (part : Result (ℕ × Bool) StepFault) (count : ℕ) (is : part ≡ Ok (count, false)) (applied : Part part) (kind : o.tells mid ≡ o.tells old)
-      (new : F) (s : Reading) (failure : Type 0) (reads : Reads o mid new failure) (answer : Result Bool StepFault) (means : WhatIsRead o mid r s answer) (next : WhatComesNext o mid r answer) where
+      (new : F) (s : ReaderState) (failure : Type 0) (reads : Reads o mid new failure) (answer : Result Bool StepFault) (means : WhatIsRead o mid r s answer) (next : WhatComesNext o mid r answer) where
     p : Part (Ok (count, false))
     p = subst Part is applied
 
@@ -236,8 +236,8 @@ module _ {F : Type 0} (o : Outside F) (sane : IsOutside o) (old mid : F) (start 
       here_mid : IsAt (journal_of (o.state mid).held) (front ++ p.steps) r
       here_mid = subst (λ (text : List ℕ). IsAt text (front ++ p.steps) r) (sym same_text) here.0
 
-      meant_last : Means (journal_of (o.state old).held) (front ++ p.steps) s answer
-      meant_last = subst (λ (text : List ℕ). Means text (front ++ p.steps) s answer) same_text (means (kind ∙ told) (front ++ p.steps) here_mid)
+      meant_last : NextAnswers (journal_of (o.state old).held) (front ++ p.steps) s answer
+      meant_last = subst (λ (text : List ℕ). NextAnswers text (front ++ p.steps) s answer) same_text (means (kind ∙ told) (front ++ p.steps) here_mid)
 
       next_last : IfErr answer (TellsNext (journal_of (o.state old).held) (front ++ p.steps))
       next_last = subst (λ (text : List ℕ). IfErr answer (TellsNext text (front ++ p.steps))) same_text (next (kind ∙ told) (front ++ p.steps) here_mid)
@@ -247,10 +247,10 @@ module _ {F : Type 0} (o : Outside F) (sane : IsOutside o) (old mid : F) (start 
 
     last_ends : (b : Bool) → answer ≡ Ok b → (told : o.tells old ≡ true) (front : List Step) → IsAt (journal_of (o.state old).held) front start → Ends o (journal_of (o.state old).held) front p.steps old new (Ok count)
     last_ends false answered told front at =
-        let whole = subst (Means (journal_of (o.state old).held) (front ++ p.steps) s) answered (meant_last told front at) in
+        let whole = subst (NextAnswers (journal_of (o.state old).held) (front ++ p.steps) s) answered (meant_last told front at) in
         (whole.0, whole.1, p.count, laid_last told front at)
     last_ends true answered told front at =
-        let more = subst (Means (journal_of (o.state old).held) (front ++ p.steps) s) answered (meant_last told front at) in
+        let more = subst (NextAnswers (journal_of (o.state old).held) (front ++ p.steps) s) answered (meant_last told front at) in
         let few = more.1.1.listed.count in
         absurd (omega (arith, few, last, length-append (front ++ p.steps) (more.0 ∷ []), length-append front p.steps))
 
@@ -260,7 +260,7 @@ module _ {F : Type 0} (o : Outside F) (sane : IsOutside o) (old mid : F) (start 
     last_stops : (e : StepFault) → answer ≡ Err e → (told : o.tells old ≡ true) (front : List Step) → IsAt (journal_of (o.state old).held) front start → StopsBy o (journal_of (o.state old).held) front p.steps old new e
     last_stops (BadJournal line) failed told front at = (
       laid_last told front at,
-      inl (subst (Means (journal_of (o.state old).held) (front ++ p.steps) s) failed (meant_last told front at)),
+      inl (subst (NextAnswers (journal_of (o.state old).held) (front ++ p.steps) s) failed (meant_last told front at)),
       record {
         stands = (r, (here told front at).0);
         next = subst (λ (a : Result Bool StepFault). IfErr a (TellsNext (journal_of (o.state old).held) (front ++ p.steps))) failed (next_last told front at);

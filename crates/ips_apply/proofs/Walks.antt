@@ -3,9 +3,9 @@ use Rattle.std.proofs.Common.{◌≡◌, ℕ, zero, suc, ◌+◌, Bool, true, fa
 use Rattle.std.proofs.lemmas.Bool.{and_parts, not-true}
 use Rattle.ips_text.specs.Ancestry.{same_path, covers, is_below}
 use Rattle.ips_outside.specs.Image.{Entry, Dir, File, Link, Image, is_file, has_parent}
-use Rattle.ips_outside.specs.Change.{placed, joined}
+use Rattle.ips_outside.specs.Change.{with_entry_at, joined}
 use Rattle.ips_folder.specs.Calls.{CanMake}
-use Rattle.ips_steps.specs.Steps.{Step, Gone, Fresh, Mode, Put, Symlink, Hard, Stage, bytes_of, laid, can_lay, meets}
+use Rattle.ips_steps.specs.Steps.{Step, Gone, Fresh, Mode, Put, Symlink, Hard, Stage, content_bytes, laid, can_lay, meets}
 use Rattle.ips_steps.specs.View.{sort_of}
 use Rattle.ips_kinds.specs.Acts.{acts}
 use Rattle.ips_kinds.specs.declared.kind.Act.{Act}
@@ -24,7 +24,7 @@ use Rattle.ips_outside.proofs.Agree.{redirected, same_two}
 off_path : (s c : Bool) (e x : Option Entry) → c ≡ false → s ≡ false → cond s e (cond c None x) ≡ x
 off_path s c e x cf sf = rw (sf, cf) refl
 
-look_off : (p q : List ℕ) (e : Option Entry) (t : Image) → covers p q ≡ false → (placed p e t).look q ≡ t.look q
+look_off : (p q : List ℕ) (e : Option Entry) (t : Image) → covers p q ≡ false → (with_entry_at p e t).look q ≡ t.look q
 look_off p q e t off = off_path (same_path p q) (covers p q) e (t.look q) off (uncovered p q off)
 
 clear_twice : (s c : Bool) (e x : Option Entry) → cond s e (cond c None (cond s None (cond c None x))) ≡ cond s e (cond c None x)
@@ -32,17 +32,17 @@ clear_twice true c e x = refl
 clear_twice false true e x = refl
 clear_twice false false e x = refl
 
-joined_cleared : (p to : List ℕ) (t : Image) → covers p to ≡ false → joined p to (placed p None t) ≡ joined p to t
+joined_cleared : (p to : List ℕ) (t : Image) → covers p to ≡ false → joined p to (with_entry_at p None t) ≡ joined p to t
 joined_cleared p to t off = image_ext _ _ looks sames
   where
-    looks : (q : List ℕ) → (joined p to (placed p None t)).look q ≡ (joined p to t).look q
-    looks q = ap (λ (e : Option Entry). cond (same_path p q) e (cond (covers p q) None ((placed p None t).look q))) (look_off p to None t off)
+    looks : (q : List ℕ) → (joined p to (with_entry_at p None t)).look q ≡ (joined p to t).look q
+    looks q = ap (λ (e : Option Entry). cond (same_path p q) e (cond (covers p q) None ((with_entry_at p None t).look q))) (look_off p to None t off)
         ∙ clear_twice (same_path p q) (covers p q) (t.look to) (t.look q)
 
     kept : (a : List ℕ) → is_below p a ≡ false → covers p (cond (same_path p a) to a) ≡ false
     kept a below = redirected (same_path p a) (covers p a) to a (covers p) below off (λ c. c)
 
-    sames : (a b : List ℕ) → (joined p to (placed p None t)).same a b ≡ (joined p to t).same a b
+    sames : (a b : List ℕ) → (joined p to (with_entry_at p None t)).same a b ≡ (joined p to t).same a b
     sames a b = same_two (is_below p a) (is_below p b) false _ _ (λ ba bb. rw (kept a ba, kept b bb) refl)
 
 -- ---- what all acts of a step make
@@ -51,7 +51,7 @@ all_laid : (stage : Stage) (s : Step) (t : Image) → can_lay stage s t ≡ true
 all_laid stage (Gone p) t can = refl
 all_laid stage (Fresh m p) t can = placed_twice p (Some (Dir m false)) None t
 all_laid stage (Mode m p) t can = refl
-all_laid stage (Put n m p) t can = filled p (bytes_of (stage n)) m (placed p None t) ∙ placed_twice p (Some (File m (bytes_of (stage n)))) None t
+all_laid stage (Put n m p) t can = filled p (content_bytes (stage n)) m (with_entry_at p None t) ∙ placed_twice p (Some (File m (content_bytes (stage n)))) None t
 all_laid stage (Symlink p target) t can = placed_twice p (Some (Link target)) None t
 all_laid stage (Hard p to) t can = joined_cleared p to t (not-true (covers p to) (and_parts _ _ (and_parts (has_parent t p) _ can).1).0)
 
@@ -65,7 +65,7 @@ abbrev Walk : Stage → Step → Image → List Act → Image → Type 0
 Walk stage s start [] t = Unit {0}
 Walk stage s start (a ∷ rest) t = AtTurn stage s start a t × Walk stage s start rest (acted stage s a t)
 
-cleared_makes : (p : List ℕ) (t : Image) → has_parent t p ≡ true → CanMake (placed p None t) p
+cleared_makes : (p : List ℕ) (t : Image) → has_parent t p ≡ true → CanMake (with_entry_at p None t) p
 cleared_makes p t here = record { absent = look_placed p None t; parent = parent_kept p None t here }
 
 walk : (stage : Stage) (s : Step) (t : Image) → can_lay stage s t ≡ true → Walk stage s t (acts (sort_of s)) t
@@ -73,14 +73,14 @@ walk stage (Gone p) t can = (record { can = tt; meets = λ q. refl }, (record { 
 walk stage (Fresh m p) t can = (record { can = tt; meets = λ q. refl }, (record { can = cleared_makes p t can; meets = λ q. refl }, (record { can = tt; meets = λ q. refl }, tt)))
 walk stage (Mode m p) t can = (record { can = tt; meets = λ q. refl }, (record { can = tt; meets = λ q. refl }, tt))
 walk stage (Put n m p) t can =
-    let made = sole_placed p 384 [] (placed p None t) in (
+    let made = sole_placed p 384 [] (with_entry_at p None t) in (
       record { can = tt; meets = λ q. refl },
       (
         record { can = cleared_makes p t (and_parts (has_parent t p) _ can).0; meets = λ q. refl },
         (
           record { can = made; meets = λ q. refl },
           (
-            record { can = sole_appended p (bytes_of (stage n)) (placed p (Some (File 384 [])) (placed p None t)) made; meets = λ q. refl },
+            record { can = sole_appended p (content_bytes (stage n)) (with_entry_at p (Some (File 384 [])) (with_entry_at p None t)) made; meets = λ q. refl },
             (record { can = tt; meets = λ q. refl }, tt),
           ),
         ),

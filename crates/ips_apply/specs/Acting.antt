@@ -1,25 +1,25 @@
 -- What each act of a step makes of an image, and when it can be done.
 use Rattle.std.specs.Prelude.{false, IsTrue, List, [], ◌∷◌, Some, None}
 use Rattle.ips_outside.specs.Image.{Image, Dir, File, Link, is_file}
-use Rattle.ips_outside.specs.Change.{placed, joined, moded, appended}
+use Rattle.ips_outside.specs.Change.{with_entry_at, joined, moded, appended}
 use Rattle.ips_folder.specs.Calls.{CanMake, IsSole}
-use Rattle.ips_steps.specs.Steps.{Step, Gone, Fresh, Mode, Put, Symlink, Hard, Stage, path_of, bytes_of}
+use Rattle.ips_steps.specs.Steps.{Step, Gone, Fresh, Mode, Put, Symlink, Hard, Stage, path_of, content_bytes}
 use Rattle.ips_kinds.specs.declared.kind.Act.{Act}
 use Rattle.ips_kinds.specs.declared.kind.Act.TheVariants as act
 
 -- without what stands at and below the path of a step other than a mode
 abbrev pub cleared : Step → Image → Image
-cleared (Gone p) t = placed p None t
-cleared (Fresh m p) t = placed p None t
+cleared (Gone p) t = with_entry_at p None t
+cleared (Fresh m p) t = with_entry_at p None t
 cleared (Mode m p) t = t
-cleared (Put n m p) t = placed p None t
-cleared (Symlink p target) t = placed p None t
-cleared (Hard p to) t = placed p None t
+cleared (Put n m p) t = with_entry_at p None t
+cleared (Symlink p target) t = with_entry_at p None t
+cleared (Hard p to) t = with_entry_at p None t
 
 -- with the directory of the step
 abbrev pub with_dir : Step → Image → Image
 with_dir (Gone p) t = t
-with_dir (Fresh m p) t = placed p (Some (Dir m false)) t
+with_dir (Fresh m p) t = with_entry_at p (Some (Dir m false)) t
 with_dir (Mode m p) t = t
 with_dir (Put n m p) t = t
 with_dir (Symlink p target) t = t
@@ -30,7 +30,7 @@ abbrev pub with_file : Step → Image → Image
 with_file (Gone p) t = t
 with_file (Fresh m p) t = t
 with_file (Mode m p) t = t
-with_file (Put n m p) t = placed p (Some (File 384 [])) t
+with_file (Put n m p) t = with_entry_at p (Some (File 384 [])) t
 with_file (Symlink p target) t = t
 with_file (Hard p to) t = t
 
@@ -39,7 +39,7 @@ abbrev pub with_content : Stage → Step → Image → Image
 with_content stage (Gone p) t = t
 with_content stage (Fresh m p) t = t
 with_content stage (Mode m p) t = t
-with_content stage (Put n m p) t = appended p (bytes_of (stage n)) t
+with_content stage (Put n m p) t = appended p (content_bytes (stage n)) t
 with_content stage (Symlink p target) t = t
 with_content stage (Hard p to) t = t
 
@@ -49,7 +49,7 @@ with_link (Gone p) t = t
 with_link (Fresh m p) t = t
 with_link (Mode m p) t = t
 with_link (Put n m p) t = t
-with_link (Symlink p target) t = placed p (Some (Link target)) t
+with_link (Symlink p target) t = with_entry_at p (Some (Link target)) t
 with_link (Hard p to) t = t
 
 -- with the step's path as one more name of its target

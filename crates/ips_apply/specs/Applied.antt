@@ -2,23 +2,23 @@
 use Rattle.std.specs.Prelude.{◌≡◌, ◌⊎◌, ℕ, ◌+◌, ◌-◌, ◌^◌, ◌<◌, ◌≤◌, ◌||◌, min, Bool, true, false, not, IfOk, IsTrue, IsFalse, List, [], ◌∷◌, ◌++◌, length, drop, Result, Ok, Err}
 use Rattle.ips_outside.specs.Image.{Image, Agrees}
 use Rattle.ips_outside.specs.Outside.{Outside}
-use Rattle.ips_folder.specs.Calls.{Keeps}
+use Rattle.ips_folder.specs.Calls.{ChangesOnly}
 use Rattle.ips_steps.specs.Steps.{Step, can_lay, possible, after, frees, freed, meets, met, stage_of}
 use Rattle.ips_steps.specs.Journal.{IsJournal}
 use Rattle.ips_kinds.specs.Tallies.{Carrier, all_counted}
 use Rattle.ips_journal.specs.Text.{journal_text}
 use Rattle.ips_journal.specs.Bad.{IsBadLine}
-use Rattle.ips_journal.specs.Reading.{Reading, IsAt, IsNextLine, journal_of}
+use Rattle.ips_journal.specs.Reading.{ReaderState, IsAt, IsNextLine, journal_of}
 use Rattle.ips_journal.specs.declared.fault.StepFault.{StepFault}
 use Rattle.ips_journal.specs.declared.fault.StepFault.TheVariants.{BadJournal, FolderFault}
 
 -- At every moment of the run, and now, nothing is changed and touched but what the step frees and the modes that it meets.
 abbrev pub ChangedBy : {F : Type 0} → Outside F → Step → F → F → Type 0
-ChangedBy o s old new = Keeps o (frees s) (λ q. frees s q || meets s (o.state old).held q) old new
+ChangedBy o s old new = ChangesOnly o (frees s) (λ q. frees s q || meets s (o.state old).held q) old new
 
 -- The same for steps that are laid one after another.
 abbrev pub ChangedByAll : {F : Type 0} → Outside F → List Step → F → F → Type 0
-ChangedByAll o steps old new = Keeps o (freed steps) (λ q. freed steps q || met (stage_of (o.state old).held) steps (o.state old).held q) old new
+ChangedByAll o steps old new = ChangesOnly o (freed steps) (λ q. freed steps q || met (stage_of (o.state old).held) steps (o.state old).held q) old new
 
 -- The second image is the first, but at what these steps free, and but for the modes that they meet.
 abbrev pub AgreesBut : List Step → Image → Image → Type 0
@@ -32,7 +32,7 @@ OnBadJournal (Err FolderFault) P = Unit {0}
 
 -- the text begins as a journal of these steps does: a reader can stand behind them
 abbrev pub BeginsWith : List ℕ → List Step → Type 0
-BeginsWith text steps = (r : Reading) × IsAt text steps r
+BeginsWith text steps = (r : ReaderState) × IsAt text steps r
 
 -- These steps were possible one after another and are laid, and nothing else was changed or touched.
 pub record AreLaid {F : Type 0} (o : Outside F) (steps : List Step) (old new : F) : Type 0 where
@@ -74,18 +74,18 @@ Ends o text front steps old new (Ok count) = IsJournal (front ++ steps) × (text
 Ends o text front steps old new (Err fault) = StopsBy o text front steps old new fault
 
 -- whether the text ends behind these steps: it is the journal of just these; or the reader stands behind them
-abbrev pub EndsOrNot : List ℕ → List Step → Reading → Bool → Type 0
+abbrev pub EndsOrNot : List ℕ → List Step → ReaderState → Bool → Type 0
 EndsOrNot text steps r true = IsJournal steps × (text ≡ journal_text steps)
 EndsOrNot text steps r false = IsAt text steps r
 
 -- How a run through a part of the steps ended: these are laid, and the text ends there or not; or it was stopped.
-abbrev pub EndsPart : {F : Type 0} → Outside F → List ℕ → List Step → List Step → F → F → Reading → Result (ℕ × Bool) StepFault → Type 0
+abbrev pub EndsPart : {F : Type 0} → Outside F → List ℕ → List Step → List Step → F → F → ReaderState → Result (ℕ × Bool) StepFault → Type 0
 EndsPart o text front steps old new r (Ok x) = EndsOrNot text (front ++ steps) r x.1 × AreLaid o steps old new
 EndsPart o text front steps old new r (Err fault) = StopsBy o text front steps old new fault
 
 -- What `apply` does from a reader's place on: some steps are finished, and each is counted by the first kind that takes it.
 -- Where the folder tells its image, they are the next steps of its journal.
-pub record Applied {F : Type 0} (o : Outside F) (old new : F) (r : Reading) (before now : List Carrier) (result : Result ℕ StepFault) : Type 0 where
+pub record Applied {F : Type 0} (o : Outside F) (old new : F) (r : ReaderState) (before now : List Carrier) (result : Result ℕ StepFault) : Type 0 where
   pub steps : List Step
   pub tallies : now ≡ all_counted steps before
   pub count : IfOk result (λ n. n ≡ min (length steps) (2 ^ 64 - 1))
@@ -97,7 +97,7 @@ goes_on (Ok x) = not x.1
 goes_on (Err fault) = false
 
 -- What a run of at most so many steps does: as many where it goes on, and else fewer.
-pub record AppliedPart {F : Type 0} (o : Outside F) (most : ℕ) (old new : F) (start r : Reading) (before now : List Carrier) (result : Result (ℕ × Bool) StepFault) : Type 0 where
+pub record AppliedPart {F : Type 0} (o : Outside F) (most : ℕ) (old new : F) (start r : ReaderState) (before now : List Carrier) (result : Result (ℕ × Bool) StepFault) : Type 0 where
   pub steps : List Step
   pub tallies : now ≡ all_counted steps before
   pub few : length steps ≤ most

@@ -2,7 +2,7 @@
 use Rattle.std.specs.Prelude.{◌≡◌, ◌⊎◌, ℕ, Bool, true, not, ◌&&◌, IsTrue, List, [], length, unwrap_or, is_some}
 use Rattle.ips_text.specs.Ancestry.{covers, parent}
 use Rattle.ips_outside.specs.Image.{Image, is_file, is_dir}
-use Rattle.ips_steps.specs.Steps.{Step, Gone, Fresh, Mode, Put, Symlink, Hard, Stage, stage_of, bytes_of}
+use Rattle.ips_steps.specs.Steps.{Step, Gone, Fresh, Mode, Put, Symlink, Hard, Stage, stage_of, content_bytes}
 
 -- The file stands from which a put or a hard link makes another.
 abbrev pub finds_source : Image → Step → Bool
@@ -18,7 +18,7 @@ abbrev pub content_size : Stage → Step → ℕ
 content_size stage (Gone p) = 0
 content_size stage (Fresh m p) = 0
 content_size stage (Mode m p) = 0
-content_size stage (Put n m p) = length (bytes_of (stage n))
+content_size stage (Put n m p) = length (content_bytes (stage n))
 content_size stage (Symlink p target) = 0
 content_size stage (Hard p to) = 0
 

@@ -4,7 +4,7 @@ ghost use Rattle.std.specs.Prelude.{◌≡◌, ◌<◌, ◌≤◌, IsTrue, IsErr
 ghost use Rattle.ips_outside.specs.Outside.{HasCause};
 ghost use Rattle.ips_outside.specs.Change.{moded, names};
 ghost use Rattle.ips_outside.specs.State.{nowhere};
-ghost use Rattle.ips_folder.specs.Calls.{Keeps};
+ghost use Rattle.ips_folder.specs.Calls.{ChangesOnly};
 ghost use Rattle.ips_steps.specs.Steps.{stage_of};
 ghost use Rattle.ips_steps.specs.Journal.{IsProper, step_allowed};
 ghost use Rattle.ips_steps.specs.View.{step_of};
@@ -175,7 +175,7 @@ fn set_mode<F: Folder>(folder: &mut F, step: &Step) -> Result<(), Failed>
 fn set_standing_mode<F: Folder>(folder: &mut F, path: &RelPath, mode: u16) -> Result<(), Failed>
     requires { mode < 4096 }
     ensures done { IsTrue (F.outside.tells folder.old) → OnOk result ((F.outside.state folder.new).held ≡ moded mode path.now.bytes (F.outside.state folder.old).held) }
-    ensures any_moment { IsTrue (F.outside.tells folder.old) → Keeps F.outside nowhere (names (F.outside.state folder.old).held path.now.bytes) folder.old folder.new }
+    ensures any_moment { IsTrue (F.outside.tells folder.old) → ChangesOnly F.outside nowhere (names (F.outside.state folder.old).held path.now.bytes) folder.old folder.new }
     ensures same_kind { F.outside.tells folder.new ≡ F.outside.tells folder.old }
     ensures changes { F.outside.changes folder.old ≤ F.outside.changes folder.new }
     ensures cause { HasCause (F.outside.faults folder.old) (F.outside.faults folder.new) (IsErr result) }

@@ -5,7 +5,7 @@ ghost use Rattle.ips_text.specs.Ancestry.{covers};
 ghost use Rattle.ips_outside.specs.Change.{appended};
 ghost use Rattle.ips_outside.specs.State.{nowhere};
 ghost use Rattle.ips_outside.specs.Outside.{HasCause, Reads, readable, IsRead};
-ghost use Rattle.ips_folder.specs.Calls.{IsSole, Keeps};
+ghost use Rattle.ips_folder.specs.Calls.{IsSole, ChangesOnly};
 
 use ips_folder::Folder;
 use ips_outside::{Failed, Look, Source};
@@ -23,7 +23,7 @@ pub fn copy<F: Folder>(
     requires room { 0 < length buffer.old }
     ensures copied { IsTrue (F.outside.tells folder.old) → OnOk result
         ((F.outside.state folder.new).held ≡ appended path.now.bytes (readable ((F.outside.state folder.old).held.look from.now.bytes)) (F.outside.state folder.old).held) }
-    ensures any_moment { IsTrue (F.outside.tells folder.old) → Keeps F.outside (covers path.now.bytes) nowhere folder.old folder.new }
+    ensures any_moment { IsTrue (F.outside.tells folder.old) → ChangesOnly F.outside (covers path.now.bytes) nowhere folder.old folder.new }
     ensures same_kind { F.outside.tells folder.new ≡ F.outside.tells folder.old }
     ensures changes { F.outside.changes folder.old ≤ F.outside.changes folder.new }
     ensures cause { HasCause (F.outside.faults folder.old) (F.outside.faults folder.new) (IsErr result) }
@@ -46,7 +46,7 @@ pub(crate) fn copy_sized<F: Folder>(
     requires room { 0 < length buffer.old }
     ensures copied { IsTrue (F.outside.tells folder.old) → OnOk result
         ((F.outside.state folder.new).held ≡ appended path.now.bytes (readable ((F.outside.state folder.old).held.look from.now.bytes)) (F.outside.state folder.old).held) }
-    ensures any_moment { IsTrue (F.outside.tells folder.old) → Keeps F.outside (covers path.now.bytes) nowhere folder.old folder.new }
+    ensures any_moment { IsTrue (F.outside.tells folder.old) → ChangesOnly F.outside (covers path.now.bytes) nowhere folder.old folder.new }
     ensures same_kind { F.outside.tells folder.new ≡ F.outside.tells folder.old }
     ensures changes { F.outside.changes folder.old ≤ F.outside.changes folder.new }
     ensures cause { HasCause (F.outside.faults folder.old) (F.outside.faults folder.new) (IsErr result) }

@@ -5,7 +5,7 @@ use Rattle.std.proofs.lemmas.Bool.{eqb-true, or_parts}
 use Rattle.std.proofs.lemmas.List.{append-nil, append_assoc, take-append-drop, drop_more, nil_from_length}
 use Rattle.std.proofs.lemmas.List.Quantifiers.{position-Some}
 use Rattle.std.proofs.lemmas.Bool.Decides.{nat_tests}
-use Rattle.ips_books.specs.Lines.{Line, onto_line, lines_of}
+use Rattle.ips_books.specs.Lines.{AccountLine, onto_line, account_lines}
 
 -- ---- the first that passes
 
@@ -50,36 +50,36 @@ before_cut text i e =
 
 -- ---- lines
 
-lines_front : (front rest : List ℕ) → list_any (λ b. eqb b 10) front ≡ false → lines_of (front ++ 10 ∷ rest) ≡ record { text = front; ended = true } ∷ lines_of rest
+lines_front : (front rest : List ℕ) → list_any (λ b. eqb b 10) front ≡ false → account_lines (front ++ 10 ∷ rest) ≡ record { text = front; ended = true } ∷ account_lines rest
 lines_front [] rest e = refl
 lines_front (b ∷ front) rest e =
     let parts = or_parts (eqb b 10) (list_any (λ b. eqb b 10) front) e in
-    ap (λ (t : Bool). cond t (record { text = []; ended = true } ∷ lines_of (front ++ 10 ∷ rest)) (onto_line b (lines_of (front ++ 10 ∷ rest)))) parts.0
+    ap (λ (t : Bool). cond t (record { text = []; ended = true } ∷ account_lines (front ++ 10 ∷ rest)) (onto_line b (account_lines (front ++ 10 ∷ rest)))) parts.0
     ∙ ap (onto_line b) (lines_front front rest parts.1)
 
-lines_last : (b : ℕ) (rest : List ℕ) → list_any (λ b. eqb b 10) (b ∷ rest) ≡ false → lines_of (b ∷ rest) ≡ record { text = b ∷ rest; ended = false } ∷ []
+lines_last : (b : ℕ) (rest : List ℕ) → list_any (λ b. eqb b 10) (b ∷ rest) ≡ false → account_lines (b ∷ rest) ≡ record { text = b ∷ rest; ended = false } ∷ []
 lines_last b [] e = ap (λ (t : Bool). cond t (record { text = []; ended = true } ∷ []) (onto_line b [])) (or_parts (eqb b 10) false e).0
 lines_last b (c ∷ rest) e =
     let parts = or_parts (eqb b 10) (list_any (λ b. eqb b 10) (c ∷ rest)) e in
-    ap (λ (t : Bool). cond t (record { text = []; ended = true } ∷ lines_of (c ∷ rest)) (onto_line b (lines_of (c ∷ rest)))) parts.0
+    ap (λ (t : Bool). cond t (record { text = []; ended = true } ∷ account_lines (c ∷ rest)) (onto_line b (account_lines (c ∷ rest)))) parts.0
     ∙ ap (onto_line b) (lines_last c rest parts.1)
 
 -- what was read, with the lines of what is left
-pub read_more : (text rest front behind : List ℕ) (lines new : List Line) (line : Line) → lines ++ lines_of rest ≡ lines_of text → rest ≡ front ++ 10 ∷ behind → list_any (λ b. eqb b 10) front ≡ false
-    → line ≡ record { text = front; ended = true } → new ≡ lines ++ line ∷ [] → new ++ lines_of behind ≡ lines_of text
+pub read_more : (text rest front behind : List ℕ) (lines new : List AccountLine) (line : AccountLine) → lines ++ account_lines rest ≡ account_lines text → rest ≡ front ++ 10 ∷ behind → list_any (λ b. eqb b 10) front ≡ false
+    → line ≡ record { text = front; ended = true } → new ≡ lines ++ line ∷ [] → new ++ account_lines behind ≡ account_lines text
 read_more text rest front behind lines new line so_far cut first is pushed =
-    ap (λ (l : List Line). l ++ lines_of behind) pushed
-    ∙ append_assoc lines (line ∷ []) (lines_of behind)
-    ∙ ap (λ (l : Line). lines ++ l ∷ lines_of behind) is
-    ∙ ap (λ (l : List Line). lines ++ l) (sym (lines_front front behind first) ∙ ap lines_of (sym cut))
+    ap (λ (l : List AccountLine). l ++ account_lines behind) pushed
+    ∙ append_assoc lines (line ∷ []) (account_lines behind)
+    ∙ ap (λ (l : AccountLine). lines ++ l ∷ account_lines behind) is
+    ∙ ap (λ (l : List AccountLine). lines ++ l) (sym (lines_front front behind first) ∙ ap account_lines (sym cut))
     ∙ so_far
 
-pub read_last : (text rest : List ℕ) (lines new : List Line) (line : Line) → lines ++ lines_of rest ≡ lines_of text → list_any (λ b. eqb b 10) rest ≡ false → eqb (length rest) 0 ≡ false
-    → line ≡ record { text = rest; ended = false } → new ≡ lines ++ line ∷ [] → new ≡ lines_of text
+pub read_last : (text rest : List ℕ) (lines new : List AccountLine) (line : AccountLine) → lines ++ account_lines rest ≡ account_lines text → list_any (λ b. eqb b 10) rest ≡ false → eqb (length rest) 0 ≡ false
+    → line ≡ record { text = rest; ended = false } → new ≡ lines ++ line ∷ [] → new ≡ account_lines text
 read_last text [] lines new line so_far first some is pushed = absurd (cc)
 read_last text (b ∷ rest) lines new line so_far first some is pushed =
-    pushed ∙ ap (λ (l : Line). lines ++ l ∷ []) is ∙ ap (λ (l : List Line). lines ++ l) (sym (lines_last b rest first)) ∙ so_far
+    pushed ∙ ap (λ (l : AccountLine). lines ++ l ∷ []) is ∙ ap (λ (l : List AccountLine). lines ++ l) (sym (lines_last b rest first)) ∙ so_far
 
-pub read_all : (text rest : List ℕ) (lines : List Line) → lines ++ lines_of rest ≡ lines_of text → eqb (length rest) 0 ≡ true → lines ≡ lines_of text
+pub read_all : (text rest : List ℕ) (lines : List AccountLine) → lines ++ account_lines rest ≡ account_lines text → eqb (length rest) 0 ≡ true → lines ≡ account_lines text
 read_all text rest lines so_far none =
-    sym (append-nil lines) ∙ ap (λ (l : List ℕ). lines ++ lines_of l) (sym (nil_from_length rest (eqb-true (length rest) 0 none))) ∙ so_far
+    sym (append-nil lines) ∙ ap (λ (l : List ℕ). lines ++ account_lines l) (sym (nil_from_length rest (eqb-true (length rest) 0 none))) ∙ so_far

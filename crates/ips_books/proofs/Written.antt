@@ -4,41 +4,41 @@ use Rattle.std.specs.List.{list_any, position, join_with_byte, insert}
 use Rattle.std.proofs.lemmas.List.{append_assoc, map-append, take-map, drop-map}
 use Rattle.std.proofs.lemmas.List.Folds.{list_any_at}
 use Rattle.std.proofs.lemmas.List.Quantifiers.{position-Some}
-use Rattle.ips_books.specs.Lines.{Line}
+use Rattle.ips_books.specs.Lines.{AccountLine}
 use Rattle.ips_books.specs.Accounts.{is_of}
-use Rattle.ips_books.specs.Writing.{at_first, rewritten, put, added}
+use Rattle.ips_books.specs.Writing.{at_first, rewritten, with_line, added}
 use Rattle.ips_books.proofs.Read.{none_first}
 
 -- ---- the first line that passes
 
-first_set : (p : Line → Bool) (f : Line → Line) (lines : List Line) (i : ℕ) (d : Line) → i < length lines → p (get_or lines i d) ≡ true → ((k : ℕ) → k < i → p (get_or lines k d) ≡ false) → at_first p f lines ≡ set lines i (f (get_or lines i d))
+first_set : (p : AccountLine → Bool) (f : AccountLine → AccountLine) (lines : List AccountLine) (i : ℕ) (d : AccountLine) → i < length lines → p (get_or lines i d) ≡ true → ((k : ℕ) → k < i → p (get_or lines k d) ≡ false) → at_first p f lines ≡ set lines i (f (get_or lines i d))
 first_set p f [] i d lt passes fails = absurd (omega (arith, lt))
 first_set p f (l ∷ lines) zero d lt passes fails = ap (λ (t : Bool). cond t (f l ∷ lines) (l ∷ at_first p f lines)) passes
 first_set p f (l ∷ lines) (suc i) d lt passes fails =
     ap (λ (t : Bool). cond t (f l ∷ lines) (l ∷ at_first p f lines)) (fails 0 (omega arith))
-    ∙ ap (λ (ls : List Line). l ∷ ls) (first_set p f lines i d (omega (arith, lt)) passes (λ k h. fails (suc k) (omega (arith, h))))
+    ∙ ap (λ (ls : List AccountLine). l ∷ ls) (first_set p f lines i d (omega (arith, lt)) passes (λ k h. fails (suc k) (omega (arith, h))))
 
-pub first_at : (p : Line → Bool) (f : Line → Line) (lines : List Line) (i : ℕ) (line : Line) → position p lines ≡ Some i → line ≡ get_or lines i line → at_first p f lines ≡ set lines i (f line)
+pub first_at : (p : AccountLine → Bool) (f : AccountLine → AccountLine) (lines : List AccountLine) (i : ℕ) (line : AccountLine) → position p lines ≡ Some i → line ≡ get_or lines i line → at_first p f lines ≡ set lines i (f line)
 first_at p f lines i line e is =
     let first = position-Some p lines i line e in
-    first_set p f lines i line first.0 first.1 first.2 ∙ ap (λ (l : Line). set lines i (f l)) (sym is)
+    first_set p f lines i line first.0 first.1 first.2 ∙ ap (λ (l : AccountLine). set lines i (f l)) (sym is)
 
 -- where none passes, the lines stay
-pub first_none : (p : Line → Bool) (f : Line → Line) (lines : List Line) → list_any p lines ≡ false → at_first p f lines ≡ lines
+pub first_none : (p : AccountLine → Bool) (f : AccountLine → AccountLine) (lines : List AccountLine) → list_any p lines ≡ false → at_first p f lines ≡ lines
 first_none p f [] e = refl
 first_none p f (l ∷ lines) e = go (p l) (first_none p f lines) e
   where
     go : (t : Bool) → (list_any p lines ≡ false → at_first p f lines ≡ lines) → (t || list_any p lines) ≡ false → cond t (f l ∷ lines) (l ∷ at_first p f lines) ≡ l ∷ lines
     go true rest e = absurd (cc)
-    go false rest e = ap (λ (ls : List Line). l ∷ ls) (rest e)
+    go false rest e = ap (λ (ls : List AccountLine). l ∷ ls) (rest e)
 
-pub put_first : (name text : List ℕ) (lines : List Line) (i : ℕ) (line : Line) → position (is_of name) lines ≡ Some i → line ≡ get_or lines i line → put name text lines ≡ set lines i (rewritten text line)
+pub put_first : (name text : List ℕ) (lines : List AccountLine) (i : ℕ) (line : AccountLine) → position (is_of name) lines ≡ Some i → line ≡ get_or lines i line → with_line name text lines ≡ set lines i (rewritten text line)
 put_first name text lines i line e is =
     let first = position-Some (is_of name) lines i line e in
     ap (λ (t : Bool). cond t (at_first (is_of name) (rewritten text) lines) (added text lines)) (list_any_at (is_of name) lines i line first.0 first.1)
     ∙ first_at (is_of name) (rewritten text) lines i line e is
 
-pub put_none : (name text : List ℕ) (lines : List Line) → position (is_of name) lines ≡ None → put name text lines ≡ added text lines
+pub put_none : (name text : List ℕ) (lines : List AccountLine) → position (is_of name) lines ≡ None → with_line name text lines ≡ added text lines
 put_none name text lines e = ap (λ (t : Bool). cond t (at_first (is_of name) (rewritten text) lines) (added text lines)) (none_first (is_of name) lines e)
 
 -- ---- parts with a mark between them

@@ -5,14 +5,14 @@ use Rattle.ips_books.specs.declared.books.Book.{Book}
 use Rattle.ips_books.specs.declared.books.Book.TheVariants.{Passwd, Shadow, Group}
 use Rattle.ips_books.specs.declared.fault.AccountFault.{AccountFault}
 use Rattle.ips_books.specs.declared.fault.AccountFault.TheVariants.{BadAccountLine}
-use Rattle.ips_books.specs.Lines.{Line, lines_of, text_of}
+use Rattle.ips_books.specs.Lines.{AccountLine, account_lines, account_text}
 use Rattle.ips_books.specs.Accounts.{bad_line, Accounts}
 
 -- The lines of a file, or the first that isn't one of it.
-abbrev pub read_book : Book → List ℕ → Result (List Line) AccountFault
+abbrev pub read_book : Book → List ℕ → Result (List AccountLine) AccountFault
 read_book book text =
-    let found = bad_line book (lines_of text) in
-    if is_some found then Err (BadAccountLine book (unwrap_or found 0 + 1)) else Ok (lines_of text)
+    let found = bad_line book (account_lines text) in
+    if is_some found then Err (BadAccountLine book (unwrap_or found 0 + 1)) else Ok (account_lines text)
 
 -- The texts of the files.
 pub record Texts : Type 0 where
@@ -30,4 +30,4 @@ read_books texts = do
 
 -- The texts of three files.
 abbrev pub texts_of : Accounts → Texts
-texts_of books = record { passwd = text_of books.passwd; shadow = text_of books.shadow; group = text_of books.group }
+texts_of books = record { passwd = account_text books.passwd; shadow = account_text books.shadow; group = account_text books.group }

@@ -94,7 +94,7 @@ fn is_numbered(book: Book, line: &[u8]) -> bool
 
 /// The lines of a text.
 pub fn lines_of(alloc: Global, text: &[u8]) -> Result<Vec<Line>, AllocError>
-    ensures { IfOk result (λ lines. lines.items ≡ lines_spec.lines_of text.now) }
+    ensures { IfOk result (λ lines. lines.items ≡ lines_spec.account_lines text.now) }
 {
     let mut lines = Vec::new(alloc);
     let mut rest = text;
@@ -149,7 +149,7 @@ pub fn print_books(
 
 // The text of lines.
 fn text_of(alloc: Global, lines: &[Line]) -> Result<Vec<u8>, AllocError>
-    ensures { IfOk result (λ text. text.items ≡ lines_spec.text_of lines.now) }
+    ensures { IfOk result (λ text. text.items ≡ lines_spec.account_text lines.now) }
 {
     let mut text = Vec::new(alloc);
     for line in lines {

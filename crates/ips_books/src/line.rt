@@ -18,7 +18,7 @@ pub struct Line {
 impl Model for Line {
     ghost use Rattle.ips_books.specs.Lines as lines;
 
-    ghost Value = { lines.Line };
+    ghost Value = { lines.AccountLine };
 
     ghost view = { λ l. record { text = l.text.items; ended = l.ended } };
 }

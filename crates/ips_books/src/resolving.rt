@@ -1,7 +1,7 @@
 //! The numbers of owners and groups.
 
 ghost use Rattle.std.specs.Prelude.{◌≡◌, option_map};
-ghost use Rattle.ips_books.specs.Lines.{lines_of};
+ghost use Rattle.ips_books.specs.Lines.{account_lines};
 ghost use Rattle.ips_books.specs.Accounts as spec;
 ghost use Rattle.ips_books.specs.Seen.{accounts};
 
@@ -24,7 +24,7 @@ pub fn resolve(books: &Books, owner: &str, group: &str) -> Result<(u32, u32), Un
 
 // The number of a user.
 fn uid_at(passwd: &[u8], name: &str) -> Option<u32>
-    ensures { result ≡ spec.uid_at (lines_of passwd.now) name.now }
+    ensures { result ≡ spec.uid_at (account_lines passwd.now) name.now }
 {
     match line_at(passwd, name.as_bytes()) {
         Some(line) => number_of(line),
@@ -34,7 +34,7 @@ fn uid_at(passwd: &[u8], name: &str) -> Option<u32>
 
 // The number of a group.
 fn gid_at(group: &[u8], name: &str) -> Option<u32>
-    ensures { result ≡ spec.gid_at (lines_of group.now) name.now }
+    ensures { result ≡ spec.gid_at (account_lines group.now) name.now }
 {
     match line_at(group, name.as_bytes()) {
         Some(line) => number_of(line),
@@ -74,7 +74,7 @@ pub fn known_group(name: &str) -> Option<u32>
 
 // What stands on the first line of a name.
 fn line_at<'a>(text: &'a [u8], name: &[u8]) -> Option<&'a [u8]>
-    ensures { option_map (λ line. line.now) result ≡ option_map (λ line. line.text) (spec.line_at (lines_of text.now) name.now) }
+    ensures { option_map (λ line. line.now) result ≡ option_map (λ line. line.text) (spec.line_at (account_lines text.now) name.now) }
 {
     text.split(|b| *b == b'\n').find(|line| is_of(line, name))
 }

@@ -26,7 +26,7 @@ pub fn add(lines: &mut Vec<Line>, text: Vec<u8>) -> Result<(), AllocError>
 /// Puts the next line at a place, where there is one.
 pub fn replace(lines: &mut [Line], place: usize, next: Option<Line>)
     requires { place < length lines.old }
-    ensures { (line : lines_spec.Line) → line ≡ slice_index_or lines.old place line → lines.new ≡ slice_set lines.old place (unwrap_or next line) }
+    ensures { (line : lines_spec.AccountLine) → line ≡ slice_index_or lines.old place line → lines.new ≡ slice_set lines.old place (unwrap_or next line) }
 {
     if let Some(line) = next {
         lines[place] = line;

@@ -7,7 +7,7 @@ use Rattle.std.proofs.lemmas.Slice.Eq.{bytes_eq-Decides}
 use Rattle.std.proofs.lemmas.List.Splits.{length-slice_split}
 use Rattle.ips_text.specs.declared.refusal.Or.{Or}
 use Rattle.ips_text.specs.declared.refusal.Or.TheVariants.{Bad}
-use Rattle.ips_text.specs.Reading.{AllFit, Gives}
+use Rattle.ips_text.specs.Reading.{OneOrMore, Gives}
 use Rattle.ips_text.specs.Path.{parts}
 use Rattle.ips_text.specs.Quote.{fits_name}
 use Rattle.ips_text.proofs.Readers.{ok_is, ok_not_err}
@@ -26,12 +26,12 @@ component_is : (bytes : List ℕ) → is_component bytes ≡ true → IsComponen
 component_is [] e = absurd (true≢false (sym e))
 component_is (b ∷ bytes) e = and_parts (may_begin false b) (list_all (may_go_on false) bytes) e
 
-parts_tested : (xs : List (List ℕ)) → AllFit (IsComponent false) xs → list_all is_component xs ≡ true
+parts_tested : (xs : List (List ℕ)) → OneOrMore (IsComponent false) xs → list_all is_component xs ≡ true
 parts_tested [] h = absurd h
 parts_tested (x ∷ []) h = both_true (is_component x) true (component_tested x h) refl
 parts_tested (x ∷ y ∷ xs) h = both_true (is_component x) (list_all is_component (y ∷ xs)) (component_tested x h.0) (parts_tested (y ∷ xs) h.1)
 
-parts_are : (xs : List (List ℕ)) → (xs ≡ [] → ⊥) → list_all is_component xs ≡ true → AllFit (IsComponent false) xs
+parts_are : (xs : List (List ℕ)) → (xs ≡ [] → ⊥) → list_all is_component xs ≡ true → OneOrMore (IsComponent false) xs
 parts_are [] some e = some refl
 parts_are (x ∷ []) some e = component_is x (and_parts (is_component x) true e).0
 parts_are (x ∷ y ∷ xs) some e =

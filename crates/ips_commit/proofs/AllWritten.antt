@@ -20,7 +20,7 @@ use Rattle.ips_repo.specs.Files.{file_at}
 use Rattle.ips_repo.specs.Places.{payload_place}
 use Rattle.ips_journal.specs.declared.staged.Staged.{Staged}
 use Rattle.ips_journal.specs.declared.staged.Staged.TheVariants.{Payload, Bytes, Standing}
-use Rattle.ips_commit.specs.Contents.{IsContent, IsStanding, IsApart, IsSeen, IsIntactContent, IsPayloadFault, IsFaultOf, SaysOfContent, SaysOfStage}
+use Rattle.ips_commit.specs.Contents.{IsContent, IsStanding, IsApart, IsSeen, IsIntactContent, IsPayloadFault, IsPayloadFileFault, SaysOfContent, SaysOfStage}
 use Rattle.ips_commit.specs.Staging.{HoldsOnly}
 use Rattle.ips_commit.specs.declared.fault.StageFault.{StageFault}
 use Rattle.ips_commit.specs.declared.fault.StageFault.TheVariants as stage
@@ -169,7 +169,7 @@ says_of_stage tells repository publisher staged i (Payload name) at before (stag
         at = i;
         stands = at ∙ ap (λ (n : PayloadName). Some (Payload n)) (sym same);
         before = before told;
-        is = subst (λ (n : PayloadName). IsFaultOf n (file_at repository (payload_place publisher n)) why) (sym same) (says.2 told);
+        is = subst (λ (n : PayloadName). IsPayloadFileFault n (file_at repository (payload_place publisher n)) why) (sym same) (says.2 told);
       },
     )
 says_of_stage tells repository publisher staged i (Payload name) at before stage.SourceFault says = tt

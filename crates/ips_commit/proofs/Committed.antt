@@ -4,7 +4,7 @@ use Rattle.ips_text.specs.Ancestry.{covers}
 use Rattle.ips_outside.specs.Image.{Image}
 use Rattle.ips_outside.specs.State.{IsSettled, nowhere}
 use Rattle.ips_outside.specs.Outside.{Outside, IsOutside}
-use Rattle.ips_folder.specs.Calls.{Keeps, Throughout}
+use Rattle.ips_folder.specs.Calls.{ChangesOnly, Throughout}
 use Rattle.ips_folder.proofs.Runs.{joins, weaker}
 use Rattle.ips_steps.specs.Steps.{Step}
 use Rattle.ips_steps.specs.Private.{gate_name, mark_name, visible}
@@ -23,7 +23,7 @@ use Rattle.ips_commit.proofs.Marked.{mark_own}
 use Rattle.ips_commit.proofs.Owing.{ready_text, owes_less, opening_owed, gate_opened}
 
 -- where no mark stood and the gate was opened, the first step can be laid
-pub opened_way : {F : Type 0} (o : Outside F) (old mid : F) → HasNoOtherMark (o.state old).held [] → Keeps o (covers gate_name) nowhere old mid → Opens o old mid → IsSettled (o.state mid) → IsUnderWay (o.state mid) 0
+pub opened_way : {F : Type 0} (o : Outside F) (old mid : F) → HasNoOtherMark (o.state old).held [] → ChangesOnly o (covers gate_name) nowhere old mid → Opens o old mid → IsSettled (o.state mid) → IsUnderWay (o.state mid) 0
 opened_way o old mid unmarked run opens clean = record {
   safe = clean;
   gate = opens.is_open.stands;
@@ -39,13 +39,13 @@ module _ {F : Type 0} (o : Outside F) (sane : IsOutside o) where
     abbrev before : Image
     before = visible (o.state old).held
 
-    pub opening : (mid : F) → Keeps o (covers gate_name) nowhere old mid → Throughout o old mid (FolderOwes journal_text before (Some a) false)
+    pub opening : (mid : F) → ChangesOnly o (covers gate_name) nowhere old mid → Throughout o old mid (FolderOwes journal_text before (Some a) false)
     opening mid run = opening_owed o sane steps 0 a old mid told staged.ready staged.safe run
 
-    pub none_laid_yet : (mid : F) → Keeps o (covers gate_name) nowhere old mid → (counts : List Carrier) → AreLaidTo steps 0 (o.state old).held (o.state mid).held counts counts
+    pub none_laid_yet : (mid : F) → ChangesOnly o (covers gate_name) nowhere old mid → (counts : List Carrier) → AreLaidTo steps 0 (o.state old).held (o.state mid).held counts counts
     none_laid_yet mid run counts = none_laid steps (o.state old).held (o.state mid).held counts (as_own (covers gate_name) gate_private (o.state old).held (o.state mid).held run.now.agrees)
 
-    module _ (mid : F) (kind : o.tells mid ≡ o.tells old) (run : Keeps o (covers gate_name) nowhere old mid) (opens : Opens o old mid) (clean : IsSettled (o.state mid)) where
+    module _ (mid : F) (kind : o.tells mid ≡ o.tells old) (run : ChangesOnly o (covers gate_name) nowhere old mid) (opens : Opens o old mid) (clean : IsSettled (o.state mid)) where
       pub is_open : IsOpen journal_text steps 0 a (o.state mid).held
       is_open = gate_opened o sane steps 0 a old mid told staged.ready staged.safe run opens
 

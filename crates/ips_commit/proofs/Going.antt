@@ -20,7 +20,7 @@ use Rattle.ips_kinds.specs.Tallies.{Carrier, counted, all_counted, taken}
 use Rattle.ips_kinds.proofs.Counting.{taken_stays}
 use Rattle.ips_journal.specs.Text.{journal_text}
 use Rattle.ips_journal.specs.Bad.{IsBadLine}
-use Rattle.ips_journal.specs.Reading.{Reading, IsAt, journal_of}
+use Rattle.ips_journal.specs.Reading.{ReaderState, IsAt, journal_of}
 use Rattle.ips_journal.specs.declared.fault.StepFault.{StepFault}
 use Rattle.ips_journal.specs.declared.fault.StepFault.TheVariants.{BadJournal, FolderFault}
 use Rattle.ips_apply.proofs.Turns.{allowed_behind}
@@ -76,7 +76,7 @@ cannot_alike s t u may h cannot = alone (can_lay (stage_of t) s t) (sym (marks_a
 module _ {F : Type 0} (o : Outside F) (sane : IsOutside o) (first : ℕ) where
   -- ---- before the first turn
 
-  pub lays_nothing : (old : F) (start : Reading) (before : List Carrier) → Lays o first old old start start before before (Ok false)
+  pub lays_nothing : (old : F) (start : ReaderState) (before : List Carrier) → Lays o first old old start start before before (Ok false)
   lays_nothing old start before = record {
     steps = [];
     marks = first;
@@ -99,7 +99,7 @@ module _ {F : Type 0} (o : Outside F) (sane : IsOutside o) (first : ℕ) where
 
   -- ---- a part, and what follows it
 
-  module _ (old mid : F) (start half : Reading) (before between : List Carrier) (one : Lays o first old mid start half before between (Ok false)) where
+  module _ (old mid : F) (start half : ReaderState) (before between : List Carrier) (one : Lays o first old mid start half before between (Ok false)) where
     abbrev t : Image
     t = (o.state old).held
 
@@ -123,7 +123,7 @@ module _ {F : Type 0} (o : Outside F) (sane : IsOutside o) (first : ℕ) where
       pub at_half : IsAt (journal_of (o.state mid).held) (front ++ one.steps) half
       at_half = subst (λ (l : List ℕ). IsAt l (front ++ one.steps) half) (sym same_text) laid_off.0
 
-    module _ (new : F) (r : Reading) (now : List Carrier) (how : Result Bool StepFault) (marks : ℕ) (are : one.marks ≡ marks) (two : Lays o marks mid new half r between now how) (kind : o.tells mid ≡ o.tells old) where
+    module _ (new : F) (r : ReaderState) (now : List Carrier) (how : Result Bool StepFault) (marks : ℕ) (are : one.marks ≡ marks) (two : Lays o marks mid new half r between now how) (kind : o.tells mid ≡ o.tells old) where
       abbrev both : List Step
       both = one.steps ++ two.steps
 
@@ -247,7 +247,7 @@ module _ {F : Type 0} (o : Outside F) (sane : IsOutside o) (first : ℕ) where
 -- ---- turn by turn
 
 -- So many turns were made: a thousand steps are laid in each and a mark stands behind each, and no call failed.
-pub record Going {F : Type 0} (o : Outside F) (first turn : ℕ) (old now : F) (start r : Reading) (before kinds : List Carrier) : Type 0 where
+pub record Going {F : Type 0} (o : Outside F) (first turn : ℕ) (old now : F) (start r : ReaderState) (before kinds : List Carrier) : Type 0 where
   pub lays : Lays o first old now start r before kinds (Ok false)
   pub marks : lays.marks ≡ first + turn
   pub is_open : r.is_open ≡ true
@@ -255,7 +255,7 @@ pub record Going {F : Type 0} (o : Outside F) (first turn : ℕ) (old now : F) (
   pub faults : o.faults now ≡ o.faults old
   pub changes : o.changes old ≤ o.changes now
 
-module _ {F : Type 0} (o : Outside F) (sane : IsOutside o) (first turn : ℕ) (old mid : F) (start half : Reading) (before between : List Carrier) (g : Going o first turn old mid start half before between) where
+module _ {F : Type 0} (o : Outside F) (sane : IsOutside o) (first turn : ℕ) (old mid : F) (start half : ReaderState) (before between : List Carrier) (g : Going o first turn old mid start half before between) where
   so_many : length g.lays.steps ≡ 1000 * turn
   so_many = let whole = g.lays.full refl in omega (arith, g.marks)
 
@@ -269,7 +269,7 @@ module _ {F : Type 0} (o : Outside F) (sane : IsOutside o) (first turn : ℕ) (o
   going_takers all s = ap (λ (l : List Carrier). taken l s) g.lays.tallies ∙ taken_stays g.lays.steps s before ∙ all s
 
   -- one turn more
-  module _ (new : F) (r : Reading) (now : List Carrier) (kind : o.tells new ≡ o.tells mid) where
+  module _ (new : F) (r : ReaderState) (now : List Carrier) (kind : o.tells new ≡ o.tells mid) where
     module _ (result answer : Result (ℕ × Bool) StepFault) (is : result ≡ answer) (turned : LaysThousand o (first + turn) mid new half r between now result) where
       turn_made : LaysThousand o (first + turn) mid new half r between now answer
       turn_made = subst (λ (x : Result (ℕ × Bool) StepFault). LaysThousand o (first + turn) mid new half r between now x) is turned
@@ -331,7 +331,7 @@ module _ {F : Type 0} (o : Outside F) (sane : IsOutside o) (first turn : ℕ) (o
     count = tt;
   }
 
-pub going_start : {F : Type 0} (o : Outside F) (sane : IsOutside o) (first : ℕ) (old : F) (start : Reading) (before : List Carrier) → start.is_open ≡ true → Going o first 0 old old start start before before
+pub going_start : {F : Type 0} (o : Outside F) (sane : IsOutside o) (first : ℕ) (old : F) (start : ReaderState) (before : List Carrier) → start.is_open ≡ true → Going o first 0 old old start start before before
 unfolding lays_nothing
 going_start o sane first old start before is_open = record {
   lays = lays_nothing o sane first old start before;

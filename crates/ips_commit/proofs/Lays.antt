@@ -10,7 +10,7 @@ use Rattle.ips_steps.specs.Steps.{Step}
 use Rattle.ips_steps.specs.Journal.{IsJournal, step_allowed, allowed}
 use Rattle.ips_journal.specs.Text.{journal_text}
 use Rattle.ips_journal.specs.Bad.{IsBadLine}
-use Rattle.ips_journal.specs.Reading.{Reading, IsAt}
+use Rattle.ips_journal.specs.Reading.{ReaderState, IsAt}
 use Rattle.ips_journal.specs.declared.fault.StepFault.{StepFault}
 use Rattle.ips_journal.specs.declared.fault.StepFault.TheVariants.{BadJournal, FolderFault}
 use Rattle.ips_journal.proofs.JournalLaws.{one_text, none_bad, in_order}
@@ -86,11 +86,11 @@ whole_next : (text : List ℕ) (whole : List Step) → IsJournal whole → text 
 whole_next text whole lists is all lists_all is_all = subst (λ (l : List Step). whole ≡ take (length whole) l) (one_text whole all lists lists_all (sym is ∙ is_all)) (sym (take-length whole))
 
 -- where it ends with them or not
-pub part_next : (text : List ℕ) (front steps : List Step) (r : Reading) (ended : Bool) → EndsOrNot text (front ++ steps) r ended → (all : List Step) → IsJournal all → text ≡ journal_text all → front ++ steps ≡ take (length (front ++ steps)) all
+pub part_next : (text : List ℕ) (front steps : List Step) (r : ReaderState) (ended : Bool) → EndsOrNot text (front ++ steps) r ended → (all : List Step) → IsJournal all → text ≡ journal_text all → front ++ steps ≡ take (length (front ++ steps)) all
 part_next text front steps r true ends all lists is = whole_next text (front ++ steps) ends.0 ends.1 all lists is
 part_next text front steps r false at all lists is = begins_next text front steps (r, at) all lists is
 
-pub part_lists : (text : List ℕ) (list : List Step) (r : Reading) (ended : Bool) → EndsOrNot text list r ended → IsJournal list
+pub part_lists : (text : List ℕ) (list : List Step) (r : ReaderState) (ended : Bool) → EndsOrNot text list r ended → IsJournal list
 part_lists text list r true ends = ends.0
 part_lists text list r false at = at.1.listed
 

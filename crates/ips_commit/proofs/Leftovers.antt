@@ -6,7 +6,7 @@ use Rattle.ips_text.specs.Ancestry.{same_path, covers, parent}
 use Rattle.ips_text.specs.Kept.{Kept}
 use Rattle.ips_text.proofs.Ancestry.{same_path-true, same_path-self, covers-self}
 use Rattle.ips_outside.specs.Image.{Entry, Image, IsImage, is_dir}
-use Rattle.ips_outside.specs.Children.{is_directory, bytes_of, AreChildren}
+use Rattle.ips_outside.specs.Children.{is_directory, path_bytes, AreChildren}
 use Rattle.ips_steps.specs.Steps.{stage_name}
 use Rattle.ips_steps.specs.Private.{records_name, journal_name, gate_name, mark_front, begins}
 use Rattle.ips_steps.proofs.Lists.{clash}
@@ -131,10 +131,10 @@ pub behind_at : (t u : Image) (stage journal : List ℕ) (b : Bool) → u ≡ t 
 behind_at t u stage journal b same at to found = found ∙ ap (λ (v : Image). is_some (v.look stage) || is_some (v.look journal)) same
     ∙ ap (λ (p : List ℕ). is_some (t.look p) || is_some (t.look journal)) at ∙ ap (λ (p : List ℕ). is_some (t.look stage_name) || is_some (t.look p)) to
 
-pub none_listed : (marks : List Kept) → length marks ≡ 0 → bytes_of marks ≡ []
+pub none_listed : (marks : List Kept) → length marks ≡ 0 → path_bytes marks ≡ []
 none_listed [] none = refl
 none_listed (m ∷ marks) none = absurd (omega arith)
 
-pub some_listed : (marks : List Kept) → (length marks ≡ 0 → ⊥) → length (bytes_of marks) ≡ 0 → ⊥
+pub some_listed : (marks : List Kept) → (length marks ≡ 0 → ⊥) → length (path_bytes marks) ≡ 0 → ⊥
 some_listed [] some none = some refl
 some_listed (m ∷ marks) some none = omega arith

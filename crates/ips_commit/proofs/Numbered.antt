@@ -8,8 +8,8 @@ use Rattle.ips_text.specs.Ancestry.{same_path, covers}
 use Rattle.ips_text.specs.Kept.{Kept}
 use Rattle.ips_text.proofs.Ancestry.{same_path-true, same_path-self}
 use Rattle.ips_outside.specs.Image.{Image}
-use Rattle.ips_outside.specs.Change.{placed}
-use Rattle.ips_outside.specs.Children.{bytes_of}
+use Rattle.ips_outside.specs.Change.{with_entry_at}
+use Rattle.ips_outside.specs.Children.{path_bytes}
 use Rattle.ips_steps.specs.Private.{mark_front, mark_name, begins}
 use Rattle.ips_steps.proofs.Lists.{clash}
 use Rattle.ips_steps.proofs.Numbered.{one_mark}
@@ -45,7 +45,7 @@ module _ (test : List ℕ → Bool) where
       ⊎_elim (λ here. inl (subst (λ (k : ℕ). test (mark_name k) ≡ true) (next n) here)) (λ before. inr before) split
 
 -- one mark less, of the first so many
-pub gone_numbered : (n : ℕ) (p : List ℕ) (t u : Image) (q : List ℕ) → p ≡ mark_name (n + 1) → u ≡ placed p None t → (list_any (λ m. covers m q) (mark_names n) ≡ true → t.look q ≡ None)
+pub gone_numbered : (n : ℕ) (p : List ℕ) (t u : Image) (q : List ℕ) → p ≡ mark_name (n + 1) → u ≡ with_entry_at p None t → (list_any (λ m. covers m q) (mark_names n) ≡ true → t.look q ≡ None)
     → list_any (λ m. covers m q) (mark_names (n + 1)) ≡ true → u.look q ≡ None
 gone_numbered n p t u q is made before now = ap (λ (v : Image). v.look q) made ∙ ⊎_elim
     (λ here. removed_gone p q t (ap (λ (x : List ℕ). covers x q) is ∙ here))
@@ -58,7 +58,7 @@ gone_numbered n p t u q is made before now = ap (λ (v : Image). v.look q) made 
 abbrev pub is_spare : List (List ℕ) → List ℕ → Bool
 is_spare kept m = not (list_any (λ k. same_path k m) kept)
 
-pub other_bytes : (kept : List (List ℕ)) (marks : List Kept) (q : List ℕ) → is_other kept (bytes_of marks) q ≡ list_any (λ (k : Kept). is_spare kept k.bytes && covers k.bytes q) marks
+pub other_bytes : (kept : List (List ℕ)) (marks : List Kept) (q : List ℕ) → is_other kept (path_bytes marks) q ≡ list_any (λ (k : Kept). is_spare kept k.bytes && covers k.bytes q) marks
 other_bytes kept [] q = refl
 other_bytes kept (m ∷ marks) q = ap (λ (x : Bool). (is_spare kept m.bytes && covers m.bytes q) || x) (other_bytes kept marks q)
 
@@ -72,7 +72,7 @@ module _ (kept : List (List ℕ)) (marks : List Kept) where
         (or_cases (list_any (λ (k : Kept). is_spare kept k.bytes && covers k.bytes q) (take i marks)) _ (sym (list_any_more (λ (k : Kept). is_spare kept k.bytes && covers k.bytes q) marks i m lt) ∙ now))
 
     -- a spare one is taken away
-    pub spare_gone : (t u : Image) (q : List ℕ) → u ≡ placed m.bytes None t → (At i q → t.look q ≡ None) → At (i + 1) q → u.look q ≡ None
+    pub spare_gone : (t u : Image) (q : List ℕ) → u ≡ with_entry_at m.bytes None t → (At i q → t.look q ≡ None) → At (i + 1) q → u.look q ≡ None
     spare_gone t u q made before now = ap (λ (v : Image). v.look q) made ∙ ⊎_elim
         (λ earlier. removed_none m.bytes q t (before earlier))
         (λ here. removed_gone m.bytes q t (and_parts (is_spare kept m.bytes) _ here).1)
@@ -85,7 +85,7 @@ module _ (kept : List (List ℕ)) (marks : List Kept) where
         (split q now)
 
     -- what is taken away is another one's
-    pub spare_off : is_spare kept m.bytes ≡ true → (q : List ℕ) → is_other kept (bytes_of marks) q ≡ false → covers m.bytes q ≡ false
+    pub spare_off : is_spare kept m.bytes ≡ true → (q : List ℕ) → is_other kept (path_bytes marks) q ≡ false → covers m.bytes q ≡ false
     spare_off spare q off = false_from_ne_true _ (λ c. clash (list_any (λ (k : Kept). is_spare kept k.bytes && covers k.bytes q) marks) (there marks i lt is (and_from (is_spare kept m.bytes) _ spare c)) (sym (other_bytes kept marks q) ∙ off))
       where
         there : (l : List Kept) (n : ℕ) → n < length l → m ≡ get_or l n m → (is_spare kept m.bytes && covers m.bytes q) ≡ true → list_any (λ (k : Kept). is_spare kept k.bytes && covers k.bytes q) l ≡ true

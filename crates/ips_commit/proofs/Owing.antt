@@ -5,12 +5,12 @@ use Rattle.std.proofs.lemmas.Bool.{or_parts, or_from}
 use Rattle.ips_text.specs.Ancestry.{covers}
 use Rattle.ips_text.proofs.Ancestry.{covers-self}
 use Rattle.ips_outside.specs.Image.{Image, IsImage, Agrees}
-use Rattle.ips_outside.specs.Change.{placed}
-use Rattle.ips_outside.specs.State.{Within, IsSettled, nowhere, State, MayLeave}
+use Rattle.ips_outside.specs.Change.{with_entry_at}
+use Rattle.ips_outside.specs.State.{ChangedWithin, IsSettled, nowhere, State, MayLeave}
 use Rattle.ips_outside.specs.Outside.{Outside, IsOutside}
 use Rattle.ips_outside.proofs.Images.{HasNodes}
 use Rattle.ips_outside.proofs.Moments.{agrees_less, within_crash}
-use Rattle.ips_folder.specs.Calls.{Keeps, Throughout}
+use Rattle.ips_folder.specs.Calls.{ChangesOnly, Throughout}
 use Rattle.ips_folder.proofs.Runs.{joins, weaker, keeps_wider}
 use Rattle.ips_steps.specs.Steps.{Step, stage_name, stage_of, freed, met}
 use Rattle.ips_steps.specs.Private.{gate_name, journal_name, mark_front, mark_name, begins, is_private, visible}
@@ -52,7 +52,7 @@ pub swept_seen : (t u : Image) → Agrees is_swept nowhere t u → visible u ≡
 swept_seen t u h = visible_agrees t u (agrees_less is_swept nowhere is_private nowhere t u (λ q seen. unswept_of q seen (is_swept q) refl) (λ q l. refl) h)
 
 -- what was swept behind the gate that was closed
-pub done_of : (marks : List (List ℕ)) (t u v : Image) → IsImage v → u ≡ placed gate_name None t → HasNoOtherMark t marks → IsSwept marks u v → Agrees is_swept nowhere u v → (visible v ≡ visible t) × IsBare v
+pub done_of : (marks : List (List ℕ)) (t u v : Image) → IsImage v → u ≡ with_entry_at gate_name None t → HasNoOtherMark t marks → IsSwept marks u v → Agrees is_swept nowhere u v → (visible v ≡ visible t) × IsBare v
 done_of marks t u v formed closed others swept agrees = (
   swept_seen u v agrees ∙ ap visible closed ∙ closed_seen t,
   bare_of v formed (swept.nothing_new gate_name (ap (λ (w : Image). w.look gate_name) closed ∙ removed_gone gate_name gate_name t (covers-self gate_name))) gone,
@@ -103,19 +103,19 @@ module _ {F : Type 0} (o : Outside F) (sane : IsOutside o) where
     abbrev left : List Step
     left = steps_left marks steps
 
-    laying_wide : HasBegun o (journal_of t) (take (1000 * marks) steps) old new → Keeps o (freed left) (λ q. freed left q || met (stage_of t) left t q) old new
+    laying_wide : HasBegun o (journal_of t) (take (1000 * marks) steps) old new → ChangesOnly o (freed left) (λ q. freed left q || met (stage_of t) left t q) old new
     laying_wide begun =
         let next : begun.begun ≡ take (length begun.begun) left = next_of steps begun.begun (1000 * marks) (begun.next steps is_open.ready.lists (ready_text steps marks a t is_open.ready)) in
         let some = take (length begun.begun) left in
-        let laid : Keeps o (freed some) (λ q. freed some q || met (stage_of t) some t q) old new =
-        subst (λ (l : List Step). Keeps o (freed l) (λ q. freed l q || met (stage_of t) l t q) old new) next begun.moments in
+        let laid : ChangesOnly o (freed some) (λ q. freed some q || met (stage_of t) some t q) old new =
+        subst (λ (l : List Step). ChangesOnly o (freed l) (λ q. freed l q || met (stage_of t) l t q) old new) next begun.moments in
         keeps_wider o (freed some) (λ q. freed some q || met (stage_of t) some t q) (freed left) (λ q. freed left q || met (stage_of t) left t q) old new
         (front_frees left (length begun.begun))
         (λ q none. let parts = or_parts (freed left q) (met (stage_of t) left t q) none in or_from (freed some q) (met (stage_of t) some t q) (front_frees left (length begun.begun) q parts.0) (front_meets (stage_of t) left (length begun.begun) t q parts.1))
         laid
 
     pub laying_owed : IsSettled (o.state old) → HasBegun o (journal_of t) (take (1000 * marks) steps) old new → (b : Image) (due : Bool) → Throughout o old new (FolderOwes journal_text b (Some a) due)
-    laying_owed clean begun b due = weaker o old new (Within (freed left) (λ q. freed left q || met (stage_of t) left t q) (o.state old)) (FolderOwes journal_text b (Some a) due)
+    laying_owed clean begun b due = weaker o old new (ChangedWithin (freed left) (λ q. freed left q || met (stage_of t) left t q) (o.state old)) (FolderOwes journal_text b (Some a) due)
         (λ s w. owes_laying journal_text steps marks a b due (o.state old) s is_open (nodes old told) clean w) (laying_wide begun).moments
 
     pub laying_open : HasBegun o (journal_of t) (take (1000 * marks) steps) old new → IsOpen journal_text steps marks a (o.state new).held
@@ -132,48 +132,48 @@ module _ {F : Type 0} (o : Outside F) (sane : IsOutside o) where
 
   -- ---- while the gate opens and closes
 
-  module _ (steps : List Step) (marks : ℕ) (a : Image) (old new : F) (told : o.tells old ≡ true) (ready : IsReady journal_text steps marks a (o.state old).held) (clean : IsSettled (o.state old)) (run : Keeps o (covers gate_name) nowhere old new) where
+  module _ (steps : List Step) (marks : ℕ) (a : Image) (old new : F) (told : o.tells old ≡ true) (ready : IsReady journal_text steps marks a (o.state old).held) (clean : IsSettled (o.state old)) (run : ChangesOnly o (covers gate_name) nowhere old new) where
     pub opening_owed : Throughout o old new (FolderOwes journal_text (visible (o.state old).held) (Some a) false)
-    opening_owed = weaker o old new (Within (covers gate_name) nowhere (o.state old)) (FolderOwes journal_text (visible (o.state old).held) (Some a) false)
+    opening_owed = weaker o old new (ChangedWithin (covers gate_name) nowhere (o.state old)) (FolderOwes journal_text (visible (o.state old).held) (Some a) false)
         (λ s w. owes_opening journal_text steps marks a (o.state old) s ready (nodes old told) clean w) run.moments
 
     pub gate_opened : Opens o old new → IsOpen journal_text steps marks a (o.state new).held
     gate_opened opens = record { gate = opens.is_open.stands; ready = gate_ready journal_text steps marks a (o.state old).held (o.state new).held ready (nodes old told) run.now.agrees }
 
     pub closing_owed : visible (o.state old).held ≡ a → (b : Image) (due : Bool) → Throughout o old new (FolderOwes journal_text b (Some a) due)
-    closing_owed seen b due = weaker o old new (Within (covers gate_name) nowhere (o.state old)) (FolderOwes journal_text b (Some a) due)
+    closing_owed seen b due = weaker o old new (ChangedWithin (covers gate_name) nowhere (o.state old)) (FolderOwes journal_text b (Some a) due)
         (λ s w. owes_closing journal_text steps marks a (o.state old) s ready (nodes old told) clean w b due seen) run.moments
 
   -- ---- behind the closed gate
 
   pub sweeping_owed : (b : Image) (a : Option Image) (due : Bool) (old new : F) → Owes journal_text b a due (o.state old).held → (o.state old).held.look gate_name ≡ None → IsSettled (o.state old)
-      → Keeps o is_swept nowhere old new → Throughout o old new (FolderOwes journal_text b a due)
-  sweeping_owed b a due old new owes shut clean run = weaker o old new (Within is_swept nowhere (o.state old)) (FolderOwes journal_text b a due)
+      → ChangesOnly o is_swept nowhere old new → Throughout o old new (FolderOwes journal_text b a due)
+  sweeping_owed b a due old new owes shut clean run = weaker o old new (ChangedWithin is_swept nowhere (o.state old)) (FolderOwes journal_text b a due)
       (λ s w. owes_sweeping journal_text b a due is_swept (o.state old) s owes shut clean swept_private gate_unswept w) run.moments
 
   -- ---- the gate closed, and what is left swept
 
   -- only the updater's own names are changed and touched
-  pub at_gate : (old new : F) → Keeps o (covers gate_name) nowhere old new → Keeps o is_private nowhere old new
+  pub at_gate : (old new : F) → ChangesOnly o (covers gate_name) nowhere old new → ChangesOnly o is_private nowhere old new
   at_gate old new run = keeps_wider o (covers gate_name) nowhere is_private nowhere old new (λ q seen. ungated q seen (covers gate_name q) refl) (λ q l. l) run
 
-  pub at_swept : (old new : F) → Keeps o is_swept nowhere old new → Keeps o is_private nowhere old new
+  pub at_swept : (old new : F) → ChangesOnly o is_swept nowhere old new → ChangesOnly o is_private nowhere old new
   at_swept old new run = keeps_wider o is_swept nowhere is_private nowhere old new unswept (λ q l. l) run
 
   -- a crash as the gate opens or closes leaves the marks
-  pub gate_left : (old new : F) (count : ℕ) → Keeps o (covers gate_name) nowhere old new → IsSettled (o.state old) → AreMarks (o.state old).held count → (c : Image) → MayLeave (o.state new) c → AreMarks c count
+  pub gate_left : (old new : F) (count : ℕ) → ChangesOnly o (covers gate_name) nowhere old new → IsSettled (o.state old) → AreMarks (o.state old).held count → (c : Image) → MayLeave (o.state new) c → AreMarks c count
   gate_left old new count run clean are c may = same_marks (covers gate_name) (o.state old).held c count
       (agrees_less _ _ (covers gate_name) nowhere (o.state old).held c (λ q f. or_from _ _ f (clean.whole q)) (λ q l. or_from false _ refl (clean.modes q)) (within_crash (covers gate_name) nowhere (o.state old) (o.state new) c run.now may))
       (λ i. unmarked_gate (mark_name i) (mark_own i)) are
 
   -- and behind it, that it is closed
-  pub shut_left : (old new : F) → Keeps o is_swept nowhere old new → IsSettled (o.state old) → (o.state old).held.look gate_name ≡ None → (c : Image) → MayLeave (o.state new) c → c.look gate_name ≡ None
+  pub shut_left : (old new : F) → ChangesOnly o is_swept nowhere old new → IsSettled (o.state old) → (o.state old).held.look gate_name ≡ None → (c : Image) → MayLeave (o.state new) c → c.look gate_name ≡ None
   shut_left old new run clean shut c may =
       let h = agrees_less _ _ is_swept nowhere (o.state old).held c (λ q f. or_from _ _ f (clean.whole q)) (λ q l. or_from false _ refl (clean.modes q)) (within_crash is_swept nowhere (o.state old) (o.state new) c run.now may) in
       h.look gate_name gate_unswept refl ∙ shut
 
   pub closed_owed : (steps : List Step) (marks : ℕ) (a : Image) (old mid new : F) → o.tells old ≡ true → IsReady journal_text steps marks a (o.state old).held → IsSettled (o.state old)
-      → Keeps o (covers gate_name) nowhere old mid → visible (o.state old).held ≡ a → (o.state mid).held ≡ placed gate_name None (o.state old).held → IsSettled (o.state mid) → Keeps o is_swept nowhere mid new
+      → ChangesOnly o (covers gate_name) nowhere old mid → visible (o.state old).held ≡ a → (o.state mid).held ≡ with_entry_at gate_name None (o.state old).held → IsSettled (o.state mid) → ChangesOnly o is_swept nowhere mid new
       → (b : Image) (due : Bool) → Throughout o old new (FolderOwes journal_text b (Some a) due)
   closed_owed steps marks a old mid new told ready clean run seen closed safe sweep b due =
       let t = (o.state old).held in

@@ -12,7 +12,7 @@ use Rattle.ips_steps.specs.Journal.{IsJournal}
 use Rattle.ips_steps.specs.Owed.{steps_left, IsOpen}
 use Rattle.ips_journal.specs.Text.{journal_text}
 use Rattle.ips_journal.specs.Bad.{IsBadLine}
-use Rattle.ips_journal.specs.Reading.{Reading, IsAt, Means, IsFaultOf, journal_of}
+use Rattle.ips_journal.specs.Reading.{ReaderState, IsAt, NextAnswers, IsJournalFault, journal_of}
 use Rattle.ips_journal.specs.declared.fault.StepFault.{StepFault}
 use Rattle.ips_journal.specs.declared.fault.StepFault.TheVariants.{BadJournal, FolderFault}
 use Rattle.ips_journal.proofs.JournalLaws.{one_text, none_bad, in_order}
@@ -28,57 +28,57 @@ module _ {F : Type 0} (o : Outside F) (old mid : F) (reads : Reads o old mid ⊥
   text_same : journal_of (o.state mid).held ≡ journal_of (o.state old).held
   text_same = ap (λ (s : State). journal_of s.held) reads.kept
 
-  pub means_here : (r now : Reading) (result : Result Bool StepFault)
-      → (o.tells mid ≡ true → (front : List Step) → IsAt (journal_of (o.state mid).held) front r → Means (journal_of (o.state mid).held) front now result)
-      → o.tells old ≡ true → (front : List Step) → IsAt (journal_of (o.state old).held) front r → Means (journal_of (o.state old).held) front now result
-  means_here r now result means told front at = subst (λ (l : List ℕ). Means l front now result) text_same
+  pub means_here : (r now : ReaderState) (result : Result Bool StepFault)
+      → (o.tells mid ≡ true → (front : List Step) → IsAt (journal_of (o.state mid).held) front r → NextAnswers (journal_of (o.state mid).held) front now result)
+      → o.tells old ≡ true → (front : List Step) → IsAt (journal_of (o.state old).held) front r → NextAnswers (journal_of (o.state old).held) front now result
+  means_here r now result means told front at = subst (λ (l : List ℕ). NextAnswers l front now result) text_same
       (means (reads.call.same_kind ∙ told) front (subst (λ (l : List ℕ). IsAt l front r) (sym text_same) at))
 
 -- ---- a whole journal read
 
 -- The reader stands behind so many steps of the text.
-abbrev pub HasRead : List ℕ → Reading → ℕ → Type 0
+abbrev pub HasRead : List ℕ → ReaderState → ℕ → Type 0
 HasRead text r count = (front : List Step) × IsAt text front r × (length front ≡ count)
 
-fault_of : (text : List ℕ) (e : StepFault) → IsFaultOf text e → ReadsWhole text (Err e)
+fault_of : (text : List ℕ) (e : StepFault) → IsJournalFault text e → ReadsWhole text (Err e)
 fault_of text (BadJournal line) is = is
 fault_of text FolderFault is = tt
 
-pub whole_fault : (text : List ℕ) (front : List Step) (now : Reading) (result : Result Bool StepFault) (e : StepFault) (answer : Result ℕ StepFault) → result ≡ Err e → answer ≡ Err e → Means text front now result → ReadsWhole text answer
-whole_fault text front now result e answer was is means = subst (ReadsWhole text) (sym is) (fault_of text e (subst (Means text front now) was means))
+pub whole_fault : (text : List ℕ) (front : List Step) (now : ReaderState) (result : Result Bool StepFault) (e : StepFault) (answer : Result ℕ StepFault) → result ≡ Err e → answer ≡ Err e → NextAnswers text front now result → ReadsWhole text answer
+whole_fault text front now result e answer was is means = subst (ReadsWhole text) (sym is) (fault_of text e (subst (NextAnswers text front now) was means))
 
-pub whole_end : (text : List ℕ) (front : List Step) (now : Reading) (result : Result Bool StepFault) (count : ℕ) → result ≡ Ok false → Means text front now result → length front ≡ count → ReadsWhole text (Ok count)
-whole_end text front now result count was means so_many = let m = subst (Means text front now) was means in (front, m.0, m.1, so_many)
+pub whole_end : (text : List ℕ) (front : List Step) (now : ReaderState) (result : Result Bool StepFault) (count : ℕ) → result ≡ Ok false → NextAnswers text front now result → length front ≡ count → ReadsWhole text (Ok count)
+whole_end text front now result count was means so_many = let m = subst (NextAnswers text front now) was means in (front, m.0, m.1, so_many)
 
-pub read_more : (text : List ℕ) (front : List Step) (now : Reading) (result : Result Bool StepFault) (count : ℕ) → result ≡ Ok true → Means text front now result → length front ≡ count → HasRead text now (count + 1)
+pub read_more : (text : List ℕ) (front : List Step) (now : ReaderState) (result : Result Bool StepFault) (count : ℕ) → result ≡ Ok true → NextAnswers text front now result → length front ≡ count → HasRead text now (count + 1)
 read_more text front now result count was means so_many =
-    let m = subst (Means text front now) was means in
+    let m = subst (NextAnswers text front now) was means in
     (front ++ m.0 ∷ [], m.1, length-append front (m.0 ∷ []) ∙ ap (λ (n : ℕ). n + 1) so_many)
 
-pub too_many : (text : List ℕ) (r : Reading) (count : ℕ) → HasRead text r (count + 1) → count ≡ 18446744073709551615 → ReadsWhole text (Ok count)
+pub too_many : (text : List ℕ) (r : ReaderState) (count : ℕ) → HasRead text r (count + 1) → count ≡ 18446744073709551615 → ReadsWhole text (Ok count)
 too_many text r count read most = absurd (omega (arith, read.1.1.listed.count, read.2))
 
 -- ---- a part of a journal passed
 
 module _ (steps : List Step) (lists : IsJournal steps) (text : List ℕ) (is : text ≡ journal_text steps) where
-  pub passed_more : (i : ℕ) (now : Reading) (result : Result Bool StepFault) → i < length steps → result ≡ Ok true → Means text (take i steps) now result → IsAt text (take (i + 1) steps) now
+  pub passed_more : (i : ℕ) (now : ReaderState) (result : Result Bool StepFault) → i < length steps → result ≡ Ok true → NextAnswers text (take i steps) now result → IsAt text (take (i + 1) steps) now
   passed_more i now result lt was means =
-      let m = subst (Means text (take i steps) now) was means in
+      let m = subst (NextAnswers text (take i steps) now) was means in
       let front = take i steps ++ m.0 ∷ [] in
       let order = in_order steps front now lists (subst (λ (l : List ℕ). IsAt l front now) is m.1) in
       let count : length front ≡ i + 1 = length-append (take i steps) (m.0 ∷ []) ∙ ap (λ (n : ℕ). n + 1) (length-take-le i steps (omega arith)) in
       subst (λ (l : List Step). IsAt text l now) (order.1 ∙ ap (λ (n : ℕ). take n steps) count) m.1
 
-  pub never_ends : (i : ℕ) (now : Reading) (result : Result Bool StepFault) → i < length steps → result ≡ Ok false → Means text (take i steps) now result → ⊥
+  pub never_ends : (i : ℕ) (now : ReaderState) (result : Result Bool StepFault) → i < length steps → result ≡ Ok false → NextAnswers text (take i steps) now result → ⊥
   never_ends i now result lt was means =
-      let m = subst (Means text (take i steps) now) was means in
+      let m = subst (NextAnswers text (take i steps) now) was means in
       let same : take i steps ≡ steps = one_text (take i steps) steps m.0 lists (sym m.1 ∙ is) in
       omega (arith, length-take-le i steps (omega arith), ap length same)
 
-  pub only_folder : (front : List Step) (now : Reading) (result : Result Bool StepFault) (e : StepFault) → result ≡ Err e → Means text front now result → e ≡ FolderFault
-  only_folder front now result e was means = go e (subst (Means text front now) was means)
+  pub only_folder : (front : List Step) (now : ReaderState) (result : Result Bool StepFault) (e : StepFault) → result ≡ Err e → NextAnswers text front now result → e ≡ FolderFault
+  only_folder front now result e was means = go e (subst (NextAnswers text front now) was means)
     where
-      go : (e : StepFault) → IsFaultOf text e → e ≡ FolderFault
+      go : (e : StepFault) → IsJournalFault text e → e ≡ FolderFault
       go (BadJournal line) bad = absurd (none_bad steps line lists (subst (λ (l : List ℕ). IsBadLine l line) is bad))
       go FolderFault bad = refl
 
@@ -139,7 +139,7 @@ unchanged_unread e why is at = is ∙ ap unread_as at
 take_least : (n m : ℕ) (l : List Step) → length l ≡ m → take (min n m) l ≡ take n l
 take_least n m l is = ap (λ (k : ℕ). take (min n k) l) (sym is) ∙ take_min n l
 
-pub placed_at : (t : Image) (total count passed : ℕ) (r : Reading) → (whole : (steps : List Step) × IsJournal steps × (journal_of t ≡ journal_text steps) × (length steps ≡ total)) → AreCounted t total count
+pub placed_at : (t : Image) (total count passed : ℕ) (r : ReaderState) → (whole : (steps : List Step) × IsJournal steps × (journal_of t ≡ journal_text steps) × (length steps ≡ total)) → AreCounted t total count
     → passed ≡ min (min (count * 1000) 18446744073709551615) total → IsAt (journal_of t) (take passed whole.0) r → IsPlaced t r count
 placed_at t total count passed r whole counted is at = record {
   steps = whole.0;
@@ -154,7 +154,7 @@ placed_at t total count passed r whole counted is at = record {
     least = is ∙ (omega (arith, few))
 
 -- from what was read, counted and passed
-pub placed_from : (t : Image) (result : Result ℕ StepFault) (total count passed : ℕ) (r : Reading) → result ≡ Ok total → ReadsWhole (journal_of t) result → AreCounted t total count
+pub placed_from : (t : Image) (result : Result ℕ StepFault) (total count passed : ℕ) (r : ReaderState) → result ≡ Ok total → ReadsWhole (journal_of t) result → AreCounted t total count
     → passed ≡ min (min (count * 1000) 18446744073709551615) total
     → ((steps : List Step) → IsJournal steps → journal_of t ≡ journal_text steps → passed ≤ length steps → IsAt (journal_of t) (take passed steps) r) → IsPlaced t r count
 placed_from t result total count passed r is reads counted so_many at =
@@ -174,7 +174,7 @@ gate_as t u p b same at found = found ∙ ap (λ (v : Image). is_some (v.look p)
 
 -- ---- the place at which an owed list is left
 
-module _ (t : Image) (r : Reading) (count : ℕ) (placed : IsPlaced t r count) (steps : List Step) (marks : ℕ) (a : Image) (is_open : IsOpen journal_text steps marks a t) where
+module _ (t : Image) (r : ReaderState) (count : ℕ) (placed : IsPlaced t r count) (steps : List Step) (marks : ℕ) (a : Image) (is_open : IsOpen journal_text steps marks a t) where
   pub same_steps : placed.steps ≡ steps
   same_steps = one_text placed.steps steps placed.is.lists is_open.ready.lists (sym placed.is.text_is ∙ ready_text steps marks a t is_open.ready)
 

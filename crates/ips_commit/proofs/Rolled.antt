@@ -8,11 +8,11 @@ use Rattle.ips_text.specs.declared.refusal.Or.{Or}
 use Rattle.ips_text.specs.declared.refusal.Or.TheVariants.{Bad, OutOfMemory}
 use Rattle.ips_text.specs.Reading.{IfBad}
 use Rattle.ips_outside.specs.Image.{Image, Agrees}
-use Rattle.ips_outside.specs.State.{State, Within, IsSettled, nowhere}
+use Rattle.ips_outside.specs.State.{State, ChangedWithin, IsSettled, nowhere}
 use Rattle.ips_outside.specs.Outside.{Outside, IsOutside, HasCause, Reads}
 use Rattle.ips_outside.proofs.Faults.{cause_as, cause_behind}
 use Rattle.ips_outside.proofs.Moments.{agrees_less, agrees_on}
-use Rattle.ips_folder.specs.Calls.{Keeps, Throughout}
+use Rattle.ips_folder.specs.Calls.{ChangesOnly, Throughout}
 use Rattle.ips_folder.proofs.Runs.{started, goes_on, joins, weaker, keeps_then, one_read}
 use Rattle.ips_steps.specs.Steps.{Step, after}
 use Rattle.ips_steps.specs.Private.{gate_name, mark_front, mark_name, begins, visible}
@@ -26,13 +26,13 @@ use Rattle.ips_steps.proofs.Unmarking.{owes_unmarking, open_unmarked}
 use Rattle.ips_kinds.specs.Tallies.{Carrier}
 use Rattle.ips_journal.specs.Text.{journal_text}
 use Rattle.ips_journal.specs.Bad.{IsBadLine}
-use Rattle.ips_journal.specs.Reading.{Reading, IsAt, journal_of}
+use Rattle.ips_journal.specs.Reading.{ReaderState, IsAt, journal_of}
 use Rattle.ips_journal.proofs.JournalLaws.{one_text, none_bad}
 use Rattle.ips_apply.proofs.Turns.{allowed_behind}
 use Rattle.ips_commit.specs.Answers.{IfStarved}
 use Rattle.ips_commit.specs.declared.fault.CommitFault.{CommitFault}
 use Rattle.ips_commit.specs.declared.fault.CommitFault.TheVariants as fault
-use Rattle.ips_commit.specs.Pending.{HasNoOtherMark, AreMarkNames, IsSwept, IsDone, is_swept, is_other, mark_names}
+use Rattle.ips_commit.specs.Pending.{HasNoOtherMark, AreMarkNames, IsSwept, HasCommitted, is_swept, is_other, mark_names}
 use Rattle.ips_commit.specs.Phases.{IsUnderWay}
 use Rattle.ips_commit.specs.Recovering.{AreCounted, AreLaidTo, CanResume, IsJournalled, IsStuckAt, IsPlaced, IsUnfinished, CanRollForward, IfBadJournal, SaysOfFinding, SaysOfSteps, SaysOfLaying, SaysOfRecovery}
 use Rattle.ips_commit.proofs.CutOff.{none_laid, as_own, laid_alike, content_else}
@@ -116,14 +116,14 @@ module _ {F : Type 0} (o : Outside F) (sane : IsOutside o) (old mid : F) (failur
   still_clean clean = subst IsSettled (sym reads.kept) clean
 
   -- or swept
-  module _ (new : F) (shut : (o.state old).held.look gate_name ≡ None) (run : Keeps o is_swept nowhere mid new) where
-    pub swept_keeps : Keeps o is_swept nowhere old new
+  module _ (new : F) (shut : (o.state old).held.look gate_name ≡ None) (run : ChangesOnly o is_swept nowhere mid new) where
+    pub swept_keeps : ChangesOnly o is_swept nowhere old new
     swept_keeps = keeps_then o is_swept nowhere old mid new (one_read o sane is_swept nowhere old mid failure reads) run
 
     pub swept_owed : IsSettled (o.state old) → (b : Image) (a : Option Image) (due : Bool) → FolderOwes journal_text b a due (o.state old) → Throughout o old new (FolderOwes journal_text b a due)
     swept_owed clean b a due owes = sweeping_owed o sane b a due old new owes.now shut clean swept_keeps
 
-    pub swept_done : o.tells new ≡ true → (marks : List (List ℕ)) → HasNoOtherMark (o.state old).held marks → IsSwept marks (o.state mid).held (o.state new).held → IsSettled (o.state new) → IsDone (visible (o.state old).held) (o.state new)
+    pub swept_done : o.tells new ≡ true → (marks : List (List ℕ)) → HasNoOtherMark (o.state old).held marks → IsSwept marks (o.state mid).held (o.state new).held → IsSettled (o.state new) → HasCommitted (visible (o.state old).held) (o.state new)
     swept_done told marks others swept safe =
         let both = cleared_of marks (o.state old).held (o.state new).held (sane.formed new told) shut others (subst (λ (s : State). IsSwept marks s.held (o.state new).held) reads.kept swept) swept_keeps.now.agrees in
         record { seen = both.0; bare = both.1; safe = safe }
@@ -157,7 +157,7 @@ counted_left t steps m n ms ns = elim (cases_lt m n) [
         xs.last
 
 -- what is left, told by any list and count that the journal and the marks are of
-rest_as : (t : Image) (r : Reading) (n : ℕ) (placed : IsPlaced t r n) (steps : List Step) (count : ℕ) → IsJournalled t steps count → steps_left n placed.steps ≡ steps_left count steps
+rest_as : (t : Image) (r : ReaderState) (n : ℕ) (placed : IsPlaced t r n) (steps : List Step) (count : ℕ) → IsJournalled t steps count → steps_left n placed.steps ≡ steps_left count steps
 rest_as t r n placed steps count is =
     let same : placed.steps ≡ steps = one_text placed.steps steps placed.is.lists is.lists (sym placed.is.text_is ∙ is.text_is) in
     let marked = subst (λ (l : List Step). AreCounted t (length l) n) same placed.is.marked in
@@ -171,7 +171,7 @@ none_owed b x due t (Open {a = y} steps marks o) none gate = cc
 none_owed b x due t (New gone seen) none gate = gate gone
 
 module _ {F : Type 0} (o : Outside F) (sane : IsOutside o) (old mid : F) (marks : List (List ℕ)) (own : list_all (begins mark_front) marks ≡ true) (are : AreMarkNames (o.state old).held marks)
-    (r : Reading) (count : ℕ) (few : count ≤ 18446744073709552) (placed : IsPlaced (o.state old).held r count) (clean : IsSettled (o.state old)) (run : Keeps o (is_other (mark_names count) marks) nowhere old mid) where
+    (r : ReaderState) (count : ℕ) (few : count ≤ 18446744073709552) (placed : IsPlaced (o.state old).held r count) (clean : IsSettled (o.state old)) (run : ChangesOnly o (is_other (mark_names count) marks) nowhere old mid) where
   abbrev t : Image
   t = (o.state old).held
 
@@ -187,7 +187,7 @@ module _ {F : Type 0} (o : Outside F) (sane : IsOutside o) (old mid : F) (marks 
     left_same = same_left t r count placed steps m a is_open
 
     pub unmarking_owed : (b : Image) (due : Bool) → Throughout o old mid (FolderOwes journal_text b (Some a) due)
-    unmarking_owed b due = weaker o old mid (Within (is_other (mark_names count) marks) nowhere (o.state old)) (FolderOwes journal_text b (Some a) due)
+    unmarking_owed b due = weaker o old mid (ChangedWithin (is_other (mark_names count) marks) nowhere (o.state old)) (FolderOwes journal_text b (Some a) due)
         (λ s w. owes_unmarking journal_text steps m count b a due (is_other (mark_names count) marks) (o.state old) s is_open clean left_same (other_own (mark_names count) marks own)
         (λ i lt. other_keeps count i marks own lt) (other_absent t (mark_names count) marks (m + 1) own are is_open.ready.marked.last) w) run.moments
 
@@ -239,8 +239,8 @@ module _ {F : Type 0} (o : Outside F) (sane : IsOutside o) (old mid : F) (marks 
     pub first_can : CanRollForward u placed.steps count → CanRollForward t placed.steps count
     first_can can = record { is = placed.is; can = sym (marks_alike left t u may agree).0 ∙ can.can }
 
-    pub first_done : (s : State) → IsDone (visible (after left u)) s → IsDone (visible (after left t)) s
-    first_done s done = subst (λ (x : Image). IsDone x s) (marks_alike left t u may agree).2 done
+    pub first_done : (s : State) → HasCommitted (visible (after left u)) s → HasCommitted (visible (after left t)) s
+    first_done s done = subst (λ (x : Image). HasCommitted x s) (marks_alike left t u may agree).2 done
 
     first_stuck : (v : Image) (before now : List Carrier) (line : ℕ) → IsStuckAt u v before now placed.steps count line → IsStuckAt t v before now placed.steps count line
     first_stuck v before now line stuck =
@@ -279,8 +279,8 @@ module _ {F : Type 0} (o : Outside F) (sane : IsOutside o) (old mid : F) (marks 
       pub first_still : IsOpen journal_text placed.steps count a u
       first_still = first_open m a here
 
-      pub first_means : (s : State) → IsDone (visible (after left t)) s → IsDone a s
-      first_means s done = subst (λ (x : Image). IsDone x s) (ap (λ (l : List Step). visible (after l t)) (left_same placed.steps m a here) ∙ here.ready.means) done
+      pub first_means : (s : State) → HasCommitted (visible (after left t)) s → HasCommitted a s
+      first_means s done = subst (λ (x : Image). HasCommitted x s) (ap (λ (l : List Step). visible (after l t)) (left_same placed.steps m a here) ∙ here.ready.means) done
 
     -- what was laid and what a crash leaves, told of the marks before
     pub first_unfinished : (s : State) (before now : List Carrier) (steps : List Step) (m : ℕ) → IsJournalled t steps m → IsUnfinished u s placed.steps count before now → IsUnfinished t s steps m before now

@@ -3,7 +3,7 @@ use Rattle.std.proofs.Common.{◌≡◌, ⊎_elim, ℕ, ◌+◌, ◌*◌, ◌/�
 use Rattle.ips_outside.specs.Image.{Image, Agrees}
 use Rattle.ips_outside.specs.State.{IsSettled, nowhere, MayLeave}
 use Rattle.ips_outside.specs.Outside.{Outside}
-use Rattle.ips_folder.specs.Calls.{Keeps, Throughout}
+use Rattle.ips_folder.specs.Calls.{ChangesOnly, Throughout}
 use Rattle.ips_folder.proofs.Runs.{joins}
 use Rattle.ips_steps.specs.Steps.{Step, stage_of, after, possible, met}
 use Rattle.ips_steps.specs.Private.{gate_name, mark_front, begins, is_private, visible}
@@ -16,12 +16,12 @@ use Rattle.ips_apply.proofs.Turns.{allowed_behind}
 use Rattle.ips_kinds.specs.Tallies.{Carrier, all_counted}
 use Rattle.ips_journal.specs.Text.{journal_text}
 use Rattle.ips_journal.specs.Bad.{IsBadLine}
-use Rattle.ips_journal.specs.Reading.{Reading, IsAt, journal_of}
+use Rattle.ips_journal.specs.Reading.{ReaderState, IsAt, journal_of}
 use Rattle.ips_journal.specs.declared.fault.StepFault.{StepFault}
 use Rattle.ips_journal.specs.declared.fault.StepFault.TheVariants.{BadJournal, FolderFault}
 use Rattle.ips_journal.proofs.JournalLaws.{one_text, none_bad}
 use Rattle.ips_apply.specs.Applied.{IsImpossible}
-use Rattle.ips_commit.specs.Pending.{HasNoOtherMark, mark_names, IsDone}
+use Rattle.ips_commit.specs.Pending.{HasNoOtherMark, mark_names, HasCommitted}
 use Rattle.ips_commit.specs.Phases.{IsUnderWay, AreMarkedOff, IsHeldUp, IsSeenBut, LaysTo, LaysAll, whole_of}
 use Rattle.ips_commit.specs.Recovering.{AreLaidTo, CanResume, IsJournalled, IsStuckAt, IsUnfinished, CanRollForward}
 use Rattle.ips_commit.proofs.CutOff.{seen_same, seen_next, seen_on, as_own}
@@ -34,7 +34,7 @@ use Rattle.ips_commit.proofs.Stuck.{never_stuck}
 seen_alike : (t u : Image) → Agrees (begins mark_front) nowhere t u → visible u ≡ visible t
 seen_alike t u h = visible_agrees t u (as_own (begins mark_front) mark_private t u h)
 
-module _ {F : Type 0} (o : Outside F) (first : ℕ) (old at : F) (told : o.tells old ≡ true) (way : IsUnderWay (o.state old) first) (start r : Reading) (counts now : List Carrier)
+module _ {F : Type 0} (o : Outside F) (first : ℕ) (old at : F) (told : o.tells old ≡ true) (way : IsUnderWay (o.state old) first) (start r : ReaderState) (counts now : List Carrier)
     (result : Result (ℕ × ℕ) StepFault) (all : LaysAll o first old at start r counts now result) (steps : List Step) (from : IsAt (journal_of (o.state old).held) (take (1000 * first) steps) start) where
   abbrev t : Image
   t = (o.state old).held
@@ -160,7 +160,7 @@ module _ {F : Type 0} (o : Outside F) (first : ℕ) (old at : F) (told : o.tells
 
       -- a call failed behind them
       pub roll_shut : (new : F) → (IsSettled (o.state at) → (count : ℕ) → AreMarks (o.state at).held count → (c : Image) → MayLeave (o.state new) c → (c.look gate_name ≡ None) ⊎ AreMarks c count)
-          → Keeps o is_private nowhere at new → IsUnfinished t (o.state new) steps first counts now
+          → ChangesOnly o is_private nowhere at new → IsUnfinished t (o.state new) steps first counts now
       roll_shut new closing run =
           let own : Agrees is_private nowhere (after laid t) (o.state at).held = as_own (begins mark_front) mark_private (after laid t) (o.state at).held off.2.held in
           record {
@@ -177,8 +177,8 @@ module _ {F : Type 0} (o : Outside F) (first : ℕ) (old at : F) (told : o.tells
       pub roll_counted : now ≡ all_counted left counts
       roll_counted = all.lays.tallies ∙ ap (λ (l : List Step). all_counted l counts) all_left
 
-      pub roll_done : (new : F) → IsDone (visible (o.state at).held) (o.state new) → IsDone (visible (after left t)) (o.state new)
-      roll_done new done = subst (λ (u : Image). IsDone u (o.state new)) (seen_alike (after laid t) (o.state at).held off.2.held ∙ ap (λ (l : List Step). visible (after l t)) all_left) done
+      pub roll_done : (new : F) → HasCommitted (visible (o.state at).held) (o.state new) → HasCommitted (visible (after left t)) (o.state new)
+      roll_done new done = subst (λ (u : Image). HasCommitted u (o.state new)) (seen_alike (after laid t) (o.state at).held off.2.held ∙ ap (λ (l : List Step). visible (after l t)) all_left) done
 
       -- the marks and steps that are told
       pub roll_marks : HasNoOtherMark (o.state at).held (mark_names x.0)

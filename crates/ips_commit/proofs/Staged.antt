@@ -5,12 +5,12 @@ use Rattle.std.proofs.lemmas.Bool.{or_parts, or_right, and_parts, not-true, case
 use Rattle.std.proofs.lemmas.Option.{slice_get_cases}
 use Rattle.ips_text.specs.Ancestry.{covers, is_below, parent}
 use Rattle.ips_outside.specs.Image.{Image, IsImage, Agrees, Dir, is_dir, file_bytes, has_parent, dir_or_none}
-use Rattle.ips_outside.specs.Change.{placed}
-use Rattle.ips_outside.specs.State.{State, Within, IsSettled, nowhere, settled}
-use Rattle.ips_outside.specs.Outside.{Outside, IsOutside, Elapses, Reads, Rose, counted}
+use Rattle.ips_outside.specs.Change.{with_entry_at}
+use Rattle.ips_outside.specs.State.{State, ChangedWithin, IsSettled, nowhere, settled}
+use Rattle.ips_outside.specs.Outside.{Outside, IsOutside, Elapses, Reads, Rose, risen}
 use Rattle.ips_outside.proofs.Moments.{agrees_less, within_self, within_then}
 use Rattle.ips_outside.proofs.Placed.{look_placed}
-use Rattle.ips_folder.specs.Calls.{CanMake, Writes, Keeps, Throughout}
+use Rattle.ips_folder.specs.Calls.{CanMake, Writes, ChangesOnly, Throughout}
 use Rattle.ips_folder.proofs.Runs.{started, goes_on, joins, weaker, keeps_then, keeps_wider}
 use Rattle.ips_steps.specs.Steps.{Step, stage_name, stage_path, stage_of, freed, met, all_laid, possible}
 use Rattle.ips_steps.specs.Private.{records_name, journal_name, gate_name, mark_front, mark_name, begins, is_private, visible}
@@ -22,7 +22,7 @@ use Rattle.ips_steps.proofs.Owing.{owes_sweeping}
 use Rattle.ips_journal.specs.Text.{journal_text}
 use Rattle.ips_journal.specs.declared.staged.Staged.{Staged}
 use Rattle.ips_commit.specs.Pending.{IsBehindGate, HasNoOtherMark, IsSwept, is_swept}
-use Rattle.ips_commit.specs.Contents.{AreContents, AreStanding, AreSeen}
+use Rattle.ips_commit.specs.Contents.{StagedContents, AreStanding, AreSeen}
 use Rattle.ips_commit.specs.Staging.{CanStage, HasStaged, HoldsOnly, IsCleared, IsFilled}
 use Rattle.ips_commit.proofs.OwnNames.{swept_private, gate_unswept, records_unswept, stage_swept, journal_swept, behind_front}
 use Rattle.ips_commit.proofs.Swept.{wrote}
@@ -30,7 +30,7 @@ use Rattle.ips_commit.proofs.Owing.{nodes_of, unswept, swept_seen, swept_gone}
 use Rattle.ips_commit.proofs.AllWritten.{standing_kept, content_kept}
 
 -- a count that was counted up rose
-pub rose_of : (before now : ℕ) → counted before ≤ now → Rose before now
+pub rose_of : (before now : ℕ) → risen before ≤ now → Rose before now
 rose_of before now up = elim (cases_lt before now) [
   | inl more ↦ inl more
   | inr less ↦ inr (omega (arith, up, less))
@@ -51,7 +51,7 @@ module _ {F : Type 0} (o : Outside F) (sane : IsOutside o) (old : F) where
 
   module _ (mid : F) (time : Elapses o old mid) (safe : o.state mid ≡ settled (o.state old)) where
     pub synced : Throughout o old mid Behind
-    synced = goes_on o old old mid Behind unbegun time (inr (subst (Within is_swept nowhere (settled (o.state old))) (sym safe) (within_self is_swept nowhere (settled (o.state old)))))
+    synced = goes_on o old old mid Behind unbegun time (inr (subst (ChangedWithin is_swept nowhere (settled (o.state old))) (sym safe) (within_self is_swept nowhere (settled (o.state old)))))
 
     -- then the folder was only read
     module _ (read : F) (failure : Type 0) (reads : Reads o mid read failure) where
@@ -59,19 +59,19 @@ module _ {F : Type 0} (o : Outside F) (sane : IsOutside o) (old : F) where
       same_read = reads.kept ∙ safe
 
       pub synced_read : Throughout o old read Behind
-      synced_read = goes_on o old mid read Behind synced reads.call.time (inr (subst (Within is_swept nowhere (settled (o.state old))) (sym same_read) (within_self is_swept nowhere (settled (o.state old)))))
+      synced_read = goes_on o old mid read Behind synced reads.call.time (inr (subst (ChangedWithin is_swept nowhere (settled (o.state old))) (sym same_read) (within_self is_swept nowhere (settled (o.state old)))))
 
       -- and swept
-      pub synced_swept : (new : F) → Keeps o is_swept nowhere read new → Throughout o old new Behind
-      synced_swept new run = joins o old read new Behind synced_read (weaker o read new (Within is_swept nowhere (o.state read)) Behind (λ s w. inr (subst (λ (x : State). Within is_swept nowhere x s) same_read w)) run.moments)
+      pub synced_swept : (new : F) → ChangesOnly o is_swept nowhere read new → Throughout o old new Behind
+      synced_swept new run = joins o old read new Behind synced_read (weaker o read new (ChangedWithin is_swept nowhere (o.state read)) Behind (λ s w. inr (subst (λ (x : State). ChangedWithin is_swept nowhere x s) same_read w)) run.moments)
 
-      pub swept_now : (new : F) → Keeps o is_swept nowhere read new → Within is_swept nowhere (settled (o.state old)) (o.state new)
-      swept_now new run = subst (λ (x : State). Within is_swept nowhere x (o.state new)) same_read run.now
+      pub swept_now : (new : F) → ChangesOnly o is_swept nowhere read new → ChangedWithin is_swept nowhere (settled (o.state old)) (o.state new)
+      swept_now new run = subst (λ (x : State). ChangedWithin is_swept nowhere x (o.state new)) same_read run.now
 
   -- one more run
-  pub behind_then : (mid new : F) → Throughout o old mid Behind → Within is_swept nowhere (settled (o.state old)) (o.state mid) → Keeps o is_swept nowhere mid new → Throughout o old new Behind
+  pub behind_then : (mid new : F) → Throughout o old mid Behind → ChangedWithin is_swept nowhere (settled (o.state old)) (o.state mid) → ChangesOnly o is_swept nowhere mid new → Throughout o old new Behind
   behind_then mid new so_far here run = joins o old mid new Behind so_far
-      (weaker o mid new (Within is_swept nowhere (o.state mid)) Behind (λ s w. inr (within_then is_swept nowhere (settled (o.state old)) (o.state mid) s here w)) run.moments)
+      (weaker o mid new (ChangedWithin is_swept nowhere (o.state mid)) Behind (λ s w. inr (within_then is_swept nowhere (settled (o.state old)) (o.state mid) s here w)) run.moments)
 
   -- ---- at every moment what is seen is owed
 
@@ -82,13 +82,13 @@ module _ {F : Type 0} (o : Outside F) (sane : IsOutside o) (old : F) where
     pub staging_owed : (o.state old).held.look gate_name ≡ None → IsSettled (o.state old) → (a : Option Image) → Throughout o old new (FolderOwes journal_text (visible (o.state old).held) a false)
     staging_owed shut clean a = weaker o old new Behind (FolderOwes journal_text (visible (o.state old).held) a false) each run
       where
-        sweeping : (base s : State) → base.held ≡ (o.state old).held → IsSettled base → Within is_swept nowhere base s → FolderOwes journal_text (visible (o.state old).held) a false s
+        sweeping : (base s : State) → base.held ≡ (o.state old).held → IsSettled base → ChangedWithin is_swept nowhere base s → FolderOwes journal_text (visible (o.state old).held) a false s
         sweeping base s same safe w = owes_sweeping journal_text (visible (o.state old).held) a false is_swept base s (Old (ap (λ (t : Image). t.look gate_name) same ∙ shut) (ap visible same))
             (ap (λ (t : Image). t.look gate_name) same ∙ shut) safe swept_private gate_unswept w
 
         each : (s : State) → Behind s → FolderOwes journal_text (visible (o.state old).held) a false s
         each s behind = ⊎_elim
-            (λ same. sweeping (o.state old) s refl clean (subst (Within is_swept nowhere (o.state old)) (sym same) (within_self is_swept nowhere (o.state old))))
+            (λ same. sweeping (o.state old) s refl clean (subst (ChangedWithin is_swept nowhere (o.state old)) (sym same) (within_self is_swept nowhere (o.state old))))
             (λ w. sweeping (settled (o.state old)) s refl (record { whole = λ q. refl; modes = λ q. refl }) w)
             behind
 
@@ -102,7 +102,7 @@ pub standing_swept : (t u : Image) → Agrees is_swept nowhere t u → (staged :
 standing_swept t u h staged seen there n s at = standing_kept is_swept unswept t u h s (seen n s at) (there n s at)
 
 pub contents_swept : (tells : Bool) (repository : Image) (publisher : List ℕ) (t u : Image) → Agrees is_swept nowhere t u → (staged : List Staged) → AreSeen staged
-    → (contents : ℕ → Option (List ℕ)) → AreContents tells repository publisher u staged contents → AreContents tells repository publisher t staged contents
+    → (contents : ℕ → Option (List ℕ)) → StagedContents tells repository publisher u staged contents → StagedContents tells repository publisher t staged contents
 contents_swept tells repository publisher t u h staged seen contents are n s at =
     let there = are n s at in
     (there.0, there.1, content_kept is_swept unswept tells repository publisher t u h s (seen n s at) there.0 there.2)
@@ -185,17 +185,17 @@ can_make_stage t p at cleared dir = can_make_own t stage_name p at stage_parent 
 pub can_make_journal : (t u : Image) (p : List ℕ) → p ≡ journal_name → Agrees (covers stage_name) nowhere t u → IsCleared t → is_dir (t.look records_name) ≡ true → CanMake u p
 can_make_journal t u p at h cleared dir = can_make_own u journal_name p at journal_parent (h.look journal_name journal_staged refl ∙ cleared journal_name journal_is_swept) (ap is_dir (h.look records_name records_staged refl) ∙ dir)
 
-pub made_entry : (p : List ℕ) (t u : Image) → p ≡ stage_name → u ≡ placed p (Some (Dir 448 false)) t → u.look stage_name ≡ Some (Dir 448 false)
+pub made_entry : (p : List ℕ) (t u : Image) → p ≡ stage_name → u ≡ with_entry_at p (Some (Dir 448 false)) t → u.look stage_name ≡ Some (Dir 448 false)
 made_entry p t u at made = ap u.look (sym at) ∙ ap (λ (w : Image). w.look p) made ∙ look_placed p (Some (Dir 448 false)) t
 
-pub made_dir : (p : List ℕ) (t u : Image) → p ≡ stage_name → u ≡ placed p (Some (Dir 448 false)) t → is_dir (u.look stage_name) ≡ true
+pub made_dir : (p : List ℕ) (t u : Image) → p ≡ stage_name → u ≡ with_entry_at p (Some (Dir 448 false)) t → is_dir (u.look stage_name) ≡ true
 made_dir p t u at made = ap is_dir (made_entry p t u at made)
 
-none_in_stage : (t : Image) (q : List ℕ) → is_below stage_name q ≡ true → (placed stage_name (Some (Dir 448 false)) t).look q ≡ None
+none_in_stage : (t : Image) (q : List ℕ) → is_below stage_name q ≡ true → (with_entry_at stage_name (Some (Dir 448 false)) t).look q ≡ None
 none_in_stage t q below = let parts = and_parts (covers stage_name q) _ below in rw (not-true _ parts.1, parts.0) refl
 
-pub made_empty : (p : List ℕ) (t u : Image) → p ≡ stage_name → u ≡ placed p (Some (Dir 448 false)) t → (q : List ℕ) → is_below stage_name q ≡ true → u.look q ≡ None
-made_empty p t u at made q below = ap (λ (w : Image). w.look q) (made ∙ ap (λ (x : List ℕ). placed x (Some (Dir 448 false)) t) at) ∙ none_in_stage t q below
+pub made_empty : (p : List ℕ) (t u : Image) → p ≡ stage_name → u ≡ with_entry_at p (Some (Dir 448 false)) t → (q : List ℕ) → is_below stage_name q ≡ true → u.look q ≡ None
+made_empty p t u at made q below = ap (λ (w : Image). w.look q) (made ∙ ap (λ (x : List ℕ). with_entry_at x (Some (Dir 448 false)) t) at) ∙ none_in_stage t q below
 
 in_stage : (t u : Image) → Agrees (covers stage_name) nowhere t u → Agrees is_swept nowhere t u
 in_stage t u h = agrees_less (covers stage_name) nowhere is_swept nowhere t u stage_swept (λ q l. l) h
@@ -204,18 +204,18 @@ pub standing_staged : (t u : Image) → Agrees (covers stage_name) nowhere t u �
 standing_staged t u h staged seen there = standing_swept t u (in_stage t u h) staged seen there
 
 module _ {F : Type 0} (o : Outside F) (sane : IsOutside o) where
-  pub stage_made : (p : List ℕ) → p ≡ stage_name → (old new : F) (to : State) {T E : Type 0} (result : Result T E) → o.tells old ≡ true → Writes o (covers p) nowhere to old new result → Keeps o (covers stage_name) nowhere old new
+  pub stage_made : (p : List ℕ) → p ≡ stage_name → (old new : F) (to : State) {T E : Type 0} (result : Result T E) → o.tells old ≡ true → Writes o (covers p) nowhere to old new result → ChangesOnly o (covers stage_name) nowhere old new
   stage_made p at old new to result told w = wrote o sane (covers stage_name) p (λ q off. ap (λ (x : List ℕ). covers x q) at ∙ off) old new to result told w
 
-  pub stage_kept : (old new : F) → Keeps o (covers stage_name) nowhere old new → Keeps o is_swept nowhere old new
+  pub stage_kept : (old new : F) → ChangesOnly o (covers stage_name) nowhere old new → ChangesOnly o is_swept nowhere old new
   stage_kept old new run = keeps_wider o (covers stage_name) nowhere is_swept nowhere old new stage_swept (λ q n. n) run
 
-  pub journal_kept : (p : List ℕ) → p ≡ journal_name → (old mid new : F) → Keeps o (covers stage_name) nowhere old mid → Keeps o (covers p) nowhere mid new → Keeps o is_swept nowhere old new
+  pub journal_kept : (p : List ℕ) → p ≡ journal_name → (old mid new : F) → ChangesOnly o (covers stage_name) nowhere old mid → ChangesOnly o (covers p) nowhere mid new → ChangesOnly o is_swept nowhere old new
   journal_kept p at old mid new first run = keeps_then o is_swept nowhere old mid new (stage_kept old mid first)
       (keeps_wider o (covers p) nowhere is_swept nowhere mid new (λ q off. ap (λ (x : List ℕ). covers x q) at ∙ journal_swept q off) (λ q n. n) run)
 
 pub all_filled : (tells : Bool) (repository : Image) (publisher text : List ℕ) (staged : List Staged) (p : List ℕ) (t u v : Image) (s : State) → p ≡ journal_name → IsCleared t → AreSeen staged
-    → Agrees (covers stage_name) nowhere t u → Agrees (covers stage_name) nowhere t v → Agrees (covers p) nowhere v s.held → AreContents tells repository publisher u staged (stage_of v) → v.look stage_name ≡ Some (Dir 448 false) → HoldsOnly (length staged) v
+    → Agrees (covers stage_name) nowhere t u → Agrees (covers stage_name) nowhere t v → Agrees (covers p) nowhere v s.held → StagedContents tells repository publisher u staged (stage_of v) → v.look stage_name ≡ Some (Dir 448 false) → HoldsOnly (length staged) v
     → file_bytes (s.held.look journal_name) ≡ Some text → IsSettled s → IsFilled tells repository publisher text staged t s
 all_filled tells repository publisher text staged p t u v s at cleared seen made filled last are stands only file safe = record {
   safe = safe;
@@ -235,7 +235,7 @@ all_filled tells repository publisher text staged p t u v s at cleared seen made
 
 -- ---- the list stands ready
 
-some_content : (tells : Bool) (repository : Image) (publisher : List ℕ) (t : Image) (staged : List Staged) (contents : ℕ → Option (List ℕ)) → AreContents tells repository publisher t staged contents
+some_content : (tells : Bool) (repository : Image) (publisher : List ℕ) (t : Image) (staged : List Staged) (contents : ℕ → Option (List ℕ)) → StagedContents tells repository publisher t staged contents
     → (n : ℕ) → n < length staged → is_some (contents n) ≡ true
 some_content tells repository publisher t staged contents are n lt = elim (slice_get_cases staged n).1 [
   | inl there ↦ let content = are n there.0 there.2 in ap is_some content.1

@@ -10,11 +10,11 @@ use Rattle.std.proofs.lemmas.List.Sums.{AllPass-from_list_all}
 use Rattle.ips_text.specs.Ancestry.{same_path, covers}
 use Rattle.ips_text.specs.Kept.{Kept}
 use Rattle.ips_outside.specs.Image.{Entry, Image}
-use Rattle.ips_outside.specs.Change.{placed}
+use Rattle.ips_outside.specs.Change.{with_entry_at}
 use Rattle.ips_outside.specs.State.{State, nowhere}
 use Rattle.ips_outside.specs.Outside.{Outside, IsOutside}
-use Rattle.ips_outside.specs.Children.{bytes_of}
-use Rattle.ips_folder.specs.Calls.{Writes, Keeps}
+use Rattle.ips_outside.specs.Children.{path_bytes}
+use Rattle.ips_folder.specs.Calls.{Writes, ChangesOnly}
 use Rattle.ips_folder.proofs.Runs.{keeps_then, keeps_wider, one_write}
 use Rattle.ips_steps.specs.Steps.{stage_name}
 use Rattle.ips_steps.specs.Private.{journal_name, mark_front, begins}
@@ -25,10 +25,10 @@ use Rattle.ips_steps.proofs.PrivateNames.{begins_below}
 -- ---- a write at a path, among those at which a run may write
 
 module _ {F : Type 0} (o : Outside F) (sane : IsOutside o) (free : List ℕ → Bool) (p : List ℕ) (off : (q : List ℕ) → free q ≡ false → covers p q ≡ false) where
-  pub wrote : (old new : F) (to : State) {T E : Type 0} (result : Result T E) → o.tells old ≡ true → Writes o (covers p) nowhere to old new result → Keeps o free nowhere old new
+  pub wrote : (old new : F) (to : State) {T E : Type 0} (result : Result T E) → o.tells old ≡ true → Writes o (covers p) nowhere to old new result → ChangesOnly o free nowhere old new
   wrote old new to result told w = keeps_wider o (covers p) nowhere free nowhere old new off (λ q n. n) (one_write o sane old new (covers p) nowhere to result told w)
 
-  pub wrote_then : (old mid new : F) (to : State) {T E : Type 0} (result : Result T E) → Keeps o free nowhere old mid → o.tells mid ≡ true → Writes o (covers p) nowhere to mid new result → Keeps o free nowhere old new
+  pub wrote_then : (old mid new : F) (to : State) {T E : Type 0} (result : Result T E) → ChangesOnly o free nowhere old mid → o.tells mid ≡ true → Writes o (covers p) nowhere to mid new result → ChangesOnly o free nowhere old new
   wrote_then old mid new to result run told w = keeps_then o free nowhere old mid new run (wrote mid new to result told w)
 
 -- ---- names of marks
@@ -42,37 +42,37 @@ begins_is (a ∷ p) (b ∷ s) = ap (λ (x : Bool). (a == b) && x) (begins_is p s
 pub off_mark : (p : List ℕ) → begins mark_front p ≡ true → (q : List ℕ) → begins mark_front q ≡ false → covers p q ≡ false
 off_mark p own q off = false_from_ne_true _ (λ c. clash (begins mark_front q) (begins_below mark_front p q own c) off)
 
-pub own_at : (marks : List Kept) (i : ℕ) (m : Kept) → list_all (begins mark_front) (bytes_of marks) ≡ true → i < length marks → m ≡ get_or marks i m → begins mark_front m.bytes ≡ true
+pub own_at : (marks : List Kept) (i : ℕ) (m : Kept) → list_all (begins mark_front) (path_bytes marks) ≡ true → i < length marks → m ≡ get_or marks i m → begins mark_front m.bytes ≡ true
 own_at marks i m own lt is =
     let all : list_all (λ (k : Kept). begins mark_front k.bytes) marks ≡ true = sym (list_all-map (begins mark_front) (λ (k : Kept). k.bytes) marks) ∙ own in
     ap (λ (k : Kept). begins mark_front k.bytes) is ∙ AllPass-from_list_all (λ (k : Kept). begins mark_front k.bytes) marks all i m lt
 
-any_bytes : (q : List ℕ) (marks : List Kept) → list_any (λ m. covers m q) (bytes_of marks) ≡ list_any (λ (k : Kept). covers k.bytes q) marks
+any_bytes : (q : List ℕ) (marks : List Kept) → list_any (λ m. covers m q) (path_bytes marks) ≡ list_any (λ (k : Kept). covers k.bytes q) marks
 any_bytes q [] = refl
 any_bytes q (m ∷ marks) = ap (λ (x : Bool). covers m.bytes q || x) (any_bytes q marks)
 
 -- ---- the marks among paths
 
-bytes_more : (paths : List Kept) (i : ℕ) (p : Kept) → i < length paths → p ≡ get_or paths i p → bytes_of (take (i + 1) paths) ≡ bytes_of (take i paths) ++ p.bytes ∷ []
-bytes_more paths i p lt is = ap bytes_of (take_more paths i p lt) ∙ bytes_append (take i paths) (get_or paths i p) ∙ ap (λ (k : Kept). bytes_of (take i paths) ++ k.bytes ∷ []) (sym is)
+bytes_more : (paths : List Kept) (i : ℕ) (p : Kept) → i < length paths → p ≡ get_or paths i p → path_bytes (take (i + 1) paths) ≡ path_bytes (take i paths) ++ p.bytes ∷ []
+bytes_more paths i p lt is = ap path_bytes (take_more paths i p lt) ∙ bytes_append (take i paths) (get_or paths i p) ∙ ap (λ (k : Kept). path_bytes (take i paths) ++ k.bytes ∷ []) (sym is)
   where
-    bytes_append : (front : List Kept) (k : Kept) → bytes_of (front ++ k ∷ []) ≡ bytes_of front ++ k.bytes ∷ []
+    bytes_append : (front : List Kept) (k : Kept) → path_bytes (front ++ k ∷ []) ≡ path_bytes front ++ k.bytes ∷ []
     bytes_append [] k = refl
     bytes_append (x ∷ front) k = ap (λ (l : List (List ℕ)). x.bytes ∷ l) (bytes_append front k)
 
-module _ (marks paths : List Kept) (i : ℕ) (p : Kept) (lt : i < length paths) (is : p ≡ get_or paths i p) (so_far : bytes_of marks ≡ filter (begins mark_front) (bytes_of (take i paths))) where
-  filtered : filter (begins mark_front) (bytes_of (take (i + 1) paths)) ≡ filter (begins mark_front) (bytes_of (take i paths)) ++ cond (begins mark_front p.bytes) (p.bytes ∷ []) []
-  filtered = ap (filter (begins mark_front)) (bytes_more paths i p lt is) ∙ filter-append (begins mark_front) (bytes_of (take i paths)) (p.bytes ∷ [])
+module _ (marks paths : List Kept) (i : ℕ) (p : Kept) (lt : i < length paths) (is : p ≡ get_or paths i p) (so_far : path_bytes marks ≡ filter (begins mark_front) (path_bytes (take i paths))) where
+  filtered : filter (begins mark_front) (path_bytes (take (i + 1) paths)) ≡ filter (begins mark_front) (path_bytes (take i paths)) ++ cond (begins mark_front p.bytes) (p.bytes ∷ []) []
+  filtered = ap (filter (begins mark_front)) (bytes_more paths i p lt is) ∙ filter-append (begins mark_front) (path_bytes (take i paths)) (p.bytes ∷ [])
 
-  pub one_mark_more : (copy : Kept) → begins mark_front p.bytes ≡ true → copy.bytes ≡ p.bytes → bytes_of (marks ++ copy ∷ []) ≡ filter (begins mark_front) (bytes_of (take (i + 1) paths))
-  one_mark_more copy own same = appended marks ∙ ap (λ (l : List (List ℕ)). l ++ p.bytes ∷ []) so_far ∙ sym (filtered ∙ ap (λ (b : Bool). filter (begins mark_front) (bytes_of (take i paths)) ++ cond b (p.bytes ∷ []) []) own)
+  pub one_mark_more : (copy : Kept) → begins mark_front p.bytes ≡ true → copy.bytes ≡ p.bytes → path_bytes (marks ++ copy ∷ []) ≡ filter (begins mark_front) (path_bytes (take (i + 1) paths))
+  one_mark_more copy own same = appended marks ∙ ap (λ (l : List (List ℕ)). l ++ p.bytes ∷ []) so_far ∙ sym (filtered ∙ ap (λ (b : Bool). filter (begins mark_front) (path_bytes (take i paths)) ++ cond b (p.bytes ∷ []) []) own)
     where
-      appended : (front : List Kept) → bytes_of (front ++ copy ∷ []) ≡ bytes_of front ++ p.bytes ∷ []
+      appended : (front : List Kept) → path_bytes (front ++ copy ∷ []) ≡ path_bytes front ++ p.bytes ∷ []
       appended [] = ap (λ (l : List ℕ). l ∷ []) same
       appended (x ∷ front) = ap (λ (l : List (List ℕ)). x.bytes ∷ l) (appended front)
 
-  pub no_mark_more : begins mark_front p.bytes ≡ false → bytes_of marks ≡ filter (begins mark_front) (bytes_of (take (i + 1) paths))
-  no_mark_more other = so_far ∙ sym (filtered ∙ ap (λ (b : Bool). filter (begins mark_front) (bytes_of (take i paths)) ++ cond b (p.bytes ∷ []) []) other ∙ none_behind (filter (begins mark_front) (bytes_of (take i paths))))
+  pub no_mark_more : begins mark_front p.bytes ≡ false → path_bytes marks ≡ filter (begins mark_front) (path_bytes (take (i + 1) paths))
+  no_mark_more other = so_far ∙ sym (filtered ∙ ap (λ (b : Bool). filter (begins mark_front) (path_bytes (take i paths)) ++ cond b (p.bytes ∷ []) []) other ∙ none_behind (filter (begins mark_front) (path_bytes (take i paths))))
     where
       none_behind : (l : List (List ℕ)) → l ++ [] ≡ l
       none_behind [] = refl
@@ -86,23 +86,23 @@ gone false true x h = refl
 gone false false x (inl none) = none
 gone false false x (inr bad) = cc
 
-pub removed_gone : (p q : List ℕ) (t : Image) → covers p q ≡ true → (placed p None t).look q ≡ None
+pub removed_gone : (p q : List ℕ) (t : Image) → covers p q ≡ true → (with_entry_at p None t).look q ≡ None
 removed_gone p q t c = gone (same_path p q) (covers p q) (t.look q) (inr c)
 
-pub removed_none : (p q : List ℕ) (t : Image) → t.look q ≡ None → (placed p None t).look q ≡ None
+pub removed_none : (p q : List ℕ) (t : Image) → t.look q ≡ None → (with_entry_at p None t).look q ≡ None
 removed_none p q t none = gone (same_path p q) (covers p q) (t.look q) (inl none)
 
 -- one mark less
-pub gone_more : (marks : List Kept) (i : ℕ) (m : Kept) (t u : Image) (q : List ℕ) → i < length marks → m ≡ get_or marks i m → u ≡ placed m.bytes None t
+pub gone_more : (marks : List Kept) (i : ℕ) (m : Kept) (t u : Image) (q : List ℕ) → i < length marks → m ≡ get_or marks i m → u ≡ with_entry_at m.bytes None t
     → (list_any (λ (k : Kept). covers k.bytes q) (take i marks) ≡ true → t.look q ≡ None) → list_any (λ (k : Kept). covers k.bytes q) (take (i + 1) marks) ≡ true → u.look q ≡ None
 gone_more marks i m t u q lt is made before now = ap (λ (v : Image). v.look q) made ∙ gone (same_path m.bytes q) (covers m.bytes q) (t.look q)
     (⊎_elim (λ earlier. inl (before earlier)) (λ here. inr (ap (λ (k : Kept). covers k.bytes q) is ∙ here))
     (or_cases (list_any (λ (k : Kept). covers k.bytes q) (take i marks)) (covers (get_or marks i m).bytes q) (sym (list_any_more (λ (k : Kept). covers k.bytes q) marks i m lt) ∙ now)))
 
-pub all_bytes : (marks : List Kept) (q : List ℕ) → list_any (λ m. covers m q) (bytes_of marks) ≡ true → list_any (λ (k : Kept). covers k.bytes q) marks ≡ true
+pub all_bytes : (marks : List Kept) (q : List ℕ) → list_any (λ m. covers m q) (path_bytes marks) ≡ true → list_any (λ (k : Kept). covers k.bytes q) marks ≡ true
 all_bytes marks q is = sym (any_bytes q marks) ∙ is
 
-pub swept_all : (marks : List (List ℕ)) (t a b c : Image) → a ≡ placed journal_name None t → b ≡ placed stage_name None a → ((q : List ℕ) → list_any (λ m. covers m q) marks ≡ true → c.look q ≡ None) → ((q : List ℕ) → b.look q ≡ None → c.look q ≡ None)
+pub swept_all : (marks : List (List ℕ)) (t a b c : Image) → a ≡ with_entry_at journal_name None t → b ≡ with_entry_at stage_name None a → ((q : List ℕ) → list_any (λ m. covers m q) marks ≡ true → c.look q ≡ None) → ((q : List ℕ) → b.look q ≡ None → c.look q ≡ None)
     → IsSwept marks t c
 swept_all marks t a b c first second rest none = record {
   stage = λ q at. none q (ap (λ (v : Image). v.look q) second ∙ removed_gone stage_name q a at);

@@ -3,10 +3,10 @@ use Rattle.std.proofs.Common.{◌≡◌, ◌≢◌, inl, inr, ⊎_elim, ℕ, ◌
 use Rattle.std.proofs.lemmas.Bool.{or_from}
 use Rattle.ips_text.specs.Ancestry.{covers}
 use Rattle.ips_outside.specs.Image.{File, Image, Agrees}
-use Rattle.ips_outside.specs.State.{State, MayLeave, Within, IsSettled, nowhere, settled}
+use Rattle.ips_outside.specs.State.{State, MayLeave, ChangedWithin, IsSettled, nowhere, settled}
 use Rattle.ips_outside.specs.Outside.{Outside, IsOutside}
 use Rattle.ips_outside.proofs.Moments.{agrees_self, agrees_on, agrees_less, within_crash}
-use Rattle.ips_folder.specs.Calls.{Keeps, Syncs, Throughout}
+use Rattle.ips_folder.specs.Calls.{ChangesOnly, Syncs, Throughout}
 use Rattle.ips_folder.proofs.Runs.{joins, weaker, keeps_then, one_sync}
 use Rattle.ips_steps.specs.Steps.{Step, after, possible, stage_of, freed, met}
 use Rattle.ips_steps.specs.Private.{gate_name, mark_front, mark_name, begins, is_private, visible}
@@ -17,7 +17,7 @@ use Rattle.ips_steps.proofs.Owing.{owes_marking, open_marked, thousand_laid}
 use Rattle.ips_steps.proofs.PrivateNames.{mark_private}
 use Rattle.ips_kinds.specs.Tallies.{Carrier}
 use Rattle.ips_journal.specs.Text.{journal_text}
-use Rattle.ips_journal.specs.Reading.{Reading, IsAt, journal_of}
+use Rattle.ips_journal.specs.Reading.{ReaderState, IsAt, journal_of}
 use Rattle.ips_journal.specs.declared.fault.StepFault.{StepFault}
 use Rattle.ips_journal.specs.declared.fault.StepFault.TheVariants.{BadJournal, FolderFault}
 use Rattle.ips_apply.specs.Applied.{AppliedPart, ChangedByAll, IsImpossible, StopsBy, EndsOrNot}
@@ -29,7 +29,7 @@ use Rattle.ips_commit.proofs.Lays.{HasBegun, next_of, begins_next, part_next, pa
 use Rattle.ips_commit.proofs.Marked.{gate_laid, marks_laid, others_laid, gate_marked, at_marks, absent_later, one_more_stands, one_more_or_not, others_more, same_marks}
 use Rattle.ips_commit.proofs.Owing.{ready_text, laying_owed, laying_open, laying_left, nodes, safe_left}
 
-module _ {F : Type 0} (o : Outside F) (sane : IsOutside o) (first : ℕ) (old at : F) (start r : Reading) (before now : List Carrier) where
+module _ {F : Type 0} (o : Outside F) (sane : IsOutside o) (first : ℕ) (old at : F) (start r : ReaderState) (before now : List Carrier) where
   abbrev t : Image
   t = (o.state old).held
 
@@ -238,11 +238,11 @@ module _ {F : Type 0} (o : Outside F) (sane : IsOutside o) (first : ℕ) (old at
             bare : u.look (mark_name (first + 2)) ≡ None
             bare = absent_later u first (first + 2) (turn_way told way (take (1000 * first) all) from).others (omega arith) few
 
-          module _ (new : F) (run : o.tells mid ≡ true → Keeps o (covers (mark_name (first + 1))) nowhere mid new) (kind_1 : o.tells mid ≡ o.tells old) where
+          module _ (new : F) (run : o.tells mid ≡ true → ChangesOnly o (covers (mark_name (first + 1))) nowhere mid new) (kind_1 : o.tells mid ≡ o.tells old) where
             marking : o.tells old ≡ true → IsUnderWay (o.state old) first → (all : List Step) (b x : Image) (due : Bool) → IsOpen journal_text all first x t → From (take (1000 * first) all) → Throughout o old new (FolderOwes journal_text b (Some x) due)
             marking told way all b x due is_open from =
                 joins o old mid new (FolderOwes journal_text b (Some x) due) (owed told way all b x due is_open from)
-                (weaker o mid new (Within (covers (mark_name (first + 1))) nowhere (o.state mid)) (FolderOwes journal_text b (Some x) due)
+                (weaker o mid new (ChangedWithin (covers (mark_name (first + 1))) nowhere (o.state mid)) (FolderOwes journal_text b (Some x) due)
                 (λ s w. owes_marking journal_text all first x b due (o.state mid) s (still_open told way all x is_open from) (nodes o sane mid (kind_1 ∙ told)) (turn_way told way (take (1000 * first) all) from).safe few
                 (rest told way all x is_open from).0 (rest told way all x is_open from).1 (bare told way all x is_open from) w) (run (kind_1 ∙ told)).moments)
 

@@ -2,7 +2,7 @@
 use Rattle.std.proofs.Common.{◌≡◌, ℕ, true, List, [], ◌++◌, Option, Some, None, refl, sym, ◌∙◌, ap, subst}
 use Rattle.ips_text.proofs.Ancestry.{same_path-self}
 use Rattle.ips_outside.specs.Image.{Entry, Dir, File, Link, Other, Image, is_file, file_bytes}
-use Rattle.ips_outside.specs.Change.{placed, appended, more_bytes}
+use Rattle.ips_outside.specs.Change.{with_entry_at, appended, more_bytes}
 use Rattle.ips_outside.specs.Outside.{readable}
 use Rattle.ips_outside.proofs.Placed.{look_placed, placed_sole}
 use Rattle.ips_commit.specs.Contents.{HoldsAlone}
@@ -11,10 +11,10 @@ pub look_appended : (p more bytes : List ℕ) (m : ℕ) (t : Image) → t.look p
 look_appended p more bytes m t there = rw (same_path-self p) (ap (more_bytes more) there)
 
 -- a file that was made and then filled
-pub filled_file : (p bytes : List ℕ) (t u v : Image) → u ≡ placed p (Some (File 384 [])) t → v ≡ appended p bytes u → v.look p ≡ Some (File 384 bytes)
+pub filled_file : (p bytes : List ℕ) (t u v : Image) → u ≡ with_entry_at p (Some (File 384 [])) t → v ≡ appended p bytes u → v.look p ≡ Some (File 384 bytes)
 filled_file p bytes t u v made filled = ap (λ (w : Image). w.look p) filled ∙ look_appended p bytes [] 384 u (ap (λ (w : Image). w.look p) made ∙ look_placed p (Some (File 384 [])) t)
 
-pub alone_placed : (p : List ℕ) (t u : Image) → u ≡ placed p (Some (File 384 [])) t → HoldsAlone p [] u
+pub alone_placed : (p : List ℕ) (t u : Image) → u ≡ with_entry_at p (Some (File 384 [])) t → HoldsAlone p [] u
 alone_placed p t u made = subst (HoldsAlone p []) (sym made) (record { file = look_placed p (Some (File 384 [])) t; sole = λ q same. placed_sole p q (Some (File 384 [])) t same })
 
 pub alone_appended : (p bytes more : List ℕ) (t u : Image) → HoldsAlone p bytes t → u ≡ appended p more t → HoldsAlone p (bytes ++ more) u

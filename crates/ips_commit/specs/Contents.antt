@@ -29,8 +29,8 @@ IsContent tells repository publisher t (Bytes given) bytes = bytes ≡ given.ite
 IsContent tells repository publisher t (Standing path) bytes = file_bytes (t.look path.bytes) ≡ Some bytes
 
 -- each numbered content has the bytes of what is to be staged at its place
-abbrev pub AreContents : Bool → Image → List ℕ → Image → List Staged → Stage → Type 0
-AreContents tells repository publisher t staged contents = (n : ℕ) (s : Staged) → slice_get staged n ≡ Some s
+abbrev pub StagedContents : Bool → Image → List ℕ → Image → List Staged → Stage → Type 0
+StagedContents tells repository publisher t staged contents = (n : ℕ) (s : Staged) → slice_get staged n ≡ Some s
     → (bytes : List ℕ) × (contents n ≡ Some bytes) × IsContent tells repository publisher t s bytes
 
 -- the faults that a payload can have, apart from what the repository holds: it is missing, too large, or its bytes have
@@ -47,16 +47,16 @@ IsPayloadFault name (fault.TooLarge which count) = (which ≡ PayloadBytes) × (
 IsPayloadFault name fault.SourceFault = ⊥
 
 -- the payload's file has this fault: there is none, it has more bytes than a payload may have, or its bytes are damaged
-abbrev pub IsFaultOf : PayloadName → Option (List ℕ) → RepoFault → Type 0
-IsFaultOf name file fault.NoRepository = ⊥
-IsFaultOf name file (fault.BadCatalog why) = ⊥
-IsFaultOf name file fault.ManifestMissing = ⊥
-IsFaultOf name file (fault.BadManifest why) = ⊥
-IsFaultOf name file fault.PayloadMissing = file ≡ None
-IsFaultOf name file (fault.PayloadDamaged found) = (bytes : List ℕ) × (file ≡ Some bytes) × (length bytes ≤ payload_limit) × IsDamage name bytes (fault.PayloadDamaged found)
-IsFaultOf name file (fault.Compressed found) = (bytes : List ℕ) × (file ≡ Some bytes) × (length bytes ≤ payload_limit) × IsDamage name bytes (fault.Compressed found)
-IsFaultOf name file (fault.TooLarge which count) = HasSize file count × (which ≡ PayloadBytes) × (payload_limit < count)
-IsFaultOf name file fault.SourceFault = ⊥
+abbrev pub IsPayloadFileFault : PayloadName → Option (List ℕ) → RepoFault → Type 0
+IsPayloadFileFault name file fault.NoRepository = ⊥
+IsPayloadFileFault name file (fault.BadCatalog why) = ⊥
+IsPayloadFileFault name file fault.ManifestMissing = ⊥
+IsPayloadFileFault name file (fault.BadManifest why) = ⊥
+IsPayloadFileFault name file fault.PayloadMissing = file ≡ None
+IsPayloadFileFault name file (fault.PayloadDamaged found) = (bytes : List ℕ) × (file ≡ Some bytes) × (length bytes ≤ payload_limit) × IsDamage name bytes (fault.PayloadDamaged found)
+IsPayloadFileFault name file (fault.Compressed found) = (bytes : List ℕ) × (file ≡ Some bytes) × (length bytes ≤ payload_limit) × IsDamage name bytes (fault.Compressed found)
+IsPayloadFileFault name file (fault.TooLarge which count) = HasSize file count × (which ≡ PayloadBytes) × (payload_limit < count)
+IsPayloadFileFault name file fault.SourceFault = ⊥
 
 -- The payload's file has no fault.
 pub record IsIntact (name : PayloadName) (file : Option (List ℕ)) : Type 0 where
@@ -72,13 +72,13 @@ IsIntactContent repository publisher (Bytes given) = Unit {0}
 IsIntactContent repository publisher (Standing path) = Unit {0}
 
 -- so are all of the list
-abbrev pub AreIntact : Image → List ℕ → List Staged → Type 0
-AreIntact repository publisher staged = (n : ℕ) (s : Staged) → slice_get staged n ≡ Some s → IsIntactContent repository publisher s
+abbrev pub AreIntactContents : Image → List ℕ → List Staged → Type 0
+AreIntactContents repository publisher staged = (n : ℕ) (s : Staged) → slice_get staged n ≡ Some s → IsIntactContent repository publisher s
 
 -- what a fault of staging says of a payload: it has such a fault, and its file has it, where the repository tells what it holds
 abbrev pub SaysOfPayload : Bool → Image → List ℕ → PayloadName → StageFault → Type 0
 SaysOfPayload tells repository publisher name (stage.Payload other why) =
-    (other ≡ name) × IsPayloadFault name why × (IsTrue tells → IsFaultOf name (file_at repository (payload_place publisher name)) why)
+    (other ≡ name) × IsPayloadFault name why × (IsTrue tells → IsPayloadFileFault name (file_at repository (payload_place publisher name)) why)
 SaysOfPayload tells repository publisher name stage.SourceFault = Unit {0}
 SaysOfPayload tells repository publisher name stage.FolderFault = Unit {0}
 
@@ -93,7 +93,7 @@ pub record IsFirstFault (repository : Image) (publisher : List ℕ) (staged : Li
   pub at : ℕ
   pub stands : slice_get staged at ≡ Some (Payload name)
   pub before : (n : ℕ) (s : Staged) → n < at → slice_get staged n ≡ Some s → IsIntactContent repository publisher s
-  pub is : IsFaultOf name (file_at repository (payload_place publisher name)) why
+  pub is : IsPayloadFileFault name (file_at repository (payload_place publisher name)) why
 
 -- what a fault of staging says: a payload of the list has such a fault, and is the first that has one, where the repository
 -- tells what it holds

@@ -3,7 +3,7 @@ use Rattle.std.specs.Prelude.{◌≡◌, ◌≢◌, ◌⊎◌, ℕ, zero, suc, B
 use Rattle.std.specs.List.{list_all, list_any}
 use Rattle.ips_text.specs.Ancestry.{same_path, covers}
 use Rattle.ips_outside.specs.Image.{Image}
-use Rattle.ips_outside.specs.State.{State, Within, IsSettled, nowhere, settled}
+use Rattle.ips_outside.specs.State.{State, ChangedWithin, IsSettled, nowhere, settled}
 use Rattle.ips_steps.specs.Steps.{stage_name}
 use Rattle.ips_steps.specs.Private.{journal_name, gate_name, mark_front, mark_name, begins, is_private, visible}
 use Rattle.ips_commit.specs.declared.found.Pending.{Pending}
@@ -34,7 +34,7 @@ is_swept q = covers stage_name q || (covers journal_name q || begins mark_front 
 -- Invisible changes alone: either nothing has happened yet; or a sync has made safe what was held, and since then only the
 -- stage, the journal and marks were changed and touched.
 abbrev pub IsBehindGate : State → State → Type 0
-IsBehindGate old s = (s ≡ old) ⊎ Within is_swept nowhere (settled old) s
+IsBehindGate old s = (s ≡ old) ⊎ ChangedWithin is_swept nowhere (settled old) s
 
 -- no mark stands but these, and nothing below another
 abbrev pub HasNoOtherMark : Image → List (List ℕ) → Type 0
@@ -62,7 +62,7 @@ pub record IsSwept (names : List (List ℕ)) (t u : Image) : Type 0 where
   pub nothing_new : (q : List ℕ) → t.look q ≡ None → u.look q ≡ None
 
 -- A change is done: this image is seen, nothing is left at the updater's own names, and nothing is touched.
-pub record IsDone (a : Image) (s : State) : Type 0 where
+pub record HasCommitted (a : Image) (s : State) : Type 0 where
   pub seen : visible s.held ≡ a
   pub bare : IsBare s.held
   pub safe : IsSettled s

@@ -11,7 +11,7 @@ use Rattle.ips_steps.specs.Owed.{AreMarks, IsOpen, FolderOwes}
 use Rattle.ips_kinds.specs.Tallies.{Carrier, all_counted}
 use Rattle.ips_journal.specs.Text.{journal_text}
 use Rattle.ips_journal.specs.Bad.{IsBadLine}
-use Rattle.ips_journal.specs.Reading.{Reading, IsAt, journal_of}
+use Rattle.ips_journal.specs.Reading.{ReaderState, IsAt, journal_of}
 use Rattle.ips_journal.specs.declared.fault.StepFault.{StepFault}
 use Rattle.ips_journal.specs.declared.fault.StepFault.TheVariants.{BadJournal, FolderFault}
 use Rattle.ips_apply.specs.Applied.{IsImpossible}
@@ -70,7 +70,7 @@ pub record AreCutOff {F : Type 0} (o : Outside F) (text : List ℕ) (front steps
 -- How laying ended where these steps behind the front were finished and so many marks stand: all that the text lists are laid
 -- and safe; or these are, and the reader stands behind them; or a line isn't of the grammar, or a step is held up; or a call on
 -- the folder failed, and they were cut off.
-abbrev pub LaysTo : {F : Type 0} → Outside F → List ℕ → List Step → List Step → ℕ → F → F → Reading → Result Bool StepFault → Type 0
+abbrev pub LaysTo : {F : Type 0} → Outside F → List ℕ → List Step → List Step → ℕ → F → F → ReaderState → Result Bool StepFault → Type 0
 LaysTo o text front steps marks old new r (Ok true) = IsJournal (front ++ steps) × (text ≡ journal_text (front ++ steps)) × AreMarkedOff o steps marks old new
 LaysTo o text front steps marks old new r (Ok false) = IsAt text (front ++ steps) r × AreMarkedOff o steps marks old new
 LaysTo o text front steps marks old new r (Err (BadJournal line)) = IsBadLine text line ⊎ IsHeldUp o text front steps marks line old new
@@ -79,7 +79,7 @@ LaysTo o text front steps marks old new r (Err FolderFault) = AreCutOff o text f
 -- What laying does from a reader's place and so many marks on: some steps are finished, each counted by the first kind that
 -- takes it, and a mark is made behind each thousand of them. Where the folder tells its image
 -- they are those of its journal behind the front that the reader has read, and it owes at every moment what it owed.
-pub record Lays {F : Type 0} (o : Outside F) (first : ℕ) (old new : F) (start r : Reading) (before now : List Carrier) (how : Result Bool StepFault) : Type 0 where
+pub record Lays {F : Type 0} (o : Outside F) (first : ℕ) (old new : F) (start r : ReaderState) (before now : List Carrier) (how : Result Bool StepFault) : Type 0 where
   pub steps : List Step
   pub marks : ℕ
   pub tallies : now ≡ all_counted steps before
@@ -107,7 +107,7 @@ ended_of (Ok x) = Ok x.1
 ended_of (Err fault) = Err fault
 
 -- One turn: at most a thousand steps are laid, as many as are told, and one mark more is made where the text's end wasn't read.
-pub record LaysThousand {F : Type 0} (o : Outside F) (first : ℕ) (old new : F) (start r : Reading) (before now : List Carrier) (result : Result (ℕ × Bool) StepFault) : Type 0 where
+pub record LaysThousand {F : Type 0} (o : Outside F) (first : ℕ) (old new : F) (start r : ReaderState) (before now : List Carrier) (result : Result (ℕ × Bool) StepFault) : Type 0 where
   pub lays : Lays o first old new start r before now (ended_of result)
   pub count : IfOk result (λ x. x.0 ≡ length lays.steps)
   pub marks : IfOk result (λ x. lays.marks ≡ cond x.1 first (first + 1))
@@ -118,7 +118,7 @@ whole_of (Ok x) = Ok true
 whole_of (Err fault) = Err fault
 
 -- All turns: so many marks are told, and so many steps, as far as a counter goes.
-pub record LaysAll {F : Type 0} (o : Outside F) (first : ℕ) (old new : F) (start r : Reading) (before now : List Carrier) (result : Result (ℕ × ℕ) StepFault) : Type 0 where
+pub record LaysAll {F : Type 0} (o : Outside F) (first : ℕ) (old new : F) (start r : ReaderState) (before now : List Carrier) (result : Result (ℕ × ℕ) StepFault) : Type 0 where
   pub lays : Lays o first old new start r before now (whole_of result)
   pub marks : IfOk result (λ x. x.0 ≡ lays.marks)
   pub count : IfOk result (λ x. x.1 ≡ min (length lays.steps) (2 ^ 64 - 1))

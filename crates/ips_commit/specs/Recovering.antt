@@ -11,7 +11,7 @@ use Rattle.ips_steps.specs.Owed.{AreMarks, steps_left, IsOpen}
 use Rattle.ips_kinds.specs.Tallies.{Carrier, all_counted}
 use Rattle.ips_journal.specs.Text.{journal_text}
 use Rattle.ips_journal.specs.Bad.{IsBadLine}
-use Rattle.ips_journal.specs.Reading.{Reading, IsAt, journal_of}
+use Rattle.ips_journal.specs.Reading.{ReaderState, IsAt, journal_of}
 use Rattle.ips_journal.specs.declared.fault.StepFault.{StepFault}
 use Rattle.ips_journal.specs.declared.fault.StepFault.TheVariants as step_fault
 use Rattle.ips_apply.specs.Applied.{IsImpossible}
@@ -83,7 +83,7 @@ ReadsWhole text (Err (step_fault.BadJournal line)) = IsBadLine text line
 ReadsWhole text (Err step_fault.FolderFault) = Unit {0}
 
 -- The journal lists steps, and the reader stands behind those that so many marks tell to be laid.
-pub record IsPlaced (t : Image) (r : Reading) (count : ℕ) : Type 0 where
+pub record IsPlaced (t : Image) (r : ReaderState) (count : ℕ) : Type 0 where
   pub steps : List Step
   pub is : IsJournalled t steps count
   pub at : IsAt (journal_of t) (take (1000 * count) steps) r

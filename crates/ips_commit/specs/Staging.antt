@@ -10,7 +10,7 @@ use Rattle.ips_journal.specs.Text.{journal_text}
 use Rattle.ips_journal.specs.Reading.{puts_in}
 use Rattle.ips_journal.specs.declared.staged.Staged.{Staged}
 use Rattle.ips_commit.specs.Pending.{is_swept}
-use Rattle.ips_commit.specs.Contents.{AreContents, AreStanding}
+use Rattle.ips_commit.specs.Contents.{StagedContents, AreStanding}
 
 -- What can be staged on an image: a sound list of steps, with one content for each `put`. It is possible whatever bytes these
 -- have. Contents that are taken from the image are files there. `var/pkg` stands, and the gate is closed.
@@ -37,7 +37,7 @@ HoldsOnly count t = (q : List ℕ) → IsTrue (is_below stage_name q) → t.look
 -- image that was held before. Nobody else may enter the stage.
 pub record HasStaged (tells : Bool) (repository : Image) (publisher : List ℕ) (steps : List Step) (staged : List Staged) (t : Image) (s : State) : Type 0 where
   pub contents : Stage
-  pub are : AreContents tells repository publisher t staged contents
+  pub are : StagedContents tells repository publisher t staged contents
   pub stage : s.held.look stage_name ≡ Some (Dir 448 false)
   pub only : HoldsOnly (length staged) s.held
   pub is : IsStaged steps (visible (all_laid contents steps t)) s
@@ -52,5 +52,5 @@ pub record IsFilled (tells : Bool) (repository : Image) (publisher text : List �
   pub journal : file_bytes (s.held.look journal_name) ≡ Some text
   pub stage : s.held.look stage_name ≡ Some (Dir 448 false)
   pub only : HoldsOnly (length staged) s.held
-  pub contents : AreContents tells repository publisher t staged (stage_of s.held)
+  pub contents : StagedContents tells repository publisher t staged (stage_of s.held)
   pub unmarked : (q : List ℕ) → IsTrue (begins mark_front q) → s.held.look q ≡ None

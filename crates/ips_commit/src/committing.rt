@@ -10,7 +10,7 @@ ghost use Rattle.ips_steps.specs.Owed.{FolderOwes};
 ghost use Rattle.ips_steps.specs.declared.step.Sort.{Sort};
 ghost use Rattle.ips_kinds.specs.Tallies.{seen_by, taken, all_counted};
 ghost use Rattle.ips_journal.specs.Text.{journal_text};
-ghost use Rattle.ips_commit.specs.Pending.{HasNoOtherMark, IsDone};
+ghost use Rattle.ips_commit.specs.Pending.{HasNoOtherMark, HasCommitted};
 ghost use Rattle.ips_commit.specs.Due.{DueOnceOpen};
 ghost use Rattle.ips_commit.specs.Recovering.{AreLaidTo, CanResume};
 ghost use Rattle.ips_commit.specs.Staging.{IsStaged};
@@ -51,7 +51,7 @@ pub fn commit<F: Folder>(
 
     // Done: the image that is meant is seen, nothing is left, nothing is touched, and each step was counted.
     ensures done { IsTrue (F.outside.tells folder.old) → (steps : List Step) (a : Image) → IsStaged steps a (F.outside.state folder.old)
-        → IfOk result (λ count. (count ≡ length steps) × IsDone a (F.outside.state folder.new)) }
+        → IfOk result (λ count. (count ≡ length steps) × HasCommitted a (F.outside.state folder.new)) }
     ensures counted { IsTrue (F.outside.tells folder.old) → (steps : List Step) (a : Image) → IsStaged steps a (F.outside.state folder.old)
         → OnOk result (seen_by sorts finished kinds.new.items ≡ all_counted steps (seen_by sorts finished kinds.old.items)) }
 
@@ -104,7 +104,7 @@ fn run<F: Folder>(
     ensures due { IsTrue (F.outside.tells folder.old) → (steps : List Step) (a : Image) → IsStaged steps a (F.outside.state folder.old)
         → DueOnceOpen F.outside (visible (F.outside.state folder.old).held) a folder.old folder.new }
     ensures done { IsTrue (F.outside.tells folder.old) → (steps : List Step) (a : Image) → IsStaged steps a (F.outside.state folder.old)
-        → IfOk result (λ count. (count ≡ length steps) × IsDone a (F.outside.state folder.new)) }
+        → IfOk result (λ count. (count ≡ length steps) × HasCommitted a (F.outside.state folder.new)) }
     ensures counted { IsTrue (F.outside.tells folder.old) → (steps : List Step) (a : Image) → IsStaged steps a (F.outside.state folder.old)
         → OnOk result (seen_by sorts finished kinds.new.items ≡ all_counted steps (seen_by sorts finished kinds.old.items)) }
     ensures stopped { IsTrue (F.outside.tells folder.old) → (steps : List Step) (a : Image) → IsStaged steps a (F.outside.state folder.old)

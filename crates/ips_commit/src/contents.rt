@@ -7,12 +7,12 @@ ghost use Rattle.ips_text.specs.declared.refusal.Or.TheVariants.{Bad};
 ghost use Rattle.ips_outside.specs.Image.{File, is_dir, is_file, file_bytes};
 ghost use Rattle.ips_outside.specs.State.{nowhere};
 ghost use Rattle.ips_outside.specs.Outside.{HasCause, Reads};
-ghost use Rattle.ips_folder.specs.Calls.{CanMake, Keeps};
+ghost use Rattle.ips_folder.specs.Calls.{CanMake, ChangesOnly};
 ghost use Rattle.ips_steps.specs.Steps.{stage_name, stage_of};
 ghost use Rattle.ips_repo.specs.Files.{file_at};
 ghost use Rattle.ips_repo.specs.Places.{payload_place};
 ghost use Rattle.ips_repo.specs.Payload.{IsOpened, IsFrontOf};
-ghost use Rattle.ips_commit.specs.Contents.{IsContent, AreContents, IsStanding, AreStanding, IsApart, AreSeen, IsIntact, IsIntactContent, AreIntact, IsPayload, SaysOfPayload, SaysOfContent, SaysOfStage, HoldsAlone};
+ghost use Rattle.ips_commit.specs.Contents.{IsContent, StagedContents, IsStanding, AreStanding, IsApart, AreSeen, IsIntact, IsIntactContent, AreIntactContents, IsPayload, SaysOfPayload, SaysOfContent, SaysOfStage, HoldsAlone};
 ghost use Rattle.ips_commit.specs.Staging.{HoldsOnly};
 ghost use Rattle.ips_commit.specs.declared.fault.StageFault.TheVariants as fault;
 
@@ -42,12 +42,12 @@ pub(crate) fn write_contents<S: Source, F: Folder>(
     requires seen { AreSeen staged.now }
     requires room { 0 < length buffer.old }
     ensures written { IsTrue (F.outside.tells folder.old) → OnOk result
-        (AreContents (S.outside.tells source.old) (S.outside.state source.old).held publisher.now (F.outside.state folder.old).held staged.now (stage_of (F.outside.state folder.new).held)) }
+        (StagedContents (S.outside.tells source.old) (S.outside.state source.old).held publisher.now (F.outside.state folder.old).held staged.now (stage_of (F.outside.state folder.new).held)) }
     ensures stands { IsTrue (F.outside.tells folder.old) → OnOk result ((F.outside.state folder.new).held.look stage_name ≡ (F.outside.state folder.old).held.look stage_name) }
     ensures only { IsTrue (F.outside.tells folder.old) → OnOk result (HoldsOnly (length staged.now) (F.outside.state folder.new).held) }
-    ensures intact { IsTrue (S.outside.tells source.old) → OnOk result (AreIntact (S.outside.state source.old).held publisher.now staged.now) }
+    ensures intact { IsTrue (S.outside.tells source.old) → OnOk result (AreIntactContents (S.outside.state source.old).held publisher.now staged.now) }
     ensures refused { IfBad result (SaysOfStage (S.outside.tells source.old) (S.outside.state source.old).held publisher.now staged.now) }
-    ensures any_moment { IsTrue (F.outside.tells folder.old) → Keeps F.outside (covers stage_name) nowhere folder.old folder.new }
+    ensures any_moment { IsTrue (F.outside.tells folder.old) → ChangesOnly F.outside (covers stage_name) nowhere folder.old folder.new }
     ensures reads { Reads S.outside source.old source.new (result ≡ Err (Bad fault.SourceFault)) }
     ensures cause { HasCause (F.outside.faults folder.old) (F.outside.faults folder.new) (result ≡ Err (Bad fault.FolderFault)) }
     ensures same_kind { F.outside.tells folder.new ≡ F.outside.tells folder.old }
@@ -82,7 +82,7 @@ fn write_content<S: Source, F: Folder>(
         × IsContent (S.outside.tells source.old) (S.outside.state source.old).held publisher.now (F.outside.state folder.old).held content.now bytes) }
     ensures intact { IsTrue (S.outside.tells source.old) → OnOk result (IsIntactContent (S.outside.state source.old).held publisher.now content.now) }
     ensures refused { IfBad result (SaysOfContent (S.outside.tells source.old) (S.outside.state source.old).held publisher.now content.now) }
-    ensures any_moment { IsTrue (F.outside.tells folder.old) → Keeps F.outside (covers path.now.bytes) nowhere folder.old folder.new }
+    ensures any_moment { IsTrue (F.outside.tells folder.old) → ChangesOnly F.outside (covers path.now.bytes) nowhere folder.old folder.new }
     ensures reads { Reads S.outside source.old source.new (result ≡ Err (Bad fault.SourceFault)) }
     ensures cause { HasCause (F.outside.faults folder.old) (F.outside.faults folder.new) (result ≡ Err (Bad fault.FolderFault)) }
     ensures same_kind { F.outside.tells folder.new ≡ F.outside.tells folder.old }
@@ -107,7 +107,7 @@ fn write_content<S: Source, F: Folder>(
 fn write_file<F: Folder>(folder: &mut F, path: &RelPath, bytes: &[u8]) -> Result<(), Failed>
     requires { IsTrue (F.outside.tells folder.old) → CanMake (F.outside.state folder.old).held path.now.bytes }
     ensures written { IsTrue (F.outside.tells folder.old) → OnOk result ((F.outside.state folder.new).held.look path.now.bytes ≡ Some (File 384 bytes.now)) }
-    ensures any_moment { IsTrue (F.outside.tells folder.old) → Keeps F.outside (covers path.now.bytes) nowhere folder.old folder.new }
+    ensures any_moment { IsTrue (F.outside.tells folder.old) → ChangesOnly F.outside (covers path.now.bytes) nowhere folder.old folder.new }
     ensures cause { HasCause (F.outside.faults folder.old) (F.outside.faults folder.new) (IsErr result) }
     ensures same_kind { F.outside.tells folder.new ≡ F.outside.tells folder.old }
     ensures changes { F.outside.changes folder.old ≤ F.outside.changes folder.new }
@@ -131,7 +131,7 @@ fn write_copy<F: Folder>(
     ensures written { IsTrue (F.outside.tells folder.old) → OnOk result ((bytes : List ℕ)
         × ((F.outside.state folder.new).held.look path.now.bytes ≡ Some (File 384 bytes))
         × (file_bytes ((F.outside.state folder.old).held.look from.now.bytes) ≡ Some bytes)) }
-    ensures any_moment { IsTrue (F.outside.tells folder.old) → Keeps F.outside (covers path.now.bytes) nowhere folder.old folder.new }
+    ensures any_moment { IsTrue (F.outside.tells folder.old) → ChangesOnly F.outside (covers path.now.bytes) nowhere folder.old folder.new }
     ensures cause { HasCause (F.outside.faults folder.old) (F.outside.faults folder.new) (IsErr result) }
     ensures same_kind { F.outside.tells folder.new ≡ F.outside.tells folder.old }
     ensures changes { F.outside.changes folder.old ≤ F.outside.changes folder.new }
@@ -158,7 +158,7 @@ fn write_payload<S: Source, F: Folder>(
         × IsPayload (S.outside.tells source.old) (S.outside.state source.old).held publisher.now name.now bytes) }
     ensures intact { IsTrue (S.outside.tells source.old) → OnOk result (IsIntact name.now (file_at (S.outside.state source.old).held (payload_place publisher.now name.now))) }
     ensures refused { IfBad result (SaysOfPayload (S.outside.tells source.old) (S.outside.state source.old).held publisher.now name.now) }
-    ensures any_moment { IsTrue (F.outside.tells folder.old) → Keeps F.outside (covers path.now.bytes) nowhere folder.old folder.new }
+    ensures any_moment { IsTrue (F.outside.tells folder.old) → ChangesOnly F.outside (covers path.now.bytes) nowhere folder.old folder.new }
     ensures reads { Reads S.outside source.old source.new (result ≡ Err (Bad fault.SourceFault)) }
     ensures cause { HasCause (F.outside.faults folder.old) (F.outside.faults folder.new) (result ≡ Err (Bad fault.FolderFault)) }
     ensures same_kind { F.outside.tells folder.new ≡ F.outside.tells folder.old }
@@ -216,7 +216,7 @@ fn copy_payload<S: Source, F: Folder>(
     ensures sized { payload.new.size ≡ payload.old.size }
     ensures front { IsTrue (S.outside.tells source.old) → IsFrontOf (S.outside.state source.old).held payload.old → IsFrontOf (S.outside.state source.old).held payload.new }
     ensures faults { IfErr result (λ why. (why ≡ fault.SourceFault) ⊎ (why ≡ fault.FolderFault)) }
-    ensures any_moment { IsTrue (F.outside.tells folder.old) → Keeps F.outside (covers path.now.bytes) nowhere folder.old folder.new }
+    ensures any_moment { IsTrue (F.outside.tells folder.old) → ChangesOnly F.outside (covers path.now.bytes) nowhere folder.old folder.new }
     ensures reads { Reads S.outside source.old source.new (result ≡ Err fault.SourceFault) }
     ensures cause { HasCause (F.outside.faults folder.old) (F.outside.faults folder.new) (result ≡ Err fault.FolderFault) }
     ensures same_kind { F.outside.tells folder.new ≡ F.outside.tells folder.old }

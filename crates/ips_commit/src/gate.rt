@@ -4,16 +4,16 @@ ghost use Rattle.std.specs.Prelude.{◌≡◌, ◌⊎◌, ◌<◌, ◌≤◌, �
 ghost use Rattle.std.specs.List.{list_all, list_any};
 ghost use Rattle.ips_text.specs.Ancestry.{covers};
 ghost use Rattle.ips_outside.specs.Image.{Image};
-ghost use Rattle.ips_outside.specs.Change.{placed};
+ghost use Rattle.ips_outside.specs.Change.{with_entry_at};
 ghost use Rattle.ips_outside.specs.State.{MayLeave, IsSettled, nowhere};
-ghost use Rattle.ips_outside.specs.Outside.{HasCause, counted};
-ghost use Rattle.ips_outside.specs.Children.{bytes_of};
-ghost use Rattle.ips_folder.specs.Calls.{CanMake, Keeps, Throughout};
+ghost use Rattle.ips_outside.specs.Outside.{HasCause, risen};
+ghost use Rattle.ips_outside.specs.Children.{path_bytes};
+ghost use Rattle.ips_folder.specs.Calls.{CanMake, ChangesOnly, Throughout};
 ghost use Rattle.ips_steps.specs.Steps.{Step};
 ghost use Rattle.ips_steps.specs.Private.{gate_name, mark_front, begins, is_private, visible};
 ghost use Rattle.ips_steps.specs.Owed.{AreMarks, IsReady, FolderOwes};
 ghost use Rattle.ips_journal.specs.Text.{journal_text};
-ghost use Rattle.ips_commit.specs.Pending.{is_swept, HasNoOtherMark, IsSwept, IsDone, mark_names};
+ghost use Rattle.ips_commit.specs.Pending.{is_swept, HasNoOtherMark, IsSwept, HasCommitted, mark_names};
 ghost use Rattle.ips_commit.specs.Due.{IsSafelyOpen};
 ghost use Rattle.ips_commit.specs.Phases.{Opens};
 
@@ -26,14 +26,14 @@ use ips_text::RelPath;
 /// Opens the gate: makes a file there, and makes it safe.
 pub(crate) fn open<F: Folder>(folder: &mut F, names: &OwnNames) -> Result<(), Failed>
     requires { IsTrue (F.outside.tells folder.old) → CanMake (F.outside.state folder.old).held gate_name }
-    ensures any_moment { IsTrue (F.outside.tells folder.old) → Keeps F.outside (covers gate_name) nowhere folder.old folder.new }
+    ensures any_moment { IsTrue (F.outside.tells folder.old) → ChangesOnly F.outside (covers gate_name) nowhere folder.old folder.new }
     ensures opened { IsTrue (F.outside.tells folder.old) → OnOk result (Opens F.outside folder.old folder.new) }
     ensures safe { IsTrue (F.outside.tells folder.old) → OnOk result (IsSettled (F.outside.state folder.new)) }
     ensures not_yet { IsTrue (F.outside.tells folder.old) → OnErr result (Throughout F.outside folder.old folder.new (λ s. IsSafelyOpen s → ⊥)) }
     ensures cause { HasCause (F.outside.faults folder.old) (F.outside.faults folder.new) (IsErr result) }
     ensures same_kind { F.outside.tells folder.new ≡ F.outside.tells folder.old }
     ensures changes { F.outside.changes folder.old ≤ F.outside.changes folder.new }
-    ensures changed { counted (F.outside.changes folder.old) ≤ F.outside.changes folder.new }
+    ensures changed { risen (F.outside.changes folder.old) ≤ F.outside.changes folder.new }
 {
     folder.make_file(&names.gate)?;
     folder.append(&names.gate, b"1")?;
@@ -55,15 +55,15 @@ pub(crate) fn finish<F: Folder>(
         → IsReady journal_text steps count a (F.outside.state folder.old).held → visible (F.outside.state folder.old).held ≡ a
         → Throughout F.outside folder.old folder.new (FolderOwes journal_text b (Some a) due) }
     ensures done { IsTrue (F.outside.tells folder.old) → HasNoOtherMark (F.outside.state folder.old).held (mark_names marks)
-        → OnOk result (IsDone (visible (F.outside.state folder.old).held) (F.outside.state folder.new)) }
-    ensures any_moment { IsTrue (F.outside.tells folder.old) → Keeps F.outside is_private nowhere folder.old folder.new }
+        → OnOk result (HasCommitted (visible (F.outside.state folder.old).held) (F.outside.state folder.new)) }
+    ensures any_moment { IsTrue (F.outside.tells folder.old) → ChangesOnly F.outside is_private nowhere folder.old folder.new }
     ensures left { IsTrue (F.outside.tells folder.old) → IsSettled (F.outside.state folder.old) → (count : ℕ) → AreMarks (F.outside.state folder.old).held count
         → OnErr result ((c : Image) → MayLeave (F.outside.state folder.new) c → (c.look gate_name ≡ None) ⊎ AreMarks c count) }
     ensures path { 1023 ≤ mark.new.room }
     ensures cause { HasCause (F.outside.faults folder.old) (F.outside.faults folder.new) (IsErr result) }
     ensures same_kind { F.outside.tells folder.new ≡ F.outside.tells folder.old }
     ensures changes { F.outside.changes folder.old ≤ F.outside.changes folder.new }
-    ensures changed { counted (F.outside.changes folder.old) ≤ F.outside.changes folder.new }
+    ensures changed { risen (F.outside.changes folder.old) ≤ F.outside.changes folder.new }
 {
     close(folder, names)?;
     unmark(folder, mark, marks)?;
@@ -78,7 +78,7 @@ fn unmark<F: Folder>(folder: &mut F, mark: &mut RelPath, marks: u64) -> Result<(
     ensures gone { IsTrue (F.outside.tells folder.old) → OnOk result ((q : List ℕ) → IsTrue (list_any (λ m. covers m q) (mark_names marks)) → (F.outside.state folder.new).held.look q ≡ None) }
     ensures nothing_new { IsTrue (F.outside.tells folder.old) → OnOk result ((q : List ℕ) → (F.outside.state folder.old).held.look q ≡ None → (F.outside.state folder.new).held.look q ≡ None) }
     ensures safe { IsTrue (F.outside.tells folder.old) → OnOk result (IsSettled (F.outside.state folder.new)) }
-    ensures any_moment { IsTrue (F.outside.tells folder.old) → Keeps F.outside (begins mark_front) nowhere folder.old folder.new }
+    ensures any_moment { IsTrue (F.outside.tells folder.old) → ChangesOnly F.outside (begins mark_front) nowhere folder.old folder.new }
     ensures path { 1023 ≤ mark.new.room }
     ensures cause { HasCause (F.outside.faults folder.old) (F.outside.faults folder.new) (IsErr result) }
     ensures same_kind { F.outside.tells folder.new ≡ F.outside.tells folder.old }
@@ -94,13 +94,13 @@ fn unmark<F: Folder>(folder: &mut F, mark: &mut RelPath, marks: u64) -> Result<(
 
 // Closes the gate, and makes that safe.
 fn close<F: Folder>(folder: &mut F, names: &OwnNames) -> Result<(), Failed>
-    ensures closed { IsTrue (F.outside.tells folder.old) → OnOk result ((F.outside.state folder.new).held ≡ placed gate_name None (F.outside.state folder.old).held) }
+    ensures closed { IsTrue (F.outside.tells folder.old) → OnOk result ((F.outside.state folder.new).held ≡ with_entry_at gate_name None (F.outside.state folder.old).held) }
     ensures safe { IsTrue (F.outside.tells folder.old) → OnOk result (IsSettled (F.outside.state folder.new)) }
-    ensures any_moment { IsTrue (F.outside.tells folder.old) → Keeps F.outside (covers gate_name) nowhere folder.old folder.new }
+    ensures any_moment { IsTrue (F.outside.tells folder.old) → ChangesOnly F.outside (covers gate_name) nowhere folder.old folder.new }
     ensures cause { HasCause (F.outside.faults folder.old) (F.outside.faults folder.new) (IsErr result) }
     ensures same_kind { F.outside.tells folder.new ≡ F.outside.tells folder.old }
     ensures changes { F.outside.changes folder.old ≤ F.outside.changes folder.new }
-    ensures changed { counted (F.outside.changes folder.old) ≤ F.outside.changes folder.new }
+    ensures changed { risen (F.outside.changes folder.old) ≤ F.outside.changes folder.new }
 {
     folder.remove(&names.gate)?;
     folder.sync()?;
@@ -113,14 +113,14 @@ pub(crate) fn clear<F: Folder>(
     names: &OwnNames,
     marks: &[RelPath],
 ) -> Result<(), Failed>
-    requires own { IsTrue (list_all (begins mark_front) (bytes_of marks.now)) }
-    ensures swept { IsTrue (F.outside.tells folder.old) → OnOk result (IsSwept (bytes_of marks.now) (F.outside.state folder.old).held (F.outside.state folder.new).held) }
+    requires own { IsTrue (list_all (begins mark_front) (path_bytes marks.now)) }
+    ensures swept { IsTrue (F.outside.tells folder.old) → OnOk result (IsSwept (path_bytes marks.now) (F.outside.state folder.old).held (F.outside.state folder.new).held) }
     ensures safe { IsTrue (F.outside.tells folder.old) → OnOk result (IsSettled (F.outside.state folder.new)) }
-    ensures any_moment { IsTrue (F.outside.tells folder.old) → Keeps F.outside is_swept nowhere folder.old folder.new }
+    ensures any_moment { IsTrue (F.outside.tells folder.old) → ChangesOnly F.outside is_swept nowhere folder.old folder.new }
     ensures cause { HasCause (F.outside.faults folder.old) (F.outside.faults folder.new) (IsErr result) }
     ensures same_kind { F.outside.tells folder.new ≡ F.outside.tells folder.old }
     ensures changes { F.outside.changes folder.old ≤ F.outside.changes folder.new }
-    ensures changed { counted (F.outside.changes folder.old) ≤ F.outside.changes folder.new }
+    ensures changed { risen (F.outside.changes folder.old) ≤ F.outside.changes folder.new }
 {
     sweep(folder, names, marks)?;
     folder.sync()?;

@@ -5,7 +5,7 @@ ghost use Rattle.ips_text.specs.Ancestry.{covers};
 ghost use Rattle.ips_outside.specs.Image.{File};
 ghost use Rattle.ips_outside.specs.State.{IsSettled, nowhere};
 ghost use Rattle.ips_outside.specs.Outside.{HasCause};
-ghost use Rattle.ips_folder.specs.Calls.{CanMake, Keeps};
+ghost use Rattle.ips_folder.specs.Calls.{CanMake, ChangesOnly};
 ghost use Rattle.ips_steps.specs.Steps.{Step};
 ghost use Rattle.ips_steps.specs.Private.{mark_name};
 ghost use Rattle.ips_steps.specs.declared.step.Sort.{Sort};
@@ -109,7 +109,7 @@ fn make_mark<F: Folder>(folder: &mut F, mark: &mut RelPath, number: u64) -> Resu
     requires path { 1023 ≤ mark.old.room }
     requires can { IsTrue (F.outside.tells folder.old) → CanMake (F.outside.state folder.old).held (mark_name number) }
     ensures path { 1023 ≤ mark.new.room }
-    ensures any_moment { IsTrue (F.outside.tells folder.old) → Keeps F.outside (covers (mark_name number)) nowhere folder.old folder.new }
+    ensures any_moment { IsTrue (F.outside.tells folder.old) → ChangesOnly F.outside (covers (mark_name number)) nowhere folder.old folder.new }
     ensures made { IsTrue (F.outside.tells folder.old) → OnOk result ((F.outside.state folder.new).held.look (mark_name number) ≡ Some (File 384 [])) }
     ensures safe { IsTrue (F.outside.tells folder.old) → OnOk result (IsSettled (F.outside.state folder.new)) }
     ensures cause { HasCause (F.outside.faults folder.old) (F.outside.faults folder.new) (IsErr result) }

@@ -5,7 +5,7 @@ ghost use Rattle.std.specs.List.{list_all};
 ghost use Rattle.ips_text.specs.Reading.{IfBad};
 ghost use Rattle.ips_text.specs.declared.refusal.Or.TheVariants.{Bad};
 ghost use Rattle.ips_outside.specs.Outside.{Reads};
-ghost use Rattle.ips_outside.specs.Children.{bytes_of};
+ghost use Rattle.ips_outside.specs.Children.{path_bytes};
 ghost use Rattle.ips_steps.specs.Steps.{Step};
 ghost use Rattle.ips_steps.specs.Private.{gate_name, mark_front, begins};
 ghost use Rattle.ips_steps.specs.Journal.{IsJournal};
@@ -45,8 +45,8 @@ pub(crate) fn find_left<F: Folder>(
     reader: &mut StepReader,
 ) -> Result<Left, Or<CommitFault>>
     ensures gate { IsTrue (F.outside.tells folder.old) → IfOk result (λ left. left.is_open ≡ is_some ((F.outside.state folder.old).held.look gate_name)) }
-    ensures marks { IsTrue (F.outside.tells folder.old) → IfOk result (λ left. AreMarkNames (F.outside.state folder.old).held (bytes_of left.marks.items)) }
-    ensures own { IfOk result (λ left. IsTrue (list_all (begins mark_front) (bytes_of left.marks.items))) }
+    ensures marks { IsTrue (F.outside.tells folder.old) → IfOk result (λ left. AreMarkNames (F.outside.state folder.old).held (path_bytes left.marks.items)) }
+    ensures own { IfOk result (λ left. IsTrue (list_all (begins mark_front) (path_bytes left.marks.items))) }
     ensures placed { IsTrue (F.outside.tells folder.old) → IfOk result (λ left. IsTrue left.is_open → IsPlaced (F.outside.state folder.old).held reader.new left.count) }
     ensures few { IfOk result (λ left. left.count ≤ 18446744073709552) }
     ensures open { IfOk result (λ left. IsTrue left.is_open → IsTrue reader.new.is_open) }

@@ -7,8 +7,8 @@ ghost use Rattle.ips_text.specs.declared.refusal.Or.TheVariants.{Bad};
 ghost use Rattle.ips_outside.specs.Image.{Image};
 ghost use Rattle.ips_outside.specs.State.{IsSettled, nowhere};
 ghost use Rattle.ips_outside.specs.Outside.{HasCause, Rose};
-ghost use Rattle.ips_outside.specs.Children.{bytes_of};
-ghost use Rattle.ips_folder.specs.Calls.{Keeps, Throughout};
+ghost use Rattle.ips_outside.specs.Children.{path_bytes};
+ghost use Rattle.ips_folder.specs.Calls.{ChangesOnly, Throughout};
 ghost use Rattle.ips_steps.specs.Steps.{Step, after};
 ghost use Rattle.ips_steps.specs.Private.{gate_name, mark_front, begins, visible};
 ghost use Rattle.ips_steps.specs.Journal.{IsJournal};
@@ -18,7 +18,7 @@ ghost use Rattle.ips_kinds.specs.Tallies.{seen_by, taken, all_counted};
 ghost use Rattle.ips_journal.specs.Text.{journal_text};
 ghost use Rattle.ips_journal.specs.Reading.{journal_of};
 ghost use Rattle.ips_commit.specs.Answers.{IfStarved};
-ghost use Rattle.ips_commit.specs.Pending.{is_swept, AreMarkNames, IsDone};
+ghost use Rattle.ips_commit.specs.Pending.{is_swept, AreMarkNames, HasCommitted};
 ghost use Rattle.ips_commit.specs.Recovering.{CanRollForward, IfBadJournal, IsJournalled, IsPlaced, IsUnfinished, SaysOfLaying, SaysOfRecovery};
 ghost use Rattle.ips_commit.specs.declared.fault.CommitFault.TheVariants as fault;
 
@@ -52,20 +52,20 @@ pub fn recover<F: Folder>(
     // At every moment the folder owes what it owed; behind a closed gate only what is swept is changed.
     ensures owed { IsTrue (F.outside.tells folder.old) → (b : Image) (a : Option Image) (due : Bool) → FolderOwes journal_text b a due (F.outside.state folder.old)
         → Throughout F.outside folder.old folder.new (FolderOwes journal_text b a due) }
-    ensures closed { IsTrue (F.outside.tells folder.old) → (F.outside.state folder.old).held.look gate_name ≡ None → Keeps F.outside is_swept nowhere folder.old folder.new }
+    ensures closed { IsTrue (F.outside.tells folder.old) → (F.outside.state folder.old).held.look gate_name ≡ None → ChangesOnly F.outside is_swept nowhere folder.old folder.new }
 
     // Done: whether something stood at the gate; then the image that the steps mean is seen, and else the same as before.
     ensures forward { IsTrue (F.outside.tells folder.old) → IfOk result (λ forward. forward ≡ is_some ((F.outside.state folder.old).held.look gate_name)) }
     ensures done { IsTrue (F.outside.tells folder.old) → (F.outside.state folder.old).held.look gate_name ≢ None
         → OnOk result ((steps : List Step) × (count : ℕ) × CanRollForward (F.outside.state folder.old).held steps count
-        × IsDone (visible (after (steps_left count steps) (F.outside.state folder.old).held)) (F.outside.state folder.new)
+        × HasCommitted (visible (after (steps_left count steps) (F.outside.state folder.old).held)) (F.outside.state folder.new)
         × (seen_by sorts finished kinds.new.items ≡ all_counted (steps_left count steps) (seen_by sorts finished kinds.old.items))) }
     ensures cleared { IsTrue (F.outside.tells folder.old) → (F.outside.state folder.old).held.look gate_name ≡ None
-        → OnOk result (IsDone (visible (F.outside.state folder.old).held) (F.outside.state folder.new)) }
+        → OnOk result (HasCommitted (visible (F.outside.state folder.old).held) (F.outside.state folder.new)) }
 
     // An open gate on which something is owed leads to just that.
     ensures meant { IsTrue (F.outside.tells folder.old) → (steps : List Step) (count : ℕ) (a : Image) → IsOpen journal_text steps count a (F.outside.state folder.old).held
-        → OnOk result (IsDone a (F.outside.state folder.new)) × IfBadJournal result (λ line. ⊥) }
+        → OnOk result (HasCommitted a (F.outside.state folder.new)) × IfBadJournal result (λ line. ⊥) }
 
     // Each refusal has its cause, and before the first change none changes anything. The whole journal is read first: where
     // it is none, no call is made that may change something.
@@ -128,16 +128,16 @@ fn restore<F: Folder>(
     ensures path { 1023 ≤ mark.new.room }
     ensures owed { IsTrue (F.outside.tells folder.old) → (b : Image) (a : Option Image) (due : Bool) → FolderOwes journal_text b a due (F.outside.state folder.old)
         → Throughout F.outside folder.old folder.new (FolderOwes journal_text b a due) }
-    ensures closed { IsTrue (F.outside.tells folder.old) → (F.outside.state folder.old).held.look gate_name ≡ None → Keeps F.outside is_swept nowhere folder.old folder.new }
+    ensures closed { IsTrue (F.outside.tells folder.old) → (F.outside.state folder.old).held.look gate_name ≡ None → ChangesOnly F.outside is_swept nowhere folder.old folder.new }
     ensures forward { IsTrue (F.outside.tells folder.old) → IfOk result (λ forward. forward ≡ is_some ((F.outside.state folder.old).held.look gate_name)) }
     ensures done { IsTrue (F.outside.tells folder.old) → (F.outside.state folder.old).held.look gate_name ≢ None
         → OnOk result ((steps : List Step) × (count : ℕ) × CanRollForward (F.outside.state folder.old).held steps count
-        × IsDone (visible (after (steps_left count steps) (F.outside.state folder.old).held)) (F.outside.state folder.new)
+        × HasCommitted (visible (after (steps_left count steps) (F.outside.state folder.old).held)) (F.outside.state folder.new)
         × (seen_by sorts finished kinds.new.items ≡ all_counted (steps_left count steps) (seen_by sorts finished kinds.old.items))) }
     ensures cleared { IsTrue (F.outside.tells folder.old) → (F.outside.state folder.old).held.look gate_name ≡ None
-        → OnOk result (IsDone (visible (F.outside.state folder.old).held) (F.outside.state folder.new)) }
+        → OnOk result (HasCommitted (visible (F.outside.state folder.old).held) (F.outside.state folder.new)) }
     ensures meant { IsTrue (F.outside.tells folder.old) → (steps : List Step) (count : ℕ) (a : Image) → IsOpen journal_text steps count a (F.outside.state folder.old).held
-        → OnOk result (IsDone a (F.outside.state folder.new)) × IfBadJournal result (λ line. ⊥) }
+        → OnOk result (HasCommitted a (F.outside.state folder.new)) × IfBadJournal result (λ line. ⊥) }
     ensures refused { IsTrue (F.outside.tells folder.old) → IfBad result (SaysOfRecovery (F.outside.state folder.old) (F.outside.state folder.new) (seen_by sorts finished kinds.old.items) (seen_by sorts finished kinds.new.items)) }
     ensures starved { IfStarved result ((F.outside.state folder.new ≡ F.outside.state folder.old) × (F.outside.changes folder.new ≡ F.outside.changes folder.old)
         × (seen_by sorts finished kinds.new.items ≡ seen_by sorts finished kinds.old.items)) }
@@ -192,21 +192,21 @@ fn roll_forward<F: Folder>(
     requires safe { IsTrue (F.outside.tells folder.old) → IsSettled (F.outside.state folder.old) }
     requires open { IsTrue reader.old.is_open }
     requires takers { (s : Sort) → IsTrue (taken (seen_by sorts finished kinds.old.items) s) }
-    requires own { IsTrue (list_all (begins mark_front) (bytes_of marks.now)) }
+    requires own { IsTrue (list_all (begins mark_front) (path_bytes marks.now)) }
     requires room { 0 < length buffer.old }
     requires path { 1023 ≤ mark.old.room }
     requires few { count ≤ 18446744073709552 }
     requires gate { IsTrue (F.outside.tells folder.old) → (F.outside.state folder.old).held.look gate_name ≢ None }
-    requires marks { IsTrue (F.outside.tells folder.old) → AreMarkNames (F.outside.state folder.old).held (bytes_of marks.now) }
+    requires marks { IsTrue (F.outside.tells folder.old) → AreMarkNames (F.outside.state folder.old).held (path_bytes marks.now) }
     requires placed { IsTrue (F.outside.tells folder.old) → IsPlaced (F.outside.state folder.old).held reader.old count }
     ensures owed { IsTrue (F.outside.tells folder.old) → (b : Image) (a : Option Image) (due : Bool) → FolderOwes journal_text b a due (F.outside.state folder.old)
         → Throughout F.outside folder.old folder.new (FolderOwes journal_text b a due) }
     ensures done { IsTrue (F.outside.tells folder.old)
         → OnOk result ((steps : List Step) × (count : ℕ) × CanRollForward (F.outside.state folder.old).held steps count
-        × IsDone (visible (after (steps_left count steps) (F.outside.state folder.old).held)) (F.outside.state folder.new)
+        × HasCommitted (visible (after (steps_left count steps) (F.outside.state folder.old).held)) (F.outside.state folder.new)
         × (seen_by sorts finished kinds.new.items ≡ all_counted (steps_left count steps) (seen_by sorts finished kinds.old.items))) }
     ensures meant { IsTrue (F.outside.tells folder.old) → (steps : List Step) (count : ℕ) (a : Image) → IsOpen journal_text steps count a (F.outside.state folder.old).held
-        → OnOk result (IsDone a (F.outside.state folder.new)) × IfErr result (λ why. why ≡ fault.Unfinished) }
+        → OnOk result (HasCommitted a (F.outside.state folder.new)) × IfErr result (λ why. why ≡ fault.Unfinished) }
     ensures refused { IsTrue (F.outside.tells folder.old) → IfErr result (SaysOfLaying (F.outside.state folder.old).held (F.outside.state folder.new).held (seen_by sorts finished kinds.old.items) (seen_by sorts finished kinds.new.items)) }
     ensures stopped { IsTrue (F.outside.tells folder.old) → (steps : List Step) (count : ℕ) → IsJournalled (F.outside.state folder.old).held steps count
         → IfErr result (λ why. why ≡ fault.Unfinished

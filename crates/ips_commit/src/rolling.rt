@@ -11,7 +11,7 @@ ghost use Rattle.ips_steps.specs.declared.step.Sort.{Sort};
 ghost use Rattle.ips_kinds.specs.Tallies.{seen_by, taken, all_counted};
 ghost use Rattle.ips_journal.specs.Text.{journal_text};
 ghost use Rattle.ips_journal.specs.Reading.{IsAt, journal_of};
-ghost use Rattle.ips_commit.specs.Pending.{IsDone};
+ghost use Rattle.ips_commit.specs.Pending.{HasCommitted};
 ghost use Rattle.ips_commit.specs.Phases.{IsUnderWay};
 ghost use Rattle.ips_commit.specs.Recovering.{CanRollForward, IsJournalled, IsUnfinished, SaysOfSteps};
 ghost use Rattle.ips_commit.specs.declared.fault.CommitFault.TheVariants as fault;
@@ -50,7 +50,7 @@ pub(crate) fn roll<F: Folder>(
     ensures done { IsTrue (F.outside.tells folder.old) → (steps : List Step)
         → IsJournalled (F.outside.state folder.old).held steps first → IsAt (journal_of (F.outside.state folder.old).held) (take (1000 * first) steps) reader.old
         → IfOk result (λ count. (count ≡ length (steps_left first steps)) × CanRollForward (F.outside.state folder.old).held steps first
-        × IsDone (visible (after (steps_left first steps) (F.outside.state folder.old).held)) (F.outside.state folder.new)
+        × HasCommitted (visible (after (steps_left first steps) (F.outside.state folder.old).held)) (F.outside.state folder.new)
         × (seen_by sorts finished kinds.new.items ≡ all_counted (steps_left first steps) (seen_by sorts finished kinds.old.items))) }
     ensures meant { IsTrue (F.outside.tells folder.old) → (steps : List Step) (a : Image)
         → IsOpen journal_text steps first a (F.outside.state folder.old).held → IsAt (journal_of (F.outside.state folder.old).held) (take (1000 * first) steps) reader.old

@@ -5,9 +5,9 @@ ghost use Rattle.ips_text.specs.Reading.{IfBad};
 ghost use Rattle.ips_text.specs.declared.refusal.Or.TheVariants.{Bad};
 ghost use Rattle.ips_text.specs.Ancestry.{covers};
 ghost use Rattle.ips_outside.specs.Image.{Image, is_dir, file_bytes};
-ghost use Rattle.ips_outside.specs.State.{IsSettled, Within, nowhere, settled};
-ghost use Rattle.ips_outside.specs.Outside.{HasCause, Reads, Rose, counted};
-ghost use Rattle.ips_folder.specs.Calls.{CanMake, IsSole, Keeps, Throughout};
+ghost use Rattle.ips_outside.specs.State.{IsSettled, ChangedWithin, nowhere, settled};
+ghost use Rattle.ips_outside.specs.Outside.{HasCause, Reads, Rose, risen};
+ghost use Rattle.ips_folder.specs.Calls.{CanMake, IsSole, ChangesOnly, Throughout};
 ghost use Rattle.ips_steps.specs.Private.{records_name, journal_name, visible};
 ghost use Rattle.ips_steps.specs.Journal.{IsJournal};
 ghost use Rattle.ips_steps.specs.Owed.{FolderOwes};
@@ -16,7 +16,7 @@ ghost use Rattle.ips_journal.specs.Text.{journal_text};
 ghost use Rattle.ips_journal.specs.Writing.{IsWritten};
 ghost use Rattle.ips_commit.specs.Answers.{IsBad};
 ghost use Rattle.ips_commit.specs.Pending.{IsBehindGate, is_swept};
-ghost use Rattle.ips_commit.specs.Contents.{AreStanding, AreSeen, AreIntact, SaysOfStage};
+ghost use Rattle.ips_commit.specs.Contents.{AreStanding, AreSeen, AreIntactContents, SaysOfStage};
 ghost use Rattle.ips_commit.specs.Staging.{CanStage, HasStaged, IsCleared, IsFilled};
 ghost use Rattle.ips_commit.specs.declared.fault.StageFault.TheVariants as fault;
 
@@ -56,7 +56,7 @@ pub fn stage<S: Source, F: Folder>(
     // Done: the list stands ready with its contents.
     ensures staged { IsTrue (F.outside.tells folder.old) → OnOk result
         (HasStaged (S.outside.tells source.old) (S.outside.state source.old).held publisher.now (map step_of steps.now) staged.now (F.outside.state folder.old).held (F.outside.state folder.new)) }
-    ensures intact { IsTrue (S.outside.tells source.old) → OnOk result (AreIntact (S.outside.state source.old).held publisher.now staged.now) }
+    ensures intact { IsTrue (S.outside.tells source.old) → OnOk result (AreIntactContents (S.outside.state source.old).held publisher.now staged.now) }
 
     // Each refusal has its cause.
     ensures refused { IfBad result (SaysOfStage (S.outside.tells source.old) (S.outside.state source.old).held publisher.now staged.now) }
@@ -105,16 +105,16 @@ fn write_stage<S: Source, F: Folder>(
     requires standing { IsTrue (F.outside.tells folder.old) → AreStanding (F.outside.state folder.old).held staged.now }
     requires seen { AreSeen staged.now }
     ensures any_moment { IsTrue (F.outside.tells folder.old) → Throughout F.outside folder.old folder.new (IsBehindGate (F.outside.state folder.old)) }
-    ensures within { IsTrue (F.outside.tells folder.old) → OnOk result (Within is_swept nowhere (settled (F.outside.state folder.old)) (F.outside.state folder.new)) }
+    ensures within { IsTrue (F.outside.tells folder.old) → OnOk result (ChangedWithin is_swept nowhere (settled (F.outside.state folder.old)) (F.outside.state folder.new)) }
     ensures filled { IsTrue (F.outside.tells folder.old) → OnOk result
         (IsFilled (S.outside.tells source.old) (S.outside.state source.old).held publisher.now (journal_text (map step_of steps.now)) staged.now (F.outside.state folder.old).held (F.outside.state folder.new)) }
-    ensures intact { IsTrue (S.outside.tells source.old) → OnOk result (AreIntact (S.outside.state source.old).held publisher.now staged.now) }
+    ensures intact { IsTrue (S.outside.tells source.old) → OnOk result (AreIntactContents (S.outside.state source.old).held publisher.now staged.now) }
     ensures refused { IfBad result (SaysOfStage (S.outside.tells source.old) (S.outside.state source.old).held publisher.now staged.now) }
     ensures reads { Reads S.outside source.old source.new (result ≡ Err (Bad fault.SourceFault)) }
     ensures cause { HasCause (F.outside.faults folder.old) (F.outside.faults folder.new) (result ≡ Err (Bad fault.FolderFault)) }
     ensures same_kind { F.outside.tells folder.new ≡ F.outside.tells folder.old }
     ensures changes { F.outside.changes folder.old ≤ F.outside.changes folder.new }
-    ensures changed { counted (F.outside.changes folder.old) ≤ F.outside.changes folder.new }
+    ensures changed { risen (F.outside.changes folder.old) ≤ F.outside.changes folder.new }
 {
     match settle(alloc, folder, names) {
         Ok(()) => {}
@@ -130,12 +130,12 @@ fn write_stage<S: Source, F: Folder>(
 // Makes safe what was written before, and takes away what a run that was stopped left.
 fn settle<F: Folder>(alloc: Global, folder: &mut F, names: &OwnNames) -> Result<(), Or<Failed>>
     ensures any_moment { IsTrue (F.outside.tells folder.old) → Throughout F.outside folder.old folder.new (IsBehindGate (F.outside.state folder.old)) }
-    ensures within { IsTrue (F.outside.tells folder.old) → OnOk result (Within is_swept nowhere (settled (F.outside.state folder.old)) (F.outside.state folder.new)) }
+    ensures within { IsTrue (F.outside.tells folder.old) → OnOk result (ChangedWithin is_swept nowhere (settled (F.outside.state folder.old)) (F.outside.state folder.new)) }
     ensures cleared { IsTrue (F.outside.tells folder.old) → OnOk result (IsCleared (F.outside.state folder.new).held) }
     ensures cause { HasCause (F.outside.faults folder.old) (F.outside.faults folder.new) (IsBad result) }
     ensures same_kind { F.outside.tells folder.new ≡ F.outside.tells folder.old }
     ensures changes { F.outside.changes folder.old ≤ F.outside.changes folder.new }
-    ensures changed { counted (F.outside.changes folder.old) ≤ F.outside.changes folder.new }
+    ensures changed { risen (F.outside.changes folder.old) ≤ F.outside.changes folder.new }
 {
     let Ok(()) = folder.sync() else {
         return Err(Or::Bad(Failed));
@@ -166,9 +166,9 @@ fn fill<S: Source, F: Folder>(
     requires seen { AreSeen staged.now }
     ensures filled { IsTrue (F.outside.tells folder.old) → OnOk result
         (IsFilled (S.outside.tells source.old) (S.outside.state source.old).held publisher.now (journal_text (map step_of steps.now)) staged.now (F.outside.state folder.old).held (F.outside.state folder.new)) }
-    ensures intact { IsTrue (S.outside.tells source.old) → OnOk result (AreIntact (S.outside.state source.old).held publisher.now staged.now) }
+    ensures intact { IsTrue (S.outside.tells source.old) → OnOk result (AreIntactContents (S.outside.state source.old).held publisher.now staged.now) }
     ensures refused { IfBad result (SaysOfStage (S.outside.tells source.old) (S.outside.state source.old).held publisher.now staged.now) }
-    ensures any_moment { IsTrue (F.outside.tells folder.old) → Keeps F.outside is_swept nowhere folder.old folder.new }
+    ensures any_moment { IsTrue (F.outside.tells folder.old) → ChangesOnly F.outside is_swept nowhere folder.old folder.new }
     ensures reads { Reads S.outside source.old source.new (result ≡ Err (Bad fault.SourceFault)) }
     ensures cause { HasCause (F.outside.faults folder.old) (F.outside.faults folder.new) (result ≡ Err (Bad fault.FolderFault)) }
     ensures same_kind { F.outside.tells folder.new ≡ F.outside.tells folder.old }
@@ -196,7 +196,7 @@ fn write_journal<F: Folder>(
     requires can { IsTrue (F.outside.tells folder.old) → CanMake (F.outside.state folder.old).held journal_name }
     ensures written { IsTrue (F.outside.tells folder.old) → OnOk result (file_bytes ((F.outside.state folder.new).held.look journal_name) ≡ Some (journal_text (map step_of steps.now))) }
     ensures safe { IsTrue (F.outside.tells folder.old) → OnOk result (IsSettled (F.outside.state folder.new)) }
-    ensures any_moment { IsTrue (F.outside.tells folder.old) → Keeps F.outside (covers journal_name) nowhere folder.old folder.new }
+    ensures any_moment { IsTrue (F.outside.tells folder.old) → ChangesOnly F.outside (covers journal_name) nowhere folder.old folder.new }
     ensures cause { HasCause (F.outside.faults folder.old) (F.outside.faults folder.new) (IsBad result) }
     ensures same_kind { F.outside.tells folder.new ≡ F.outside.tells folder.old }
     ensures changes { F.outside.changes folder.old ≤ F.outside.changes folder.new }
@@ -222,7 +222,7 @@ fn write_safely<F: Folder>(
     requires start { (t : Image) → IsSole t journal_name → file_bytes (t.look journal_name) ≡ Some [] → IsWritten writer.old t [] }
     ensures written { IsTrue (F.outside.tells folder.old) → OnOk result (file_bytes ((F.outside.state folder.new).held.look journal_name) ≡ Some (journal_text (map step_of steps.now))) }
     ensures safe { IsTrue (F.outside.tells folder.old) → OnOk result (IsSettled (F.outside.state folder.new)) }
-    ensures any_moment { IsTrue (F.outside.tells folder.old) → Keeps F.outside (covers journal_name) nowhere folder.old folder.new }
+    ensures any_moment { IsTrue (F.outside.tells folder.old) → ChangesOnly F.outside (covers journal_name) nowhere folder.old folder.new }
     ensures cause { HasCause (F.outside.faults folder.old) (F.outside.faults folder.new) (IsErr result) }
     ensures same_kind { F.outside.tells folder.new ≡ F.outside.tells folder.old }
     ensures changes { F.outside.changes folder.old ≤ F.outside.changes folder.new }
@@ -242,7 +242,7 @@ fn write_steps<F: Folder>(
 ) -> Result<(), Failed>
     requires { IsTrue (F.outside.tells folder.old) → IsWritten writer.old (F.outside.state folder.old).held [] }
     ensures written { IsTrue (F.outside.tells folder.old) → OnOk result (IsWritten writer.new (F.outside.state folder.new).held (map step_of steps.now)) }
-    ensures any_moment { IsTrue (F.outside.tells folder.old) → Keeps F.outside (covers journal_name) nowhere folder.old folder.new }
+    ensures any_moment { IsTrue (F.outside.tells folder.old) → ChangesOnly F.outside (covers journal_name) nowhere folder.old folder.new }
     ensures cause { HasCause (F.outside.faults folder.old) (F.outside.faults folder.new) (IsErr result) }
     ensures same_kind { F.outside.tells folder.new ≡ F.outside.tells folder.old }
     ensures changes { F.outside.changes folder.old ≤ F.outside.changes folder.new }

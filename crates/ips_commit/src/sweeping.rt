@@ -5,9 +5,9 @@ ghost use Rattle.std.specs.List.{filter, list_all, list_any};
 ghost use Rattle.ips_text.specs.Ancestry.{covers};
 ghost use Rattle.ips_outside.specs.Image.{is_dir};
 ghost use Rattle.ips_outside.specs.State.{IsSettled, nowhere};
-ghost use Rattle.ips_outside.specs.Outside.{HasCause, Reads, counted};
-ghost use Rattle.ips_outside.specs.Children.{bytes_of};
-ghost use Rattle.ips_folder.specs.Calls.{Keeps};
+ghost use Rattle.ips_outside.specs.Outside.{HasCause, Reads, risen};
+ghost use Rattle.ips_outside.specs.Children.{path_bytes};
+ghost use Rattle.ips_folder.specs.Calls.{ChangesOnly};
 ghost use Rattle.ips_steps.specs.Private.{mark_front, begins};
 ghost use Rattle.ips_commit.specs.Answers.{IsBad};
 ghost use Rattle.ips_commit.specs.Pending.{is_swept, is_other, mark_names, AreMarkNames, HasNoOtherMark, IsSwept};
@@ -24,8 +24,8 @@ pub(crate) fn marks<F: Folder>(
     folder: &mut F,
     names: &OwnNames,
 ) -> Result<Vec<RelPath>, Or<Failed>>
-    ensures found { IsTrue (F.outside.tells folder.old) → IfOk result (λ marks. AreMarkNames (F.outside.state folder.old).held (bytes_of marks.items)) }
-    ensures own { IfOk result (λ marks. IsTrue (list_all (begins mark_front) (bytes_of marks.items))) }
+    ensures found { IsTrue (F.outside.tells folder.old) → IfOk result (λ marks. AreMarkNames (F.outside.state folder.old).held (path_bytes marks.items)) }
+    ensures own { IfOk result (λ marks. IsTrue (list_all (begins mark_front) (path_bytes marks.items))) }
     ensures reads { Reads F.outside folder.old folder.new (IsBad result) }
 {
     let Ok(is_there) = has_records(folder, names) else {
@@ -54,7 +54,7 @@ pub(crate) fn has_records<F: Folder>(folder: &mut F, names: &OwnNames) -> Result
 
 // Those of the paths that begin as the names of marks do.
 fn marks_among(alloc: Global, paths: &[RelPath]) -> Result<Vec<RelPath>, AllocError>
-    ensures { IfOk result (λ marks. bytes_of marks.items ≡ filter (begins mark_front) (bytes_of paths.now)) }
+    ensures { IfOk result (λ marks. path_bytes marks.items ≡ filter (begins mark_front) (path_bytes paths.now)) }
 {
     let mut marks = Vec::new(alloc);
     for path in paths {
@@ -78,13 +78,13 @@ pub(crate) fn sweep<F: Folder>(
     names: &OwnNames,
     marks: &[RelPath],
 ) -> Result<(), Failed>
-    requires own { IsTrue (list_all (begins mark_front) (bytes_of marks.now)) }
-    ensures swept { IsTrue (F.outside.tells folder.old) → OnOk result (IsSwept (bytes_of marks.now) (F.outside.state folder.old).held (F.outside.state folder.new).held) }
-    ensures any_moment { IsTrue (F.outside.tells folder.old) → Keeps F.outside is_swept nowhere folder.old folder.new }
+    requires own { IsTrue (list_all (begins mark_front) (path_bytes marks.now)) }
+    ensures swept { IsTrue (F.outside.tells folder.old) → OnOk result (IsSwept (path_bytes marks.now) (F.outside.state folder.old).held (F.outside.state folder.new).held) }
+    ensures any_moment { IsTrue (F.outside.tells folder.old) → ChangesOnly F.outside is_swept nowhere folder.old folder.new }
     ensures cause { HasCause (F.outside.faults folder.old) (F.outside.faults folder.new) (IsErr result) }
     ensures same_kind { F.outside.tells folder.new ≡ F.outside.tells folder.old }
     ensures changes { F.outside.changes folder.old ≤ F.outside.changes folder.new }
-    ensures changed { counted (F.outside.changes folder.old) ≤ F.outside.changes folder.new }
+    ensures changed { risen (F.outside.changes folder.old) ≤ F.outside.changes folder.new }
 {
     folder.remove(&names.journal)?;
     folder.remove(&names.stage)?;
@@ -94,10 +94,10 @@ pub(crate) fn sweep<F: Folder>(
 
 // Takes what stands at and below these marks away.
 fn remove_all<F: Folder>(folder: &mut F, marks: &[RelPath]) -> Result<(), Failed>
-    requires own { IsTrue (list_all (begins mark_front) (bytes_of marks.now)) }
-    ensures gone { IsTrue (F.outside.tells folder.old) → OnOk result ((q : List ℕ) → IsTrue (list_any (λ m. covers m q) (bytes_of marks.now)) → (F.outside.state folder.new).held.look q ≡ None) }
+    requires own { IsTrue (list_all (begins mark_front) (path_bytes marks.now)) }
+    ensures gone { IsTrue (F.outside.tells folder.old) → OnOk result ((q : List ℕ) → IsTrue (list_any (λ m. covers m q) (path_bytes marks.now)) → (F.outside.state folder.new).held.look q ≡ None) }
     ensures nothing_new { IsTrue (F.outside.tells folder.old) → OnOk result ((q : List ℕ) → (F.outside.state folder.old).held.look q ≡ None → (F.outside.state folder.new).held.look q ≡ None) }
-    ensures any_moment { IsTrue (F.outside.tells folder.old) → Keeps F.outside (begins mark_front) nowhere folder.old folder.new }
+    ensures any_moment { IsTrue (F.outside.tells folder.old) → ChangesOnly F.outside (begins mark_front) nowhere folder.old folder.new }
     ensures cause { HasCause (F.outside.faults folder.old) (F.outside.faults folder.new) (IsErr result) }
     ensures same_kind { F.outside.tells folder.new ≡ F.outside.tells folder.old }
     ensures changes { F.outside.changes folder.old ≤ F.outside.changes folder.new }
@@ -114,15 +114,15 @@ pub(crate) fn keep_first<F: Folder>(
     marks: &[RelPath],
     count: u64,
 ) -> Result<(), Failed>
-    requires own { IsTrue (list_all (begins mark_front) (bytes_of marks.now)) }
-    ensures others { IsTrue (F.outside.tells folder.old) → HasNoOtherMark (F.outside.state folder.old).held (bytes_of marks.now)
+    requires own { IsTrue (list_all (begins mark_front) (path_bytes marks.now)) }
+    ensures others { IsTrue (F.outside.tells folder.old) → HasNoOtherMark (F.outside.state folder.old).held (path_bytes marks.now)
         → OnOk result (HasNoOtherMark (F.outside.state folder.new).held (mark_names count)) }
     ensures safe { IsTrue (F.outside.tells folder.old) → OnOk result (IsSettled (F.outside.state folder.new)) }
-    ensures any_moment { IsTrue (F.outside.tells folder.old) → Keeps F.outside (is_other (mark_names count) (bytes_of marks.now)) nowhere folder.old folder.new }
+    ensures any_moment { IsTrue (F.outside.tells folder.old) → ChangesOnly F.outside (is_other (mark_names count) (path_bytes marks.now)) nowhere folder.old folder.new }
     ensures cause { HasCause (F.outside.faults folder.old) (F.outside.faults folder.new) (IsErr result) }
     ensures same_kind { F.outside.tells folder.new ≡ F.outside.tells folder.old }
     ensures changes { F.outside.changes folder.old ≤ F.outside.changes folder.new }
-    ensures changed { counted (F.outside.changes folder.old) ≤ F.outside.changes folder.new }
+    ensures changed { risen (F.outside.changes folder.old) ≤ F.outside.changes folder.new }
 {
     for mark in marks {
         if !is_among(mark, count) {

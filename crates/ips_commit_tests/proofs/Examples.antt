@@ -2,7 +2,7 @@
 use Rattle.std.proofs.Common.{◌≡◌, ℕ, true, false, is_some, List, [], ◌∷◌, Some, refl, sym, ◌∙◌, ap, subst, arith}
 use lib.Chars.{codes}
 use Rattle.ips_outside.specs.Image.{Image, Dir, nothing}
-use Rattle.ips_outside.specs.Change.{placed}
+use Rattle.ips_outside.specs.Change.{with_entry_at}
 use Rattle.ips_steps.specs.Steps.{Step, Fresh, Mode, Put, Symlink, Hard, Stage, possible}
 use Rattle.ips_steps.specs.Journal.{AllProper}
 use Rattle.ips_steps.specs.Listed.{AreListed}
@@ -35,9 +35,9 @@ pub example_built : {usr f e l target h to etc : List ℕ} → usr ≡ codes "us
 unfolding example
 example_built usr_is f_is e_is l_is target_is h_is to_is etc_is = cc
 
-pub image_built : {etc : List ℕ} {none made : Image} → etc ≡ codes "etc" → none ≡ nothing → made ≡ placed etc (Some (Dir 448 false)) none → made ≡ example_image
+pub image_built : {etc : List ℕ} {none made : Image} → etc ≡ codes "etc" → none ≡ nothing → made ≡ with_entry_at etc (Some (Dir 448 false)) none → made ≡ example_image
 unfolding example_image
-image_built {etc} {none} {made} etc_is none_is made_is = made_is ∙ ap (placed etc (Some (Dir 448 false))) none_is ∙ ap (λ (p : List ℕ). placed p (Some (Dir 448 false)) nothing) etc_is
+image_built {etc} {none} {made} etc_is none_is made_is = made_is ∙ ap (with_entry_at etc (Some (Dir 448 false))) none_is ∙ ap (λ (p : List ℕ). with_entry_at p (Some (Dir 448 false)) nothing) etc_is
 
 pub listed_as : (steps : List Step) (count : ℕ) → steps ≡ example → count ≡ 2 → AllProper steps → AreListed count steps
 listed_as steps count steps_are count_is proper =

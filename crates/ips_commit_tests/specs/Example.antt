@@ -4,7 +4,7 @@ use Rattle.std.proofs.Common.{refl}
 use Rattle.std.proofs.lemmas.Bool.{false≢true}
 use lib.Chars.{codes}
 use Rattle.ips_outside.specs.Image.{Image, Dir, nothing}
-use Rattle.ips_outside.specs.Change.{placed}
+use Rattle.ips_outside.specs.Change.{with_entry_at}
 use Rattle.ips_outside.specs.State.{untouched}
 use Rattle.ips_outside.specs.Outside.{Outside, IsOutside}
 use Rattle.ips_steps.specs.Steps.{Step, Fresh, Mode, Put, Symlink, Hard}
@@ -22,7 +22,7 @@ example =
 
 -- an image with the directory `etc` alone
 unfoldable pub example_image : Image
-example_image = placed (codes "etc") (Some (Dir 448 false)) nothing
+example_image = with_entry_at (codes "etc") (Some (Dir 448 false)) nothing
 
 -- what doesn't tell what it holds, and never fails
 abbrev pub untold : {F : Type 0} → Outside F

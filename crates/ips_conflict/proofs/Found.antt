@@ -22,7 +22,7 @@ use Rattle.ips_conflict.specs.Alike.{kind_place, led_to}
 use Rattle.ips_conflict.specs.Verdict.{HasPlace}
 use Rattle.ips_conflict.specs.declared.earliest.Test.{Test}
 use Rattle.ips_conflict.specs.Clash.{Counts, HasSureFile, LeadsToFile, file_cmp, may_be_missing}
-use Rattle.ips_conflict.specs.Search.{IsEarliest, Meets, Passes, earlier_of}
+use Rattle.ips_conflict.specs.Search.{IsEarliest, MeetsTest, Passes, earlier_of}
 use Rattle.ips_conflict.proofs.Places.{one_there}
 use Rattle.ips_conflict.proofs.Ordered.{place_total, file_total, le_trans, le_of_less, le_self, le_unless, less_le, le_cases}
 use Rattle.ips_text.proofs.Orders.{less_is, last_tie, number_tie}
@@ -151,13 +151,13 @@ pub within_more : (placed : List Placed) (n : ℕ) (found : Option ℕ) (j : ℕ
 within_more placed n found j w lt x e = let same = same_Some (earlier_of placed found j) x e in subst (λ (i : ℕ). i < n) same (earlier_within placed n found j w lt)
 
 pub meets_is : (placed : List Placed) (sort : Sort) (test : Test) (j : ℕ) (item : Placed) (r : Bool) → slice_get placed j ≡ Some item → sort_of item.action.kind ≡ Some sort → (r ≡ true → Passes placed test j item) → (Passes placed test j item → r ≡ true)
-    → (r ≡ true → Meets placed sort test j) × (Meets placed sort test j → r ≡ true)
+    → (r ≡ true → MeetsTest placed sort test j) × (MeetsTest placed sort test j → r ≡ true)
 meets_is placed sort test j item r here of_sort to from = (
   λ is. record { p = item; here = here; of_sort = of_sort; passes = to is },
   λ m. from (let P : Placed → Type 0 = λ p. Passes placed test j p in subst P (one_there placed j m.p item m.here here) m.passes),
 )
 
-pub not_of_sort : (placed : List Placed) (sort : Sort) (test : Test) (j : ℕ) (item : Placed) → slice_get placed j ≡ Some item → (sort_of item.action.kind ≡ Some sort → ⊥) → Meets placed sort test j → ⊥
+pub not_of_sort : (placed : List Placed) (sort : Sort) (test : Test) (j : ℕ) (item : Placed) → slice_get placed j ≡ Some item → (sort_of item.action.kind ≡ Some sort → ⊥) → MeetsTest placed sort test j → ⊥
 not_of_sort placed sort test j item here not m = not (subst (λ (p : Placed). sort_of p.action.kind ≡ Some sort) (one_there placed j m.p item m.here here) m.of_sort)
 
 pub has_place_there : (placed : List Placed) (j : ℕ) (item : Placed) (sort : Sort) → slice_get placed j ≡ Some item → sort_of item.action.kind ≡ Some sort → HasPlace placed j

@@ -13,7 +13,7 @@ use Rattle.ips_conflict.specs.Key.{Key, key_of, sort_of, text_of}
 use Rattle.ips_conflict.specs.Clash.{HasKey}
 use Rattle.ips_conflict.specs.Verdict.{HasPlace}
 use Rattle.ips_conflict.specs.Index.{IsGroup, has_text}
-use Rattle.ips_conflict.specs.Search.{IsEarliest, Meets, Passes}
+use Rattle.ips_conflict.specs.Search.{IsEarliest, MeetsTest, Passes}
 use Rattle.ips_conflict.proofs.Places.{one_there}
 use Rattle.ips_conflict.proofs.Kept.{is_same_self}
 use Rattle.ips_conflict.proofs.Found.{has_place_there}
@@ -55,21 +55,21 @@ pub record Keyed (placed : List Placed) (key : Key) (test : Test) (j : ℕ) : Ty
   pub passes : Passes placed test j p
 
 module _ (placed : List Placed) (sort : Sort) (text : List ℕ) (members : List ℕ) (group : IsGroup placed text members) where
-  to_keyed : (test : Test) (j : ℕ) → Contains members j × Meets placed sort test j → Keyed placed (record { sort = sort; text = text }) test j
+  to_keyed : (test : Test) (j : ℕ) → Contains members j × MeetsTest placed sort test j → Keyed placed (record { sort = sort; text = text }) test j
   to_keyed test j w =
       let g = (group j).0 w.0 in
       let m = w.1 in
       let one : g.0 ≡ m.p = one_there placed j g.0 m.p g.1 m.here in
       record { p = m.p; at = record { here = m.here; key_is = key_from m.p sort text m.of_sort (subst (λ (q : Placed). has_text q text ≡ true) one g.2) }; passes = m.passes }
 
-  from_keyed : (test : Test) (j : ℕ) → Keyed placed (record { sort = sort; text = text }) test j → Contains members j × Meets placed sort test j
+  from_keyed : (test : Test) (j : ℕ) → Keyed placed (record { sort = sort; text = text }) test j → Contains members j × MeetsTest placed sort test j
   from_keyed test j k = (
     (group j).1 (k.p, k.at.here, key_text k.p (record { sort = sort; text = text }) k.at.key_is),
     record { p = k.p; here = k.at.here; of_sort = key_sort k.p (record { sort = sort; text = text }) k.at.key_is; passes = k.passes },
   )
 
   -- the earliest of a group is the earliest of the key
-  pub keyed_earliest : (test : Test) (found : Option ℕ) → IsEarliest placed (λ j. Contains members j × Meets placed sort test j) found → IsEarliest placed (Keyed placed (record { sort = sort; text = text }) test) found
+  pub keyed_earliest : (test : Test) (found : Option ℕ) → IsEarliest placed (λ j. Contains members j × MeetsTest placed sort test j) found → IsEarliest placed (Keyed placed (record { sort = sort; text = text }) test) found
   keyed_earliest test None none = λ j k. none j (from_keyed test j k)
   keyed_earliest test (Some i) h = (to_keyed test i h.0, λ j k. h.1 j (from_keyed test j k))
 

@@ -28,7 +28,7 @@ use Rattle.ips_conflict.specs.Key.{Key, key_of, sort_of, sort_rank, text_of, val
 use Rattle.ips_conflict.specs.Order.{place_cmp}
 use Rattle.ips_conflict.specs.Alike.{takes_place}
 use Rattle.ips_conflict.specs.Clash.{HasKey, path_key, has_path_key, IsFileAt, Counts, file_rank, file_cmp}
-use Rattle.ips_conflict.specs.Index.{Groups, AreGroups, AreAbove, HoldsAbove, AreFiles, places_at, has_text, has_path, place_of, counted, first_counted}
+use Rattle.ips_conflict.specs.Index.{Groups, AreGroups, AreAbove, HoldsAbove, AreFiles, places_at, has_text, has_path, place_of, winner_after, first_counted}
 use Rattle.ips_conflict.proofs.Places.{one_there, below_or_last}
 use Rattle.ips_conflict.proofs.Kept.{is_same_self}
 use Rattle.ips_conflict.proofs.Marked.{below_covers}
@@ -237,7 +237,7 @@ counted_by placed k p path before false same here file h =
     true≢false (sym (subst (λ (x : List ℕ). is_same path x ≡ true) is (is_same_self path)) ∙ same)) h
 
 pub files_more : (placed : List Placed) (k : ℕ) (p : Placed) (old new : BTreeMap (Vec ℕ Global) ℕ) → slice_get placed k ≡ Some p → p.action.kind ≡ File → FilesTo placed k old
-    → ((path : List ℕ) → place_of new path ≡ counted placed (place_of old path) path p k) → FilesTo placed (k + 1) new
+    → ((path : List ℕ) → place_of new path ≡ winner_after placed (place_of old path) path p k) → FilesTo placed (k + 1) new
 files_more placed k p old new here file so_far counts path =
     subst (λ (o : Option ℕ). FileTo placed (k + 1) path o) (sym (counts path)) (counted_by placed k p path (place_of old path) (is_same path (value_of (codes "path") p.action)) refl here file (so_far path))
 
@@ -320,7 +320,7 @@ put_first text q before i old is = go (is_same text q) refl
 
 -- what is found at a path once a file is counted
 pub counts_as : (placed : List Placed) (files : BTreeMap (Vec ℕ Global) ℕ) (q path : List ℕ) (item : Placed) (i first : ℕ) → path ≡ value_of (codes "path") item.action → first ≡ first_counted placed (place_of files path) i
-    → cond (is_same q path) (Some first) (place_of files q) ≡ counted placed (place_of files q) q item i
+    → cond (is_same q path) (Some first) (place_of files q) ≡ winner_after placed (place_of files q) q item i
 counts_as placed files q path item i first at is = ap (λ (p : List ℕ). cond (is_same q p) (Some first) (place_of files q)) at ∙ go (is_same q (value_of (codes "path") item.action)) refl
   where
     go : (t : Bool) → is_same q (value_of (codes "path") item.action) ≡ t → cond t (Some first) (place_of files q) ≡ cond t (Some (first_counted placed (place_of files q) i)) (place_of files q)

@@ -16,7 +16,7 @@ use Rattle.ips_conflict.specs.Key.{Key, text_of}
 use Rattle.ips_conflict.specs.Order.{place_cmp}
 use Rattle.ips_conflict.specs.Clash.{HasKey, Conflict, IsObstacle, IsLost, IsAbove, IsConflict, IsConflictBy, is_held, path_key}
 use Rattle.ips_conflict.specs.Index.{HasBelow}
-use Rattle.ips_conflict.specs.Search.{IsEarliest, IsFirstBy, Meets}
+use Rattle.ips_conflict.specs.Search.{IsEarliest, IsFirstBy, MeetsTest}
 use Rattle.ips_conflict.proofs.Grouped.{Keyed, key_sort, key_at, key_text_is}
 use Rattle.ips_conflict.proofs.FirstPair.{then_le}
 
@@ -101,10 +101,10 @@ module _ (placed : List Placed) (text : List ℕ) where
 
 -- the action at a place of all stands below the path
 module _ (placed : List Placed) (path : Bor (List ℕ)) (places : List ℕ) (all : (i : ℕ) → Contains places i ↔ (i < length placed)) where
-  to_below : (j : ℕ) → Contains places j × Meets placed Path (Under path) j → BelowAt placed path.now j
+  to_below : (j : ℕ) → Contains places j × MeetsTest placed Path (Under path) j → BelowAt placed path.now j
   to_below j w = let m = w.1 in (text_of Path m.p, m.p, record { here = m.here; key_is = key_at m.p Path m.of_sort }, m.passes)
 
-  from_below : (j : ℕ) → BelowAt placed path.now j → Contains places j × Meets placed Path (Under path) j
+  from_below : (j : ℕ) → BelowAt placed path.now j → Contains places j × MeetsTest placed Path (Under path) j
   from_below j b =
       let p = b.1 in
       let below : is_below path.now (text_of Path p) ≡ true = subst (λ (t : List ℕ). is_below path.now t ≡ true) (sym (key_text_is p (path_key b.0) b.2.key_is)) b.3 in (
@@ -112,12 +112,12 @@ module _ (placed : List Placed) (path : Bor (List ℕ)) (places : List ℕ) (all
         record { p = p; here = b.2.here; of_sort = key_sort p (path_key b.0) b.2.key_is; passes = below },
       )
 
-  below_earliest : (found : Option ℕ) → IsEarliest placed (λ j. Contains places j × Meets placed Path (Under path) j) found → IsEarliest placed (BelowAt placed path.now) found
+  below_earliest : (found : Option ℕ) → IsEarliest placed (λ j. Contains places j × MeetsTest placed Path (Under path) j) found → IsEarliest placed (BelowAt placed path.now) found
   below_earliest None none = λ j b. none j (from_below j b)
   below_earliest (Some i) h = (to_below i h.0, λ j b. h.1 j (from_below j b))
 
   -- what was found among all places, for the path
-  pub below_found : (members : List ℕ) (o found : Option ℕ) → members ≡ places → o ≡ found → IsEarliest placed (λ j. Contains members j × Meets placed Path (Under path) j) o → IsEarliest placed (BelowAt placed path.now) found
+  pub below_found : (members : List ℕ) (o found : Option ℕ) → members ≡ places → o ≡ found → IsEarliest placed (λ j. Contains members j × MeetsTest placed Path (Under path) j) o → IsEarliest placed (BelowAt placed path.now) found
   below_found members o found same e h =
-      let at = subst (λ (l : List ℕ). IsEarliest placed (λ j. Contains l j × Meets placed Path (Under path) j) o) same h in
-      below_earliest found (subst (IsEarliest placed (λ j. Contains places j × Meets placed Path (Under path) j)) e at)
+      let at = subst (λ (l : List ℕ). IsEarliest placed (λ j. Contains l j × MeetsTest placed Path (Under path) j) o) same h in
+      below_earliest found (subst (IsEarliest placed (λ j. Contains places j × MeetsTest placed Path (Under path) j)) e at)

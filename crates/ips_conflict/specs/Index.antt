@@ -67,8 +67,8 @@ first_counted placed None i = i
 first_counted placed (Some j) i = if is_lt (file_cmp placed i j) then i else j
 
 -- The place that is counted at a path once one more file is seen.
-abbrev pub counted : List Placed → Option ℕ → List ℕ → Placed → ℕ → Option ℕ
-counted placed before path item i = if is_same path (value_of (codes "path") item.action) then Some (first_counted placed before i) else before
+abbrev pub winner_after : List Placed → Option ℕ → List ℕ → Placed → ℕ → Option ℕ
+winner_after placed before path item i = if is_same path (value_of (codes "path") item.action) then Some (first_counted placed before i) else before
 
 -- What is looked up is right.
 pub record IsIndex (placed : List Placed) (index : Index) : Type 0 where

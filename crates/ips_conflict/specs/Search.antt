@@ -37,7 +37,7 @@ Passes placed Lost j p = (p.action.kind ≡ Hardlink) × (LeadsToFile placed p.a
 Passes placed (Under path) j p = is_below path.now (value_of (codes "path") p.action) ≡ true
 
 -- An action whose keys are of this sort stands at the place, and passes the test.
-pub record Meets (placed : List Placed) (sort : Sort) (test : Test) (j : ℕ) : Type 0 where
+pub record MeetsTest (placed : List Placed) (sort : Sort) (test : Test) (j : ℕ) : Type 0 where
   pub p : Placed
   pub here : slice_get placed j ≡ Some p
   pub of_sort : sort_of p.action.kind ≡ Some sort

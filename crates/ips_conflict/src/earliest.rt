@@ -9,7 +9,7 @@ ghost use Rattle.ips_conflict.specs.Clash as clashes;
 ghost use Rattle.ips_conflict.specs.Clash.{HasSureFile, LeadsToFile};
 ghost use Rattle.ips_conflict.specs.Verdict.{HasPlace};
 ghost use Rattle.ips_conflict.specs.Index.{IsIndex};
-ghost use Rattle.ips_conflict.specs.Search.{BreaksBehind, IsEarliest, IsTest, Meets, Passes, earlier_of};
+ghost use Rattle.ips_conflict.specs.Search.{BreaksBehind, IsEarliest, IsTest, MeetsTest, Passes, earlier_of};
 
 use crate::alike::{end_of, has};
 use crate::clashing::Rule;
@@ -51,7 +51,7 @@ pub fn earliest(
     requires index { IsIndex placed.now index.now }
     requires members { All (λ j. j < length placed.now) members.now }
     requires test { IsTest placed.now test }
-    ensures { IfOk result (λ found. IsEarliest placed.now (λ j. Contains members.now j × Meets placed.now sort test.entry j) found) }
+    ensures { IfOk result (λ found. IsEarliest placed.now (λ j. Contains members.now j × MeetsTest placed.now sort test.entry j) found) }
 {
     let mut found = None;
     for j in members {
@@ -86,7 +86,7 @@ fn meets(
     requires index { IsIndex placed.now index.now }
     requires within { j < length placed.now }
     requires test { IsTest placed.now test }
-    ensures { IfOk result (λ answer. IsTrue answer ↔ Meets placed.now sort test.entry j) }
+    ensures { IfOk result (λ answer. IsTrue answer ↔ MeetsTest placed.now sort test.entry j) }
 {
     let item = &placed[j];
     if !is_of_sort(item, sort) {

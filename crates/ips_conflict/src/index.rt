@@ -7,7 +7,7 @@ ghost use Rattle.ips_action.specs.Attrs.{is_same};
 ghost use Rattle.ips_conflict.specs.Key.{value_of};
 ghost use Rattle.ips_conflict.specs.Clash as clashes;
 ghost use Rattle.ips_conflict.specs.Clash.{file_cmp};
-ghost use Rattle.ips_conflict.specs.Index.{AreAbove, AreFiles, AreGroups, HoldsAbove, IsIndex, counted, first_counted, has_path, has_text, place_of, places_at};
+ghost use Rattle.ips_conflict.specs.Index.{AreAbove, AreFiles, AreGroups, HoldsAbove, IsIndex, winner_after, first_counted, has_path, has_text, place_of, places_at};
 
 use crate::alike::takes_place;
 use crate::placed::{Placed, is_earlier, is_file, is_legacy, key_text, sort_of, value};
@@ -185,8 +185,8 @@ fn count(
     item: &Placed<'_>,
 ) -> Result<(), AllocError>
     requires there { slice_get placed.now i ≡ Some item.now }
-    requires counted { (path : List ℕ) → IfSome (place_of files.old path) (λ j. j < length placed.now) }
-    ensures { OnOk result ((path : List ℕ) → place_of files.new path ≡ counted placed.now (place_of files.old path) path item.now i) }
+    requires winner_after { (path : List ℕ) → IfSome (place_of files.old path) (λ j. j < length placed.now) }
+    ensures { OnOk result ((path : List ℕ) → place_of files.new path ≡ winner_after placed.now (place_of files.old path) path item.now i) }
 {
     let path = value(item.action(), "path").as_bytes();
     let key = Vec::from_slice(alloc, path)?;

@@ -2,7 +2,7 @@
 
 ghost use Rattle.std.specs.Prelude.{◌≡◌, ◌≤◌, ◌+◌, ◌<◌, ◌^◌, cond, length, map};
 ghost use Rattle.ips_kinds.specs.Acts.{same_sort};
-ghost use Rattle.ips_kinds.specs.Tallies.{number_of};
+ghost use Rattle.ips_kinds.specs.Tallies.{count_of_sort};
 ghost use Rattle.ips_steps.specs.View.{sort_of, step_of};
 ghost use Rattle.ips_steps.specs.declared.step.Sort.TheVariants as of_sort;
 
@@ -22,12 +22,12 @@ pub struct Sorts {
 impl Sorts {
     /// How many of the steps are of each sort.
     pub fn of(steps: &[Step]) -> Sorts
-        ensures gone { result.gone ≡ number_of of_sort.Gone (map step_of steps.now) }
-        ensures fresh { result.fresh ≡ number_of of_sort.Fresh (map step_of steps.now) }
-        ensures mode { result.mode ≡ number_of of_sort.Mode (map step_of steps.now) }
-        ensures put { result.put ≡ number_of of_sort.Put (map step_of steps.now) }
-        ensures link { result.link ≡ number_of of_sort.Link (map step_of steps.now) }
-        ensures hard { result.hard ≡ number_of of_sort.Hard (map step_of steps.now) }
+        ensures gone { result.gone ≡ count_of_sort of_sort.Gone (map step_of steps.now) }
+        ensures fresh { result.fresh ≡ count_of_sort of_sort.Fresh (map step_of steps.now) }
+        ensures mode { result.mode ≡ count_of_sort of_sort.Mode (map step_of steps.now) }
+        ensures put { result.put ≡ count_of_sort of_sort.Put (map step_of steps.now) }
+        ensures link { result.link ≡ count_of_sort of_sort.Link (map step_of steps.now) }
+        ensures hard { result.hard ≡ count_of_sort of_sort.Hard (map step_of steps.now) }
     {
         Sorts {
             gone: number(steps, Sort::Gone),
@@ -42,7 +42,7 @@ impl Sorts {
 
 // How many of the steps are of the sort.
 fn number(steps: &[Step], sort: Sort) -> u64
-    ensures { result ≡ number_of sort (map step_of steps.now) }
+    ensures { result ≡ count_of_sort sort (map step_of steps.now) }
 {
     let mut count = 0;
     for step in steps {

@@ -12,7 +12,7 @@ use Rattle.ips_text.proofs.Quotes.{quoted_apart}
 use Rattle.ips_steps.specs.Steps.{stage_name}
 use Rattle.ips_steps.specs.Private.{records_name, journal_name, gate_name, mark_front, is_private}
 use Rattle.ips_steps.proofs.Lists.{clash}
-use Rattle.ips_index.specs.Rows.{Row}
+use Rattle.ips_index.specs.Rows.{IndexedValue}
 use Rattle.ips_state.specs.State.{Installed, Recorded}
 use Rattle.ips_state.specs.Records.{avoid_path, common_records, freeze_path, gone_stems, history_path, image_path, index_path, index_records, installed_path, listed_records, manifest_path, manifests_path, mediators_path, package_path, package_records, packages_path, records_by, records_of, taken_away, taken_by}
 use Rattle.ips_metafiles.specs.Records.{license_path}
@@ -189,7 +189,7 @@ child_out true d z = manifest_out true d z
 child_out false d z = package_out false d z
 
 module _ (f : Bool) (d : Delivered) where
-  index_all : (o : Option (List Row)) → AllByRecursion (λ (e : List ℕ × List ℕ). AtRecord f d e.0) (index_records o)
+  index_all : (o : Option (List IndexedValue)) → AllByRecursion (λ (e : List ℕ × List ℕ). AtRecord f d e.0) (index_records o)
   index_all None = cc
   index_all (Some rows) = ((index_out f d, in_own f d index_path refl), cc)
 

@@ -14,7 +14,7 @@ use Rattle.ips_fmri.specs.Name.{IsStem}
 use Rattle.ips_records.proofs.Joined.{is_name_byte, IsFileName, joined_path, pkg_name}
 use Rattle.ips_metafiles.specs.Records.{license_path}
 use Rattle.ips_metafiles.proofs.Licenses.{license_is_path}
-use Rattle.ips_index.specs.Rows.{Row}
+use Rattle.ips_index.specs.Rows.{IndexedValue}
 use Rattle.ips_state.specs.Form.{IsPackage}
 use Rattle.ips_state.specs.Lawful.{IsLawful}
 use Rattle.ips_state.specs.State.{Installed, Recorded}
@@ -77,7 +77,7 @@ account_is q h = elim (or_cases (same_path (codes "etc/passwd") q) (same_path (c
 abbrev ArePaths : List (List ℕ × List ℕ) → Type 0
 ArePaths files = AllByRecursion (λ (e : List ℕ × List ℕ). IsPath e.0) files
 
-index_paths : (o : Option (List Row)) → ArePaths (index_records o)
+index_paths : (o : Option (List IndexedValue)) → ArePaths (index_records o)
 index_paths None = cc
 index_paths (Some rows) = (in_pkg (codes "index") (record { bytes = refl; some = omega arith; few = omega arith; no_dots = refl }), cc)
 

@@ -12,7 +12,7 @@ use Rattle.ips_text.proofs.Ancestry.{same_path-true, at_parent_of, covers_trans}
 use Rattle.ips_steps.specs.Steps.{stage_name}
 use Rattle.ips_steps.specs.Private.{records_name, journal_name, gate_name, mark_front, is_private}
 use Rattle.ips_steps.proofs.Lists.{clash}
-use Rattle.ips_index.specs.Rows.{Row}
+use Rattle.ips_index.specs.Rows.{IndexedValue}
 use Rattle.ips_state.specs.State.{Installed, Recorded}
 use Rattle.ips_state.specs.Records.{avoid_path, common_records, freeze_path, gone_stems, history_path, image_path, index_path, index_records, installed_path, listed_records, manifest_path, manifests_path, mediators_path, package_path, package_records, packages_path, records_by, records_of, taken_away, taken_by}
 use Rattle.ips_after.specs.Lists.{listed}
@@ -165,7 +165,7 @@ module _ (f : Bool) where
   fixed : (x : List ℕ) → IsOff (home f) x → parent x ≡ Some (codes "var/pkg") → AtHome x
   fixed x off is = (off, under_parent (home f) x (codes "var/pkg") is (own_folder f))
 
-  index_all : (o : Option (List Row)) → AllByRecursion (λ (e : List ℕ × List ℕ). AtHome e.0) (index_records o)
+  index_all : (o : Option (List IndexedValue)) → AllByRecursion (λ (e : List ℕ × List ℕ). AtHome e.0) (index_records o)
   index_all None = cc
   index_all (Some rows) = (fixed index_path (index_off f) refl, cc)
 

@@ -2,7 +2,7 @@
 use Rattle.std.specs.Prelude.{◌≡◌, ℕ, List, [], ◌∷◌, ◌++◌, length, map}
 use Rattle.ips_outside.specs.Image.{Image, file_bytes}
 use Rattle.ips_digest.specs.Name.{spelling}
-use Rattle.ips_steps.specs.Steps.{Step, Put, bytes_of}
+use Rattle.ips_steps.specs.Steps.{Step, Put, content_bytes}
 use Rattle.ips_steps.specs.Targets.{IsTarget}
 use Rattle.ips_steps.specs.View.{step_of}
 use Rattle.ips_journal.specs.declared.staged.Staged.{Staged}
@@ -29,7 +29,7 @@ contents_in (x ∷ rest) = with_content x.1 (contents_in rest)
 
 -- The bytes of the file that stands at a path; none where no file does.
 abbrev pub bytes_at : Image → List ℕ → List ℕ
-bytes_at t p = bytes_of (file_bytes (t.look p))
+bytes_at t p = content_bytes (file_bytes (t.look p))
 
 -- The bytes of what is staged, by the bytes of each payload and by what stands in the image.
 abbrev pub staged_bytes : (List ℕ → List ℕ) → Image → Staged → List ℕ

@@ -8,7 +8,7 @@ use Rattle.ips_text.proofs.Ancestry.{covers-self}
 use Rattle.ips_outside.specs.Image.{Dir, Entry, File, Image, IsImage, Link, Other, has_parent, is_dir, is_file, with_mode}
 use Rattle.ips_steps.proofs.Lists.{clash}
 use Rattle.ips_after.specs.After as after
-use Rattle.ips_after.specs.Change.{Change, Changes, Given, IsFit, Joined, Kept, Laid, Removed, cleared, laid_entry, left, makes, replaces, stands, target, with_given}
+use Rattle.ips_after.specs.Change.{Change, Changes, Given, IsFit, Joined, Kept, Laid, Removed, cleared, laid_entry, left, makes, replaces, can_be_laid, target, with_given}
 use Rattle.ips_after.specs.Lists.{listed}
 use Rattle.ips_after.specs.Request.{IsRequest, Request, Wanted, is_dir_wanted, lays}
 use Rattle.ips_after.proofs.Changed.{reached_from}
@@ -75,7 +75,7 @@ module _ (r : Request) (t : Image) (good : IsRequest r) (formed : IsImage t) whe
           ∙ ap (λ (c : Change). is_some (laid_entry c)) is)
       at (Joined to) is =
           let u = after.image_after r t none in
-          let both = and_parts (has_parent u x) _ (ap (λ (c : Change). stands c x u) (sym is) ∙ fit.stand x) in
+          let both = and_parts (has_parent u x) _ (ap (λ (c : Change). can_be_laid c x u) (sym is) ∙ fit.stand x) in
           let file : is_file (u.look to) ≡ true = (and_parts (not (covers x to)) (is_file (u.look to)) both.1).1 in
           let there : is_file (left settled (after.ranks r) t to) ≡ true = ap (λ (y : List ℕ). is_file (left settled (after.ranks r) t y)) (sym (target_plain (settled to) to (fit.flat x to is))) ∙ file in
           rw is (file_some (left settled (after.ranks r) t to) there)

@@ -14,7 +14,7 @@ use Rattle.ips_outside.specs.Image.{Image, Entry as Seen, file_bytes}
 use Rattle.ips_outside.specs.Children.{is_child, is_directory}
 use Rattle.ips_fmri.specs.Name.{IsStem}
 use Rattle.ips_files.specs.Files.{file_at}
-use Rattle.ips_index.specs.Rows.{Row}
+use Rattle.ips_index.specs.Rows.{IndexedValue}
 use Rattle.ips_records.proofs.FileNames.{stem_name}
 use Rattle.ips_records.proofs.Joined.{is_name_byte}
 use Rattle.ips_state.specs.State.{Ascend, Installed, Recorded}
@@ -90,7 +90,7 @@ packages_told t true ps all h = (h.names.file, manifests_told t manifest_path (�
 packages_told t false ps all h =
     (manifests_told t package_path (λ p. package_head p.version) ps h.each, λ stem bytes is at. stem_at_place ps stem all is (h.only (package_path stem) (record_child t stem bytes is at)))
 
-index_told : (t : Image) (o : Option (List Row)) → HoldsIndex t o → IndexAt (FileIs t) o
+index_told : (t : Image) (o : Option (List IndexedValue)) → HoldsIndex t o → IndexAt (FileIs t) o
 index_told t None h = λ bytes at. none_stands t index_path bytes h at
 index_told t (Some rows) h = h.file
 
@@ -202,7 +202,7 @@ module _ (r : Recorded) (entries : List Written) (due : IsPermutation (records_o
         stem_written r.installed stem bytes all h (ap (λ (b : Bool). list_any f (records_by b r.installed)) (sym is) ∙ found),
   )
 
-  index_written : (o : Option (List Row)) → r.index ≡ o → AllByRecursion (λ (e : Written). HasEntry entries e.0 e.1) (index_records o) → IndexAt (HasEntry entries) o
+  index_written : (o : Option (List IndexedValue)) → r.index ≡ o → AllByRecursion (λ (e : Written). HasEntry entries e.0 e.1) (index_records o) → IndexAt (HasEntry entries) o
   index_written None is all = λ bytes at. false≢true (sym (no_index r (is_entry index_path bytes) (λ path b off. ap (λ (x : Bool). x && same_path b bytes) off) is) ∙ unwritten index_path bytes at)
   index_written (Some rows) is all = all.0
 

@@ -15,8 +15,8 @@ use Rattle.ips_text.proofs.Truths.{or_true}
 use Rattle.ips_fmri.specs.Name.{IsStem}
 use Rattle.ips_fmri.specs.Version.{Parts}
 use Rattle.ips_fmri.specs.declared.fmri.Fmri.{Fmri}
-use Rattle.ips_index.specs.Rows.{Row, index_text}
-use Rattle.ips_index.specs.Text.{AreRows}
+use Rattle.ips_index.specs.Rows.{IndexedValue, index_text}
+use Rattle.ips_index.specs.Text.{AreIndexRows}
 use Rattle.ips_index.proofs.IndexFiles.{rows_one}
 use Rattle.std.specs.Prelude.{IfSome}
 use Rattle.ips_manifest.specs.Manifest.{IsManifestOf}
@@ -109,7 +109,7 @@ abbrev pub PackagesAt : Bool → (List ℕ → List ℕ → Type 0) → List Ins
 PackagesAt true At packages = EachAt true At packages
 PackagesAt false At packages = EachAt false At packages × ((stem bytes : List ℕ) → IsStem false stem → At (package_path stem) bytes → among (stems_in packages) stem ≡ true)
 
-abbrev pub IndexAt : (List ℕ → List ℕ → Type 0) → Option (List Row) → Type 0
+abbrev pub IndexAt : (List ℕ → List ℕ → Type 0) → Option (List IndexedValue) → Type 0
 IndexAt At None = (bytes : List ℕ) → At index_path bytes → ⊥
 IndexAt At (Some rows) = At index_path (index_text rows)
 
@@ -191,11 +191,11 @@ module _ (At : List ℕ → List ℕ → Type 0) (one : (path a b : List ℕ) �
       let stems = ascend_one (stems_in ps) (stems_in qs) hp.order hq.order (among_told ps qs hp.each told.0 other.1) (among_told qs ps hq.each other.0 told.1) in
       recorded_same ps qs stems hp.each hq.each told.0 other.0
 
-  index_same : (a b : Option (List Row)) → IfSome a AreRows → IfSome b AreRows → IndexAt At a → IndexAt At b → a ≡ b
+  index_same : (a b : Option (List IndexedValue)) → IfSome a AreIndexRows → IfSome b AreIndexRows → IndexAt At a → IndexAt At b → a ≡ b
   index_same None None ha hb at other = refl
   index_same None (Some rows) ha hb at other = absurd (at (index_text rows) other)
   index_same (Some rows) None ha hb at other = absurd (other (index_text rows) at)
-  index_same (Some rows) (Some others) ha hb at other = ap (λ (l : List Row). Some l) (rows_one rows others ha hb (one index_path (index_text rows) (index_text others) at other))
+  index_same (Some rows) (Some others) ha hb at other = ap (λ (l : List IndexedValue). Some l) (rows_one rows others ha hb (one index_path (index_text rows) (index_text others) at other))
 
   pub told_one : (r s : Recorded) → Tells At r → Tells At s → r ≡ s
   told_one r s a b =

@@ -6,7 +6,7 @@ use Rattle.std.proofs.lemmas.List.{map-append}
 use Rattle.std.proofs.lemmas.Map.Views.{All-map-IsPermutation}
 use Rattle.std.proofs.lemmas.Simd.{map-map}
 use Rattle.ips_text.proofs.Lists.{all_append}
-use Rattle.ips_index.specs.Rows.{Row}
+use Rattle.ips_index.specs.Rows.{IndexedValue}
 use Rattle.ips_state.specs.State.{Installed, Recorded}
 use Rattle.ips_state.specs.Records.{common_records, index_path, index_records, installed_path, package_place, records_by, records_of}
 use Rattle.ips_packages.proofs.Sorting.{to_all}
@@ -45,7 +45,7 @@ by_format r false is = numbered_entries r false [] r.installed is refl
 
 -- ---- the rest
 
-of_index : (r : Recorded) (o : Option (List Row)) → r.index ≡ o → map (entry_in r) (index_parts o) ≡ index_records o
+of_index : (r : Recorded) (o : Option (List IndexedValue)) → r.index ≡ o → map (entry_in r) (index_parts o) ≡ index_records o
 of_index r None is = refl
 of_index r (Some rows) is = λ j. (index_path, text_of_index (is j)) ∷ []
 
@@ -72,7 +72,7 @@ has_package : (r : Recorded) (first : Bool) → AllByRecursion (λ (s : Owned). 
 has_package r true = (tt, has_numbered r true [] r.installed refl)
 has_package r false = has_numbered r false [] r.installed refl
 
-has_index : (r : Recorded) (o : Option (List Row)) → r.index ≡ o → AllByRecursion (λ (s : Owned). HasPart r s.1) (index_parts o)
+has_index : (r : Recorded) (o : Option (List IndexedValue)) → r.index ≡ o → AllByRecursion (λ (s : Owned). HasPart r s.1) (index_parts o)
 has_index r None is = tt
 has_index r (Some rows) is = (rw is refl, tt)
 

@@ -20,7 +20,7 @@ use Rattle.ips_text.specs.Quote.{quoted}
 use Rattle.ips_text.proofs.Lists.{all_append}
 use Rattle.ips_text.proofs.Truths.{not_true}
 use Rattle.ips_fmri.specs.Name.{IsStem}
-use Rattle.ips_index.specs.Rows.{Row}
+use Rattle.ips_index.specs.Rows.{IndexedValue}
 use Rattle.ips_records.proofs.WordForms.{word_one}
 use Rattle.ips_state.specs.State.{Ascend, Installed, Recorded}
 use Rattle.ips_state.specs.Form.{IsPackage}
@@ -118,7 +118,7 @@ behind_fronts : (first : Bool) (more : List (List ℕ)) (packages : List Install
 behind_fronts first more packages h test off =
     front_differs (common_paths ++ more) (paths_in (numbered first 0 packages)) test (all_off first 0 packages (common_paths ++ more) (all_append (IsOff first) common_paths more (common_off first) off)) (packages_differ first 0 packages h.each h.order)
 
-all_differ : (first : Bool) (index : Option (List Row)) (packages : List Installed) → ArePackages packages → Differ (paths_in ((common_parts ++ index_parts index) ++ package_parts first packages))
+all_differ : (first : Bool) (index : Option (List IndexedValue)) (packages : List Installed) → ArePackages packages → Differ (paths_in ((common_parts ++ index_parts index) ++ package_parts first packages))
 all_differ true (Some rows) packages h = behind_fronts true (index_path ∷ installed_path ∷ []) packages h refl (index_off true, (installed_off, tt))
 all_differ true None packages h = behind_fronts true (installed_path ∷ []) packages h refl (installed_off, tt)
 all_differ false (Some rows) packages h = behind_fronts false (index_path ∷ []) packages h refl (index_off false, tt)

@@ -10,7 +10,7 @@ use Rattle.ips_text.proofs.Ancestry.{same_path-self, same_path-true}
 use Rattle.ips_text.proofs.Truths.{both_true, or_true}
 use Rattle.ips_outside.specs.Image.{Image}
 use Rattle.ips_outside.specs.Children.{is_child, is_directory}
-use Rattle.ips_index.specs.Rows.{Row, index_text}
+use Rattle.ips_index.specs.Rows.{IndexedValue, index_text}
 use Rattle.ips_manifest.specs.Manifest.{IsManifestOf, manifest_text, renumbered}
 use Rattle.ips_manifest.specs.declared.line.Line.{Line}
 use Rattle.ips_records.specs.Lines.{lines_text}
@@ -176,7 +176,7 @@ pub common_without : (f : Written → Bool) (r : Recorded) → ((b : List ℕ) �
 common_without f r head avoid freeze mediators history index =
     (head (lines_text (head_lines (head_of r))), (avoid (lines_text r.avoid), (freeze (lines_text (name_lines r.freeze)), (mediators (lines_text (map mediator_line r.mediators)), (history (lines_text r.history), index)))))
 
-pub index_without : (f : Written → Bool) (index : Option (List Row)) → ((b : List ℕ) → f (index_path, b) ≡ false) → AllByRecursion (λ (e : Written). f e ≡ false) (index_records index)
+pub index_without : (f : Written → Bool) (index : Option (List IndexedValue)) → ((b : List ℕ) → f (index_path, b) ≡ false) → AllByRecursion (λ (e : Written). f e ≡ false) (index_records index)
 index_without f None none = tt
 index_without f (Some rows) none = (none (index_text rows), tt)
 
@@ -197,7 +197,7 @@ packages_without f false ps list manifest package_ = go ps
 pub no_index : (r : Recorded) (f : Written → Bool) → ((path b : List ℕ) → same_path path index_path ≡ false → f (path, b) ≡ false) → r.index ≡ None → list_any f (records_of r) ≡ false
 no_index r f off none =
     let common = common_without f r (λ b. off image_path b refl) (λ b. off avoid_path b refl) (λ b. off freeze_path b refl) (λ b. off mediators_path b refl) (λ b. off history_path b refl)
-    (subst (λ (o : Option (List Row)). AllByRecursion (λ (e : Written). f e ≡ false) (index_records o)) (sym none) tt) in
+    (subst (λ (o : Option (List IndexedValue)). AllByRecursion (λ (e : Written). f e ≡ false) (index_records o)) (sym none) tt) in
     let rest = packages_without f (r.format == 1) r.installed (λ b. off installed_path b refl) (λ s b. off (manifest_path s) b refl) (λ s b. off (package_path s) b refl) in
     list_any-append f (common_records r) (records_by (r.format == 1) r.installed) ∙ ap₂ (λ (a b : Bool). a || b) (none_any f (common_records r) common) (none_any f (records_by (r.format == 1) r.installed) rest)
 
@@ -240,7 +240,7 @@ module _ (t : Image) (r : Recorded) (entries : List Written) (due : IsPermutatio
   index_held : (t.look index_path ≡ None) ⊎ IsTrue (has_path entries index_path) → AllByRecursion (λ (e : Written). Stands t e.0 e.1) (index_records r.index) → HoldsIndex t r.index
   index_held which all = go r.index refl all
     where
-      go : (o : Option (List Row)) → r.index ≡ o → AllByRecursion (λ (e : Written). Stands t e.0 e.1) (index_records o) → HoldsIndex t o
+      go : (o : Option (List IndexedValue)) → r.index ≡ o → AllByRecursion (λ (e : Written). Stands t e.0 e.1) (index_records o) → HoldsIndex t o
       go (Some rows) is a = a.0
       go None is a = elim which [
         | inl none ↦ none

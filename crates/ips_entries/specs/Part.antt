@@ -1,7 +1,7 @@
 -- The records of a state, each by its part of it.
 use Rattle.std.specs.Prelude.{ℕ, ◌+◌, ◌<◌, ◌==◌, Bool, true, false, List, [], ◌∷◌, ◌++◌, map, length, slice_get, Option, Some, None, is_some, IsTrue}
 use Rattle.ips_manifest.specs.Manifest.{manifest_text}
-use Rattle.ips_index.specs.Rows.{Row, index_text}
+use Rattle.ips_index.specs.Rows.{IndexedValue, index_text}
 use Rattle.ips_records.specs.Lines.{lines_text}
 use Rattle.ips_state.specs.State.{Installed, Recorded, head_of}
 use Rattle.ips_state.specs.Text.{head_lines, versioned_stem, name_lines, mediator_line, package_text}
@@ -17,7 +17,7 @@ HasPart r (part.Package n) = n < length r.installed
 HasPart r other = Unit {0}
 
 -- The text of an index, where there is one.
-abbrev pub text_of_index : Option (List Row) → List ℕ
+abbrev pub text_of_index : Option (List IndexedValue) → List ℕ
 text_of_index None = []
 text_of_index (Some rows) = index_text rows
 
@@ -57,7 +57,7 @@ abbrev pub common_parts : List Owned
 common_parts = (image_path, part.Image) ∷ (avoid_path, part.Avoid) ∷ (freeze_path, part.Freeze) ∷ (mediators_path, part.Mediators) ∷ (history_path, part.History) ∷ []
 
 -- The part of an index, where there is one.
-abbrev pub index_parts : Option (List Row) → List Owned
+abbrev pub index_parts : Option (List IndexedValue) → List Owned
 index_parts None = []
 index_parts (Some rows) = (index_path, part.Index) ∷ []
 

@@ -3,7 +3,7 @@ use Rattle.std.proofs.Common.{◌≡◌, ℕ, ◌<◌, ◌≤◌, List, [], ◌�
 use Rattle.std.specs.Prelude.{◌↔◌, Bool}
 use Rattle.std.proofs.lemmas.List.{append-nil, length-append, nil_from_length}
 use Rattle.ips_text.proofs.Readers.{same_cut}
-use Rattle.ips_fmri.specs.Pattern.{Meets, MatchesBy, Matches, MatchesBehindSlash}
+use Rattle.ips_fmri.specs.Pattern.{MatchesCharacter, MatchesBy, Matches, MatchesBehindSlash}
 use Rattle.ips_fmri.specs.Matching.{HasNone, AllMeet, MeetsFront, MeetsEnd, MeetsSome, MeetsFirst}
 use Rattle.ips_fmri.proofs.Judges.{overlap, cancel_front}
 
@@ -113,18 +113,18 @@ module _ (marks : Bool) where
   front_back c d p text rest [] e h = absurd h
   front_back c d p text rest (b ∷ met) e h = (met, cc, h.1)
 
-  pub front_on : (c d : ℕ) (p text rest : List ℕ) → Meets marks c d → MeetsFront marks p text rest ↔ MeetsFront marks (c ∷ p) (d ∷ text) rest
+  pub front_on : (c d : ℕ) (p text rest : List ℕ) → MatchesCharacter marks c d → MeetsFront marks p text rest ↔ MeetsFront marks (c ∷ p) (d ∷ text) rest
   front_on c d p text rest meets = (
     λ h. (d ∷ h.0, ap (λ (l : List ℕ). d ∷ l) h.1, (meets, h.2)),
     λ h. front_back c d p text rest h.0 h.1 h.2,
   )
 
-  front_first : (c d : ℕ) (p text rest met : List ℕ) → d ∷ text ≡ met ++ rest → AllMeet marks (c ∷ p) met → Meets marks c d
+  front_first : (c d : ℕ) (p text rest met : List ℕ) → d ∷ text ≡ met ++ rest → AllMeet marks (c ∷ p) met → MatchesCharacter marks c d
   front_first c d p text rest [] e h = absurd h
-  front_first c d p text rest (b ∷ met) e h = let same : d ≡ b = cc in subst (Meets marks c) (sym same) h.0
+  front_first c d p text rest (b ∷ met) e h = let same : d ≡ b = cc in subst (MatchesCharacter marks c) (sym same) h.0
 
   -- another character comes next
-  pub front_other : (c d : ℕ) (p text rest : List ℕ) → (Meets marks c d → ⊥) → MeetsFront marks (c ∷ p) (d ∷ text) rest → ⊥
+  pub front_other : (c d : ℕ) (p text rest : List ℕ) → (MatchesCharacter marks c d → ⊥) → MeetsFront marks (c ∷ p) (d ∷ text) rest → ⊥
   front_other c d p text rest other h = other (front_first c d p text rest h.0 h.1 h.2)
 
   front_empty_of : (c : ℕ) (p rest met : List ℕ) → [] ≡ met ++ rest → AllMeet marks (c ∷ p) met → ⊥
@@ -224,7 +224,7 @@ module _ (marks : Bool) where
 
   -- ---- what a loop keeps
 
-  pub front_step : (wanted left p text pattern all : List ℕ) (c d : ℕ) → wanted ≡ c ∷ p → left ≡ d ∷ text → Meets marks c d
+  pub front_step : (wanted left p text pattern all : List ℕ) (c d : ℕ) → wanted ≡ c ∷ p → left ≡ d ∷ text → MatchesCharacter marks c d
       → ((rest : List ℕ) → MeetsFront marks wanted left rest ↔ MeetsFront marks pattern all rest) → (rest : List ℕ) → MeetsFront marks p text rest ↔ MeetsFront marks pattern all rest
   front_step wanted left p text pattern all c d w l meets so_far rest =
       let on = front_on c d p text rest meets in
@@ -233,7 +233,7 @@ module _ (marks : Bool) where
         λ h. on.1 (subst (λ (x : List ℕ). MeetsFront marks (c ∷ p) x rest) l (subst (λ (x : List ℕ). MeetsFront marks x left rest) w (s.1 h))),
       )
 
-  pub front_stops : (wanted left p text pattern all : List ℕ) (c d : ℕ) → wanted ≡ c ∷ p → left ≡ d ∷ text → (Meets marks c d → ⊥)
+  pub front_stops : (wanted left p text pattern all : List ℕ) (c d : ℕ) → wanted ≡ c ∷ p → left ≡ d ∷ text → (MatchesCharacter marks c d → ⊥)
       → ((rest : List ℕ) → MeetsFront marks wanted left rest ↔ MeetsFront marks pattern all rest) → (rest : List ℕ) → MeetsFront marks pattern all rest → ⊥
   front_stops wanted left p text pattern all c d w l other so_far rest h =
       front_other c d p text rest other (subst (λ (x : List ℕ). MeetsFront marks (c ∷ p) x rest) l (subst (λ (x : List ℕ). MeetsFront marks x left rest) w ((so_far rest).1 h)))

@@ -11,7 +11,7 @@ use Rattle.std.proofs.lemmas.Str.Ascii.{IsAscii-nil, IsAscii-cons}
 use Rattle.std.proofs.lemmas.List.Splits.{join_with_byte-slice_split, slice_split_none, slice_split_at}
 use Rattle.std.proofs.lemmas.List.Elements.{All-from_recursion}
 use Rattle.ips_text.specs.declared.refusal.Stop.{Stop}
-use Rattle.ips_text.specs.Reading.{◌>>=◌, next_is, AllFit, one_or_more, run}
+use Rattle.ips_text.specs.Reading.{◌>>=◌, next_is, OneOrMore, one_or_more, run}
 use Rattle.ips_text.specs.Path.{parts}
 use Rattle.ips_text.proofs.Readers.{Stops, Reads, SameBefore, AllFollow, Reads-one_or_more, Reads-via, chosen, ok_is, ok_not_err, err_same}
 use Rattle.ips_text.proofs.Loops.{with_front, reads_on, reads_stop, reads_end}
@@ -113,7 +113,7 @@ component_no_slash : (wild : Bool) (x : List ℕ) → IsComponent wild x → All
 component_no_slash wild [] h = absurd h
 component_no_slash wild (b ∷ x) h = All-from_recursion (λ b. eqb b 47 ≡ false) (b ∷ x) (begins_no_slash wild b h.0, run_no_slash wild x h.1)
 
-parts_joined : (wild : Bool) (xs : List (List ℕ)) → AllFit (IsComponent wild) xs → parts (join_with_byte 47 xs) ≡ xs
+parts_joined : (wild : Bool) (xs : List (List ℕ)) → OneOrMore (IsComponent wild) xs → parts (join_with_byte 47 xs) ≡ xs
 parts_joined wild [] h = absurd h
 parts_joined wild (x ∷ []) h = slice_split_none (λ b. eqb b 47) x (component_no_slash wild x h)
 parts_joined wild (x ∷ y ∷ xs) h =
@@ -126,13 +126,13 @@ map_itself : (xs : List (List ℕ)) → map itself xs ≡ xs
 map_itself [] = refl
 map_itself (x ∷ xs) = ap (λ (l : List (List ℕ)). x ∷ l) (map_itself xs)
 
-join_fits : (wild : Bool) (xs : List (List ℕ)) → AllFit (IsComponent wild) xs → (parts (join_with_byte 47 xs) ≡ xs) × HasStemForm wild (join_with_byte 47 xs)
-join_fits wild xs h = let e = parts_joined wild xs h in (e, subst (AllFit (IsComponent wild)) (sym e) h)
+join_fits : (wild : Bool) (xs : List (List ℕ)) → OneOrMore (IsComponent wild) xs → (parts (join_with_byte 47 xs) ≡ xs) × HasStemForm wild (join_with_byte 47 xs)
+join_fits wild xs h = let e = parts_joined wild xs h in (e, subst (OneOrMore (IsComponent wild)) (sym e) h)
 
 pub Reads-stem : (wild : Bool) → Reads itself (HasStemForm wild) (StemFollows wild) (stem_at wild)
 unfolding stem_at
 Reads-stem wild =
-    Reads-via (λ (xs : List (List ℕ)). join_with_byte 47 (map itself xs)) (AllFit (IsComponent wild)) (AllFollow 47 itself (ComponentFollows wild)) (one_or_more 47 (component_at part.Stem wild))
+    Reads-via (λ (xs : List (List ℕ)). join_with_byte 47 (map itself xs)) (OneOrMore (IsComponent wild)) (AllFollow 47 itself (ComponentFollows wild)) (one_or_more 47 (component_at part.Stem wild))
     itself (HasStemForm wild) (join_with_byte 47) parts
     (Reads-one_or_more 47 itself (IsComponent wild) (ComponentFollows wild) (component_at part.Stem wild) (Reads-component part.Stem wild))
     (join_fits wild)
@@ -146,7 +146,7 @@ pub record EndsStem (wild : Bool) (rest : List ℕ) : Type 0 where
   pub run : Ends (may_go_on wild) rest
   pub slash : next_is 47 rest ≡ false
 
-parts_follow : (wild : Bool) (xs : List (List ℕ)) (rest : List ℕ) → AllFit (IsComponent wild) xs → EndsStem wild rest → AllFollow 47 itself (ComponentFollows wild) xs rest
+parts_follow : (wild : Bool) (xs : List (List ℕ)) (rest : List ℕ) → OneOrMore (IsComponent wild) xs → EndsStem wild rest → AllFollow 47 itself (ComponentFollows wild) xs rest
 parts_follow wild [] rest h ends = absurd h
 parts_follow wild (x ∷ []) rest h ends = (ends.run, ends.slash)
 parts_follow wild (x ∷ y ∷ xs) rest h ends = (slash_ends wild, parts_follow wild (y ∷ xs) rest h.1 ends)
@@ -158,7 +158,7 @@ stem_follows wild s rest h ends = parts_follow wild (parts s) rest h ends
 pub stem_first : (wild : Bool) (s : List ℕ) → HasStemForm wild s → (b : ℕ) × (more : List ℕ) × (s ≡ b ∷ more) × (may_begin wild b ≡ true)
 stem_first wild s h = go (parts s) h (join_with_byte-slice_split 47 s)
   where
-    go : (xs : List (List ℕ)) → AllFit (IsComponent wild) xs → join_with_byte 47 xs ≡ s → (b : ℕ) × (more : List ℕ) × (s ≡ b ∷ more) × (may_begin wild b ≡ true)
+    go : (xs : List (List ℕ)) → OneOrMore (IsComponent wild) xs → join_with_byte 47 xs ≡ s → (b : ℕ) × (more : List ℕ) × (s ≡ b ∷ more) × (may_begin wild b ≡ true)
     go [] h e = absurd h
     go ([] ∷ []) h e = absurd h
     go ((b ∷ x) ∷ []) h e = (b, x, sym e, h.0)
@@ -257,7 +257,7 @@ component_ascii : (wild : Bool) (x : List ℕ) → IsComponent wild x → IsAsci
 component_ascii wild [] h = absurd h
 component_ascii wild (b ∷ x) h = IsAscii-cons b x (low_first wild b h.0) (run_ascii wild x h.1)
 
-joined_ascii : (wild : Bool) (xs : List (List ℕ)) → AllFit (IsComponent wild) xs → IsAscii (join_with_byte 47 xs)
+joined_ascii : (wild : Bool) (xs : List (List ℕ)) → OneOrMore (IsComponent wild) xs → IsAscii (join_with_byte 47 xs)
 joined_ascii wild [] h = absurd h
 joined_ascii wild (x ∷ []) h = component_ascii wild x h
 joined_ascii wild (x ∷ y ∷ xs) h = IsAscii-append x (47 ∷ join_with_byte 47 (y ∷ xs)) (component_ascii wild x h.0) (IsAscii-cons 47 (join_with_byte 47 (y ∷ xs)) (omega arith) (joined_ascii wild (y ∷ xs) h.1))

@@ -1,7 +1,7 @@
 -- What a pattern without `*` looks for in a text, on the way to what a whole pattern matches. All lists are of characters.
 use Rattle.std.specs.Prelude.{◌≡◌, ◌≢◌, ℕ, ◌≤◌, Bool, List, [], ◌∷◌, ◌++◌, length}
 use Rattle.std.specs.List.{AllByRecursion}
-use Rattle.ips_fmri.specs.Pattern.{Meets}
+use Rattle.ips_fmri.specs.Pattern.{MatchesCharacter}
 
 -- none of the characters is this one
 abbrev pub HasNone : ℕ → List ℕ → Type 0
@@ -12,7 +12,7 @@ abbrev pub AllMeet : Bool → List ℕ → List ℕ → Type 0
 AllMeet marks [] [] = Unit {0}
 AllMeet marks [] (d ∷ text) = ⊥
 AllMeet marks (c ∷ pattern) [] = ⊥
-AllMeet marks (c ∷ pattern) (d ∷ text) = Meets marks c d × AllMeet marks pattern text
+AllMeet marks (c ∷ pattern) (d ∷ text) = MatchesCharacter marks c d × AllMeet marks pattern text
 
 -- they meet a beginning of the text, behind which the rest stands
 abbrev pub MeetsFront : Bool → List ℕ → List ℕ → List ℕ → Type 0

@@ -2,7 +2,7 @@
 use Rattle.std.specs.Prelude.{◌≡◌, ℕ, Bool, true, false, ◌&&◌, ◌||◌, ◌==◌, List, [], ◌∷◌}
 use Rattle.std.specs.List.{list_all}
 use Rattle.std.specs.Char.{is_ascii_alphanumeric}
-use Rattle.ips_text.specs.Reading.{AllFit}
+use Rattle.ips_text.specs.Reading.{OneOrMore}
 use Rattle.ips_text.specs.Path.{parts}
 use Rattle.ips_text.specs.Quote.{fits_name}
 
@@ -25,7 +25,7 @@ IsComponent wild (b ∷ bytes) = (may_begin wild b ≡ true) × (list_all (may_g
 
 -- the bytes are components joined by `/`, however long
 abbrev pub HasStemForm : Bool → List ℕ → Type 0
-HasStemForm wild stem = AllFit (IsComponent wild) (parts stem)
+HasStemForm wild stem = OneOrMore (IsComponent wild) (parts stem)
 
 -- the bytes are a stem: of that form, and short enough that the quoted text can name a file
 pub record IsStem (wild : Bool) (stem : List ℕ) : Type 0 where

@@ -20,15 +20,15 @@ abbrev pub pattern_text : Pattern → List ℕ
 pattern_text p = lead_text p.publisher p.anchored ++ p.stem ++ version_part_text p.version
 
 -- a character of a pattern meets a character of a text: the same one, and `?` each one where marks are wildcards too
-abbrev pub Meets : Bool → ℕ → ℕ → Type 0
-Meets marks c d = ((marks ≡ true) × (c ≡ 63)) ⊎ (c ≡ d)
+abbrev pub MatchesCharacter : Bool → ℕ → ℕ → Type 0
+MatchesCharacter marks c d = ((marks ≡ true) × (c ≡ 63)) ⊎ (c ≡ d)
 
 -- characters match: `*` stands for some text, `?` for some one character where marks are wildcards too, any other character for itself
 abbrev pub MatchesBy : Bool → List ℕ → List ℕ → Type 0
 MatchesBy marks [] text = text ≡ []
 MatchesBy marks (c ∷ pattern) text =
     ((c ≡ 42) × ((some : List ℕ) × (rest : List ℕ) × (text ≡ some ++ rest) × MatchesBy marks pattern rest))
-    ⊎ ((c ≢ 42) × ((one : ℕ) × (rest : List ℕ) × (text ≡ one ∷ rest) × Meets marks c one × MatchesBy marks pattern rest))
+    ⊎ ((c ≢ 42) × ((one : ℕ) × (rest : List ℕ) × (text ≡ one ∷ rest) × MatchesCharacter marks c one × MatchesBy marks pattern rest))
 
 -- a pattern in which `*` stands for some text and `?` for some one character
 abbrev pub Matches : List ℕ → List ℕ → Type 0

@@ -2,7 +2,7 @@
 
 ghost use Rattle.std.specs.Prelude.{◌≡◌, ◌<◌, ◌↔◌, ◌++◌, ◌∷◌, ℕ, List, [], IfNone, IfSome, IsTrue};
 ghost use Rattle.std.specs.Str.{chars};
-ghost use Rattle.ips_fmri.specs.Pattern.{Meets, MatchesBy, MatchesStars, MatchesStem, MatchesBehindSlash};
+ghost use Rattle.ips_fmri.specs.Pattern.{MatchesCharacter, MatchesBy, MatchesStars, MatchesStem, MatchesBehindSlash};
 ghost use Rattle.ips_fmri.specs.Matching.{HasNone, AllMeet, MeetsFront, MeetsEnd, MeetsSome, MeetsFirst};
 
 /// Whether a pattern matches the stem, or, where it isn't anchored, what follows one of its `/`.
@@ -85,7 +85,7 @@ fn split_char(text: &str) -> Option<(char, &str)>
 
 // Whether a character of a pattern without `*` meets this one.
 fn meets(marks: bool, wanted: char, found: char) -> bool
-    ensures { IsTrue result ↔ Meets marks wanted found }
+    ensures { IsTrue result ↔ MatchesCharacter marks wanted found }
 {
     (marks && wanted == '?') || wanted == found
 }

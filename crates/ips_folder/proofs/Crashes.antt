@@ -9,7 +9,7 @@ use Rattle.ips_text.specs.Path.{IsPath}
 use Rattle.ips_text.proofs.Ancestry.{same_covers, same_path-true}
 use Rattle.ips_text.specs.Ancestry.{same_path, covers, parent}
 use Rattle.ips_outside.specs.Image.{Entry, Dir, File, Link, Other, Image, is_dir, is_file, has_parent, dir_or_none, with_mode}
-use Rattle.ips_outside.specs.Change.{placed}
+use Rattle.ips_outside.specs.Change.{with_entry_at}
 use Rattle.ips_outside.specs.Tearing.{IsTorn}
 use Rattle.ips_outside.proofs.Agree.{is_dir-alike, is_file-alike}
 use Rattle.ips_outside.proofs.Images.{image_ext}
@@ -203,7 +203,7 @@ placed_same true true false x = refl
 placed_same true false d x = refl
 placed_same false s d x = refl
 
-pub placed_without : (p : List ℕ) (t : Image) → placed p None t ≡ without (covers p) t
+pub placed_without : (p : List ℕ) (t : Image) → with_entry_at p None t ≡ without (covers p) t
 placed_without p t = image_ext _ _ (λ q. placed_look (same_path p q) (covers p q) (t.look q) (same_covers p q)) (λ a b. placed_same (covers p a || covers p b) (same_path p a) (same_path p b) (t.same a b))
 
 -- ---- since the last sync

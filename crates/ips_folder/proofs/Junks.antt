@@ -12,7 +12,7 @@ use Rattle.ips_text.specs.Ancestry.{same_path, covers, parent, behind}
 use Rattle.ips_text.specs.Path.{IsPath}
 use Rattle.ips_text.proofs.Ancestry.{same_path-true, same_path-self, covers-self, same_covers, uncovered, parent_covers}
 use Rattle.ips_outside.specs.Image.{Entry, Dir, File, Link, Other, Image, IsImage, is_dir, is_file, has_parent, dir_or_none}
-use Rattle.ips_outside.specs.Change.{placed}
+use Rattle.ips_outside.specs.Change.{with_entry_at}
 use Rattle.ips_outside.proofs.Placed.{look_placed, parent_kept}
 use Rattle.ips_outside.proofs.Trees.{nothing_below, alone, alone-back}
 use Rattle.ips_text.proofs.Ancestry.{covers-parent}
@@ -55,10 +55,10 @@ put_look s false e x off gone = rw off refl
 
 module _ (t : Image) (p : List ℕ) (formed : IsImage t) (absent : t.look p ≡ None) where
   -- elsewhere nothing changes
-  pub placed_other : (e : Option Entry) (q : List ℕ) → same_path p q ≡ false → (placed p e t).look q ≡ t.look q
+  pub placed_other : (e : Option Entry) (q : List ℕ) → same_path p q ≡ false → (with_entry_at p e t).look q ≡ t.look q
   placed_other e q off = put_look (same_path p q) (covers p q) e (t.look q) off (nothing_below t p formed absent q)
 
-  pub dir_same : (m : ℕ) (f : Bool) (a b : List ℕ) → (placed p (Some (Dir m f)) t).same a b ≡ t.same a b
+  pub dir_same : (m : ℕ) (f : Bool) (a b : List ℕ) → (with_entry_at p (Some (Dir m f)) t).same a b ≡ t.same a b
   dir_same m f a b = go (covers p a) refl (covers p b) refl (same_path p a) (same_path p b)
     where
       go : (ca : Bool) → covers p a ≡ ca → (cb : Bool) → covers p b ≡ cb → (sa sb : Bool) → cond (ca || cb) (sa && (sb && false)) (t.same a b) ≡ t.same a b
@@ -76,14 +76,14 @@ module _ (t : Image) (p : List ℕ) (formed : IsImage t) (absent : t.look p ≡ 
           none false sb = refl
       go false ia false ib sa sb = refl
 
-  with_other : (b : Bool) (q : List ℕ) → same_path p q ≡ false → (cond b (placed p (Some (Dir 448 false)) t) t).look q ≡ t.look q
+  with_other : (b : Bool) (q : List ℕ) → same_path p q ≡ false → (cond b (with_entry_at p (Some (Dir 448 false)) t) t).look q ≡ t.look q
   with_other true q off = placed_other (Some (Dir 448 false)) q off
   with_other false q off = refl
 
   pub with_dir_other : (q : List ℕ) → same_path p q ≡ false → (with_dir p t).look q ≡ t.look q
   with_dir_other q off = with_other (has_parent t p) q off
 
-  with_same : (b : Bool) (x y : List ℕ) → (cond b (placed p (Some (Dir 448 false)) t) t).same x y ≡ t.same x y
+  with_same : (b : Bool) (x y : List ℕ) → (cond b (with_entry_at p (Some (Dir 448 false)) t) t).same x y ≡ t.same x y
   with_same true x y = dir_same 448 false x y
   with_same false x y = refl
 
@@ -93,7 +93,7 @@ module _ (t : Image) (p : List ℕ) (formed : IsImage t) (absent : t.look p ≡ 
   pub with_dir_here : (with_dir p t).look p ≡ cond (has_parent (with_dir p t) p) (Some (Dir 448 false)) None
   with_dir_here = go (has_parent t p) refl
     where
-      go : (b : Bool) → has_parent t p ≡ b → (cond b (placed p (Some (Dir 448 false)) t) t).look p ≡ cond (has_parent (cond b (placed p (Some (Dir 448 false)) t) t) p) (Some (Dir 448 false)) None
+      go : (b : Bool) → has_parent t p ≡ b → (cond b (with_entry_at p (Some (Dir 448 false)) t) t).look p ≡ cond (has_parent (cond b (with_entry_at p (Some (Dir 448 false)) t) t) p) (Some (Dir 448 false)) None
       go true is = look_placed p (Some (Dir 448 false)) t ∙ sym (ap (λ (b : Bool). cond b (Some (Dir 448 false)) None) (parent_kept p (Some (Dir 448 false)) t is))
       go false is = absent ∙ sym (ap (λ (b : Bool). cond b (Some (Dir 448 false)) None) is)
 
@@ -211,16 +211,16 @@ covers_junk (a ∷ p) = rw (eq-eqb a a refl) (covers_junk p)
 pub junk_parent : (p : List ℕ) (t : Image) → is_dir (t.look p) ≡ true → has_parent t (junk_in p) ≡ true
 junk_parent p t dir = ap (dir_or_none t) (parent_junk p) ∙ dir
 
-pub adds_put : (p j : List ℕ) (t u : Image) → j ≡ junk_in p → is_dir (t.look p) ≡ true → u ≡ cond (is_some (t.look j)) t (placed j (Some (File 384 [])) t) → AddsJunk p t u
-adds_put p j t u is dir put = go (t.look (junk_in p)) refl (put ∙ ap (λ (x : List ℕ). cond (is_some (t.look x)) t (placed x (Some (File 384 [])) t)) is)
+pub adds_put : (p j : List ℕ) (t u : Image) → j ≡ junk_in p → is_dir (t.look p) ≡ true → u ≡ cond (is_some (t.look j)) t (with_entry_at j (Some (File 384 [])) t) → AddsJunk p t u
+adds_put p j t u is dir put = go (t.look (junk_in p)) refl (put ∙ ap (λ (x : List ℕ). cond (is_some (t.look x)) t (with_entry_at x (Some (File 384 [])) t)) is)
   where
-    go : (e : Option Entry) → t.look (junk_in p) ≡ e → u ≡ cond (is_some (t.look (junk_in p))) t (placed (junk_in p) (Some (File 384 [])) t) → AddsJunk p t u
+    go : (e : Option Entry) → t.look (junk_in p) ≡ e → u ≡ cond (is_some (t.look (junk_in p))) t (with_entry_at (junk_in p) (Some (File 384 [])) t) → AddsJunk p t u
     go (Some e) at made = record {
-      only = inl (made ∙ ap (λ (x : Option Entry). cond (is_some x) t (placed (junk_in p) (Some (File 384 [])) t)) at);
+      only = inl (made ∙ ap (λ (x : Option Entry). cond (is_some x) t (with_entry_at (junk_in p) (Some (File 384 [])) t)) at);
       made = λ d path none. absurd (let no : Some e ≡ None = sym at ∙ none in cc);
     }
     go None at made =
-        let one : u ≡ placed (junk_in p) (Some (File 384 [])) t = made ∙ ap (λ (x : Option Entry). cond (is_some x) t (placed (junk_in p) (Some (File 384 [])) t)) at in
+        let one : u ≡ with_entry_at (junk_in p) (Some (File 384 [])) t = made ∙ ap (λ (x : Option Entry). cond (is_some x) t (with_entry_at (junk_in p) (Some (File 384 [])) t)) at in
         record {
           only = inr (dir, at, one);
           made = λ d path none. ap (λ (x : Image). x.look (junk_in p)) one ∙ look_placed (junk_in p) (Some (File 384 [])) t;
@@ -307,7 +307,7 @@ module _ (is_named : List ℕ → Bool) (t u v : Image) (p : Vec ℕ Global) (re
           subst (λ (x : List ℕ). v.look (junk_in x) ≡ Some (File 384 [])) (sym e) (here_junk (subst (λ (x : List ℕ). is_dir (t.look x) ≡ true) e dir) (subst (λ (x : List ℕ). IsPath (junk_in x)) e path) (subst (λ (x : List ℕ). t.look (junk_in x) ≡ None) e none))
       junk q named off dir path none false is = ap (λ (x : Image). x.look (junk_in q)) one ∙ so_far.junk q named (rw (is, off) refl) dir path none
 
-  put : is_dir (u.look p.items) ≡ true → u.look (junk_in p.items) ≡ None → v ≡ placed (junk_in p.items) (Some (File 384 [])) u → JunkSoFar is_named t rest v
+  put : is_dir (u.look p.items) ≡ true → u.look (junk_in p.items) ≡ None → v ≡ with_entry_at (junk_in p.items) (Some (File 384 [])) u → JunkSoFar is_named t rest v
   put dir gone one = record {
     listed = still_listed;
     old = λ q some. other q (some_apart q some) ∙ so_far.old q some;

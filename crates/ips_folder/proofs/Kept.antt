@@ -4,7 +4,7 @@ use Rattle.std.specs.List.{list_any}
 use Rattle.std.proofs.lemmas.Bool.{or_parts, or_from}
 use Rattle.ips_text.specs.Ancestry.{same_path, covers, is_below}
 use Rattle.ips_outside.specs.Image.{Entry, Dir, File, Link, Other, Image, Agrees, is_dir, is_file, has_parent, dir_or_none, with_mode}
-use Rattle.ips_outside.specs.Change.{placed, joined, moded, names, appended, more_bytes}
+use Rattle.ips_outside.specs.Change.{with_entry_at, joined, moded, names, appended, more_bytes}
 use Rattle.ips_outside.specs.State.{State, nowhere}
 use Rattle.ips_outside.proofs.Agree.{mode_over}
 use Rattle.ips_outside.proofs.Moments.{agrees_self, agrees_on, agrees_less, placed_within, joined_within, moded_within}
@@ -59,7 +59,7 @@ mode_cond : (s : Bool) (x y x' y' : Option Entry) → with_mode 0 x ≡ with_mod
 mode_cond true x y x' y' e f = e
 mode_cond false x y x' y' e f = f
 
-placed_alike : (p : List ℕ) (e : Option Entry) → IsAlikeAt p (placed p e)
+placed_alike : (p : List ℕ) (e : Option Entry) → IsAlikeAt p (with_entry_at p e)
 placed_alike p e = record {
   within = placed_within p e;
   alike = λ t u h. record {

@@ -1,7 +1,7 @@
 -- What the calls on a folder say, and runs of them.
 use Rattle.std.specs.Prelude.{◌≡◌, ◌⊎◌, ℕ, ◌≤◌, Bool, true, false, ◌||◌, IsTrue, List, Option, Some, None, Result, IsErr, OnOk, OnErr}
 use Rattle.ips_outside.specs.Image.{Entry, Dir, File, Link, Other, Image, is_file, is_dir, has_parent}
-use Rattle.ips_outside.specs.State.{State, MayChange, Within, settled}
+use Rattle.ips_outside.specs.State.{State, MayChange, ChangedWithin, settled}
 use Rattle.ips_outside.specs.Outside.{Outside, IsCall, OneMore}
 
 -- A call that writes: at `Ok` the folder has this state. Whatever it answers, nothing, or these paths and modes alone
@@ -50,6 +50,6 @@ pub record Throughout {F : Type 0} (o : Outside F) (old new : F) (P : State → 
   pub before : (t : ℕ) (s : State) → t ≤ o.clock old → o.states new t s → o.states old t s ⊎ P s
 
 -- A run of calls: at every moment since it began, and now, these paths and modes alone are changed and touched.
-pub record Keeps {F : Type 0} (o : Outside F) (free loose : List ℕ → Bool) (old new : F) : Type 0 where
-  pub moments : Throughout o old new (Within free loose (o.state old))
-  pub now : Within free loose (o.state old) (o.state new)
+pub record ChangesOnly {F : Type 0} (o : Outside F) (free loose : List ℕ → Bool) (old new : F) : Type 0 where
+  pub moments : Throughout o old new (ChangedWithin free loose (o.state old))
+  pub now : ChangedWithin free loose (o.state old) (o.state new)

@@ -4,7 +4,7 @@ use Rattle.std.specs.List.{list_all}
 use Rattle.std.specs.Coded.{×_prop, Unit-prop}
 use Rattle.std.proofs.Props.{props}
 use Rattle.ips_outside.specs.Image.{Image, Dir, File, Link, is_file}
-use Rattle.ips_outside.specs.Change.{placed, joined, moded, appended}
+use Rattle.ips_outside.specs.Change.{with_entry_at, joined, moded, appended}
 use Rattle.ips_outside.specs.State.{State, untouched, written, mode_set}
 use Rattle.ips_folder.specs.Calls.{CanMake, IsSole, has_mode}
 use Rattle.ips_folder.specs.declared.call.Call.{Call}
@@ -33,11 +33,11 @@ changed p change m = record {
 
 -- with a directory at the path
 abbrev pub dir_made : List ℕ → ℕ → Moment → Moment
-dir_made p mode = changed p (placed p (Some (Dir mode false)))
+dir_made p mode = changed p (with_entry_at p (Some (Dir mode false)))
 
 -- with an empty file of mode 0600 at the path
 abbrev pub file_made : List ℕ → Moment → Moment
-file_made p = changed p (placed p (Some (File 384 [])))
+file_made p = changed p (with_entry_at p (Some (File 384 [])))
 
 -- with these bytes at the end of the file at the path
 abbrev pub bytes_appended : List ℕ → List ℕ → Moment → Moment
@@ -45,7 +45,7 @@ bytes_appended p bytes = changed p (appended p bytes)
 
 -- with a symbolic link at the path
 abbrev pub link_made : List ℕ → List ℕ → Moment → Moment
-link_made p target = changed p (placed p (Some (Link target)))
+link_made p target = changed p (with_entry_at p (Some (Link target)))
 
 -- with the file of the second path under the first too
 abbrev pub hard_made : List ℕ → List ℕ → Moment → Moment
@@ -53,7 +53,7 @@ hard_made p to = changed p (joined p to)
 
 -- with nothing at and below the path
 abbrev pub removed : List ℕ → Moment → Moment
-removed p = changed p (placed p None)
+removed p = changed p (with_entry_at p None)
 
 -- with another mode at the path, where the mode alone is touched
 abbrev pub mode_given : ℕ → List ℕ → Moment → Moment

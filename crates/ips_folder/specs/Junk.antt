@@ -2,12 +2,12 @@
 use Rattle.std.specs.Prelude.{◌≡◌, ◌⊎◌, ℕ, Bool, false, cond, IsTrue, IsFalse, List, [], Some, None, is_some}
 use Rattle.ips_text.specs.Path.{IsPath}
 use Rattle.ips_outside.specs.Image.{Dir, File, Image, is_dir, has_parent}
-use Rattle.ips_outside.specs.Change.{placed}
+use Rattle.ips_outside.specs.Change.{with_entry_at}
 use Rattle.ips_folder.specs.Crash.{junk_in}
 
 -- the image with a directory of mode 0700 at the path, where its parent is a directory
 abbrev pub with_dir : List ℕ → Image → Image
-with_dir p t = cond (has_parent t p) (placed p (Some (Dir 448 false)) t) t
+with_dir p t = cond (has_parent t p) (with_entry_at p (Some (Dir 448 false)) t) t
 
 -- Each of these names is a directory of mode 0700 where its parent is a directory, and else nothing stands there.
 pub record HasDirs (is_named : List ℕ → Bool) (t u : Image) : Type 0 where
@@ -18,7 +18,7 @@ pub record HasDirs (is_named : List ℕ → Bool) (t u : Image) : Type 0 where
 -- An empty file `junk` was put into the directory at the path, where a directory stands there, that is a path, and nothing
 -- stands at it. Nothing else is changed.
 pub record AddsJunk (p : List ℕ) (t u : Image) : Type 0 where
-  pub only : (u ≡ t) ⊎ (IsTrue (is_dir (t.look p)) × (t.look (junk_in p) ≡ None) × (u ≡ placed (junk_in p) (Some (File 384 [])) t))
+  pub only : (u ≡ t) ⊎ (IsTrue (is_dir (t.look p)) × (t.look (junk_in p) ≡ None) × (u ≡ with_entry_at (junk_in p) (Some (File 384 [])) t))
   pub made : IsTrue (is_dir (t.look p)) → IsPath (junk_in p) → t.look (junk_in p) ≡ None → u.look (junk_in p) ≡ Some (File 384 [])
 
 -- The same for each of these names. Each file that was put has a node of its own.

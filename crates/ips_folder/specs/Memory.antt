@@ -5,7 +5,7 @@ use Rattle.std.proofs.Math.Nat.{le_refl}
 use Rattle.std.proofs.lemmas.List.{take_all}
 use Rattle.ips_outside.specs.Image.{IsImage}
 use Rattle.ips_outside.specs.State.{State}
-use Rattle.ips_outside.specs.Outside.{Outside, IsOutside, HasCause, OneMore, counted}
+use Rattle.ips_outside.specs.Outside.{Outside, IsOutside, HasCause, OneMore, risen}
 use Rattle.ips_outside.specs.Tally.{Tally, fresh, next_fails, after_call}
 use Rattle.ips_outside.specs.declared.tree.Tree.{Tree}
 use Rattle.ips_outside.specs.Tree.{tree_image, tree_formed}
@@ -103,7 +103,7 @@ pub record IsServed (to : Moment) (old new : MemFolder) (failed : Bool) : Type 0
 -- A call to which memory was refused: it fails and has no effect.
 pub record IsStarved (old new : MemFolder) (failed : Bool) : Type 0 where
   pub answer : IsTrue failed
-  pub starved : new.starved ≡ counted old.starved
+  pub starved : new.starved ≡ risen old.starved
   pub moment : moment new ≡ moment old
 
 -- the answer is that the call failed, and not that memory ran out
@@ -165,7 +165,7 @@ pub record IsRefused (old new : MemFolder) (failed : Bool) : Type 0 where
   pub counts : IsCounted old new failed
   pub answer : IsTrue failed
   pub one_made : OneMore old.changes new.changes
-  pub starved : new.starved ≡ counted old.starved
+  pub starved : new.starved ≡ risen old.starved
   pub same : IsSameRecord old.log new.log
 
 -- What became of a call that was to be carried out.

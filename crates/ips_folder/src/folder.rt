@@ -3,7 +3,7 @@
 ghost use Rattle.std.specs.Prelude.{◌≡◌, ◌<◌, ℕ, Bool, false, IsTrue, List, [], Some, None, IfOk, IsErr, IsErrOf};
 ghost use Rattle.ips_text.specs.Ancestry.{covers};
 ghost use Rattle.ips_outside.specs.Image.{File, Dir, Link, is_dir, is_file};
-ghost use Rattle.ips_outside.specs.Change.{placed, joined, appended, names};
+ghost use Rattle.ips_outside.specs.Change.{with_entry_at, joined, appended, names};
 ghost use Rattle.ips_outside.specs.State.{nowhere, written, mode_set};
 ghost use Rattle.ips_outside.specs.Outside.{Reads};
 ghost use Rattle.ips_folder.specs.Calls.{Writes, Syncs, CanMake, IsSole, is_link, has_mode};
@@ -41,14 +41,14 @@ pub trait Folder: Source {
         requires can { IsTrue (Self.outside.tells self.old) → CanMake (Self.outside.state self.old).held path.now.bytes }
         requires mode { mode < 4096 }
         ensures { Writes Self.outside (covers path.now.bytes) nowhere
-            (written path.now.bytes (placed path.now.bytes (Some (Dir mode false)) (Self.outside.state self.old).held) (Self.outside.state self.old))
+            (written path.now.bytes (with_entry_at path.now.bytes (Some (Dir mode false)) (Self.outside.state self.old).held) (Self.outside.state self.old))
             self.old self.new result };
 
     /// Makes an empty file of mode 0600 at a path at which nothing stands, below a directory.
     fn make_file(&mut self, path: &RelPath) -> Result<(), Failed>
         requires { IsTrue (Self.outside.tells self.old) → CanMake (Self.outside.state self.old).held path.now.bytes }
         ensures { Writes Self.outside (covers path.now.bytes) nowhere
-            (written path.now.bytes (placed path.now.bytes (Some (File 384 [])) (Self.outside.state self.old).held) (Self.outside.state self.old))
+            (written path.now.bytes (with_entry_at path.now.bytes (Some (File 384 [])) (Self.outside.state self.old).held) (Self.outside.state self.old))
             self.old self.new result };
 
     /// Puts bytes at the end of a file with one name.
@@ -62,7 +62,7 @@ pub trait Folder: Source {
     fn make_link(&mut self, path: &RelPath, target: &[u8]) -> Result<(), Failed>
         requires { IsTrue (Self.outside.tells self.old) → CanMake (Self.outside.state self.old).held path.now.bytes }
         ensures { Writes Self.outside (covers path.now.bytes) nowhere
-            (written path.now.bytes (placed path.now.bytes (Some (Link target.now)) (Self.outside.state self.old).held) (Self.outside.state self.old))
+            (written path.now.bytes (with_entry_at path.now.bytes (Some (Link target.now)) (Self.outside.state self.old).held) (Self.outside.state self.old))
             self.old self.new result };
 
     /// Makes a further name of the file at `to`, at a path at which nothing stands, below a directory.
@@ -76,7 +76,7 @@ pub trait Folder: Source {
     /// Takes away whatever stands at the path, with all below it; where nothing stands, nothing.
     fn remove(&mut self, path: &RelPath) -> Result<(), Failed>
         ensures { Writes Self.outside (covers path.now.bytes) nowhere
-            (written path.now.bytes (placed path.now.bytes None (Self.outside.state self.old).held) (Self.outside.state self.old))
+            (written path.now.bytes (with_entry_at path.now.bytes None (Self.outside.state self.old).held) (Self.outside.state self.old))
             self.old self.new result };
 
     /// Sets the permission bits of a directory or a file, which all names of the file have. It touches the mode alone.

@@ -5,7 +5,7 @@ use Rattle.ips_digest.specs.Digest.{SHA1, digest_of}
 use Rattle.ips_digest.specs.Name.{spelling}
 use Rattle.ips_digest.specs.declared.name.PayloadName.{PayloadName}
 use Rattle.ips_outside.specs.Image.{Entry, Dir, File, Image, nothing}
-use Rattle.ips_outside.specs.Change.{placed}
+use Rattle.ips_outside.specs.Change.{with_entry_at}
 use Rattle.ips_outside.specs.Making.{fault_at}
 
 -- Every package has the version `1.0,1-1:20240101T000000Z`, and a package with a number has the stem `pkg/p` and that number.
@@ -73,7 +73,7 @@ catalog n = codes "{\"gen\":{\"all" ++ its_version ++ offers n ++ codes "}}\n"
 
 -- the entry is made at the path, where its parent is a directory and nothing stands
 unfoldable pub with_entry : List ℕ → Entry → Image → Image
-with_entry path entry t = cond (is_some (fault_at t path)) t (placed path (Some entry) t)
+with_entry path entry t = cond (is_some (fault_at t path)) t (with_entry_at path (Some entry) t)
 
 -- a directory, where nothing stands yet
 abbrev pub with_dir : List ℕ → Image → Image

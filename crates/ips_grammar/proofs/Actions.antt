@@ -9,10 +9,10 @@ use Rattle.ips_line.proofs.Answered.{words_found, words_only, stopped_only}
 use Rattle.ips_action.specs.declared.kind.ActionKind.{ActionKind}
 use Rattle.ips_action.specs.declared.attrs.Attr.{Attr}
 use Rattle.ips_action.specs.Kind.{kind_name}
-use Rattle.ips_action.specs.Table.{Row}
+use Rattle.ips_action.specs.Table.{AttributeRow}
 use Rattle.ips_action.specs.Attrs.{Gathers}
 use Rattle.ips_action.specs.Check.{Meets}
-use Rattle.ips_action.specs.Judging.{least, is_single, Keeps, KeepsRow, path_of, standing, rows_of}
+use Rattle.ips_action.specs.Judging.{least, is_single, MeetsRow, KeepsRow, path_of, standing, rows_of}
 use Rattle.ips_action.specs.Action.{Fields, IfTaken}
 use Rattle.ips_action.specs.Meaning.{held, word_of, Means, IsSaid}
 use Rattle.ips_action.proofs.One.{one_kind, one_gathered}
@@ -24,9 +24,9 @@ use Rattle.ips_grammar.proofs.Words.{Named, named, Payload, payload, taken, word
 
 -- ---- rows
 
-keeps : (path : List ℕ) (values : List (List ℕ)) (row : Row) → Decided (Keeps path values row)
+keeps : (path : List ℕ) (values : List (List ℕ)) (row : AttributeRow) → Decided (MeetsRow path values row)
 keeps path values row =
-    with_it ((least row.times ≤ length values) × ((is_single row.times ≡ true → length values ≤ 1) × AllByRecursion (Meets row.check path) values)) (Keeps path values row)
+    with_it ((least row.times ≤ length values) × ((is_single row.times ≡ true → length values ≤ 1) × AllByRecursion (Meets row.check path) values)) (MeetsRow path values row)
     (λ h. record { enough = h.0; single = h.1.0; each = h.1.1 }) (λ k. (k.enough, (k.single, k.each)))
     (both (is_up_to (least row.times) (length values)) (both (where_so (is_true (is_single row.times)) (is_up_to (length values) 1)) (each (Meets row.check path) (meets row.check path) values)))
 

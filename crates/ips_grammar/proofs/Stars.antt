@@ -1,6 +1,6 @@
 -- Whether a pattern with stars matches a text is decided.
 use Rattle.std.proofs.Common.{◌≡◌, ◌⊎◌, inl, inr, ℕ, Bool, List, [], ◌∷◌, ◌++◌, refl, sym, ap, subst}
-use Rattle.ips_fmri.specs.Pattern.{Meets, MatchesBy}
+use Rattle.ips_fmri.specs.Pattern.{MatchesCharacter, MatchesBy}
 use Rattle.ips_grammar.proofs.Decided.{Decided, with_it, both, either, unless, same_number, same_bytes, is_true}
 
 -- an end of the text has the property
@@ -26,21 +26,21 @@ split P decide (b ∷ text) =
 
 -- a character that meets this one, and behind it an end that has the property
 abbrev One : Bool → ℕ → (List ℕ → Type 0) → List ℕ → Type 0
-One marks c P text = (one : ℕ) × (rest : List ℕ) × (text ≡ one ∷ rest) × Meets marks c one × P rest
+One marks c P text = (one : ℕ) × (rest : List ℕ) × (text ≡ one ∷ rest) × MatchesCharacter marks c one × P rest
 
 nothing : (one : ℕ) (rest : List ℕ) → [] ≡ one ∷ rest → ⊥
 nothing one rest e = absurd cc
 
-one_first : (marks : Bool) (c d : ℕ) (P : List ℕ → Type 0) (text : List ℕ) (one : ℕ) (rest : List ℕ) → d ∷ text ≡ one ∷ rest → Meets marks c one → P rest → Meets marks c d × P text
+one_first : (marks : Bool) (c d : ℕ) (P : List ℕ → Type 0) (text : List ℕ) (one : ℕ) (rest : List ℕ) → d ∷ text ≡ one ∷ rest → MatchesCharacter marks c one → P rest → MatchesCharacter marks c d × P text
 one_first marks c d P text one rest e meets p =
     let first : d ≡ one = cc in
     let behind : text ≡ rest = cc in
-    (subst (Meets marks c) (sym first) meets, subst P (sym behind) p)
+    (subst (MatchesCharacter marks c) (sym first) meets, subst P (sym behind) p)
 
 one : (marks : Bool) (c : ℕ) (P : List ℕ → Type 0) → ((rest : List ℕ) → Decided (P rest)) → (text : List ℕ) → Decided (One marks c P text)
 one marks c P decide [] = inr (λ w. nothing w.0 w.1 w.2)
 one marks c P decide (d ∷ text) =
-    with_it (Meets marks c d × P text) (One marks c P (d ∷ text)) (λ p. (d, text, refl, p.0, p.1)) (λ w. one_first marks c d P text w.0 w.1 w.2 w.3 w.4)
+    with_it (MatchesCharacter marks c d × P text) (One marks c P (d ∷ text)) (λ p. (d, text, refl, p.0, p.1)) (λ w. one_first marks c d P text w.0 w.1 w.2 w.3 w.4)
     (both (either (both (is_true marks) (same_number c 63)) (same_number c d)) (decide text))
 
 pub matches : (marks : Bool) (pattern text : List ℕ) → Decided (MatchesBy marks pattern text)

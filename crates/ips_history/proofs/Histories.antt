@@ -13,7 +13,7 @@ use Rattle.ips_kinds.specs.Tallies.{Carrier}
 use Rattle.ips_journal.specs.Text.{journal_text}
 use Rattle.ips_history.specs.Due.{HasEnded}
 use Rattle.ips_history.specs.Directories.{creates, with_directories, image_for}
-use Rattle.ips_history.specs.Transition.{StillOwes, IsRequest, Transition, Kept, Asked, Created, CreatedInPart}
+use Rattle.ips_history.specs.Transition.{StillOwes, IsRequestRun, Transition, Kept, Asked, Created, CreatedInPart}
 use Rattle.ips_history.specs.Run.{IsRecovered}
 use Rattle.ips_history.specs.declared.effect.Effect.{Effect}
 use Rattle.ips_history.specs.History.{Last, asked_at, LeftSince, Undue, Due, Ended, LeftAt, History, First, Then, Crash, IsMeantBy, IsRestored}
@@ -49,7 +49,7 @@ module _ {F R : Type 0} (o : Outside F) (sane : IsOutside o) (means : R → Imag
   abbrev MeansSo : Last R → Type 0
   MeansSo l = IfSome l.after (λ a. IsMeantBy means l a)
 
-  module _ (is_done : Bool) (r : R) (at new : F) (q : IsRequest o (means r) is_done at new) where
+  module _ (is_done : Bool) (r : R) (at new : F) (q : IsRequestRun o (means r) is_done at new) where
     since : (s : State) (l : Last R) → LeftSince o (means r) is_done r at new q s l → OwedBy s l
     since s l (Undue was) = ⊎_elim (λ moment. q.owed.each s moment) (λ owes. owes) was
     since s l (Due {a = a} d is was) = subst (λ (x : Option Image). FolderOwes journal_text (visible (o.state at).held) x true s) (sym is) (d.owed.each s was)

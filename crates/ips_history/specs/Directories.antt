@@ -2,7 +2,7 @@
 use Rattle.std.specs.Prelude.{◌≡◌, ◌⊎◌, ℕ, Bool, true, false, cond, ◌&&◌, ◌||◌, IsTrue, IsFalse, List, Option, Some, is_none}
 use lib.Chars.{codes}
 use Rattle.ips_outside.specs.Image.{Entry, Dir, Image, is_dir}
-use Rattle.ips_outside.specs.Change.{placed}
+use Rattle.ips_outside.specs.Change.{with_entry_at}
 use Rattle.ips_steps.specs.Private.{records_name}
 use Rattle.ips_history.specs.declared.effect.Effect.{Effect}
 use Rattle.ips_history.specs.declared.effect.Effect.TheVariants as effect
@@ -34,7 +34,7 @@ var_name = codes "var"
 
 -- the image with a directory of mode 0755 at this path, where nothing stands there
 abbrev pub with_dir : List ℕ → Image → Image
-with_dir p t = cond (is_none (t.look p)) (placed p (Some (Dir 493 false)) t) t
+with_dir p t = cond (is_none (t.look p)) (with_entry_at p (Some (Dir 493 false)) t) t
 
 -- the image with the directories of its records, where nothing stands at them
 abbrev pub with_directories : Image → Image
@@ -53,5 +53,5 @@ abbrev pub CanHaveDirectories : Image → Type 0
 CanHaveDirectories t = IsTrue (is_dir_or_free (t.look var_name) && is_dir_or_free (t.look records_name))
 
 -- this is the first of them at which something else than a directory stands
-abbrev pub IsInTheWay : Image → List ℕ → Type 0
-IsInTheWay t p = IsFalse (is_dir_or_free (t.look p)) × ((p ≡ var_name) ⊎ ((p ≡ records_name) × IsTrue (is_dir_or_free (t.look var_name))))
+abbrev pub IsFirstObstacle : Image → List ℕ → Type 0
+IsFirstObstacle t p = IsFalse (is_dir_or_free (t.look p)) × ((p ≡ var_name) ⊎ ((p ≡ records_name) × IsTrue (is_dir_or_free (t.look var_name))))

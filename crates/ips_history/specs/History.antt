@@ -2,13 +2,13 @@
 use Rattle.std.specs.Prelude.{◌≡◌, ◌⊎◌, Bool, true, false, IsTrue, Option, Some, None}
 use Rattle.ips_text.specs.Ancestry.{covers}
 use Rattle.ips_outside.specs.Image.{Image}
-use Rattle.ips_outside.specs.State.{State, MayLeave, IsSettled, Within, nowhere, untouched}
+use Rattle.ips_outside.specs.State.{State, MayLeave, IsSettled, ChangedWithin, nowhere, untouched}
 use Rattle.ips_outside.specs.Outside.{Outside}
 use Rattle.ips_steps.specs.Private.{gate_name, visible}
 use Rattle.ips_steps.specs.Owed.{FolderOwes}
 use Rattle.ips_journal.specs.Text.{journal_text}
 use Rattle.ips_commit.specs.Due.{IsDueSince}
-use Rattle.ips_history.specs.Transition.{IsRequest, Transition, Kept, Asked, Created, CreatedInPart}
+use Rattle.ips_history.specs.Transition.{IsRequestRun, Transition, Kept, Asked, Created, CreatedInPart}
 use Rattle.ips_history.specs.declared.effect.Effect.{Effect}
 
 -- The last request of a history, if there is one: what was asked, the image before it, the one that it means, if it has
@@ -30,7 +30,7 @@ asked_at r s after due = record { asked = Some r; before = visible s.held; after
 -- A run that is a request since a moment is left at a state: at one of the moments since, or at one that owes what these do; at one
 -- since the sync of the gate, so that the image that it means is due; or at its end.
 pub data LeftSince {F R : Type 0} (o : Outside F) (means : Image → Image → Type 0) (is_done : Bool) (r : R) (at new : F)
-    (q : IsRequest o means is_done at new) : State → Last R → Type 0 where
+    (q : IsRequestRun o means is_done at new) : State → Last R → Type 0 where
   Undue : {s : State} → o.states new (o.clock at) s ⊎ FolderOwes journal_text (visible (o.state at).held) q.after false s → LeftSince o means is_done r at new q s (asked_at r (o.state at) q.after false)
   Due : {s : State} {a : Image} (d : IsDueSince o (visible (o.state at).held) a at new) → q.after ≡ Some a → o.states new (o.clock d.since) s
       → LeftSince o means is_done r at new q s (asked_at r (o.state at) q.after true)
@@ -43,9 +43,9 @@ abbrev pub LeftAt : {F R : Type 0} (o : Outside F) (means : Image → Image → 
 LeftAt o means effect is_done r old new (Kept none why k) w s now = o.states new (o.clock old) s × (now ≡ w)
 LeftAt o means effect is_done r old new (Asked at later changes synced same k q) w s now = (o.states at (o.clock old) s × (now ≡ w))
     ⊎ ((l : Last _) × (now ≡ Some l) × LeftSince o means is_done r at new q s l)
-LeftAt o means effect is_done r old new (Created at is c made q) w s now = (o.states c.from (o.clock old) s × (now ≡ w)) ⊎ (((o.states at (o.clock c.from) s ⊎ Within (covers c.dir) nowhere (o.state c.from) s) × (now ≡ None))
+LeftAt o means effect is_done r old new (Created at is c made q) w s now = (o.states c.from (o.clock old) s × (now ≡ w)) ⊎ (((o.states at (o.clock c.from) s ⊎ ChangedWithin (covers c.dir) nowhere (o.state c.from) s) × (now ≡ None))
     ⊎ ((l : Last _) × (now ≡ Some l) × LeftSince o means is_done r at new q s l))
-LeftAt o means effect is_done r old new (CreatedInPart is none c) w s now = (o.states c.creating.from (o.clock old) s × (now ≡ w)) ⊎ ((o.states new (o.clock c.creating.from) s ⊎ Within (covers c.creating.dir) nowhere (o.state c.creating.from) s) × (now ≡ None))
+LeftAt o means effect is_done r old new (CreatedInPart is none c) w s now = (o.states c.creating.from (o.clock old) s × (now ≡ w)) ⊎ ((o.states new (o.clock c.creating.from) s ⊎ ChangedWithin (covers c.creating.dir) nowhere (o.state c.creating.from) s) × (now ≡ None))
 
 -- A history: runs on one folder, of which the first begins with nothing at the gate and nothing touched. Each begins on the
 -- state at which the one before it was left, or on an image that a crash at that moment may leave, with nothing touched.

@@ -2,7 +2,7 @@
 use Rattle.std.specs.Prelude.{◌≡◌, ◌≢◌, ◌⊎◌, ℕ, ◌≤◌, Bool, false, IsTrue, IsFalse, List, Option, None, IfSome}
 use Rattle.ips_text.specs.Ancestry.{covers}
 use Rattle.ips_outside.specs.Image.{Image}
-use Rattle.ips_outside.specs.State.{State, IsSettled, Within, nowhere, settled, untouched}
+use Rattle.ips_outside.specs.State.{State, IsSettled, ChangedWithin, nowhere, settled, untouched}
 use Rattle.ips_outside.specs.Outside.{Outside}
 use Rattle.ips_folder.specs.Calls.{Throughout}
 use Rattle.ips_steps.specs.Private.{records_name, gate_name, visible}
@@ -24,7 +24,7 @@ IsNoRequest o effect old new = (o.state new ≡ o.state old) ⊎ (((o.state old)
 -- From this moment on a run is a request. Nothing is touched and the gate is closed. What is seen is the image before it. At
 -- every moment that is owed, or an image that the request means; the latter is due once the gate is safely open, and is
 -- reached where the request has its end.
-pub record IsRequest {F : Type 0} (o : Outside F) (means : Image → Image → Type 0) (is_done : Bool) (at new : F) : Type 0 where
+pub record IsRequestRun {F : Type 0} (o : Outside F) (means : Image → Image → Type 0) (is_done : Bool) (at new : F) : Type 0 where
   pub safe : IsSettled (o.state at)
   pub shut : (o.state at).held.look gate_name ≡ None
   pub after : Option Image
@@ -43,7 +43,7 @@ pub record Creating {F : Type 0} (o : Outside F) (old new : F) : Type 0 where
   pub dir : List ℕ
   pub is : (dir ≡ var_name) ⊎ (dir ≡ records_name)
   pub absent : (o.state old).held.look dir ≡ None
-  pub moments : Throughout o from new (Within (covers dir) nowhere (o.state from))
+  pub moments : Throughout o from new (ChangedWithin (covers dir) nowhere (o.state from))
 
 -- what is made at the path isn't safe yet: nothing is made since that state, or what is made could be lost in a crash
 abbrev pub IsNotYetSafe : List ℕ → State → State → Type 0
@@ -60,7 +60,7 @@ pub record CreatingInPart {F : Type 0} (o : Outside F) (old new : F) : Type 0 wh
 pub data Transition {F : Type 0} (o : Outside F) (means : Image → Image → Type 0) (effect : Effect) (is_done : Bool) (old new : F) : Type 0 where
   Kept : IsFalse is_done → IsNoRequest o effect old new → StillOwes o old new → Transition o means effect is_done old new
   Asked : (at : F) → o.clock old ≤ o.clock at → IsFalse (shows effect) → o.state at ≡ settled (o.state old) → (IsTrue is_done → image_for effect (o.state old).held ≡ (o.state old).held)
-      → StillOwes o old at → IsRequest o means is_done at new → Transition o means effect is_done old new
+      → StillOwes o old at → IsRequestRun o means is_done at new → Transition o means effect is_done old new
   Created : (at : F) → IsTrue (creates effect) → Creating o old at → o.state at ≡ untouched (with_directories (o.state old).held)
-      → IsRequest o means is_done at new → Transition o means effect is_done old new
+      → IsRequestRun o means is_done at new → Transition o means effect is_done old new
   CreatedInPart : IsTrue (creates effect) → IsFalse is_done → CreatingInPart o old new → Transition o means effect is_done old new

@@ -9,7 +9,7 @@ ghost use Rattle.ips_kinds.specs.Tallies.{Carrier};
 ghost use Rattle.ips_journal.specs.Text.{journal_text};
 ghost use Rattle.ips_history.specs.Due.{HasEnded};
 ghost use Rattle.ips_history.specs.Directories.{creates, image_for};
-ghost use Rattle.ips_history.specs.Transition.{StillOwes, IsRequest, Transition};
+ghost use Rattle.ips_history.specs.Transition.{StillOwes, IsRequestRun, Transition};
 ghost use Rattle.ips_history.specs.Run.{Claim, IsRun};
 ghost use Rattle.ips_history.specs.declared.effect.Effect.{Effect};
 ghost use Rattle.ips_history.specs.History.{Last, LeftAt, History, IsMeantBy, IsRestored};
@@ -29,7 +29,7 @@ pub fn restored<F: Folder, R: Requests>()
 
     // A request begins on the image before the last request or on the one that it means.
     ensures begins { (l : Last R) (r : R) (is_done : Bool) (old at new : F) → History F.outside R.means (Some l) (F.outside.state old)
-        → StillOwes F.outside old at → IsRequest F.outside (R.means r) is_done at new → IsRestored R.means l (visible (F.outside.state at).held) }
+        → StillOwes F.outside old at → IsRequestRun F.outside (R.means r) is_done at new → IsRestored R.means l (visible (F.outside.state at).held) }
 
     // A run that keeps what is owed, and leaves nothing at the gate, leaves one of these.
     ensures recovers { (l : Last R) (old new : F) → History F.outside R.means (Some l) (F.outside.state old)

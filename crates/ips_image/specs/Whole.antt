@@ -2,8 +2,8 @@
 use Rattle.std.specs.Prelude.{◌≡◌, ◌⊎◌, ◌==◌, Bool, List, Option, IfSome}
 use Rattle.ips_outside.specs.Image.{Image}
 use Rattle.ips_fmri.specs.declared.fmri.Fmri.{Fmri}
-use Rattle.ips_index.specs.Rows.{Row}
-use Rattle.ips_index.specs.Text.{AreRows}
+use Rattle.ips_index.specs.Rows.{IndexedValue}
+use Rattle.ips_index.specs.Text.{AreIndexRows}
 use Rattle.ips_records.specs.Lines.{lines_text}
 use Rattle.ips_state.specs.State.{Head, Installed}
 use Rattle.ips_state.specs.Text.{head_lines}
@@ -19,11 +19,11 @@ use Rattle.ips_image.specs.Held.{AreLists, HoldsLists}
 use Rattle.ips_image.specs.Fault.{IsIndexFault}
 
 -- The lists and the index are such that the grammars of their files have texts for them.
-abbrev pub AreBehind : Lists × Option (List Row) → Type 0
-AreBehind x = AreLists x.0 × IfSome x.1 AreRows
+abbrev pub AreBehind : Lists × Option (List IndexedValue) → Type 0
+AreBehind x = AreLists x.0 × IfSome x.1 AreIndexRows
 
 -- The lists and the index stand in their files.
-abbrev pub HoldsBehind : Image → Lists × Option (List Row) → Type 0
+abbrev pub HoldsBehind : Image → Lists × Option (List IndexedValue) → Type 0
 HoldsBehind t x = HoldsLists t x.0 × HoldsIndex t x.1
 
 -- Why the lists, or the manifests of these packages behind them, can't be read.

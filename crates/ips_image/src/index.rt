@@ -5,7 +5,7 @@ ghost use Rattle.ips_text.specs.Reading.{IfBad};
 ghost use Rattle.ips_text.specs.declared.refusal.Or.TheVariants.{Bad};
 ghost use Rattle.ips_outside.specs.Outside.{Reads};
 ghost use Rattle.ips_index.specs.Rows.{index_text};
-ghost use Rattle.ips_index.specs.Text.{AreRows, IsIndexFile};
+ghost use Rattle.ips_index.specs.Text.{AreIndexRows, IsIndexFile};
 ghost use Rattle.ips_load.specs.Held.{Stands, HoldsIndex};
 ghost use Rattle.ips_load.specs.Fault.{IsBadText, IsFileFault, IsHeadFault, IsHeadFile, StandsAs};
 ghost use Rattle.ips_image.specs.Fault.{IsIndexFault, IsSearchFault};
@@ -22,7 +22,7 @@ use std::alloc::Global;
 
 /// The index of an image, where it has one; its file `image` has to be good too. No other file is looked at.
 pub fn load_index<F: Source>(alloc: Global, folder: &mut F) -> Result<Option<Index>, Or<StateFault>>
-    ensures rows { IfOk result (λ index. IfSome index AreRows) }
+    ensures rows { IfOk result (λ index. IfSome index AreIndexRows) }
     ensures found { IsTrue (F.outside.tells folder.old) → IfOk result (λ index. HoldsIndex (F.outside.state folder.old).held index) }
     ensures image { IsTrue (F.outside.tells folder.old) → IfOk result (λ index. StandsAs IsHeadFile (F.outside.state folder.old).held image_path) }
     ensures fault { IsTrue (F.outside.tells folder.old) → IfBad result (IsSearchFault (F.outside.state folder.old).held) }
@@ -36,7 +36,7 @@ pub fn load_index<F: Source>(alloc: Global, folder: &mut F) -> Result<Option<Ind
 
 /// The index of an image, where it has one.
 pub fn index_of<F: Source>(alloc: Global, folder: &mut F) -> Result<Option<Index>, Or<StateFault>>
-    ensures rows { IfOk result (λ index. IfSome index AreRows) }
+    ensures rows { IfOk result (λ index. IfSome index AreIndexRows) }
     ensures found { IsTrue (F.outside.tells folder.old) → IfOk result (λ index. HoldsIndex (F.outside.state folder.old).held index) }
     ensures fault { IsTrue (F.outside.tells folder.old) → IfBad result (IsIndexFault (F.outside.state folder.old).held) }
     ensures reads { Reads F.outside folder.old folder.new (result ≡ Err (Bad fault.FolderFault)) }
@@ -58,7 +58,7 @@ fn index_at<F: Source>(
     folder: &mut F,
     path: &RelPath,
 ) -> Result<Index, Or<StateFault>>
-    ensures rows { IfOk result AreRows }
+    ensures rows { IfOk result AreIndexRows }
     ensures found { IsTrue (F.outside.tells folder.old) → IfOk result (λ index. Stands (F.outside.state folder.old).held path.now.bytes (index_text index)) }
     ensures fault { IsTrue (F.outside.tells folder.old) → IfBad result (IsFileFault (IsBadText IsIndexFile) (F.outside.state folder.old).held path.now.bytes) }
     ensures reads { Reads F.outside folder.old folder.new (result ≡ Err (Bad fault.FolderFault)) }

@@ -14,13 +14,13 @@ use Rattle.ips_action.specs.Attrs.{is_same, values_of}
 use Rattle.ips_action.specs.Check.{last_of}
 use Rattle.ips_action.specs.Action.{Fields, naming_key, payload_word, IfTaken}
 use Rattle.ips_index.specs.declared.entry.Field.TheVariants.{Key}
-use Rattle.ips_index.specs.Rows.{Row, has_slash, rows_at, rows_in, key_rows, values_said, rows_of, scanned}
-use Rattle.ips_index.specs.Text.{HasIndex, IsRow, AreRows}
+use Rattle.ips_index.specs.Rows.{IndexedValue, has_slash, rows_at, rows_in, key_rows, values_said, rows_of, scanned}
+use Rattle.ips_index.specs.Text.{HasIndex, IsRow, AreIndexRows}
 use Rattle.ips_index.specs.Entries.{AreFit, AreNamed, AreOf, index_name}
 use Rattle.ips_index.proofs.Picked.{one_or_rest, head_in, tail_in}
 
 -- the row is of the stem
-Is : List ℕ → Row → Type 0
+Is : List ℕ → IndexedValue → Type 0
 Is stem row = row.stem ≡ stem
 
 at_is : (stem : List ℕ) (kind : ActionKind) (index value : List ℕ) → AllByRecursion (Is stem) (rows_at stem kind index value)
@@ -50,21 +50,21 @@ scanned_is stem [] = tt
 scanned_is stem (a ∷ actions) = all_append (Is stem) (rows_of stem a) (scanned stem actions) (of_is stem a) (scanned_is stem actions)
 
 -- what holds of all rows of a list
-pub each_of : (P : Row → Type 0) (rows : List Row) → AllByRecursion P rows → (row : Row) → Contains rows row → P row
+pub each_of : (P : IndexedValue → Type 0) (rows : List IndexedValue) → AllByRecursion P rows → (row : IndexedValue) → Contains rows row → P row
 each_of P [] all row h = absurd (omega (arith, h.1))
 each_of P (r ∷ rows) all row h = elim (one_or_rest r row rows h) [ inl one ↦ subst P one all.0 | inr later ↦ each_of P rows all.1 row later ]
 
-pub all_of : (P : Row → Type 0) (rows : List Row) → ((row : Row) → Contains rows row → P row) → AllByRecursion P rows
+pub all_of : (P : IndexedValue → Type 0) (rows : List IndexedValue) → ((row : IndexedValue) → Contains rows row → P row) → AllByRecursion P rows
 all_of P [] each = tt
 all_of P (r ∷ rows) each = (each r (head_in r rows), all_of P rows (λ row h. each row (tail_in r row rows h)))
 
-pub of_stem : (stem : List ℕ) (actions : List Fields) (row : Row) → Contains (scanned stem actions) row → row.stem ≡ stem
+pub of_stem : (stem : List ℕ) (actions : List Fields) (row : IndexedValue) → Contains (scanned stem actions) row → row.stem ≡ stem
 unfolding Is
 of_stem stem actions row h = each_of (Is stem) (scanned stem actions) (scanned_is stem actions) row h
 
-pub are_of : (stem : List ℕ) (actions : List Fields) (rows : List Row) → rows ≡ scanned stem actions → AreFit rows → AreOf stem rows
+pub are_of : (stem : List ℕ) (actions : List Fields) (rows : List IndexedValue) → rows ≡ scanned stem actions → AreFit rows → AreOf stem rows
 are_of stem actions rows e fit = record {
-  of_stem = λ row h. of_stem stem actions row (subst (λ (l : List Row). Contains l row) e h);
+  of_stem = λ row h. of_stem stem actions row (subst (λ (l : List IndexedValue). Contains l row) e h);
   each = each_of IsRow rows fit;
 }
 
@@ -106,7 +106,7 @@ some_index kind index h = elim h [
     no_payload e n = cc
 
 -- each row of an index is found by a text
-pub are_named : (rows : List Row) → AreRows rows → AreNamed rows
+pub are_named : (rows : List IndexedValue) → AreIndexRows rows → AreNamed rows
 are_named rows are row h = let is = are.each row h in (some_index row.kind row.index is.index, is.token)
 
 -- the index of the attribute that names an action

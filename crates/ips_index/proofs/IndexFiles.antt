@@ -20,35 +20,35 @@ use Rattle.ips_records.specs.Listed.{Chain, Sole, IsListed}
 use Rattle.ips_records.proofs.Texts.{text_is, text_lines}
 use Rattle.ips_records.proofs.Apart.{texts_apart}
 use Rattle.ips_index.specs.declared.fault.BadIndex.{BadIndex}
-use Rattle.ips_index.specs.Rows.{Row, row_cmp, row_total, row_line, index_text}
-use Rattle.ips_index.specs.Text.{IsRow, AreRows, IsIndexText, IsIndexFile, StandsBefore, index_lines}
+use Rattle.ips_index.specs.Rows.{IndexedValue, row_cmp, row_total, row_line, index_text}
+use Rattle.ips_index.specs.Text.{IsRow, AreIndexRows, IsIndexText, IsIndexFile, StandsBefore, index_lines}
 use Rattle.ips_index.proofs.Facts.{each_of, all_of}
 use Rattle.ips_index.proofs.InSets.{same_rows}
 use Rattle.ips_index.proofs.RowLines.{row_one, row_single}
 
 -- ---- rows that ascend one after the other ascend
 
-above : (x y : Row) (rows : List Row) → row_cmp x y ≡ Less → AllByRecursion (λ (z : Row). row_cmp y z ≡ Less) rows → AllByRecursion (λ (z : Row). row_cmp x z ≡ Less) rows
+above : (x y : IndexedValue) (rows : List IndexedValue) → row_cmp x y ≡ Less → AllByRecursion (λ (z : IndexedValue). row_cmp y z ≡ Less) rows → AllByRecursion (λ (z : IndexedValue). row_cmp x z ≡ Less) rows
 above x y [] less all = tt
 above x y (z ∷ rows) less all = (row_total.trans x y z less all.0, above x y rows less all.1)
 
-chain_sorted : (rows : List Row) → Chain StandsBefore rows → IsStrictlySortedBy row_cmp rows
+chain_sorted : (rows : List IndexedValue) → Chain StandsBefore rows → IsStrictlySortedBy row_cmp rows
 unfolding IsStrictlySortedBy
 chain_sorted [] c = tt
 chain_sorted (x ∷ []) c = (tt, tt)
 chain_sorted (x ∷ y ∷ rows) c = let later = chain_sorted (y ∷ rows) c.1 in ((c.0, above x y rows c.0 later.0), later)
 
-sorted_chain : (rows : List Row) → IsStrictlySortedBy row_cmp rows → Chain StandsBefore rows
+sorted_chain : (rows : List IndexedValue) → IsStrictlySortedBy row_cmp rows → Chain StandsBefore rows
 unfolding IsStrictlySortedBy
 sorted_chain [] s = tt
 sorted_chain (x ∷ []) s = tt
 sorted_chain (x ∷ y ∷ rows) s = (s.0.0, sorted_chain (y ∷ rows) s.1)
 
-all_fit : (rows : List Row) → AllByRecursion (Sole row_line IsRow) rows → AllByRecursion IsRow rows
+all_fit : (rows : List IndexedValue) → AllByRecursion (Sole row_line IsRow) rows → AllByRecursion IsRow rows
 all_fit [] all = tt
 all_fit (r ∷ rows) all = (all.0.fits, all_fit rows all.1)
 
-pub are_rows : (rows : List Row) → AllByRecursion IsRow rows → Chain StandsBefore rows → AreRows rows
+pub are_rows : (rows : List IndexedValue) → AllByRecursion IsRow rows → Chain StandsBefore rows → AreIndexRows rows
 are_rows rows fit chain = record { each = each_of IsRow rows fit; ascend = chain_sorted rows chain }
 
 -- ---- where the lines go wrong
@@ -68,7 +68,7 @@ to_listed line lines h =
 no_lines : IsIndexFile [] → ⊥
 no_lines h = absurd (nothing h.0 h.2)
   where
-    nothing : (rows : List Row) → [] ≡ map ended (index_lines rows) → ⊥
+    nothing : (rows : List IndexedValue) → [] ≡ map ended (index_lines rows) → ⊥
     nothing rows e = cc
 
 none_listed : IsListed row_line IsRow StandsBefore []
@@ -150,39 +150,39 @@ low_number IsFile bytes n bad =
 
 -- ---- texts
 
-text_same : (rows : List Row) → lines_text (index_lines rows) ≡ index_text rows
+text_same : (rows : List IndexedValue) → lines_text (index_lines rows) ≡ index_text rows
 text_same rows =
     flat_map-cons ended (codes "index 1") (map row_line rows) ∙ append_assoc (codes "index 1") (10 ∷ []) (flat_map ended (map row_line rows)) ∙ ap (λ (l : List ℕ). codes "index 1" ++ 10 ∷ l) (flat_map-map ended row_line rows)
 
-all_single : (rows : List Row) → AllByRecursion IsRow rows → AllByRecursion (λ (l : List ℕ). has_byte 10 l ≡ false) (map row_line rows)
+all_single : (rows : List IndexedValue) → AllByRecursion IsRow rows → AllByRecursion (λ (l : List ℕ). has_byte 10 l ≡ false) (map row_line rows)
 all_single [] all = tt
 all_single (r ∷ rows) all = (row_single r all.0, all_single rows all.1)
 
 -- the text of an index has its lines
-pub text_file : (rows : List Row) (text : List ℕ) → IsIndexText rows text → IsIndexFile (lines_in text)
+pub text_file : (rows : List IndexedValue) (text : List ℕ) → IsIndexText rows text → IsIndexFile (lines_in text)
 text_file rows text is = (rows, is.0, ap lines_in (is.1 ∙ sym (text_same rows)) ∙ text_lines (index_lines rows) (refl, all_single rows (all_of IsRow rows is.0.each)))
 
 -- no two lists of rows have one text
-pub rows_one : (a b : List Row) → AreRows a → AreRows b → index_text a ≡ index_text b → a ≡ b
+pub rows_one : (a b : List IndexedValue) → AreIndexRows a → AreIndexRows b → index_text a ≡ index_text b → a ≡ b
 rows_one a b ia ib e =
     texts_apart row_line IsRow row_one row_single a b (all_of IsRow a ia.each) (all_of IsRow b ib.each) (flat_map-map ended row_line a ∙ rest ∙ sym (flat_map-map ended row_line b))
   where
-    rest : flat_map (λ (r : Row). row_line r ++ 10 ∷ []) a ≡ flat_map (λ (r : Row). row_line r ++ 10 ∷ []) b
+    rest : flat_map (λ (r : IndexedValue). row_line r ++ 10 ∷ []) a ≡ flat_map (λ (r : IndexedValue). row_line r ++ 10 ∷ []) b
     rest = cc
 
 -- ---- what was read
 
 -- rows that were read one a line, behind the first line, and put into a set
-pub read_rows : (bytes rest : List ℕ) (items : List Row) (set : BTreeSet Row) → lines_in bytes ≡ ended (codes "index 1") ∷ lines_in rest → AllByRecursion (Sole row_line IsRow) items → Chain StandsBefore items → lines_in rest ≡ map ended (map row_line items)
-    → IsStrictlySortedBy row_cmp set.keys → ((row : Row) → Contains set.keys row ↔ Contains items row) → IsIndexText set.keys bytes
+pub read_rows : (bytes rest : List ℕ) (items : List IndexedValue) (set : BTreeSet IndexedValue) → lines_in bytes ≡ ended (codes "index 1") ∷ lines_in rest → AllByRecursion (Sole row_line IsRow) items → Chain StandsBefore items → lines_in rest ≡ map ended (map row_line items)
+    → IsStrictlySortedBy row_cmp set.keys → ((row : IndexedValue) → Contains set.keys row ↔ Contains items row) → IsIndexText set.keys bytes
 read_rows bytes rest items set first sole chain lines ascend same =
-    let are : AreRows items = are_rows items (all_fit items sole) chain in
+    let are : AreIndexRows items = are_rows items (all_fit items sole) chain in
     let one : set.keys ≡ items = same_rows set (record { keys = items }) ascend are.ascend same in
-    subst (λ (l : List Row). IsIndexText l bytes) (sym one) (are, text_is bytes (index_lines items) (first ∙ ap (λ (l : List (List ℕ)). ended (codes "index 1") ∷ l) lines) ∙ text_same items)
+    subst (λ (l : List IndexedValue). IsIndexText l bytes) (sym one) (are, text_is bytes (index_lines items) (first ∙ ap (λ (l : List (List ℕ)). ended (codes "index 1") ∷ l) lines) ∙ text_same items)
 
 -- a text of an index is read as it
-pub read_back : (bytes : List ℕ) (r : Result (List Row) (Or BadIndex)) → IfOk r (λ rows. IsIndexText rows bytes) → IfBad r (λ (fault : BadIndex). IsFirstBadLine IsIndexFile (lines_in bytes) fault.line) → (rows : List Row) → IsIndexText rows bytes
-    → (let read : Result (List Row) BadIndex = Ok rows in Gives (λ (x : List Row). x) r read)
-read_back bytes (Ok found) good bad rows is = ap (λ (l : List Row). Ok l) (rows_one rows found is.0 good.0 (sym is.1 ∙ good.1))
+pub read_back : (bytes : List ℕ) (r : Result (List IndexedValue) (Or BadIndex)) → IfOk r (λ rows. IsIndexText rows bytes) → IfBad r (λ (fault : BadIndex). IsFirstBadLine IsIndexFile (lines_in bytes) fault.line) → (rows : List IndexedValue) → IsIndexText rows bytes
+    → (let read : Result (List IndexedValue) BadIndex = Ok rows in Gives (λ (x : List IndexedValue). x) r read)
+read_back bytes (Ok found) good bad rows is = ap (λ (l : List IndexedValue). Ok l) (rows_one rows found is.0 good.0 (sym is.1 ∙ good.1))
 read_back bytes (Err (Bad fault)) good bad rows is = absurd (not_bad IsIndexFile (lines_in bytes) fault.line (text_file rows bytes is) bad)
 read_back bytes (Err OutOfMemory) good bad rows is = tt

@@ -9,7 +9,7 @@ use Rattle.ips_action.specs.declared.kind.ActionKind.{ActionKind}
 use Rattle.ips_action.specs.Kind.{kind_name}
 use Rattle.ips_action.proofs.One.{one_kind}
 use Rattle.ips_action.proofs.KeyOrder.{equal_is}
-use Rattle.ips_index.specs.Rows.{Row, row_cmp, rest_cmp}
+use Rattle.ips_index.specs.Rows.{IndexedValue, row_cmp, rest_cmp}
 
 both_equal : {K : Type 0} (R S : K → K → Ordering) (a b : K) → then_cmp R S a b ≡ Equal → (R a b ≡ Equal) × (S a b ≡ Equal)
 both_equal R S a b e = go (R a b) (S a b) e
@@ -19,17 +19,17 @@ both_equal R S a b e = go (R a b) (S a b) e
     go Equal y h = (refl, h)
     go Greater y h = cc
 
-row : List ℕ → List ℕ → ActionKind → List ℕ → List ℕ → Row
+row : List ℕ → List ℕ → ActionKind → List ℕ → List ℕ → IndexedValue
 row token index kind value stem = record { token = token; index = index; kind = kind; value = value; stem = stem }
 
-pub same : (a b : Row) → a.token ≡ b.token → a.index ≡ b.index → a.kind ≡ b.kind → a.value ≡ b.value → a.stem ≡ b.stem → a ≡ b
+pub same : (a b : IndexedValue) → a.token ≡ b.token → a.index ≡ b.index → a.kind ≡ b.kind → a.value ≡ b.value → a.stem ≡ b.stem → a ≡ b
 unfolding row
 same a b token index kind value stem =
     ap (λ t. row t a.index a.kind a.value a.stem) token ∙ ap (λ i. row b.token i a.kind a.value a.stem) index ∙ ap (λ k. row b.token b.index k a.value a.stem) kind ∙ ap (λ v. row b.token b.index b.kind v a.stem) value
     ∙ ap (λ s. row b.token b.index b.kind b.value s) stem
 
 -- the rows are compared by these bytes
-by : (Row → List ℕ) → Row → Row → Ordering
+by : (IndexedValue → List ℕ) → IndexedValue → IndexedValue → Ordering
 by f = on f (slice_cmp nat_cmp)
 
 pub exact_rows : CmpEqualImpliesEq row_cmp

@@ -17,7 +17,7 @@ use Rattle.ips_records.proofs.Clear.{is_clear, clear_lacks, quoted_clear}
 use Rattle.ips_records.proofs.ClearNames.{stem_clear}
 use Rattle.ips_text.proofs.Cuts.{cut_once, not_cut, newline_in}
 use Rattle.ips_records.proofs.FileNames.{is_low, low_text}
-use Rattle.ips_index.specs.Rows.{Row, row_line, tokens}
+use Rattle.ips_index.specs.Rows.{IndexedValue, row_line, tokens}
 use Rattle.ips_index.specs.Text.{HasIndex, IsRow, AreWords, Spell}
 use Rattle.ips_index.proofs.Order.{same}
 
@@ -84,7 +84,7 @@ words_once line a b c d e v w x y z one other =
     let fourth = cut_once 32 d e y z one.in_value other.in_value third.1 in
     record { token = first.0; index = second.0; kind = third.0; value = fourth.0; stem = fourth.1 }
 
-pub row_words : (r : Row) → IsRow r → AreWords (row_line r) (quoted r.token) r.index (kind_name r.kind) (quoted r.value) r.stem
+pub row_words : (r : IndexedValue) → IsRow r → AreWords (row_line r) (quoted r.token) r.index (kind_name r.kind) (quoted r.value) r.stem
 row_words r is = record {
   is = refl;
   in_token = clear_lacks 32 (quoted r.token) (omega arith) (quoted_clear r.token (text_bytes r.token is.token));
@@ -94,7 +94,7 @@ row_words r is = record {
 }
 
 -- the words of a line are those of the row whose line it is
-pub spelled_by : (line a b c d e : List ℕ) → AreWords line a b c d e → (r : Row) → IsRow r → row_line r ≡ line → Spell a b c d e r
+pub spelled_by : (line a b c d e : List ℕ) → AreWords line a b c d e → (r : IndexedValue) → IsRow r → row_line r ≡ line → Spell a b c d e r
 spelled_by line a b c d e words r is at =
     let s = words_once line a b c d e (quoted r.token) r.index (kind_name r.kind) (quoted r.value) r.stem words (subst (λ (l : List ℕ). AreWords l (quoted r.token) r.index (kind_name r.kind) (quoted r.value) r.stem) at (row_words r is)) in
     record { token = s.token; index = s.index; kind = s.kind; value = s.value; stem = s.stem }
@@ -103,23 +103,23 @@ five : List ℕ → List ℕ → List ℕ → List ℕ → List ℕ → List ℕ
 five a b c d e = a ++ 32 ∷ (b ++ 32 ∷ (c ++ 32 ∷ (d ++ 32 ∷ e)))
 
 -- the line of a row that its words spell
-pub line_spelled : (line a b c d e : List ℕ) → AreWords line a b c d e → (r : Row) → Spell a b c d e r → row_line r ≡ line
+pub line_spelled : (line a b c d e : List ℕ) → AreWords line a b c d e → (r : IndexedValue) → Spell a b c d e r → row_line r ≡ line
 unfolding five
 line_spelled line a b c d e words r s =
     sym (words.is ∙ ap (λ t. five t b c d e) s.token ∙ ap (λ i. five (quoted r.token) i c d e) s.index ∙ ap (λ k. five (quoted r.token) r.index k d e) s.kind ∙ ap (λ v. five (quoted r.token) r.index (kind_name r.kind) v e) s.value
     ∙ ap (λ m. five (quoted r.token) r.index (kind_name r.kind) (quoted r.value) m) s.stem)
 
 -- no two rows have one line
-pub row_one : (a b : Row) → IsRow a → IsRow b → row_line a ≡ row_line b → a ≡ b
+pub row_one : (a b : IndexedValue) → IsRow a → IsRow b → row_line a ≡ row_line b → a ≡ b
 row_one a b ia ib e =
     let s = spelled_by (row_line b) (quoted b.token) b.index (kind_name b.kind) (quoted b.value) b.stem (row_words b ib) a ia e in
     sym (same b a (quoted_apart b.token a.token (text_bytes b.token ib.token) (text_bytes a.token ia.token) s.token) s.index (one_kind b.kind a.kind s.kind) (quoted_apart b.value a.value (text_bytes b.value ib.value) (text_bytes a.value ia.value) s.value) s.stem)
 
-pub row_sole : (r : Row) → IsRow r → Sole row_line IsRow r
+pub row_sole : (r : IndexedValue) → IsRow r → Sole row_line IsRow r
 row_sole r is = record { fits = is; alone = λ other fits e. row_one other r fits is e }
 
 -- a row's line is one line
-pub row_single : (r : Row) → IsRow r → has_byte 10 (row_line r) ≡ false
+pub row_single : (r : IndexedValue) → IsRow r → has_byte 10 (row_line r) ≡ false
 row_single r is =
     newline_in (quoted r.token) (r.index ++ 32 ∷ (kind_name r.kind ++ 32 ∷ (quoted r.value ++ 32 ∷ r.stem))) (clear_lacks 10 (quoted r.token) (omega arith) (quoted_clear r.token (text_bytes r.token is.token)))
     (newline_in r.index (kind_name r.kind ++ 32 ∷ (quoted r.value ++ 32 ∷ r.stem)) (clear_lacks 10 r.index (omega arith) (index_clear r.kind r.index is.index))
@@ -169,7 +169,7 @@ kind_text kind = low_text (kind_name kind) (low kind)
     low Signature = refl
 
 -- a token by which no value of the index is found
-pub no_token : (index value token : List ℕ) (r : Row) → IsRow r → r.index ≡ index → quoted r.value ≡ quoted value → IsUtf8 value → token ≡ quoted r.token → ((t : List ℕ) → Contains (tokens index value) t → token ≡ quoted t → ⊥) → ⊥
+pub no_token : (index value token : List ℕ) (r : IndexedValue) → IsRow r → r.index ≡ index → quoted r.value ≡ quoted value → IsUtf8 value → token ≡ quoted r.token → ((t : List ℕ) → Contains (tokens index value) t → token ≡ quoted t → ⊥) → ⊥
 no_token index value token r is same_index same_value text same_token never =
     never r.token
     (subst (λ (v : List ℕ). Contains (tokens index v) r.token) (quoted_apart r.value value (text_bytes r.value is.value) (text_bytes value text) same_value) (subst (λ (i : List ℕ). Contains (tokens i r.value) r.token) same_index is.found))

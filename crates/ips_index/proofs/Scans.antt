@@ -8,17 +8,17 @@ use Rattle.std.proofs.lemmas.List.Elements.{Contains-append_left, Contains-appen
 use Rattle.ips_action.specs.Action.{Fields}
 use Rattle.ips_action.specs.Attrs.{is_same}
 use Rattle.ips_action.proofs.KeyOrder.{same_true, same_self}
-use Rattle.ips_index.specs.Rows.{Row, row_cmp, scanned}
+use Rattle.ips_index.specs.Rows.{IndexedValue, row_cmp, scanned}
 use Rattle.ips_index.specs.Scan.{Scanned, IsScan, IsPut, IsDropped, without, with_stem}
 use Rattle.ips_index.proofs.Growing.{none_there}
 use Rattle.ips_index.proofs.Facts.{of_stem}
 
 -- those of other stems
-others_are : (stem : List ℕ) (packages : List Scanned) (row : Row) → Contains (flat_map (λ (p : Scanned). scanned p.stem p.actions) (without stem packages)) row ↔ (Contains (flat_map (λ (p : Scanned). scanned p.stem p.actions) packages) row × (row.stem ≢ stem))
+others_are : (stem : List ℕ) (packages : List Scanned) (row : IndexedValue) → Contains (flat_map (λ (p : Scanned). scanned p.stem p.actions) (without stem packages)) row ↔ (Contains (flat_map (λ (p : Scanned). scanned p.stem p.actions) packages) row × (row.stem ≢ stem))
 others_are stem [] row = (λ h. absurd (none_there row h), λ w. absurd (none_there row w.0))
 others_are stem (p ∷ packages) row = go (is_same p.stem stem) refl (others_are stem packages row)
   where
-    rest : List Row
+    rest : List IndexedValue
     rest = flat_map (λ (q : Scanned). scanned q.stem q.actions) packages
 
     go : (t : Bool) → is_same p.stem stem ≡ t → (Contains (flat_map (λ (q : Scanned). scanned q.stem q.actions) (without stem packages)) row ↔ (Contains rest row × (row.stem ≢ stem)))
@@ -45,7 +45,7 @@ pub scan_new : IsScan [] []
 unfolding IsStrictlySortedBy
 scan_new = record { ascend = tt; each = λ row. (λ h. h, λ h. h) }
 
-pub scan_dropped : (packages : List Scanned) (stem : List ℕ) (old new : List Row) → IsScan packages old → IsDropped stem old new → IsStrictlySortedBy row_cmp new → IsScan (without stem packages) new
+pub scan_dropped : (packages : List Scanned) (stem : List ℕ) (old new : List IndexedValue) → IsScan packages old → IsDropped stem old new → IsStrictlySortedBy row_cmp new → IsScan (without stem packages) new
 scan_dropped packages stem old new scan dropped ascend = record {
   ascend = ascend;
   each = λ row. (
@@ -54,7 +54,7 @@ scan_dropped packages stem old new scan dropped ascend = record {
   );
 }
 
-pub scan_put : (packages : List Scanned) (stem : List ℕ) (actions : List Fields) (old new : List Row) → IsScan packages old → IsPut stem (scanned stem actions) old new → IsStrictlySortedBy row_cmp new → IsScan (with_stem stem actions packages) new
+pub scan_put : (packages : List Scanned) (stem : List ℕ) (actions : List Fields) (old new : List IndexedValue) → IsScan packages old → IsPut stem (scanned stem actions) old new → IsStrictlySortedBy row_cmp new → IsScan (with_stem stem actions packages) new
 scan_put packages stem actions old new scan put ascend = record {
   ascend = ascend;
   each = λ row. (

@@ -13,8 +13,8 @@ use Rattle.ips_action.specs.declared.kind.ActionKind.{ActionKind}
 use Rattle.ips_action.specs.Action.{naming_key}
 use Rattle.ips_index.specs.declared.entry.Field.{Field}
 use Rattle.ips_index.specs.declared.entry.Field.TheVariants.{Start, Key, Value, Payload}
-use Rattle.ips_index.specs.Rows.{Row}
-use Rattle.ips_index.specs.Text.{IsRow, AreRows}
+use Rattle.ips_index.specs.Rows.{IndexedValue}
+use Rattle.ips_index.specs.Text.{IsRow, AreIndexRows}
 
 -- the name of the index of a field
 abbrev pub index_name : ActionKind → Field → List ℕ
@@ -24,16 +24,16 @@ index_name kind Value = codes "value"
 index_name kind Payload = codes "payload"
 
 -- the row of what is kept: it is found by the part of its value that is kept beside it, or else by the value
-abbrev pub row_at : ActionKind → Field → Option (List ℕ) → List ℕ → List ℕ → Row
+abbrev pub row_at : ActionKind → Field → Option (List ℕ) → List ℕ → List ℕ → IndexedValue
 row_at kind field last value stem = record { token = unwrap_or last value; index = index_name kind field; kind = kind; value = value; stem = stem }
 
 -- Each of the rows is one that an index may hold.
-abbrev pub AreFit : List Row → Type 0
+abbrev pub AreFit : List IndexedValue → Type 0
 AreFit rows = AllByRecursion IsRow rows
 
 -- Each row is found by a text, in an index.
-abbrev pub AreNamed : List Row → Type 0
-AreNamed rows = (row : Row) → Contains rows row → (row.index ≢ []) × IsUtf8 row.token
+abbrev pub AreNamed : List IndexedValue → Type 0
+AreNamed rows = (row : IndexedValue) → Contains rows row → (row.index ≢ []) × IsUtf8 row.token
 
 -- Neither `*` nor `?` stands in the text.
 abbrev pub IsPlain : List ℕ → Type 0
@@ -41,19 +41,19 @@ IsPlain text = HasNone 42 (chars text) × HasNone 63 (chars text)
 
 -- Rows by their stems.
 abbrev pub Stems : Type 0
-Stems = BTreeMap (String Global) (Vec Row Global)
+Stems = BTreeMap (String Global) (Vec IndexedValue Global)
 
 -- the rows of a stem
-abbrev pub listed_at : Stems → List ℕ → List Row
+abbrev pub listed_at : Stems → List ℕ → List IndexedValue
 listed_at stems stem = option_map_or (λ rows. rows.items) (get_by_text stems stem) []
 
 -- The rows are those of an index, each is listed at its stem, and each listed row is of its stem.
-pub record IsKept (rows : BTreeSet Row) (stems : Stems) : Type 0 where
-  pub listed : (row : Row) → Contains rows.keys row → Contains (listed_at stems row.stem) row
-  pub own : (stem : List ℕ) (row : Row) → Contains (listed_at stems stem) row → row.stem ≡ stem
-  pub lawful : AreRows rows.keys
+pub record IsKept (rows : BTreeSet IndexedValue) (stems : Stems) : Type 0 where
+  pub listed : (row : IndexedValue) → Contains rows.keys row → Contains (listed_at stems row.stem) row
+  pub own : (stem : List ℕ) (row : IndexedValue) → Contains (listed_at stems stem) row → row.stem ≡ stem
+  pub lawful : AreIndexRows rows.keys
 
 -- The rows are all of the stem, and each is one that an index may hold.
-pub record AreOf (stem : List ℕ) (rows : List Row) : Type 0 where
-  pub of_stem : (row : Row) → Contains rows row → row.stem ≡ stem
-  pub each : (row : Row) → Contains rows row → IsRow row
+pub record AreOf (stem : List ℕ) (rows : List IndexedValue) : Type 0 where
+  pub of_stem : (row : IndexedValue) → Contains rows row → row.stem ≡ stem
+  pub each : (row : IndexedValue) → Contains rows row → IsRow row

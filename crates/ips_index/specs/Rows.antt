@@ -17,7 +17,7 @@ use Rattle.ips_action.specs.Action.{Fields, naming_key, payload_word}
 use Rattle.ips_index.specs.declared.row.IndexRow.{IndexRow}
 
 -- A row: a value of an action of a package, the index in which it stands, and the token by which it is found there.
-pub record Row : Type 0 where
+pub record IndexedValue : Type 0 where
   pub token : List ℕ
   pub index : List ℕ
   pub kind : ActionKind
@@ -25,17 +25,17 @@ pub record Row : Type 0 where
   pub stem : List ℕ
 
 -- what a row in memory says
-abbrev pub row_seen : IndexRow → Row
+abbrev pub row_seen : IndexRow → IndexedValue
 row_seen r = record { token = r.token; index = r.index; kind = r.kind; value = r.value; stem = r.stem }
 
 -- the order of rows of one token: by the bytes of their index, then the name of their kind, their value, and their stem
-abbrev pub rest_cmp : Row → Row → Ordering
+abbrev pub rest_cmp : IndexedValue → IndexedValue → Ordering
 rest_cmp =
     then_cmp (on (λ r. r.index) (slice_cmp nat_cmp))
     (then_cmp (on (λ r. kind_name r.kind) (slice_cmp nat_cmp)) (then_cmp (on (λ r. r.value) (slice_cmp nat_cmp)) (on (λ r. r.stem) (slice_cmp nat_cmp))))
 
 -- rows stand by the bytes of their token, and then by that order
-abbrev pub row_cmp : Row → Row → Ordering
+abbrev pub row_cmp : IndexedValue → IndexedValue → Ordering
 row_cmp = then_cmp (on (λ r. r.token) (slice_cmp nat_cmp)) rest_cmp
 
 -- that order is total
@@ -54,15 +54,15 @@ abbrev pub tokens : List ℕ → List ℕ → List (List ℕ)
 tokens index value = value ∷ (if is_same index (codes "path") && has_slash value then last_of (parts value) ∷ [] else [])
 
 -- the rows of a value of a stem's action in an index
-abbrev pub rows_at : List ℕ → ActionKind → List ℕ → List ℕ → List Row
+abbrev pub rows_at : List ℕ → ActionKind → List ℕ → List ℕ → List IndexedValue
 rows_at stem kind index value = map (λ token. record { token = token; index = index; kind = kind; value = value; stem = stem }) (tokens index value)
 
 -- the rows of several values
-abbrev pub rows_in : List ℕ → ActionKind → List ℕ → List (List ℕ) → List Row
+abbrev pub rows_in : List ℕ → ActionKind → List ℕ → List (List ℕ) → List IndexedValue
 rows_in stem kind index values = flat_map (rows_at stem kind index) values
 
 -- the rows of the attribute that names an action, in the index of that name
-abbrev pub key_rows : List ℕ → Fields → Option (List ℕ) → List Row
+abbrev pub key_rows : List ℕ → Fields → Option (List ℕ) → List IndexedValue
 key_rows stem a None = []
 key_rows stem a (Some key) = rows_in stem a.kind key (values_of key a.attrs)
 
@@ -82,20 +82,20 @@ values_said a kind.Legacy = []
 values_said a kind.Signature = []
 
 -- The rows of an action of a stem: of each value of the attribute that names it; of each value of a `set`; and of its payload.
-abbrev pub rows_of : List ℕ → Fields → List Row
+abbrev pub rows_of : List ℕ → Fields → List IndexedValue
 rows_of stem a =
     key_rows stem a (naming_key a.kind)
     ++ rows_in stem a.kind (codes "value") (values_said a a.kind)
     ++ rows_in stem a.kind (codes "payload") (option_to_list (payload_word a.payload))
 
 -- the rows of all actions of a stem
-abbrev pub scanned : List ℕ → List Fields → List Row
+abbrev pub scanned : List ℕ → List Fields → List IndexedValue
 scanned stem actions = flat_map (rows_of stem) actions
 
 -- the line of a row: its token, its index, its kind, its value and its stem, with blanks between; token and value are quoted
-abbrev pub row_line : Row → List ℕ
+abbrev pub row_line : IndexedValue → List ℕ
 row_line r = join_with_byte 32 (quoted r.token ∷ r.index ∷ kind_name r.kind ∷ quoted r.value ∷ r.stem ∷ [])
 
 -- The text of an index: a line that tells its form, and a line for each row.
-abbrev pub index_text : List Row → List ℕ
+abbrev pub index_text : List IndexedValue → List ℕ
 index_text rows = codes "index 1" ++ 10 ∷ flat_map (λ r. row_line r ++ 10 ∷ []) rows

@@ -6,7 +6,7 @@ use Rattle.std.specs.Str.{chars}
 use Rattle.ips_fmri.specs.Pattern.{Matches}
 use Rattle.ips_action.specs.Attrs.{is_same}
 use Rattle.ips_action.specs.Action.{Fields}
-use Rattle.ips_index.specs.Rows.{Row, row_cmp, scanned}
+use Rattle.ips_index.specs.Rows.{IndexedValue, row_cmp, scanned}
 
 -- A package: its stem and its actions.
 pub record Scanned : Type 0 where
@@ -14,9 +14,9 @@ pub record Scanned : Type 0 where
   pub actions : List Fields
 
 -- The rows are the scan of the packages: all rows of all their actions, each once, in order.
-pub record IsScan (packages : List Scanned) (rows : List Row) : Type 0 where
+pub record IsScan (packages : List Scanned) (rows : List IndexedValue) : Type 0 where
   pub ascend : IsStrictlySortedBy row_cmp rows
-  pub each : (row : Row) → Contains rows row ↔ Contains (flat_map (λ (p : Scanned). scanned p.stem p.actions) packages) row
+  pub each : (row : IndexedValue) → Contains rows row ↔ Contains (flat_map (λ (p : Scanned). scanned p.stem p.actions) packages) row
 
 -- the packages without those of the stem
 abbrev pub without : List ℕ → List Scanned → List Scanned
@@ -27,14 +27,14 @@ abbrev pub with_stem : List ℕ → List Fields → List Scanned → List Scanne
 with_stem stem actions packages = record { stem = stem; actions = actions } ∷ without stem packages
 
 -- Of the rows those that are of other stems are left.
-abbrev pub IsDropped : List ℕ → List Row → List Row → Type 0
-IsDropped stem old new = (row : Row) → Contains new row ↔ (Contains old row × (row.stem ≢ stem))
+abbrev pub IsDropped : List ℕ → List IndexedValue → List IndexedValue → Type 0
+IsDropped stem old new = (row : IndexedValue) → Contains new row ↔ (Contains old row × (row.stem ≢ stem))
 
 -- The stem's rows are replaced by these.
-abbrev pub IsPut : List ℕ → List Row → List Row → List Row → Type 0
-IsPut stem rows old new = (row : Row) → Contains new row ↔ (Contains rows row ⊎ (Contains old row × (row.stem ≢ stem)))
+abbrev pub IsPut : List ℕ → List IndexedValue → List IndexedValue → List IndexedValue → Type 0
+IsPut stem rows old new = (row : IndexedValue) → Contains new row ↔ (Contains rows row ⊎ (Contains old row × (row.stem ≢ stem)))
 
 -- The rows found are those whose token the pattern matches, in order; `*` stands for any text, and `?` for any one character.
-pub record AreFound (pattern : List ℕ) (rows found : List Row) : Type 0 where
+pub record AreFound (pattern : List ℕ) (rows found : List IndexedValue) : Type 0 where
   pub ascend : IsStrictlySortedBy row_cmp found
-  pub each : (row : Row) → Contains found row ↔ (Contains rows row × Matches (chars pattern) (chars row.token))
+  pub each : (row : IndexedValue) → Contains found row ↔ (Contains rows row × Matches (chars pattern) (chars row.token))

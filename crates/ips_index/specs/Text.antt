@@ -13,14 +13,14 @@ use Rattle.ips_action.specs.Action.{naming_key}
 use Rattle.ips_action.specs.Judging.{takes_payload}
 use Rattle.ips_text.specs.Cut.{has_byte}
 use Rattle.ips_records.specs.Lines.{ended}
-use Rattle.ips_index.specs.Rows.{Row, row_cmp, row_line, tokens, index_text}
+use Rattle.ips_index.specs.Rows.{IndexedValue, row_cmp, row_line, tokens, index_text}
 
 -- Actions of the kind have rows in the index: it is that of the attribute that names them, at a `set` it may be `value`, and at what has a payload `payload`.
 abbrev pub HasIndex : ActionKind → List ℕ → Type 0
 HasIndex kind index = (naming_key kind ≡ Some index) ⊎ ((kind ≡ Set) × (index ≡ codes "value")) ⊎ ((takes_payload kind ≡ true) × (index ≡ codes "payload"))
 
 -- A row that an index may hold: a text in an index of its kind, found by itself or, where it is a path, by its last part, of a stem.
-pub record IsRow (row : Row) : Type 0 where
+pub record IsRow (row : IndexedValue) : Type 0 where
   pub index : HasIndex row.kind row.index
   pub value : IsUtf8 row.value
   pub token : IsUtf8 row.token
@@ -28,24 +28,24 @@ pub record IsRow (row : Row) : Type 0 where
   pub stem : IsStem false row.stem
 
 -- The rows are those of an index: each is one that it may hold, and they ascend.
-pub record AreRows (rows : List Row) : Type 0 where
-  pub each : (row : Row) → Contains rows row → IsRow row
+pub record AreIndexRows (rows : List IndexedValue) : Type 0 where
+  pub each : (row : IndexedValue) → Contains rows row → IsRow row
   pub ascend : IsStrictlySortedBy row_cmp rows
 
 -- The text is that of an index of these rows.
-abbrev pub IsIndexText : List Row → List ℕ → Type 0
-IsIndexText rows text = AreRows rows × (text ≡ index_text rows)
+abbrev pub IsIndexText : List IndexedValue → List ℕ → Type 0
+IsIndexText rows text = AreIndexRows rows × (text ≡ index_text rows)
 
 -- The lines of an index: one that tells its form, and one for each row.
-abbrev pub index_lines : List Row → List (List ℕ)
+abbrev pub index_lines : List IndexedValue → List (List ℕ)
 index_lines rows = codes "index 1" ∷ map row_line rows
 
 -- The lines, each with its newline, are those of an index.
 abbrev pub IsIndexFile : List (List ℕ) → Type 0
-IsIndexFile lines = (rows : List Row) × AreRows rows × (lines ≡ map ended (index_lines rows))
+IsIndexFile lines = (rows : List IndexedValue) × AreIndexRows rows × (lines ≡ map ended (index_lines rows))
 
 -- The first row stands before the second.
-abbrev pub StandsBefore : Row → Row → Type 0
+abbrev pub StandsBefore : IndexedValue → IndexedValue → Type 0
 StandsBefore one other = row_cmp one other ≡ Less
 
 -- ---- a line
@@ -59,7 +59,7 @@ pub record AreWords (line token index kind value stem : List ℕ) : Type 0 where
   pub in_value : has_byte 32 value ≡ false
 
 -- The words are those of the row.
-pub record Spell (first second third fourth fifth : List ℕ) (row : Row) : Type 0 where
+pub record Spell (first second third fourth fifth : List ℕ) (row : IndexedValue) : Type 0 where
   pub token : first ≡ quoted row.token
   pub index : second ≡ row.index
   pub kind : third ≡ kind_name row.kind

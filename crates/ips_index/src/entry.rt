@@ -44,10 +44,10 @@ pub(crate) struct Entry {
 }
 
 impl Model for Entry {
-    ghost use Rattle.ips_index.specs.Rows.{Row};
+    ghost use Rattle.ips_index.specs.Rows.{IndexedValue};
     ghost use Rattle.ips_index.specs.Entries.{row_at};
 
-    ghost Value = { Row };
+    ghost Value = { IndexedValue };
 
     ghost view = { λ e. row_at e.kind e.field e.last e.value e.stem };
 }

@@ -4,8 +4,8 @@ ghost use Rattle.std.specs.Prelude.{◌≡◌, List, [], false, Ok, IfOk, OnOk, 
 ghost use Rattle.ips_text.specs.Reading.{Gives, IfBad};
 ghost use Rattle.ips_records.specs.Lines.{lines_in, IsFirstBadLine};
 ghost use Rattle.ips_fmri.specs.Name.{IsStem};
-ghost use Rattle.ips_index.specs.Rows.{Row, row_seen, scanned, index_text};
-ghost use Rattle.ips_index.specs.Text.{AreRows, IsIndexText, IsIndexFile};
+ghost use Rattle.ips_index.specs.Rows.{IndexedValue, row_seen, scanned, index_text};
+ghost use Rattle.ips_index.specs.Text.{AreIndexRows, IsIndexText, IsIndexFile};
 ghost use Rattle.ips_index.specs.Scan.{IsDropped, IsPut, AreFound};
 
 use crate::entry::Entry;
@@ -30,10 +30,10 @@ pub struct Index {
 
 impl Model for Index {
     ghost use Rattle.std.specs.Prelude.{List};
-    ghost use Rattle.ips_index.specs.Rows.{Row};
+    ghost use Rattle.ips_index.specs.Rows.{IndexedValue};
     ghost use Rattle.ips_index.specs.Entries.{IsKept};
 
-    ghost Value = { List Row };
+    ghost Value = { List IndexedValue };
 
     ghost view = { λ x. x.rows.keys };
 
@@ -56,7 +56,7 @@ impl Index {
         requires { IsStem false stem.now }
         ensures put { OnOk result (IsPut stem.now (scanned stem.now actions.now) self.old self.new) }
         ensures same { OnErr result (self.new ≡ self.old) }
-        ensures rows { OnOk result (AreRows self.new) }
+        ensures rows { OnOk result (AreIndexRows self.new) }
     {
         let rows = scan(alloc, stem, actions)?;
         put_rows(alloc, &mut self.rows, &mut self.stems, stem, rows)
@@ -65,7 +65,7 @@ impl Index {
     /// Takes the rows of the stem away.
     pub fn drop_stem(&mut self, stem: &str)
         ensures dropped { IsDropped stem.now self.old self.new }
-        ensures rows { AreRows self.new }
+        ensures rows { AreIndexRows self.new }
     {
         drop_rows(&mut self.rows, &mut self.stems, stem);
     }
@@ -81,7 +81,7 @@ impl Index {
     /// An index of the same rows.
     pub fn copy(&self, alloc: Global) -> Result<Index, AllocError>
         ensures same { IfOk result (λ index. index ≡ self.now) }
-        ensures rows { AreRows self.now }
+        ensures rows { AreIndexRows self.now }
     {
         let rows = copied_set(alloc, &self.rows)?;
         let stems = by_stem(alloc, &rows)?;
@@ -91,7 +91,7 @@ impl Index {
     /// The record of the index, `var/pkg/index`: a line that tells its form, and a line for each row.
     pub fn print(&self, alloc: Global) -> Result<Vec<u8>, AllocError>
         ensures text { IfOk result (λ bytes. bytes.items ≡ index_text self.now) }
-        ensures rows { AreRows self.now }
+        ensures rows { AreIndexRows self.now }
     {
         printing::print(alloc, &self.rows)
     }
@@ -100,7 +100,7 @@ impl Index {
     /// there, or the one that is missing at the end. A line that no newline ends is none.
     pub fn read(alloc: Global, bytes: &[u8]) -> Result<Index, Or<BadIndex>>
         ensures rows { IfOk result (λ index. IsIndexText index bytes.now) }
-        ensures back { (rows : List Row) → IsIndexText rows bytes.now → Gives (λ index. index) result (Ok rows) }
+        ensures back { (rows : List IndexedValue) → IsIndexText rows bytes.now → Gives (λ index. index) result (Ok rows) }
         ensures bad { IfBad result (λ fault. IsFirstBadLine IsIndexFile (lines_in bytes.now) fault.line) }
     {
         let rows = reading::read(alloc, bytes)?;

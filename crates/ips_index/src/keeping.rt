@@ -3,7 +3,7 @@
 ghost use Rattle.std.specs.Prelude.{◌≡◌, ◌⊎◌, ◌↔◌, List, ℕ, false, IfOk, OnOk, OnErr, Contains};
 ghost use Rattle.std.specs.List.Sorted.{IsStrictlySortedBy};
 ghost use Rattle.ips_action.specs.Attrs.{is_same};
-ghost use Rattle.ips_index.specs.Rows.{Row, row_cmp};
+ghost use Rattle.ips_index.specs.Rows.{IndexedValue, row_cmp};
 ghost use Rattle.ips_index.specs.Scan.{IsDropped, IsPut};
 ghost use Rattle.ips_index.specs.Entries.{IsKept, AreOf, listed_at};
 
@@ -58,7 +58,7 @@ fn gone_rows(
     stem: &str,
     list: &[Entry],
 ) -> Result<Vec<Entry>, AllocError>
-    ensures { IfOk result (λ gone. (row : Row) → Contains gone.items row ↔ (Contains (listed_at stems.now stem.now) row × (Contains list.now row → ⊥))) }
+    ensures { IfOk result (λ gone. (row : IndexedValue) → Contains gone.items row ↔ (Contains (listed_at stems.now stem.now) row × (Contains list.now row → ⊥))) }
 {
     let Some(old) = stems.get(stem) else {
         return Ok(Vec::new(alloc));
@@ -77,9 +77,9 @@ fn enter(
     fresh: &[Entry],
     list: Vec<Entry>,
 ) -> Result<(), AllocError>
-    ensures all { OnOk result ((row : Row) → Contains fresh.now row → Contains rows.new.keys row) }
-    ensures old { (row : Row) → Contains rows.old.keys row → Contains rows.new.keys row }
-    ensures only { (row : Row) → Contains rows.new.keys row → Contains rows.old.keys row ⊎ Contains fresh.now row }
+    ensures all { OnOk result ((row : IndexedValue) → Contains fresh.now row → Contains rows.new.keys row) }
+    ensures old { (row : IndexedValue) → Contains rows.old.keys row → Contains rows.new.keys row }
+    ensures only { (row : IndexedValue) → Contains rows.new.keys row → Contains rows.old.keys row ⊎ Contains fresh.now row }
     ensures order { IsStrictlySortedBy row_cmp rows.old.keys → IsStrictlySortedBy row_cmp rows.new.keys }
     ensures listed { OnOk result (listed_at stems.new stem.now ≡ list.items) }
     ensures others { (q : List ℕ) → is_same stem.now q ≡ false → listed_at stems.new q ≡ listed_at stems.old q }

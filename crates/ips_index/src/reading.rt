@@ -3,7 +3,7 @@
 ghost use Rattle.std.specs.Prelude.{◌≡◌, ◌+◌, ◌∷◌, ℕ, List, IfOk, IfNone, IfSome, length, codes};
 ghost use Rattle.ips_text.specs.Reading.{IfBad};
 ghost use Rattle.ips_records.specs.Lines.{ended, lines_in, IsFirstBadLine};
-ghost use Rattle.ips_index.specs.Rows.{Row};
+ghost use Rattle.ips_index.specs.Rows.{IndexedValue};
 ghost use Rattle.ips_index.specs.Text.{IsRow, IsIndexText, IsIndexFile, Spell};
 
 use crate::entry::Entry;
@@ -47,7 +47,7 @@ impl Listing for Rows {
 fn read_row(alloc: Global, words: Words) -> Result<Option<Entry>, AllocError>
     ensures row { IfOk result (λ found. IfSome found IsRow) }
     ensures spell { IfOk result (λ found. IfSome found (Spell words.entry.token.now words.entry.index.now words.entry.kind.now words.entry.value.now words.entry.stem.now)) }
-    ensures none { IfOk result (λ found. IfNone found ((row : Row) → IsRow row → Spell words.entry.token.now words.entry.index.now words.entry.kind.now words.entry.value.now words.entry.stem.now row → ⊥)) }
+    ensures none { IfOk result (λ found. IfNone found ((row : IndexedValue) → IsRow row → Spell words.entry.token.now words.entry.index.now words.entry.kind.now words.entry.value.now words.entry.stem.now row → ⊥)) }
 {
     let Some(place) = place(words.kind, words.index) else {
         return Ok(None);

@@ -3,7 +3,7 @@
 ghost use Rattle.std.specs.Prelude.{◌≡◌, ◌⊎◌, ◌↔◌, ◌++◌, ◌∷◌, [], ℕ, List, false, if◌then◌else◌, IfOk, OnOk, Contains};
 ghost use Rattle.ips_action.specs.Attrs.{is_same};
 ghost use Rattle.std.specs.List.Sorted.{IsStrictlySortedBy};
-ghost use Rattle.ips_index.specs.Rows.{Row, row_cmp};
+ghost use Rattle.ips_index.specs.Rows.{IndexedValue, row_cmp};
 ghost use Rattle.ips_index.specs.Entries.{listed_at};
 
 use crate::entry::Entry;
@@ -19,7 +19,7 @@ pub(crate) fn absent(
     set: &BTreeSet<Entry>,
     rows: &[Entry],
 ) -> Result<Vec<Entry>, AllocError>
-    ensures { IfOk result (λ found. (row : Row) → Contains found.items row ↔ (Contains rows.now row × (Contains set.now.keys row → ⊥))) }
+    ensures { IfOk result (λ found. (row : IndexedValue) → Contains found.items row ↔ (Contains rows.now row × (Contains set.now.keys row → ⊥))) }
 {
     let mut found = Vec::new(alloc);
     for row in rows {
@@ -36,9 +36,9 @@ pub(crate) fn add_all(
     set: &mut BTreeSet<Entry>,
     rows: &[Entry],
 ) -> Result<(), AllocError>
-    ensures all { OnOk result ((row : Row) → Contains rows.now row → Contains set.new.keys row) }
-    ensures old { (row : Row) → Contains set.old.keys row → Contains set.new.keys row }
-    ensures only { (row : Row) → Contains set.new.keys row → Contains set.old.keys row ⊎ Contains rows.now row }
+    ensures all { OnOk result ((row : IndexedValue) → Contains rows.now row → Contains set.new.keys row) }
+    ensures old { (row : IndexedValue) → Contains set.old.keys row → Contains set.new.keys row }
+    ensures only { (row : IndexedValue) → Contains set.new.keys row → Contains set.old.keys row ⊎ Contains rows.now row }
     ensures order { IsStrictlySortedBy row_cmp set.old.keys → IsStrictlySortedBy row_cmp set.new.keys }
 {
     for row in rows {
@@ -49,9 +49,9 @@ pub(crate) fn add_all(
 
 /// Adds rows. Where memory runs out, some of them.
 pub(crate) fn insert_all(set: &mut BTreeSet<Entry>, rows: Vec<Entry>) -> Result<(), AllocError>
-    ensures all { OnOk result ((row : Row) → Contains rows.items row → Contains set.new.keys row) }
-    ensures old { (row : Row) → Contains set.old.keys row → Contains set.new.keys row }
-    ensures only { (row : Row) → Contains set.new.keys row → Contains set.old.keys row ⊎ Contains rows.items row }
+    ensures all { OnOk result ((row : IndexedValue) → Contains rows.items row → Contains set.new.keys row) }
+    ensures old { (row : IndexedValue) → Contains set.old.keys row → Contains set.new.keys row }
+    ensures only { (row : IndexedValue) → Contains set.new.keys row → Contains set.old.keys row ⊎ Contains rows.items row }
     ensures order { IsStrictlySortedBy row_cmp set.old.keys → IsStrictlySortedBy row_cmp set.new.keys }
 {
     let mut left = rows;
@@ -63,7 +63,7 @@ pub(crate) fn insert_all(set: &mut BTreeSet<Entry>, rows: Vec<Entry>) -> Result<
 
 /// Takes rows away.
 pub(crate) fn remove_all(set: &mut BTreeSet<Entry>, rows: &[Entry])
-    ensures rows { (row : Row) → Contains set.new.keys row ↔ (Contains set.old.keys row × (Contains rows.now row → ⊥)) }
+    ensures rows { (row : IndexedValue) → Contains set.new.keys row ↔ (Contains set.old.keys row × (Contains rows.now row → ⊥)) }
     ensures order { IsStrictlySortedBy row_cmp set.old.keys → IsStrictlySortedBy row_cmp set.new.keys }
 {
     for row in rows {
@@ -87,7 +87,7 @@ pub(crate) fn copied_set(
 
 /// Copies of the rows, by their stems.
 pub(crate) fn by_stem(alloc: Global, rows: &BTreeSet<Entry>) -> Result<Stems, AllocError>
-    ensures { IfOk result (λ stems. (stem : List ℕ) (row : Row) → Contains (listed_at stems stem) row ↔ (Contains rows.now.keys row × (row.stem ≡ stem))) }
+    ensures { IfOk result (λ stems. (stem : List ℕ) (row : IndexedValue) → Contains (listed_at stems stem) row ↔ (Contains rows.now.keys row × (row.stem ≡ stem))) }
 {
     let mut stems = BTreeMap::new(alloc);
     for row in rows {

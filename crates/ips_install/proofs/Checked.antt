@@ -8,7 +8,7 @@ use Rattle.ips_outside.specs.Image.{Image}
 use Rattle.ips_digest.specs.declared.name.PayloadName.{PayloadName}
 use Rattle.ips_repo.specs.Files.{file_at, HasSize}
 use Rattle.ips_repo.specs.Places.{payload_place}
-use Rattle.ips_repo.specs.Payload.{Reading, payload_limit, IsOpened, payload_in, payload_opening, from_start, IsFrontOf, digest_by, IsOpenFault, IsDamage, HasIntact, AreIntact}
+use Rattle.ips_repo.specs.Payload.{PayloadReading, payload_limit, IsOpened, payload_in, payload_opening, from_start, IsFrontOf, digest_by, IsOpenFault, IsDamage, HasIntact, AreIntact}
 use Rattle.ips_repo.specs.declared.fault.RepoFault.{RepoFault}
 use Rattle.ips_repo.specs.declared.fault.RepoFault.TheVariants as repo
 use Rattle.ips_install.specs.Fault.{IsDamageOf, IsWrong, IsPayloadFault, SaysOfPayloads}
@@ -46,7 +46,7 @@ no_other_opening (repo.TooLarge which count) is missing large failed = large whi
 no_other_opening repo.SourceFault is missing large failed = failed refl
 
 -- what is meant of a payload, by whether its file is too large
-abbrev meant : PayloadName → List ℕ → List ℕ → Bool → Result Reading RepoFault
+abbrev meant : PayloadName → List ℕ → List ℕ → Bool → Result PayloadReading RepoFault
 meant name place bytes large = cond large (Err (repo.TooLarge PayloadBytes (length bytes))) (Ok (record { name = name; place = place; size = length bytes; bytes = []; ended = false }))
 
 missing_of : (name : PayloadName) (place bytes : List ℕ) (large : Bool) → meant name place bytes large ≡ Err repo.PayloadMissing → ⊥
@@ -81,10 +81,10 @@ told_large publisher t name which count is = (refl, large_in name (payload_place
 -- ---- a payload read through
 
 -- a payload has one file
-same_file : (t : Image) (r s : Reading) → s.place ≡ r.place → (f : IsFrontOf t r) (h : IsFrontOf t s) → h.file ≡ f.file
+same_file : (t : Image) (r s : PayloadReading) → s.place ≡ r.place → (f : IsFrontOf t r) (h : IsFrontOf t s) → h.file ≡ f.file
 same_file t r s place f h = let same : Some h.file ≡ Some f.file = sym h.stands ∙ ap (file_at t) place ∙ f.stands in cc
 
-module _ (t : Image) (r s : Reading) (name : s.name ≡ r.name) (place : s.place ≡ r.place) (f : IsFrontOf t r) (h : IsFrontOf t s) (ended : s.ended ≡ true) where
+module _ (t : Image) (r s : PayloadReading) (name : s.name ≡ r.name) (place : s.place ≡ r.place) (f : IsFrontOf t r) (h : IsFrontOf t s) (ended : s.ended ≡ true) where
   -- to its end, all of the file was given
   pub whole_file : s.bytes ≡ f.file
   whole_file = h.whole ended ∙ same_file t r s place f h
@@ -123,13 +123,13 @@ judged_steady name bytes OutOfMemory is source = cc
 
 -- ---- a payload that is given from its beginning
 
-known_again : (t : Image) (r : Reading) (front : IsFrontOf t r) → digest_by r.name front.file ≡ r.name → IsKnown t (from_start r)
+known_again : (t : Image) (r : PayloadReading) (front : IsFrontOf t r) → digest_by r.name front.file ≡ r.name → IsKnown t (from_start r)
 known_again t r front named = record {
   front = record { file = front.file; stands = front.stands; sized = front.sized; front = refl; whole = λ ended. cc };
   named = named;
 }
 
-pub prepared_again : (tells : Bool) (publisher : List ℕ) (t : Image) (name : PayloadName) (r : Reading) → IsOpened (payload_place publisher name) name r → (IsTrue tells → IsFrontOf t r) → IsVerified tells t r
+pub prepared_again : (tells : Bool) (publisher : List ℕ) (t : Image) (name : PayloadName) (r : PayloadReading) → IsOpened (payload_place publisher name) name r → (IsTrue tells → IsFrontOf t r) → IsVerified tells t r
     → IsPrepared tells publisher t (from_start r)
 prepared_again tells publisher t name r opened front verified =
     let place : r.place ≡ payload_place publisher r.name = opened.placed ∙ ap (payload_place publisher) (sym opened.named) in
@@ -152,7 +152,7 @@ damage_wrong publisher t name bytes stands (TooLarge count) is = absurd is
 damage_wrong publisher t name bytes stands (Damaged found) is = (bytes, stands, is)
 damage_wrong publisher t name bytes stands (Compressed found) is = (bytes, stands, is)
 
-pub bytes_wrong : (publisher : List ℕ) (t : Image) (name : PayloadName) (r : Reading) (f : IsFrontOf t r) → IsOpened (payload_place publisher name) name r → (why : InstallFault) → SaysOfBytes r.name f.file why → SaysOfPayload publisher t name why
+pub bytes_wrong : (publisher : List ℕ) (t : Image) (name : PayloadName) (r : PayloadReading) (f : IsFrontOf t r) → IsOpened (payload_place publisher name) name r → (why : InstallFault) → SaysOfBytes r.name f.file why → SaysOfPayload publisher t name why
 bytes_wrong publisher t name r f opened (Payload other why) says = (
   says.0 ∙ opened.named,
   damage_wrong publisher t name f.file (ap (file_at t) (sym opened.placed) ∙ f.stands) why (subst (λ (n : PayloadName). IsDamageOf n f.file why) opened.named says.1),
@@ -163,16 +163,16 @@ bytes_wrong publisher t name r f opened OutOfMemory says = tt
 
 -- ---- payloads, one after another
 
-pub prepared_more : (tells : Bool) (publisher : List ℕ) (t : Image) (payloads : List Reading) (r : Reading) → AllByRecursion (IsPrepared tells publisher t) payloads → IsPrepared tells publisher t r
+pub prepared_more : (tells : Bool) (publisher : List ℕ) (t : Image) (payloads : List PayloadReading) (r : PayloadReading) → AllByRecursion (IsPrepared tells publisher t) payloads → IsPrepared tells publisher t r
     → AllByRecursion (IsPrepared tells publisher t) (payloads ++ r ∷ [])
 prepared_more tells publisher t [] r all here = (here, tt)
 prepared_more tells publisher t (x ∷ rest) r all here = (all.0, prepared_more tells publisher t rest r all.1 here)
 
-pub named_more : (names : List PayloadName) (n : ℕ) (name : PayloadName) (payloads : List Reading) (r : Reading) → slice_get names n ≡ Some name → names_of payloads ≡ take n names → r.name ≡ name → names_of (payloads ++ r ∷ []) ≡ take (n + 1) names
-named_more names n name payloads r stands front is = map_more (λ (x : Reading). x.name) payloads r ∙ ap (λ (l : List PayloadName). l ++ r.name ∷ []) front ∙ ap (λ (y : PayloadName). take n names ++ y ∷ []) is ∙ sym (front_more names n name stands)
+pub named_more : (names : List PayloadName) (n : ℕ) (name : PayloadName) (payloads : List PayloadReading) (r : PayloadReading) → slice_get names n ≡ Some name → names_of payloads ≡ take n names → r.name ≡ name → names_of (payloads ++ r ∷ []) ≡ take (n + 1) names
+named_more names n name payloads r stands front is = map_more (λ (x : PayloadReading). x.name) payloads r ∙ ap (λ (l : List PayloadName). l ++ r.name ∷ []) front ∙ ap (λ (y : PayloadName). take n names ++ y ∷ []) is ∙ sym (front_more names n name stands)
 
 -- a payload that is prepared is intact, where the repository tells what it holds
-prepared_intact : (tells : Bool) (publisher : List ℕ) (t : Image) (r : Reading) → IsTrue tells → IsPrepared tells publisher t r → HasIntact publisher t r.name
+prepared_intact : (tells : Bool) (publisher : List ℕ) (t : Image) (r : PayloadReading) → IsTrue tells → IsPrepared tells publisher t r → HasIntact publisher t r.name
 prepared_intact tells publisher t r told prepared =
     let known = prepared.known told in (
       known.front.file,
@@ -184,24 +184,24 @@ prepared_intact tells publisher t r told prepared =
     )
 
 -- the payload at a place, by its name
-record NamedAt (payloads : List Reading) (k : ℕ) (name : PayloadName) : Type 0 where
-  r : Reading
+record NamedAt (payloads : List PayloadReading) (k : ℕ) (name : PayloadName) : Type 0 where
+  r : PayloadReading
   stands : slice_get payloads k ≡ Some r
   is : r.name ≡ name
 
-named_at : (payloads : List Reading) (k : ℕ) (name : PayloadName) → slice_get (names_of payloads) k ≡ Some name → NamedAt payloads k name
+named_at : (payloads : List PayloadReading) (k : ℕ) (name : PayloadName) → slice_get (names_of payloads) k ≡ Some name → NamedAt payloads k name
 named_at [] k name is = cc
 named_at (r ∷ rest) zero name is = let one : r.name ≡ name = cc in record { r = r; stands = refl; is = one }
 named_at (r ∷ rest) (suc k) name is = let later = named_at rest k name is in record { r = later.r; stands = later.stands; is = later.is }
 
 -- so all of them are
-pub all_intact : (tells : Bool) (publisher : List ℕ) (t : Image) (payloads : List Reading) → IsTrue tells → AllByRecursion (IsPrepared tells publisher t) payloads → AreIntact publisher t (names_of payloads)
+pub all_intact : (tells : Bool) (publisher : List ℕ) (t : Image) (payloads : List PayloadReading) → IsTrue tells → AllByRecursion (IsPrepared tells publisher t) payloads → AreIntact publisher t (names_of payloads)
 all_intact tells publisher t payloads told all = λ n name is.
     let here = named_at payloads n name is in
     subst (HasIntact publisher t) here.is (prepared_intact tells publisher t here.r told (all_at (IsPrepared tells publisher t) payloads all n here.r here.stands))
 
 -- the first payload that isn't intact
-pub first_wrong : (tells : Bool) (publisher : List ℕ) (t : Image) (names : List PayloadName) (n : ℕ) (name : PayloadName) (payloads : List Reading) → IsTrue tells → slice_get names n ≡ Some name → names_of payloads ≡ take n names
+pub first_wrong : (tells : Bool) (publisher : List ℕ) (t : Image) (names : List PayloadName) (n : ℕ) (name : PayloadName) (payloads : List PayloadReading) → IsTrue tells → slice_get names n ≡ Some name → names_of payloads ≡ take n names
     → AllByRecursion (IsPrepared tells publisher t) payloads → (why : InstallFault) → SaysOfPayload publisher t name why → SaysOfPayloads publisher t names why
 first_wrong tells publisher t names n name payloads told stands front all (Payload other why) says = record {
   at = n;

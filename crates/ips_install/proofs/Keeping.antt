@@ -6,7 +6,7 @@ use Rattle.ips_outside.specs.Image.{Entry, Dir, File, Link, Other, Image, IsImag
 use Rattle.ips_outside.specs.Change.{names}
 use Rattle.ips_outside.specs.State.{State, nowhere}
 use Rattle.ips_outside.specs.Outside.{Outside, IsOutside}
-use Rattle.ips_folder.specs.Calls.{Writes, Keeps}
+use Rattle.ips_folder.specs.Calls.{Writes, ChangesOnly}
 use Rattle.ips_text.proofs.Ancestry.{same_path-self}
 use Rattle.ips_folder.proofs.Runs.{keeps_wider, one_write}
 
@@ -32,10 +32,10 @@ dir_alone t p formed dir = λ q same. absurd (no_dir (t.look p) (formed.files p 
 
 module _ {F : Type 0} (o : Outside F) (sane : IsOutside o) (p : List ℕ) (old new : F) (to : State) {T E : Type 0} (result : Result T E) (told : o.tells old ≡ true) where
   -- a call that writes at the path
-  pub path_written : Writes o (covers p) nowhere to old new result → Keeps o (covers p) (same_path p) old new
+  pub path_written : Writes o (covers p) nowhere to old new result → ChangesOnly o (covers p) (same_path p) old new
   path_written w = keeps_wider o (covers p) nowhere (covers p) (same_path p) old new (λ q off. off) (λ q off. refl) (one_write o sane old new (covers p) nowhere to result told w)
 
   -- another mode of what has one name
-  pub mode_written : (free : List ℕ → Bool) → IsAlone (o.state old).held p → Writes o nowhere (names (o.state old).held p) to old new result → Keeps o free (same_path p) old new
+  pub mode_written : (free : List ℕ → Bool) → IsAlone (o.state old).held p → Writes o nowhere (names (o.state old).held p) to old new result → ChangesOnly o free (same_path p) old new
   mode_written free own w = keeps_wider o nowhere (names (o.state old).held p) free (same_path p) old new (λ q off. refl) (names_alone (o.state old).held p own)
       (one_write o sane old new nowhere (names (o.state old).held p) to result told w)

@@ -4,7 +4,7 @@ use Rattle.std.proofs.lemmas.Bool.{and_parts, and_from, eqb-true}
 use Rattle.ips_outside.specs.Image.{Image}
 use Rattle.ips_steps.specs.Steps.{Step, Gone, Fresh, Mode, Put, Symlink, Hard, Stage, laid, all_laid}
 use Rattle.ips_steps.specs.Journal.{numbered}
-use Rattle.ips_repo.specs.Payload.{Reading}
+use Rattle.ips_repo.specs.Payload.{PayloadReading}
 use Rattle.ips_install.specs.Laying.{behind_first, left_by}
 
 -- how many files a step puts
@@ -49,14 +49,14 @@ puts_suc (x ∷ rest) (suc k) s stands = let later = puts_suc rest k s stands in
 pub puts_more : (steps : List Step) (k : ℕ) (s : Step) → slice_get steps k ≡ Some s → puts (take (k + 1) steps) ≡ puts (take k steps) + put_by s
 puts_more steps k s stands = let one : k + 1 ≡ suc k = omega arith in ap (λ (n : ℕ). puts (take n steps)) one ∙ puts_suc steps k s stands
 
-drop_one : (payloads : List Reading) (n : ℕ) → behind_first (drop n payloads) ≡ drop (suc n) payloads
+drop_one : (payloads : List PayloadReading) (n : ℕ) → behind_first (drop n payloads) ≡ drop (suc n) payloads
 drop_one [] zero = refl
 drop_one [] (suc n) = refl
 drop_one (r ∷ rest) zero = refl
 drop_one (r ∷ rest) (suc n) = drop_one rest n
 
 -- the payloads that a step leaves
-left_drop : (s : Step) (payloads : List Reading) (n : ℕ) → left_by s (drop n payloads) ≡ drop (n + put_by s) payloads
+left_drop : (s : Step) (payloads : List PayloadReading) (n : ℕ) → left_by s (drop n payloads) ≡ drop (n + put_by s) payloads
 left_drop (Gone p) payloads n = let same : n ≡ n + 0 = omega arith in ap (λ (k : ℕ). drop k payloads) same
 left_drop (Fresh m p) payloads n = let same : n ≡ n + 0 = omega arith in ap (λ (k : ℕ). drop k payloads) same
 left_drop (Mode m p) payloads n = let same : n ≡ n + 0 = omega arith in ap (λ (k : ℕ). drop k payloads) same
@@ -64,7 +64,7 @@ left_drop (Put j m p) payloads n = let same : suc n ≡ n + 1 = omega arith in d
 left_drop (Symlink p target) payloads n = let same : n ≡ n + 0 = omega arith in ap (λ (k : ℕ). drop k payloads) same
 left_drop (Hard p to) payloads n = let same : n ≡ n + 0 = omega arith in ap (λ (k : ℕ). drop k payloads) same
 
-pub left_more : (steps : List Step) (k : ℕ) (s : Step) (all now new : List Reading) → slice_get steps k ≡ Some s → now ≡ drop (puts (take k steps)) all → new ≡ left_by s now → new ≡ drop (puts (take (k + 1) steps)) all
+pub left_more : (steps : List Step) (k : ℕ) (s : Step) (all now new : List PayloadReading) → slice_get steps k ≡ Some s → now ≡ drop (puts (take k steps)) all → new ≡ left_by s now → new ≡ drop (puts (take (k + 1) steps)) all
 left_more steps k s all now new stands front is =
     is ∙ ap (left_by s) front ∙ left_drop s all (puts (take k steps)) ∙ ap (λ (n : ℕ). drop n all) (sym (puts_more steps k s stands))
 

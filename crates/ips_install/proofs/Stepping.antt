@@ -4,12 +4,12 @@ use Rattle.std.specs.List.{AllByRecursion}
 use Rattle.std.proofs.lemmas.Bool.{and_parts, or_parts, or_from, not-true, false_from_ne_true, eqb-true, ltb-true}
 use Rattle.ips_text.specs.Ancestry.{same_path, covers}
 use Rattle.ips_outside.specs.Image.{Entry, Dir, File, Link, Image, IsImage, is_dir, is_file, has_parent, with_mode}
-use Rattle.ips_outside.specs.Change.{placed, names}
+use Rattle.ips_outside.specs.Change.{with_entry_at, names}
 use Rattle.ips_folder.specs.Calls.{CanMake}
 use Rattle.ips_digest.specs.declared.name.PayloadName.{PayloadName}
 use Rattle.ips_repo.specs.Files.{file_at}
-use Rattle.ips_repo.specs.Payload.{Reading, IsPayload}
-use Rattle.ips_steps.specs.Steps.{Step, Gone, Fresh, Mode, Put, Symlink, Hard, Stage, path_of, bytes_of, laid, all_laid, can_lay, frees, freed, named, distinct}
+use Rattle.ips_repo.specs.Payload.{PayloadReading, IsPayload}
+use Rattle.ips_steps.specs.Steps.{Step, Gone, Fresh, Mode, Put, Symlink, Hard, Stage, path_of, content_bytes, laid, all_laid, can_lay, frees, freed, named, distinct}
 use Rattle.ips_steps.specs.Journal.{IsProper, AllProper}
 use Rattle.ips_text.proofs.Ancestry.{same_path-true}
 use Rattle.ips_outside.proofs.Agree.{is_dir-alike}
@@ -64,7 +64,7 @@ absent_step : (stage : Stage) (s : Step) (t : Image) (q : List ℕ) → same_pat
 absent_step stage (Gone p) t q off none = not_placed (same_path p q) (covers p q) None (t.look q) off none
 absent_step stage (Fresh m p) t q off none = not_placed (same_path p q) (covers p q) (Some (Dir m false)) (t.look q) off none
 absent_step stage (Mode m p) t q off none = no_mode (names t p q) m (t.look q) none
-absent_step stage (Put n m p) t q off none = not_placed (same_path p q) (covers p q) (Some (File m (bytes_of (stage n)))) (t.look q) off none
+absent_step stage (Put n m p) t q off none = not_placed (same_path p q) (covers p q) (Some (File m (content_bytes (stage n)))) (t.look q) off none
 absent_step stage (Symlink p target) t q off none = not_placed (same_path p q) (covers p q) (Some (Link target)) (t.look q) off none
 absent_step stage (Hard p to) t q off none = not_placed (same_path p q) (covers p q) (t.look to) (t.look q) off none
 
@@ -124,7 +124,7 @@ module _ (count : ℕ) (steps : List Step) (listed : AreListed count steps) (k :
   step_proper = proper_at steps k s listed.proper stands
 
   -- a put finds a payload
-  pub step_next : (all now : List Reading) → length all ≡ count → now ≡ drop (puts (take k steps)) all → HasNext s now
+  pub step_next : (all now : List PayloadReading) → length all ≡ count → now ≡ drop (puts (take k steps)) all → HasNext s now
   step_next all now sized left = go s stands
     where
       go : (x : Step) → slice_get steps k ≡ Some x → HasNext x now
@@ -135,9 +135,9 @@ module _ (count : ℕ) (steps : List Step) (listed : AreListed count steps) (k :
           let number = number_at 0 steps k n m p listed.numbers at in
           let within = ltb-true n count (all_at (λ (y : Step). is_within count y ≡ true) steps listed.contents k (Put n m p) at) in
           let more : puts (take k steps) < length all = omega (arith, number, within, sized) in
-          subst (λ (l : List Reading). 0 < length l) (sym left) (behind all (puts (take k steps)) more)
+          subst (λ (l : List PayloadReading). 0 < length l) (sym left) (behind all (puts (take k steps)) more)
         where
-          behind : (l : List Reading) (n : ℕ) → n < length l → 0 < length (drop n l)
+          behind : (l : List PayloadReading) (n : ℕ) → n < length l → 0 < length (drop n l)
           behind [] n lt = absurd (omega arith)
           behind (r ∷ rest) zero lt = omega arith
           behind (r ∷ rest) (suc n) lt = behind rest n (omega arith)
@@ -199,31 +199,31 @@ with_contents P names stage n bytes name at here all = λ j other is. go j other
         (bytes, refl, subst (λ (x : PayloadName). P x bytes) it here)
     go j other is false same = all j other is
 
-first_of : (payloads : List Reading) (n : ℕ) (r : Reading) (rest : List Reading) → drop n payloads ≡ r ∷ rest → slice_get payloads n ≡ Some r
+first_of : (payloads : List PayloadReading) (n : ℕ) (r : PayloadReading) (rest : List PayloadReading) → drop n payloads ≡ r ∷ rest → slice_get payloads n ≡ Some r
 first_of [] zero r rest is = cc
 first_of [] (suc n) r rest is = cc
-first_of (x ∷ payloads) zero r rest is = let one : x ≡ r = cc in ap (λ (y : Reading). Some y) one
+first_of (x ∷ payloads) zero r rest is = let one : x ≡ r = cc in ap (λ (y : PayloadReading). Some y) one
 first_of (x ∷ payloads) (suc n) r rest is = first_of payloads n r rest is
 
-pub prepared_behind : (P : Reading → Type 0) (payloads : List Reading) (n : ℕ) → AllByRecursion P payloads → AllByRecursion P (drop n payloads)
+pub prepared_behind : (P : PayloadReading → Type 0) (payloads : List PayloadReading) (n : ℕ) → AllByRecursion P payloads → AllByRecursion P (drop n payloads)
 prepared_behind P payloads zero all = all
 prepared_behind P [] (suc n) all = tt
 prepared_behind P (r ∷ rest) (suc n) all = prepared_behind P rest n all.1
 
-module _ (tells : Bool) (publisher : List ℕ) (repository : Image) (all : List Reading) (prepared : AllByRecursion (IsPrepared tells publisher repository) all) where
+module _ (tells : Bool) (publisher : List ℕ) (repository : Image) (all : List PayloadReading) (prepared : AllByRecursion (IsPrepared tells publisher repository) all) where
   -- the bytes that were laid are those of a content
-  laid_content : (r : Reading) (mode : ℕ) (path : List ℕ) (t u : Image) (n : ℕ) → slice_get all n ≡ Some r → (lays : LaysFile tells repository r mode path t u) → IsPayload tells publisher repository r.name lays.bytes
+  laid_content : (r : PayloadReading) (mode : ℕ) (path : List ℕ) (t u : Image) (n : ℕ) → slice_get all n ≡ Some r → (lays : LaysFile tells repository r mode path t u) → IsPayload tells publisher repository r.name lays.bytes
   laid_content r mode path t u n at lays =
       let here = all_at (IsPrepared tells publisher repository) all prepared n r at in
       record { named = lays.named; held = λ told. ap (file_at repository) (sym here.placed) ∙ lays.held told }
 
   -- before the first step
-  abbrev stage_from : (l : List Reading) → AllByRecursion (IsPrepared tells publisher repository) l → Stage
+  abbrev stage_from : (l : List PayloadReading) → AllByRecursion (IsPrepared tells publisher repository) l → Stage
   stage_from [] h n = None
   stage_from (r ∷ rest) h zero = Some h.0.bytes
   stage_from (r ∷ rest) h (suc n) = stage_from rest h.1 n
 
-  contents_from : (l : List Reading) (h : AllByRecursion (IsPrepared tells publisher repository) l) → AreContents (IsPayload tells publisher repository) (names_of l) (stage_from l h)
+  contents_from : (l : List PayloadReading) (h : AllByRecursion (IsPrepared tells publisher repository) l) → AreContents (IsPayload tells publisher repository) (names_of l) (stage_from l h)
   contents_from [] h n name is = cc
   contents_from (r ∷ rest) h zero name is = let one : r.name ≡ name = cc in (h.0.bytes, refl, subst (λ (x : PayloadName). IsPayload tells publisher repository x h.0.bytes) one h.0.content)
   contents_from (r ∷ rest) h (suc n) name is = contents_from rest h.1 n name is
@@ -231,7 +231,7 @@ module _ (tells : Bool) (publisher : List ℕ) (repository : Image) (all : List 
   pub none_laid : (t : Image) → AreLaid (IsPayload tells publisher repository) (names_of all) [] t t
   none_laid t = record { stage = stage_from all prepared; contents = contents_from all prepared; laid = refl }
 
-  pub one_laid : (count : ℕ) (steps : List Step) (listed : AreListed count steps) (k : ℕ) (s : Step) → slice_get steps k ≡ Some s → (now : List Reading) → now ≡ drop (puts (take k steps)) all → (t u v : Image)
+  pub one_laid : (count : ℕ) (steps : List Step) (listed : AreListed count steps) (k : ℕ) (s : Step) → slice_get steps k ≡ Some s → (now : List PayloadReading) → now ≡ drop (puts (take k steps)) all → (t u v : Image)
       → AreLaid (IsPayload tells publisher repository) (names_of all) (take k steps) t u → LaysStep tells repository now s u v → AreLaid (IsPayload tells publisher repository) (names_of all) (take (k + 1) steps) t v
   one_laid count steps listed k s stands now left t u v done = go s stands
     where
@@ -242,7 +242,7 @@ module _ (tells : Bool) (publisher : List ℕ) (repository : Image) (all : List 
         laid = is ∙ ap (laid done.stage x) done.laid ∙ sym (laid_next done.stage steps k x t at);
       }
 
-      file : (n m : ℕ) (p : List ℕ) → slice_get steps k ≡ Some (Put n m p) → (l : List Reading) → drop (puts (take k steps)) all ≡ l → LaysFirst tells repository l m p u v
+      file : (n m : ℕ) (p : List ℕ) → slice_get steps k ≡ Some (Put n m p) → (l : List PayloadReading) → drop (puts (take k steps)) all ≡ l → LaysFirst tells repository l m p u v
           → AreLaid (IsPayload tells publisher repository) (names_of all) (take (k + 1) steps) t v
       file n m p at [] is lays = absurd lays
       file n m p at (r ∷ rest) is lays =
@@ -254,9 +254,9 @@ module _ (tells : Bool) (publisher : List ℕ) (repository : Image) (all : List 
           front_same done.stage stage steps k t listed.numbers (λ j lt. sym (with_other n lays.bytes done.stage j (omega (arith, number, lt)))) in
           record {
             stage = stage;
-            contents = with_contents (IsPayload tells publisher repository) (names_of all) done.stage n lays.bytes r.name (map_at (λ (x : Reading). x.name) all n r here) (laid_content r m p u v n here lays) done.contents;
+            contents = with_contents (IsPayload tells publisher repository) (names_of all) done.stage n lays.bytes r.name (map_at (λ (x : PayloadReading). x.name) all n r here) (laid_content r m p u v n here lays) done.contents;
             laid = lays.is
-                ∙ ap (λ b. placed p (Some (File m (bytes_of b))) u) (sym (with_same n lays.bytes done.stage))
+                ∙ ap (λ b. with_entry_at p (Some (File m (content_bytes b))) u) (sym (with_same n lays.bytes done.stage))
                 ∙ ap (laid stage (Put n m p)) (done.laid ∙ front)
                 ∙ sym (laid_next stage steps k (Put n m p) t at);
           }

@@ -3,30 +3,30 @@ use Rattle.std.specs.Prelude.{◌≡◌, ℕ, ◌≤◌, Bool, IsTrue, List, [],
 use Rattle.ips_outside.specs.Image.{Image}
 use Rattle.ips_digest.specs.declared.name.PayloadName.{PayloadName}
 use Rattle.ips_repo.specs.Places.{payload_place}
-use Rattle.ips_repo.specs.Payload.{Reading, IsFrontOf, digest_by, payload_limit, IsPayload}
+use Rattle.ips_repo.specs.Payload.{PayloadReading, IsFrontOf, digest_by, payload_limit, IsPayload}
 use Rattle.ips_install.specs.declared.fault.InstallFault.{InstallFault}
 use Rattle.ips_install.specs.declared.fault.InstallFault.TheVariants.{Payload, Source, Folder, OutOfMemory}
 use Rattle.ips_install.specs.Fault.{IsDamageOf, IsWrong, IsPayloadFault}
 
 -- the names of payloads
-abbrev pub names_of : List Reading → List PayloadName
+abbrev pub names_of : List PayloadReading → List PayloadName
 names_of payloads = map (λ r. r.name) payloads
 
 -- What is given of the payload so far is the front of its file, and the digest of the whole file is the payload's name.
-pub record IsKnown (repository : Image) (r : Reading) : Type 0 where
+pub record IsKnown (repository : Image) (r : PayloadReading) : Type 0 where
   pub front : IsFrontOf repository r
   pub named : digest_by r.name front.file ≡ r.name
 
 -- The payload was read through once, and the digest of these bytes is its name; where the repository tells what it holds,
 -- they are its file.
-pub record IsVerified (tells : Bool) (repository : Image) (r : Reading) : Type 0 where
+pub record IsVerified (tells : Bool) (repository : Image) (r : PayloadReading) : Type 0 where
   pub bytes : List ℕ
   pub named : digest_by r.name bytes ≡ r.name
   pub whole : IsTrue tells → (front : IsFrontOf repository r) → front.file ≡ bytes
 
 -- The payload stands at its place below the publisher, was read through once with such bytes, and nothing of it is given
 -- yet.
-pub record IsPrepared (tells : Bool) (publisher : List ℕ) (repository : Image) (r : Reading) : Type 0 where
+pub record IsPrepared (tells : Bool) (publisher : List ℕ) (repository : Image) (r : PayloadReading) : Type 0 where
   pub placed : r.place ≡ payload_place publisher r.name
   pub within : r.size ≤ payload_limit
   pub nothing_given : r.bytes ≡ []

@@ -1,11 +1,11 @@
 -- What is laid, step by step.
 use Rattle.std.specs.Prelude.{◌≡◌, ℕ, ◌<◌, Bool, false, IsTrue, IsFalse, List, [], ◌∷◌, length, Some, None}
 use Rattle.ips_outside.specs.Image.{Image, Dir, File, Link, is_dir, is_file}
-use Rattle.ips_outside.specs.Change.{placed, joined, moded}
+use Rattle.ips_outside.specs.Change.{with_entry_at, joined, moded}
 use Rattle.ips_folder.specs.Calls.{CanMake}
 use Rattle.ips_steps.specs.Steps.{Step, Gone, Fresh, Mode, Put, Symlink, Hard}
 use Rattle.ips_repo.specs.Files.{file_at}
-use Rattle.ips_repo.specs.Payload.{Reading, digest_by}
+use Rattle.ips_repo.specs.Payload.{PayloadReading, digest_by}
 use Rattle.ips_install.specs.declared.fault.InstallFault.{InstallFault}
 use Rattle.ips_install.specs.declared.fault.InstallFault.TheVariants as fault
 use Rattle.ips_install.specs.Fault.{IsPayloadFault}
@@ -22,15 +22,15 @@ CanLay t (Hard p to) = CanMake t p × IsTrue (is_file (t.look to))
 
 -- the image after a step other than a put
 abbrev pub changed : Step → Image → Image
-changed (Gone p) t = placed p None t
-changed (Fresh m p) t = placed p (Some (Dir m false)) t
+changed (Gone p) t = with_entry_at p None t
+changed (Fresh m p) t = with_entry_at p (Some (Dir m false)) t
 changed (Mode m p) t = moded m p t
 changed (Put n m p) t = t
-changed (Symlink p target) t = placed p (Some (Link target)) t
+changed (Symlink p target) t = with_entry_at p (Some (Link target)) t
 changed (Hard p to) t = joined p to t
 
 -- a put finds a payload
-abbrev pub HasNext : Step → List Reading → Type 0
+abbrev pub HasNext : Step → List PayloadReading → Type 0
 HasNext (Gone p) payloads = Unit {0}
 HasNext (Fresh m p) payloads = Unit {0}
 HasNext (Mode m p) payloads = Unit {0}
@@ -39,12 +39,12 @@ HasNext (Symlink p target) payloads = Unit {0}
 HasNext (Hard p to) payloads = Unit {0}
 
 -- without the first
-abbrev pub behind_first : List Reading → List Reading
+abbrev pub behind_first : List PayloadReading → List PayloadReading
 behind_first [] = []
 behind_first (r ∷ rest) = rest
 
 -- the payloads that a step leaves: a put takes the first
-abbrev pub left_by : Step → List Reading → List Reading
+abbrev pub left_by : Step → List PayloadReading → List PayloadReading
 left_by (Gone p) payloads = payloads
 left_by (Fresh m p) payloads = payloads
 left_by (Mode m p) payloads = payloads
@@ -54,19 +54,19 @@ left_by (Hard p to) payloads = payloads
 
 -- The second image is the first with a new file, of bytes whose digest is the payload's name; where the repository tells
 -- what it holds, they are those of the payload's file.
-pub record LaysFile (tells : Bool) (repository : Image) (r : Reading) (mode : ℕ) (path : List ℕ) (t u : Image) : Type 0 where
+pub record LaysFile (tells : Bool) (repository : Image) (r : PayloadReading) (mode : ℕ) (path : List ℕ) (t u : Image) : Type 0 where
   pub bytes : List ℕ
-  pub is : u ≡ placed path (Some (File mode bytes)) t
+  pub is : u ≡ with_entry_at path (Some (File mode bytes)) t
   pub named : digest_by r.name bytes ≡ r.name
   pub held : IsTrue tells → file_at repository r.place ≡ Some bytes
 
 -- the second image is the first with a new file of the first of the payloads
-abbrev pub LaysFirst : Bool → Image → List Reading → ℕ → List ℕ → Image → Image → Type 0
+abbrev pub LaysFirst : Bool → Image → List PayloadReading → ℕ → List ℕ → Image → Image → Type 0
 LaysFirst tells repository [] mode path t u = ⊥
 LaysFirst tells repository (r ∷ rest) mode path t u = LaysFile tells repository r mode path t u
 
 -- the second image is the first with what the step lays, with the first of the payloads for a put
-abbrev pub LaysStep : Bool → Image → List Reading → Step → Image → Image → Type 0
+abbrev pub LaysStep : Bool → Image → List PayloadReading → Step → Image → Image → Type 0
 LaysStep tells repository payloads (Gone p) t u = u ≡ changed (Gone p) t
 LaysStep tells repository payloads (Fresh m p) t u = u ≡ changed (Fresh m p) t
 LaysStep tells repository payloads (Mode m p) t u = u ≡ changed (Mode m p) t

@@ -3,7 +3,7 @@
 ghost use Rattle.std.specs.Prelude.{◌≡◌, ◌⊎◌, Bool, true, IsTrue, Err, [], IfErr, OnOk, OnErr, length, map};
 ghost use Rattle.ips_outside.specs.State.{IsSettled};
 ghost use Rattle.ips_outside.specs.Outside.{HasCause};
-ghost use Rattle.ips_folder.specs.Calls.{Keeps};
+ghost use Rattle.ips_folder.specs.Calls.{ChangesOnly};
 ghost use Rattle.ips_steps.specs.Steps.{freed, named};
 ghost use Rattle.ips_steps.specs.View.{step_of};
 ghost use Rattle.ips_steps.specs.Listed.{AreListed};
@@ -59,7 +59,7 @@ pub fn install<S: Source, F: Folder>(
     ensures idle { map step_of steps.items ≡ [] → IfErr result (λ why. why ≡ fault.Folder true → ⊥) }
 
     // At every moment the paths of the steps are all that is changed and touched.
-    ensures any_moment { IsTrue (F.outside.tells image.old) → Keeps F.outside (freed (map step_of steps.items)) (named (map step_of steps.items)) image.old image.new }
+    ensures any_moment { IsTrue (F.outside.tells image.old) → ChangesOnly F.outside (freed (map step_of steps.items)) (named (map step_of steps.items)) image.old image.new }
     ensures repository_kept { S.outside.state repo.new ≡ S.outside.state repo.old }
 
     // A fault is answered exactly where that object's count rose in this call.

@@ -6,7 +6,7 @@ ghost use Rattle.ips_text.specs.Ancestry.{same_path, covers};
 ghost use Rattle.ips_outside.specs.Change.{appended};
 ghost use Rattle.ips_outside.specs.State.{IsSettled};
 ghost use Rattle.ips_outside.specs.Outside.{HasCause, Reads};
-ghost use Rattle.ips_folder.specs.Calls.{CanMake, IsSole, Keeps};
+ghost use Rattle.ips_folder.specs.Calls.{CanMake, IsSole, ChangesOnly};
 ghost use Rattle.ips_steps.specs.Steps.{path_of, frees, freed, named};
 ghost use Rattle.ips_steps.specs.Journal.{IsProper};
 ghost use Rattle.ips_steps.specs.View.{step_of};
@@ -43,7 +43,7 @@ fn copy_payload<S: Source, F: Folder>(
     ensures name { payload.new.name ≡ payload.old.name }
     ensures place { payload.new.place ≡ payload.old.place }
     ensures front { IsTrue (S.outside.tells repo.old) → IsFrontOf (S.outside.state repo.old).held payload.old → IsFrontOf (S.outside.state repo.old).held payload.new }
-    ensures any_moment { IsTrue (F.outside.tells image.old) → Keeps F.outside (covers path.now.bytes) (same_path path.now.bytes) image.old image.new }
+    ensures any_moment { IsTrue (F.outside.tells image.old) → ChangesOnly F.outside (covers path.now.bytes) (same_path path.now.bytes) image.old image.new }
     ensures reads { Reads S.outside repo.old repo.new (result ≡ Err fault.Source) }
     ensures cause { HasCause (F.outside.faults image.old) (F.outside.faults image.new) (result ≡ Err (fault.Folder true)) }
     ensures same_kind { F.outside.tells image.new ≡ F.outside.tells image.old }
@@ -78,7 +78,7 @@ fn lay_file<S: Source, F: Folder>(
     requires known { IsTrue (S.outside.tells repo.old) → IsKnown (S.outside.state repo.old).held payload }
     ensures laid { IsTrue (F.outside.tells image.old) → OnOk result
         (LaysFile (S.outside.tells repo.old) (S.outside.state repo.old).held payload mode path.now.bytes (F.outside.state image.old).held (F.outside.state image.new).held) }
-    ensures any_moment { IsTrue (F.outside.tells image.old) → Keeps F.outside (covers path.now.bytes) (same_path path.now.bytes) image.old image.new }
+    ensures any_moment { IsTrue (F.outside.tells image.old) → ChangesOnly F.outside (covers path.now.bytes) (same_path path.now.bytes) image.old image.new }
     ensures reads { Reads S.outside repo.old repo.new (result ≡ Err fault.Source) }
     ensures cause { HasCause (F.outside.faults image.old) (F.outside.faults image.new) (result ≡ Err (fault.Folder true)) }
     ensures same_kind { F.outside.tells image.new ≡ F.outside.tells image.old }
@@ -113,7 +113,7 @@ fn lay_first<S: Source, F: Folder>(
     ensures laid { IsTrue (F.outside.tells image.old) → OnOk result
         (LaysFirst (S.outside.tells repo.old) (S.outside.state repo.old).held payloads.old.items mode path.now.bytes (F.outside.state image.old).held (F.outside.state image.new).held) }
     ensures left { payloads.new.items ≡ behind_first payloads.old.items }
-    ensures any_moment { IsTrue (F.outside.tells image.old) → Keeps F.outside (covers path.now.bytes) (same_path path.now.bytes) image.old image.new }
+    ensures any_moment { IsTrue (F.outside.tells image.old) → ChangesOnly F.outside (covers path.now.bytes) (same_path path.now.bytes) image.old image.new }
     ensures reads { Reads S.outside repo.old repo.new (result ≡ Err fault.Source) }
     ensures cause { HasCause (F.outside.faults image.old) (F.outside.faults image.new) (result ≡ Err (fault.Folder true)) }
     ensures same_kind { F.outside.tells image.new ≡ F.outside.tells image.old }
@@ -130,7 +130,7 @@ fn change<F: Folder>(image: &mut F, step: &Step) -> Result<(), Failed>
     requires can { IsTrue (F.outside.tells image.old) → CanLay (F.outside.state image.old).held (step_of step.now) }
     requires proper { IsProper (step_of step.now) }
     ensures done { IsTrue (F.outside.tells image.old) → OnOk result ((F.outside.state image.new).held ≡ changed (step_of step.now) (F.outside.state image.old).held) }
-    ensures any_moment { IsTrue (F.outside.tells image.old) → Keeps F.outside (frees (step_of step.now)) (same_path (path_of (step_of step.now))) image.old image.new }
+    ensures any_moment { IsTrue (F.outside.tells image.old) → ChangesOnly F.outside (frees (step_of step.now)) (same_path (path_of (step_of step.now))) image.old image.new }
     ensures same_kind { F.outside.tells image.new ≡ F.outside.tells image.old }
     ensures cause { HasCause (F.outside.faults image.old) (F.outside.faults image.new) (IsErr result) }
 {
@@ -160,7 +160,7 @@ fn lay_step<S: Source, F: Folder>(
     ensures laid { IsTrue (F.outside.tells image.old) → OnOk result
         (LaysStep (S.outside.tells repo.old) (S.outside.state repo.old).held payloads.old.items (step_of step.now) (F.outside.state image.old).held (F.outside.state image.new).held) }
     ensures left { payloads.new.items ≡ left_by (step_of step.now) payloads.old.items }
-    ensures any_moment { IsTrue (F.outside.tells image.old) → Keeps F.outside (frees (step_of step.now)) (same_path (path_of (step_of step.now))) image.old image.new }
+    ensures any_moment { IsTrue (F.outside.tells image.old) → ChangesOnly F.outside (frees (step_of step.now)) (same_path (path_of (step_of step.now))) image.old image.new }
     ensures reads { Reads S.outside repo.old repo.new (result ≡ Err fault.Source) }
     ensures cause { HasCause (F.outside.faults image.old) (F.outside.faults image.new) (result ≡ Err (fault.Folder true)) }
     ensures same_kind { F.outside.tells image.new ≡ F.outside.tells image.old }
@@ -189,7 +189,7 @@ fn lay_steps<S: Source, F: Folder>(
     requires prepared { (publisher : List ℕ) × AllByRecursion (IsPrepared (S.outside.tells repo.old) publisher (S.outside.state repo.old).held) payloads.items }
     ensures laid { IsTrue (F.outside.tells image.old) → (publisher : List ℕ) → AllByRecursion (IsPrepared (S.outside.tells repo.old) publisher (S.outside.state repo.old).held) payloads.items
         → OnOk result (AreLaid (IsPayload (S.outside.tells repo.old) publisher (S.outside.state repo.old).held) (names_of payloads.items) (map step_of steps.now) (F.outside.state image.old).held (F.outside.state image.new).held) }
-    ensures any_moment { IsTrue (F.outside.tells image.old) → Keeps F.outside (freed (map step_of steps.now)) (named (map step_of steps.now)) image.old image.new }
+    ensures any_moment { IsTrue (F.outside.tells image.old) → ChangesOnly F.outside (freed (map step_of steps.now)) (named (map step_of steps.now)) image.old image.new }
     ensures reads { Reads S.outside repo.old repo.new (result ≡ Err fault.Source) }
     ensures cause { HasCause (F.outside.faults image.old) (F.outside.faults image.new) (result ≡ Err (fault.Folder true)) }
     ensures same_kind { F.outside.tells image.new ≡ F.outside.tells image.old }
@@ -219,7 +219,7 @@ pub(crate) fn lay<S: Source, F: Folder>(
     ensures laid { IsTrue (F.outside.tells image.old) → (publisher : List ℕ) → AllByRecursion (IsPrepared (S.outside.tells repo.old) publisher (S.outside.state repo.old).held) payloads.items
         → OnOk result (AreLaid (IsPayload (S.outside.tells repo.old) publisher (S.outside.state repo.old).held) (names_of payloads.items) (map step_of steps.now) (F.outside.state image.old).held (F.outside.state image.new).held) }
     ensures safe { IsTrue (F.outside.tells image.old) → OnOk result (IsSettled (F.outside.state image.new)) }
-    ensures any_moment { IsTrue (F.outside.tells image.old) → Keeps F.outside (freed (map step_of steps.now)) (named (map step_of steps.now)) image.old image.new }
+    ensures any_moment { IsTrue (F.outside.tells image.old) → ChangesOnly F.outside (freed (map step_of steps.now)) (named (map step_of steps.now)) image.old image.new }
     ensures reads { Reads S.outside repo.old repo.new (result ≡ Err fault.Source) }
     ensures cause { HasCause (F.outside.faults image.old) (F.outside.faults image.new) ((unfinished : Bool) × (result ≡ Err (fault.Folder unfinished))) }
     ensures same_kind { F.outside.tells image.new ≡ F.outside.tells image.old }

@@ -5,7 +5,7 @@ use Rattle.ips_steps.specs.Steps.{Step}
 use Rattle.ips_steps.specs.Journal.{IsJournal}
 use Rattle.ips_journal.specs.Text.{line, step_line, step_lines, end_line, headed, journal_text}
 use Rattle.ips_journal.specs.Bad.{HasBadStep, GoesOn, IsBadLine}
-use Rattle.ips_journal.specs.Reading.{Reading, IsAt}
+use Rattle.ips_journal.specs.Reading.{ReaderState, IsAt}
 use Rattle.ips_journal.proofs.Journals.{journal_front, journal_told, last_told, step_or_end, end_once, GoesOnFrom, fronts, behind_head, front_of}
 
 -- a front of a journal, and the step behind it
@@ -126,6 +126,6 @@ read_front steps front rest hs hf e =
     let h = whole_front steps front rest hs hf e in
     (omega (arith, ap length h.parts, length-append front h.more), sym (ap (take (length front)) h.parts ∙ take-append_seam front h.more))
 
-pub in_order : (steps front : List Step) (r : Reading) → IsJournal steps → IsAt (journal_text steps) front r → (length front ≤ length steps) × (front ≡ take (length front) steps)
+pub in_order : (steps front : List Step) (r : ReaderState) → IsJournal steps → IsAt (journal_text steps) front r → (length front ≤ length steps) × (front ≡ take (length front) steps)
 in_order steps [] r hs at = (omega arith, refl)
 in_order steps (s ∷ front) r hs at = read_front steps (s ∷ front) _ hs at.1.listed at.1.begins

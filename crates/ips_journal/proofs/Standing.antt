@@ -8,7 +8,7 @@ use Rattle.ips_journal.specs.Text.{head_line, line, step_line, step_lines, end_l
 use Rattle.ips_journal.specs.Bad.{GoesOn, IsBadLine}
 use Rattle.ips_text.specs.Cut.{has_byte}
 use Rattle.ips_journal.specs.Line.{ComeFirst, BeginsLine}
-use Rattle.ips_journal.specs.Reading.{Reading, Stands, Means, IsFaultOf, IsNextLine, TellsLine, puts_in, text_from}
+use Rattle.ips_journal.specs.Reading.{ReaderState, Stands, NextAnswers, IsJournalFault, IsNextLine, TellsLine, puts_in, text_from}
 use Rattle.ips_journal.specs.Holding.{IsHeaded, IsNextFault, IsStepLine, ReadMeans, TellsMore, clipped, found_step, seen, step_by}
 use Rattle.ips_journal.specs.declared.cursor.Cursor.{Cursor}
 use Rattle.ips_journal.specs.declared.parts.Parts.{Parts}
@@ -63,7 +63,7 @@ no_first text off = λ rest e. no_line head_line rest text 16384 (omega arith) o
 
 module _ (text : List ℕ) (front : List Step) where
   -- behind the first line, where nothing was read before
-  pub behind_first : (old new : Reading) → Stands (text_from front) text front old → old.steps ≡ 0 → IsHeaded text new.place new.ahead → new.steps ≡ old.steps → new.puts ≡ old.puts → Stands (headed front) text front new
+  pub behind_first : (old new : ReaderState) → Stands (text_from front) text front old → old.steps ≡ 0 → IsHeaded text new.place new.ahead → new.steps ≡ old.steps → new.puts ≡ old.puts → Stands (headed front) text front new
   behind_first old new h zero first steps puts = go front h.listed h.steps h.puts
     where
       go : (f : List Step) → IsJournal f → old.steps ≡ length f → old.puts ≡ puts_in f → Stands (headed f) text f new
@@ -80,7 +80,7 @@ module _ (text : List ℕ) (front : List Step) where
       go (s ∷ f) listed count put = absurd (omega (arith, zero, count))
 
   -- a fault of the first line
-  pub first_fault : (r : Reading) → Stands (text_from front) text front r → r.steps ≡ 0 → (f : StepFault) → IsFaultOf text f → TellsLine 1 f → IsNextFault text front f
+  pub first_fault : (r : ReaderState) → Stands (text_from front) text front r → r.steps ≡ 0 → (f : StepFault) → IsJournalFault text f → TellsLine 1 f → IsNextFault text front f
   first_fault r h zero (BadJournal line) bad is = (bad, inl (none front (sym h.steps ∙ zero), is))
     where
       none : (f : List Step) → length f ≡ 0 → f ≡ []
@@ -89,7 +89,7 @@ module _ (text : List ℕ) (front : List Step) where
   first_fault r h zero FolderFault bad is = (tt, tt)
 
   -- and where a step was
-  pub behind_already : (r : Reading) → Stands (text_from front) text front r → 0 < r.steps → Stands (headed front) text front r
+  pub behind_already : (r : ReaderState) → Stands (text_from front) text front r → 0 < r.steps → Stands (headed front) text front r
   behind_already r h some = go front h.listed h.steps h.puts h.begins
     where
       go : (f : List Step) → IsJournal f → r.steps ≡ length f → r.puts ≡ puts_in f → text ≡ text_from f (drop r.place text) → Stands (headed f) text f r
@@ -102,7 +102,7 @@ from_more : (front : List Step) (s : Step) (x : List ℕ) → headed front (line
 from_more [] s x = refl
 from_more (t ∷ front) s x = ap (line head_line) (sym (lines_more (t ∷ front) s x))
 
-module _ (text : List ℕ) (front : List Step) (r : Reading) (h : Stands (headed front) text front r) (small : length text < 2 ^ 64) where
+module _ (text : List ℕ) (front : List Step) (r : ReaderState) (h : Stands (headed front) text front r) (small : length text < 2 ^ 64) where
   long : length front + length (drop r.place text) + 10 ≤ length text
   long = omega (arith, headed_long front (drop r.place text), ap length h.begins)
 
@@ -141,7 +141,7 @@ module _ (text : List ℕ) (front : List Step) (r : Reading) (h : Stands (headed
         (λ more e. no_end ((cut_once 10 bytes (drop (count + 1) (drop r.place text)) (end_line (length front)) more one_line (end_one_line (length front) h.listed.count) (sym parts ∙ e)).0 ∙ ap end_line (sym h.steps)))
 
     -- the line tells a step
-    pub step_taken : (s : Step) (new : Reading) (held : List ℕ) → ComeFirst held (drop r.place text) → count < length held → new.ahead ≡ drop (count + 1) held → IsStepLine bytes r.puts s → new.place ≡ clipped r.place (count + 1) → new.steps ≡ clipped r.steps 1 → new.puts ≡ clipped r.puts (puts_in (s ∷ [])) → new.line ≡ clipped r.steps 2
+    pub step_taken : (s : Step) (new : ReaderState) (held : List ℕ) → ComeFirst held (drop r.place text) → count < length held → new.ahead ≡ drop (count + 1) held → IsStepLine bytes r.puts s → new.place ≡ clipped r.place (count + 1) → new.steps ≡ clipped r.steps 1 → new.puts ≡ clipped r.puts (puts_in (s ∷ [])) → new.line ≡ clipped r.steps 2
         → Stands (text_from (front ++ s ∷ [])) text (front ++ s ∷ []) new
     step_taken s new held first fits ahead is place steps puts number =
         let here : new.place ≡ r.place + (count + 1) = omega (arith, place, line_within, small) in
@@ -197,12 +197,12 @@ lending before text front c a b h = record { listed = h.listed; steps = h.steps;
 -- what an answer means, where the step that was found is lent
 pub read_means : (text : List ℕ) (front : List Step) (old new : Cursor) (held lent : Option Step) (parts : Parts) (found : Result (Option Sort) StepFault) (x : Option Sort) → found ≡ Ok x
     → (Stands (text_from front) text front (seen old None) → ReadMeans text front new parts found) → IfOk found (λ y. new.is_open ≡ is_some y) → Stands (text_from front) text front (seen old held) → lent ≡ found_step found parts
-    → Means text front (seen new lent) (Ok (is_some x))
+    → NextAnswers text front (seen new lent) (Ok (is_some x))
 read_means text front old new held lent parts found x is means opened h made =
     go x (subst (ReadMeans text front new parts) is (means (lending (text_from front) text front old held None h))) (subst (λ (f : Result (Option Sort) StepFault). IfOk f (λ y. new.is_open ≡ is_some y)) is opened)
     (made ∙ ap (λ (f : Result (Option Sort) StepFault). found_step f parts) is)
   where
-    go : (y : Option Sort) → ReadMeans text front new parts (Ok y) → new.is_open ≡ is_some y → lent ≡ found_step (Ok y) parts → Means text front (seen new lent) (Ok (is_some y))
+    go : (y : Option Sort) → ReadMeans text front new parts (Ok y) → new.is_open ≡ is_some y → lent ≡ found_step (Ok y) parts → NextAnswers text front (seen new lent) (Ok (is_some y))
     go (Some sort) stands opens lend =
         (step_by sort parts, (opens, lending (text_from (front ++ step_by sort parts ∷ [])) text (front ++ step_by sort parts ∷ []) new None lent stands), lend)
     go None listed opens lend = listed

@@ -9,7 +9,7 @@ use Rattle.ips_steps.specs.declared.step.Sort.{Sort}
 use Rattle.ips_steps.specs.declared.step.Sort.TheVariants as sort
 use Rattle.ips_journal.specs.Text.{head_line, line, headed, journal_text, step_line}
 use Rattle.ips_journal.specs.Line.{ComeFirst}
-use Rattle.ips_journal.specs.Reading.{Reading, Stands, IsFaultOf, TellsNext, puts_in, text_from, parent_in, stage_in}
+use Rattle.ips_journal.specs.Reading.{ReaderState, Stands, IsJournalFault, TellsNext, puts_in, text_from, parent_in, stage_in}
 use Rattle.ips_journal.specs.declared.parts.Parts.{Parts}
 use Rattle.ips_journal.specs.declared.held.Left.{Left}
 use Rattle.ips_journal.specs.declared.held.Left.TheVariants.{OfPath, OfLink, OfHard}
@@ -91,7 +91,7 @@ found_step (Ok None) parts = None
 found_step (Err fault) parts = None
 
 -- where a cursor stands, with the step that is lent
-abbrev pub seen : Cursor → Option Step → Reading
+abbrev pub seen : Cursor → Option Step → ReaderState
 seen c s = record { place = c.place; steps = c.steps; puts = c.puts; ahead = c.ahead; line = c.line; is_open = c.is_open; step = s }
 
 -- the cursor stands at the front
@@ -155,7 +155,7 @@ pub record IsStepLine (bytes : List ℕ) (put : ℕ) (s : Step) : Type 0 where
 
 -- a fault of the text tells its first bad line, which comes next behind these steps
 abbrev pub IsNextFault : List ℕ → List Step → StepFault → Type 0
-IsNextFault text front fault = IsFaultOf text fault × TellsNext text front fault
+IsNextFault text front fault = IsJournalFault text fault × TellsNext text front fault
 
 -- What reading on means where the steps of the front were read: a step of the parts, the end, or a bad line.
 abbrev pub ReadMeans : List ℕ → List Step → Cursor → Parts → Result (Option Sort) StepFault → Type 0

@@ -14,7 +14,7 @@ use Rattle.ips_journal.specs.declared.fault.StepFault.TheVariants.{BadJournal, F
 
 -- The state of a reader: bytes, steps and contents behind it; the bytes before it that it holds already; the number and the
 -- step of the line that it read last, or the faulty one's number. It is open until it meets the end or a fault.
-pub record Reading : Type 0 where
+pub record ReaderState : Type 0 where
   pub place : ℕ
   pub steps : ℕ
   pub puts : ℕ
@@ -39,7 +39,7 @@ text_from [] rest = rest
 text_from (s ∷ front) rest = headed (s ∷ front) rest
 
 -- The reader has read these steps, which a journal can list; `before` makes the text of what lies before the reader.
-pub record Stands (before : List ℕ → List ℕ) (text : List ℕ) (front : List Step) (r : Reading) : Type 0 where
+pub record Stands (before : List ℕ → List ℕ) (text : List ℕ) (front : List Step) (r : ReaderState) : Type 0 where
   pub listed : IsJournal front
   pub steps : r.steps ≡ length front
   pub puts : r.puts ≡ puts_in front
@@ -51,7 +51,7 @@ pub record Stands (before : List ℕ → List ℕ) (text : List ℕ) (front : Li
   pub small : 0 < r.steps → length text < 2 ^ 64
 
 -- The reader has read just these steps of this text, and neither its end nor a fault.
-abbrev pub IsAt : List ℕ → List Step → Reading → Type 0
+abbrev pub IsAt : List ℕ → List Step → ReaderState → Type 0
 IsAt text front r = IsTrue r.is_open × Stands (text_from front) text front r
 
 -- the text of the journal that an image holds: the bytes of the file at its place, none where no file stands
@@ -59,16 +59,16 @@ abbrev pub journal_of : Image → List ℕ
 journal_of t = readable (t.look journal_name)
 
 -- a fault of the text tells the first line that isn't of the grammar
-abbrev pub IsFaultOf : List ℕ → StepFault → Type 0
-IsFaultOf text (BadJournal line) = IsBadLine text line
-IsFaultOf text FolderFault = Unit {0}
+abbrev pub IsJournalFault : List ℕ → StepFault → Type 0
+IsJournalFault text (BadJournal line) = IsBadLine text line
+IsJournalFault text FolderFault = Unit {0}
 
 -- What `next` answers behind the steps of the front: true, with one more step; false, where the text is the journal of the
 -- front; or a fault, with the first line that isn't of the grammar.
-abbrev pub Means : List ℕ → List Step → Reading → Result Bool StepFault → Type 0
-Means text front new (Ok true) = (s : Step) × IsAt text (front ++ s ∷ []) new × (new.step ≡ Some s)
-Means text front new (Ok false) = IsJournal front × (text ≡ journal_text front)
-Means text front new (Err fault) = IsFaultOf text fault
+abbrev pub NextAnswers : List ℕ → List Step → ReaderState → Result Bool StepFault → Type 0
+NextAnswers text front new (Ok true) = (s : Step) × IsAt text (front ++ s ∷ []) new × (new.step ≡ Some s)
+NextAnswers text front new (Ok false) = IsJournal front × (text ≡ journal_text front)
+NextAnswers text front new (Err fault) = IsJournalFault text fault
 
 -- a fault of the text tells this line
 abbrev pub TellsLine : ℕ → StepFault → Type 0

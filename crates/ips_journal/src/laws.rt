@@ -5,7 +5,7 @@ ghost use Rattle.ips_steps.specs.Steps.{Step};
 ghost use Rattle.ips_steps.specs.Journal.{IsJournal};
 ghost use Rattle.ips_journal.specs.Text.{journal_text};
 ghost use Rattle.ips_journal.specs.Bad.{IsBadLine};
-ghost use Rattle.ips_journal.specs.Reading.{Reading, IsAt};
+ghost use Rattle.ips_journal.specs.Reading.{ReaderState, IsAt};
 
 /// No two lists of steps have one text, and the text of a list has no bad line.
 pub fn journals_read_back()
@@ -20,6 +20,6 @@ pub fn one_bad_line()
 
 /// Of the text of a list, a reader reads the steps of that list, one after another from the first.
 pub fn steps_come_in_order()
-    ensures within { (steps front : List Step) (r : Reading) → IsJournal steps → IsAt (journal_text steps) front r → length front ≤ length steps }
-    ensures front { (steps front : List Step) (r : Reading) → IsJournal steps → IsAt (journal_text steps) front r → front ≡ take (length front) steps }
+    ensures within { (steps front : List Step) (r : ReaderState) → IsJournal steps → IsAt (journal_text steps) front r → length front ≤ length steps }
+    ensures front { (steps front : List Step) (r : ReaderState) → IsJournal steps → IsAt (journal_text steps) front r → front ≡ take (length front) steps }
 {}

@@ -5,7 +5,7 @@ ghost use Rattle.ips_outside.specs.Outside.{Reads};
 ghost use Rattle.ips_steps.specs.Steps.{Step as StepMeant, path_of};
 ghost use Rattle.ips_steps.specs.Journal.{IsProper, step_allowed};
 ghost use Rattle.ips_steps.specs.View.{step_of};
-ghost use Rattle.ips_journal.specs.Reading.{IsAt, Means, TellsLine, TellsNext, journal_of, parent_in, stage_in};
+ghost use Rattle.ips_journal.specs.Reading.{IsAt, NextAnswers, TellsLine, TellsNext, journal_of, parent_in, stage_in};
 ghost use Rattle.ips_journal.specs.declared.fault.StepFault.TheVariants as fault;
 
 use crate::beside::Beside;
@@ -29,10 +29,10 @@ pub struct StepReader {
 }
 
 impl Model for StepReader {
-    ghost use Rattle.ips_journal.specs.Reading.{Reading};
+    ghost use Rattle.ips_journal.specs.Reading.{ReaderState};
     ghost use Rattle.ips_journal.specs.Holding.{seen, step_in, IsReader};
 
-    ghost Value = { Reading };
+    ghost Value = { ReaderState };
 
     ghost view = { λ r. seen r.cursor (step_in r.held) };
 
@@ -73,7 +73,7 @@ impl StepReader {
     pub fn next<F: Folder>(&mut self, folder: &mut F) -> Result<bool, StepFault>
         requires { IsTrue self.old.is_open }
         ensures means { IsTrue (F.outside.tells folder.old) → (front : List StepMeant) → IsAt (journal_of (F.outside.state folder.old).held) front self.old
-            → Means (journal_of (F.outside.state folder.old).held) front self.new result }
+            → NextAnswers (journal_of (F.outside.state folder.old).held) front self.new result }
         ensures next { IsTrue (F.outside.tells folder.old) → (front : List StepMeant) → IsAt (journal_of (F.outside.state folder.old).held) front self.old
             → IfErr result (TellsNext (journal_of (F.outside.state folder.old).held) front) }
         ensures lends { IfOk result (λ more. (is_some self.new.step ≡ more) × (self.new.is_open ≡ more)) }

@@ -4,7 +4,7 @@ ghost use Rattle.std.specs.Prelude.{◌≡◌, ◌+◌, ◌<◌, ◌≤◌, ◌^
 ghost use Rattle.ips_outside.specs.Outside.{Reads};
 ghost use Rattle.ips_steps.specs.Steps.{Step};
 ghost use Rattle.ips_journal.specs.Text.{head_line, end_line};
-ghost use Rattle.ips_journal.specs.Reading.{Stands, IsFaultOf, TellsLine, text_from, journal_of, puts_in};
+ghost use Rattle.ips_journal.specs.Reading.{Stands, IsJournalFault, TellsLine, text_from, journal_of, puts_in};
 ghost use Rattle.ips_journal.specs.Holding.{HaveRoom, IsBehindHead, IsFresh, IsHeaded, IsMoved, IsNextFault, IsSafe, IsStepLine, IsStill, ReadMeans, SameCounts, TellsMore, clipped, seen, step_by};
 ghost use Rattle.ips_journal.specs.declared.parts.Parts.{Parts as PartsMeant};
 ghost use Rattle.ips_journal.specs.declared.fault.StepFault.TheVariants as fault;
@@ -99,7 +99,7 @@ impl Cursor {
     // Reads the first line. A look tells before that the file has fewer than 2^64 bytes.
     fn read_head<F: Folder>(&mut self, folder: &mut F) -> Result<(), StepFault>
         ensures head { IsTrue (F.outside.tells folder.old) → OnOk result (IsHeaded (journal_of (F.outside.state folder.old).held) self.new.place self.new.ahead) }
-        ensures bad { IsTrue (F.outside.tells folder.old) → IfErr result (IsFaultOf (journal_of (F.outside.state folder.old).held)) }
+        ensures bad { IsTrue (F.outside.tells folder.old) → IfErr result (IsJournalFault (journal_of (F.outside.state folder.old).held)) }
         ensures first { IfErr result (TellsLine 1) }
         ensures counts { SameCounts self.old self.new }
         ensures line { IfErr result (TellsLine self.new.line) }

@@ -5,7 +5,7 @@ ghost use Rattle.ips_text.specs.Ancestry.{covers};
 ghost use Rattle.ips_outside.specs.Image.{Image, file_bytes};
 ghost use Rattle.ips_outside.specs.State.{nowhere};
 ghost use Rattle.ips_outside.specs.Outside.{HasCause};
-ghost use Rattle.ips_folder.specs.Calls.{IsSole, Keeps};
+ghost use Rattle.ips_folder.specs.Calls.{IsSole, ChangesOnly};
 ghost use Rattle.ips_steps.specs.Steps.{Step as StepMeant};
 ghost use Rattle.ips_steps.specs.Private.{journal_name};
 ghost use Rattle.ips_steps.specs.View.{step_of};
@@ -46,7 +46,7 @@ impl JournalWriter {
         requires { IsTrue (F.outside.tells folder.old) → IsSole (F.outside.state folder.old).held journal_name }
         ensures written { IsTrue (F.outside.tells folder.old) → (steps : List StepMeant) → IsWritten self.old (F.outside.state folder.old).held steps
             → OnOk result (IsWritten self.new (F.outside.state folder.new).held (steps ++ step_of step.now ∷ [])) }
-        ensures any_moment { IsTrue (F.outside.tells folder.old) → Keeps F.outside (covers journal_name) nowhere folder.old folder.new }
+        ensures any_moment { IsTrue (F.outside.tells folder.old) → ChangesOnly F.outside (covers journal_name) nowhere folder.old folder.new }
         ensures cause { HasCause (F.outside.faults folder.old) (F.outside.faults folder.new) (IsErr result) }
         ensures same_kind { F.outside.tells folder.new ≡ F.outside.tells folder.old }
         ensures changes { F.outside.changes folder.old ≤ F.outside.changes folder.new }
@@ -62,7 +62,7 @@ impl JournalWriter {
         requires { IsTrue (F.outside.tells folder.old) → IsSole (F.outside.state folder.old).held journal_name }
         ensures written { IsTrue (F.outside.tells folder.old) → (steps : List StepMeant) → IsWritten self.old (F.outside.state folder.old).held steps → length steps < 2 ^ 64
             → OnOk result (file_bytes ((F.outside.state folder.new).held.look journal_name) ≡ Some (journal_text steps)) }
-        ensures any_moment { IsTrue (F.outside.tells folder.old) → Keeps F.outside (covers journal_name) nowhere folder.old folder.new }
+        ensures any_moment { IsTrue (F.outside.tells folder.old) → ChangesOnly F.outside (covers journal_name) nowhere folder.old folder.new }
         ensures cause { HasCause (F.outside.faults folder.old) (F.outside.faults folder.new) (IsErr result) }
         ensures same_kind { F.outside.tells folder.new ≡ F.outside.tells folder.old }
         ensures changes { F.outside.changes folder.old ≤ F.outside.changes folder.new }
@@ -80,7 +80,7 @@ impl JournalWriter {
         ensures written { IsTrue (F.outside.tells folder.old) → (steps : List StepMeant) → IsWritten self.old (F.outside.state folder.old).held steps
             → OnOk result (IsWritten self.new (F.outside.state folder.new).held steps) }
         ensures sole { IsTrue (F.outside.tells folder.old) → OnOk result (IsSole (F.outside.state folder.new).held journal_name) }
-        ensures any_moment { IsTrue (F.outside.tells folder.old) → Keeps F.outside (covers journal_name) nowhere folder.old folder.new }
+        ensures any_moment { IsTrue (F.outside.tells folder.old) → ChangesOnly F.outside (covers journal_name) nowhere folder.old folder.new }
         ensures cause { HasCause (F.outside.faults folder.old) (F.outside.faults folder.new) (IsErr result) }
         ensures same_kind { F.outside.tells folder.new ≡ F.outside.tells folder.old }
         ensures changes { F.outside.changes folder.old ≤ F.outside.changes folder.new }

@@ -9,7 +9,7 @@ use Rattle.ips_steps.specs.declared.step.Sort.{Sort}
 use Rattle.ips_steps.specs.declared.step.Sort.TheVariants as sort
 use Rattle.ips_kinds.specs.Acts.{same_sort, tally_after}
 use Rattle.ips_kinds.specs.declared.kind.Act.TheVariants.{Finished}
-use Rattle.ips_kinds.specs.Tallies.{Carrier, seen_by, taken, one_more, counted, all_counted, number_of, tally_of_all, IsFirstTaker}
+use Rattle.ips_kinds.specs.Tallies.{Carrier, seen_by, taken, one_more, counted, all_counted, count_of_sort, tally_of_all, IsFirstTaker}
 
 pub counted_more : (steps : List Step) (s : Step) (kinds : List Carrier) → all_counted (steps ++ s ∷ []) kinds ≡ counted (sort_of s) (all_counted steps kinds)
 counted_more [] s kinds = refl
@@ -90,24 +90,24 @@ taken_front s r (k ∷ rest) (suc n) = go (k.sorts s) (taken_front s r rest n)
 
 -- a kind of one sort alone, the first that takes it, counts the steps of that sort
 pub own_steps : (kinds : List Carrier) (steps : List Step) (s : Sort) (place : ℕ) (k : Carrier) → slice_get kinds place ≡ Some k → ((r : Sort) → k.sorts r ≡ same_sort s r) → taken (take place kinds) s ≡ false
-    → k.finished + number_of s steps < 2 ^ 64 → slice_get (all_counted steps kinds) place ≡ Some (record { sorts = k.sorts; finished = k.finished + number_of s steps })
+    → k.finished + count_of_sort s steps < 2 ^ 64 → slice_get (all_counted steps kinds) place ≡ Some (record { sorts = k.sorts; finished = k.finished + count_of_sort s steps })
 own_steps kinds [] s place k is one first few = is ∙ ap (λ (n : ℕ). Some (record { sorts = k.sorts; finished = n })) (let same : k.finished ≡ k.finished + 0 = omega arith in same)
 own_steps kinds (x ∷ rest) s place k is one first few = go (same_sort s (sort_of x)) refl
     (λ k' is' one' few'. own_steps (counted (sort_of x) kinds) rest s place k' is' one' (taken_front (sort_of x) s kinds place ∙ first) few')
   where
     go : (c : Bool) → same_sort s (sort_of x) ≡ c
-        → ((k' : Carrier) → slice_get (counted (sort_of x) kinds) place ≡ Some k' → ((r : Sort) → k'.sorts r ≡ same_sort s r) → k'.finished + number_of s rest < 2 ^ 64
-        → slice_get (all_counted rest (counted (sort_of x) kinds)) place ≡ Some (record { sorts = k'.sorts; finished = k'.finished + number_of s rest }))
-        → slice_get (all_counted rest (counted (sort_of x) kinds)) place ≡ Some (record { sorts = k.sorts; finished = k.finished + cond c (number_of s rest + 1) (number_of s rest) })
+        → ((k' : Carrier) → slice_get (counted (sort_of x) kinds) place ≡ Some k' → ((r : Sort) → k'.sorts r ≡ same_sort s r) → k'.finished + count_of_sort s rest < 2 ^ 64
+        → slice_get (all_counted rest (counted (sort_of x) kinds)) place ≡ Some (record { sorts = k'.sorts; finished = k'.finished + count_of_sort s rest }))
+        → slice_get (all_counted rest (counted (sort_of x) kinds)) place ≡ Some (record { sorts = k.sorts; finished = k.finished + cond c (count_of_sort s rest + 1) (count_of_sort s rest) })
     go true same later =
         let own : sort_of x ≡ s = sym (same_sort-true s (sort_of x) same) in
-        let here : k.finished + (number_of s rest + 1) < 2 ^ 64 = subst (λ (c : Bool). k.finished + cond c (number_of s rest + 1) (number_of s rest) < 2 ^ 64) same few in
+        let here : k.finished + (count_of_sort s rest + 1) < 2 ^ 64 = subst (λ (c : Bool). k.finished + cond c (count_of_sort s rest + 1) (count_of_sort s rest) < 2 ^ 64) same few in
         let tally : min (k.finished + 1) (2 ^ 64 - 1) ≡ k.finished + 1 = omega (arith, here) in
         let stands : slice_get (counted (sort_of x) kinds) place ≡ Some (record { sorts = k.sorts; finished = k.finished + 1 }) =
         counts_one (sort_of x) kinds place k is (ap k.sorts own ∙ one s ∙ same_sort-self s) (ap (λ (r : Sort). taken (take place kinds) r) own ∙ first) ∙ ap (λ (n : ℕ). Some (record { sorts = k.sorts; finished = n })) tally in
-        let sum : (k.finished + 1) + number_of s rest ≡ k.finished + (number_of s rest + 1) = omega arith in
+        let sum : (k.finished + 1) + count_of_sort s rest ≡ k.finished + (count_of_sort s rest + 1) = omega arith in
         later (record { sorts = k.sorts; finished = k.finished + 1 }) stands one (omega (arith, here)) ∙ ap (λ (n : ℕ). Some (record { sorts = k.sorts; finished = n })) sum
-    go false other later = later k (passed_over (sort_of x) kinds place k is (one (sort_of x) ∙ other)) one (subst (λ (c : Bool). k.finished + cond c (number_of s rest + 1) (number_of s rest) < 2 ^ 64) other few)
+    go false other later = later k (passed_over (sort_of x) kinds place k is (one (sort_of x) ∙ other)) one (subst (λ (c : Bool). k.finished + cond c (count_of_sort s rest + 1) (count_of_sort s rest) < 2 ^ 64) other few)
 
 -- no tally of them reaches its last value within so many steps
 abbrev pub AllRoom : ℕ → List Carrier → Type 0

@@ -35,9 +35,9 @@ all_counted [] kinds = kinds
 all_counted (s ∷ rest) kinds = all_counted rest (counted (sort_of s) kinds)
 
 -- how many steps of the sort there are
-abbrev pub number_of : Sort → List Step → ℕ
-number_of s [] = 0
-number_of s (x ∷ rest) = cond (same_sort s (sort_of x)) (number_of s rest + 1) (number_of s rest)
+abbrev pub count_of_sort : Sort → List Step → ℕ
+count_of_sort s [] = 0
+count_of_sort s (x ∷ rest) = cond (same_sort s (sort_of x)) (count_of_sort s rest + 1) (count_of_sort s rest)
 
 -- how many steps the kinds have finished together
 abbrev pub tally_of_all : List Carrier → ℕ

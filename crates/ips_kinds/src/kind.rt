@@ -6,7 +6,7 @@ ghost use Rattle.ips_steps.specs.Steps.{Step as StepMeant};
 ghost use Rattle.ips_steps.specs.View.{step_of, sort_of};
 ghost use Rattle.ips_steps.specs.declared.step.Sort.{Sort};
 ghost use Rattle.ips_kinds.specs.Acts.{acts, tally_after, same_sort};
-ghost use Rattle.ips_kinds.specs.Tallies.{Carrier, taken, all_counted, number_of, tally_of_all};
+ghost use Rattle.ips_kinds.specs.Tallies.{Carrier, taken, all_counted, count_of_sort, tally_of_all};
 ghost use Rattle.ips_kinds.specs.declared.kind.Act.{Act};
 ghost use Rattle.ips_kinds.specs.declared.kind.Act.TheVariants.{Finished};
 
@@ -79,8 +79,8 @@ pub fn ends_once()
 /// tally may reach its last value.
 pub fn counts_each_step()
     ensures own { (kinds : List Carrier) (steps : List StepMeant) (sort : Sort) (place : ℕ) (kind : Carrier) → slice_get kinds place ≡ Some kind
-        → ((other : Sort) → kind.sorts other ≡ same_sort sort other) → IsFalse (taken (take place kinds) sort) → kind.finished + number_of sort steps < 2 ^ 64
-        → slice_get (all_counted steps kinds) place ≡ Some (record { sorts = kind.sorts; finished = kind.finished + number_of sort steps }) }
+        → ((other : Sort) → kind.sorts other ≡ same_sort sort other) → IsFalse (taken (take place kinds) sort) → kind.finished + count_of_sort sort steps < 2 ^ 64
+        → slice_get (all_counted steps kinds) place ≡ Some (record { sorts = kind.sorts; finished = kind.finished + count_of_sort sort steps }) }
     ensures together { (kinds : List Carrier) (steps : List StepMeant) → ((sort : Sort) → IsTrue (taken kinds sort)) → All (λ k. k.finished + length steps < 2 ^ 64) kinds
         → tally_of_all (all_counted steps kinds) ≡ tally_of_all kinds + length steps }
 {}

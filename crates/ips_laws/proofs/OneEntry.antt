@@ -12,7 +12,7 @@ use Rattle.ips_conflict.specs.Alike.{kind_place, mode_of}
 use Rattle.ips_conflict.specs.Clash.{path_key}
 use Rattle.ips_meaning.specs.declared.entry.Entry.{Entry}
 use Rattle.ips_meaning.specs.declared.entry.Entry.TheVariants.{Dir, File, Link, Hard}
-use Rattle.ips_meaning.specs.Want.{Means, Gives, IsWanted, IsFreeOfClashes}
+use Rattle.ips_meaning.specs.Want.{MeansEntry, GivesEntry, IsWanted, IsFreeOfClashes}
 use Rattle.ips_laws.specs.Alike.{IsLike}
 use Rattle.ips_laws.proofs.Pairs.{one_counts, one_kind, one_mode, one_target, one_end}
 
@@ -51,14 +51,14 @@ place_of (File payload mode preserve) = 1
 place_of (Link target) = 2
 place_of (Hard to) = 3
 
-means_place : (a : Fields) (entry : Entry) → Means a entry → kind_place a.kind ≡ place_of entry
+means_place : (a : Fields) (entry : Entry) → MeansEntry a entry → kind_place a.kind ≡ place_of entry
 means_place a (Dir mode) m = ap kind_place m.0
 means_place a (File payload mode preserve) m = ap kind_place m.0
 means_place a (Link target) m = ap kind_place m.0
 means_place a (Hard to) m = ap kind_place m.0
 
 module _ (kept : List Placed) (free : IsFreeOfClashes kept) (path : List ℕ) where
-  gives_like : (a b : Entry) → place_of a ≡ place_of b → Gives kept path a → Gives kept path b → IsLike a b
+  gives_like : (a b : Entry) → place_of a ≡ place_of b → GivesEntry kept path a → GivesEntry kept path b → IsLike a b
   gives_like (Dir mode) (Dir other) e x y = x.means.1 ∙ ap (λ (m : ℕ). Some m) (one_mode kept free (path_key path) x.i y.i x.p y.p x.at y.at x.means.0 y.means.0) ∙ sym y.means.1
   gives_like (File payload mode preserve) (File name bits way) e x y =
       let one : x.p ≡ y.p = one_counts kept path x.i y.i x.p y.p (x.counts x.means.0) (y.counts y.means.0) in (
@@ -71,7 +71,7 @@ module _ (kept : List Placed) (free : IsFreeOfClashes kept) (path : List ℕ) wh
   gives_like a b e x y = absurd (omega (arith, e))
 
   -- what is given at the path is of one kind
-  one_place : (a b : Entry) → Gives kept path a → Gives kept path b → place_of a ≡ place_of b
+  one_place : (a b : Entry) → GivesEntry kept path a → GivesEntry kept path b → place_of a ≡ place_of b
   one_place a b x y = sym (means_place x.p.action a x.means) ∙ one_kind kept free (path_key path) x.i y.i x.p y.p x.at y.at ∙ means_place y.p.action b y.means
 
   pub wanted_like : (a b : Entry) → IsWanted kept path a → IsWanted kept path b → IsLike a b

@@ -7,7 +7,7 @@ ghost use Rattle.ips_manifest.specs.declared.package.Package.{Package};
 ghost use Rattle.ips_filter.specs.Settings.{Set};
 ghost use Rattle.ips_mediate.specs.declared.set.SetMediator.{SetMediator};
 ghost use Rattle.ips_state.specs.State.{installed};
-ghost use Rattle.ips_request.specs.Case.{Reading};
+ghost use Rattle.ips_request.specs.Case.{ManifestReading};
 ghost use Rattle.ips_meaning.specs.declared.entry.Entry.{Entry};
 ghost use Rattle.ips_meaning.specs.Want.{PackagesMean};
 ghost use Rattle.ips_plan.specs.Meant.{IsMeant};
@@ -32,5 +32,5 @@ pub fn image_is_one()
 /// What is done is one image: at `Done` the words, the repository and the old image say what stands at each path, and which paths
 /// share a file.
 pub fn done_is_one()
-    ensures { (words : List (List ℕ)) (repository : Image) (r : Reading) (old a b : Image) → IsDone words repository r old a → IsDone words repository r old b → a ≡ b }
+    ensures { (words : List (List ℕ)) (repository : Image) (r : ManifestReading) (old a b : Image) → IsDone words repository r old a → IsDone words repository r old b → a ≡ b }
 {}

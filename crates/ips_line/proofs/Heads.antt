@@ -8,7 +8,7 @@ use Rattle.ips_text.specs.declared.refusal.Stop.{Stop}
 use Rattle.ips_text.specs.Reading.{◌>>=◌, Reader, next_is, run}
 use Rattle.ips_text.proofs.Readers.{Stops, Reads, SameBefore, bind_ok, bind_err, ok_is, ok_not_err, err_same, next_parts}
 use Rattle.ips_line.specs.declared.fault.Part.{Part}
-use Rattle.ips_line.specs.Line.{is_blank, in_word, in_payload, in_key, IsRun, Plain, written_text, Payload, payload_written, IsPayload, Attribute, attribute_written, IsAttribute}
+use Rattle.ips_line.specs.Line.{is_blank, in_word, in_payload, in_key, IsRunOfBytes, Plain, written_text, Payload, payload_written, IsPayload, Attribute, attribute_written, IsAttribute}
 use Rattle.ips_line.specs.Reading.{is_none, is_key, wrong_at, attributes_at, payload_from, payload_at}
 use Rattle.ips_line.proofs.Keyed.{key_first}
 use Rattle.ips_line.proofs.Listed.{Rest, rest_text, RestFits, rest_takes, rest_again, Same, rest_stops, rest_blank, rest_ends}
@@ -48,23 +48,23 @@ keys_payload : (key : List ℕ) → list_all in_key key ≡ true → list_all in
 keys_payload [] h = refl
 keys_payload (b ∷ key) h = let p = and_parts (in_key b) (list_all in_key key) h in let more = keys_payload key p.1 in rw (key_payload b p.0, more) refl
 
-pub run_all : (test : ℕ → Bool) (x : List ℕ) → IsRun test x → list_all test x ≡ true
+pub run_all : (test : ℕ → Bool) (x : List ℕ) → IsRunOfBytes test x → list_all test x ≡ true
 run_all test [] h = absurd h
 run_all test (b ∷ x) h = h
 
-run_has : (test : ℕ → Bool) (x : List ℕ) → IsRun test x → is_none x ≡ false
+run_has : (test : ℕ → Bool) (x : List ℕ) → IsRunOfBytes test x → is_none x ≡ false
 run_has test [] h = absurd h
 run_has test (b ∷ x) h = refl
 
-pub has_run : (test : ℕ → Bool) (x : List ℕ) → list_all test x ≡ true → is_none x ≡ false → IsRun test x
+pub has_run : (test : ℕ → Bool) (x : List ℕ) → list_all test x ≡ true → is_none x ≡ false → IsRunOfBytes test x
 has_run test [] h some = absurd (true≢false some)
 has_run test (b ∷ x) h some = h
 
-is_key_run : (w : List ℕ) → is_key w ≡ true → IsRun in_key w
+is_key_run : (w : List ℕ) → is_key w ≡ true → IsRunOfBytes in_key w
 is_key_run [] h = absurd (true≢false (sym h))
 is_key_run (b ∷ w) h = h
 
-run_is_key : (w : List ℕ) → IsRun in_key w → is_key w ≡ true
+run_is_key : (w : List ℕ) → IsRunOfBytes in_key w → is_key w ≡ true
 run_is_key [] h = absurd h
 run_is_key (b ∷ w) h = h
 
@@ -81,7 +81,7 @@ unfolding payload_at
 payload_unspaced [] ends = refl
 payload_unspaced (b ∷ bytes) ends = rw ends refl
 
-payload_with : (gap w rest : List ℕ) → IsRun is_blank gap → list_all in_payload w ≡ true → Ends is_blank (w ++ rest) → Ends in_payload rest → payload_at (gap ++ (w ++ rest)) ≡ payload_from (gap ++ (w ++ rest)) gap (w, rest)
+payload_with : (gap w rest : List ℕ) → IsRunOfBytes is_blank gap → list_all in_payload w ≡ true → Ends is_blank (w ++ rest) → Ends in_payload rest → payload_at (gap ++ (w ++ rest)) ≡ payload_from (gap ++ (w ++ rest)) gap (w, rest)
 unfolding payload_at
 payload_with gap w rest is_gap all first ends =
     let blanks = run_again is_blank gap (w ++ rest) (run_all is_blank gap is_gap) first in
@@ -89,19 +89,19 @@ payload_with gap w rest is_gap all first ends =
     ap (λ (p : List ℕ × List ℕ). payload_from (gap ++ (w ++ rest)) p.0 (run in_payload p.1)) blanks ∙ ap (payload_from (gap ++ (w ++ rest)) gap) word
 
 -- a key and `=` are no payload word
-pub payload_key : (gap key value : List ℕ) → IsRun is_blank gap → IsRun in_key key → payload_at (gap ++ (key ++ (61 ∷ value))) ≡ Ok (None, gap ++ (key ++ (61 ∷ value)))
+pub payload_key : (gap key value : List ℕ) → IsRunOfBytes is_blank gap → IsRunOfBytes in_key key → payload_at (gap ++ (key ++ (61 ∷ value))) ≡ Ok (None, gap ++ (key ++ (61 ∷ value)))
 payload_key gap key value is_gap key_run =
     payload_with gap key (61 ∷ value) is_gap (keys_payload key (run_all in_key key key_run)) (key_first key (61 ∷ value) key_run) refl ∙ rw (run_has is_blank gap is_gap, run_is_key key key_run) refl
 
 -- another word before `=` is wrong at the `=`
-pub payload_bad : (gap w value : List ℕ) → IsRun is_blank gap → list_all in_payload w ≡ true → is_key w ≡ false → payload_at (gap ++ (w ++ (61 ∷ value))) ≡ Err (wrong_at (61 ∷ value))
+pub payload_bad : (gap w value : List ℕ) → IsRunOfBytes is_blank gap → list_all in_payload w ≡ true → is_key w ≡ false → payload_at (gap ++ (w ++ (61 ∷ value))) ≡ Err (wrong_at (61 ∷ value))
 payload_bad gap w value is_gap all no_key = payload_with gap w (61 ∷ value) is_gap all (payload_first w (61 ∷ value) all refl) refl ∙ rw (run_has is_blank gap is_gap, no_key) refl
 
-blank_first : (rest : List ℕ) (w : List ℕ) → IsRun in_payload w → Ends is_blank (w ++ rest)
+blank_first : (rest : List ℕ) (w : List ℕ) → IsRunOfBytes in_payload w → Ends is_blank (w ++ rest)
 blank_first rest [] h = absurd h
 blank_first rest (b ∷ w) h = payload_blank b (and_parts (in_payload b) (list_all in_payload w) h).0
 
-pub payload_word : (p : Payload) (rest : List ℕ) → IsRun is_blank p.gap → IsRun in_payload p.word → Ends in_word rest → payload_at (p.gap ++ (p.word ++ rest)) ≡ Ok (Some p, rest)
+pub payload_word : (p : Payload) (rest : List ℕ) → IsRunOfBytes is_blank p.gap → IsRunOfBytes in_payload p.word → Ends in_word rest → payload_at (p.gap ++ (p.word ++ rest)) ≡ Ok (Some p, rest)
 payload_word p rest is_gap is_word ends =
     let e = word_ends rest ends in
     payload_with p.gap p.word rest is_gap (run_all in_payload p.word is_word) (blank_first rest p.word is_word) e.0 ∙ rw (run_has is_blank p.gap is_gap, e.1, run_has in_payload p.word is_word) refl
@@ -135,10 +135,10 @@ Answer = Result PayloadRead (Stop Part)
 
 pub data Seen (bytes : List ℕ) : Answer → Type 0 where
   Unspaced : Ends is_blank bytes → Seen bytes (Ok (None, bytes))
-  Keyed : (gap key value : List ℕ) → IsRun is_blank gap → IsRun in_key key → bytes ≡ gap ++ (key ++ (61 ∷ value)) → Seen bytes (Ok (None, bytes))
-  Wrong : (gap w value : List ℕ) → IsRun is_blank gap → list_all in_payload w ≡ true → is_key w ≡ false → bytes ≡ gap ++ (w ++ (61 ∷ value)) → Seen bytes (Err (wrong_at (61 ∷ value)))
+  Keyed : (gap key value : List ℕ) → IsRunOfBytes is_blank gap → IsRunOfBytes in_key key → bytes ≡ gap ++ (key ++ (61 ∷ value)) → Seen bytes (Ok (None, bytes))
+  Wrong : (gap w value : List ℕ) → IsRunOfBytes is_blank gap → list_all in_payload w ≡ true → is_key w ≡ false → bytes ≡ gap ++ (w ++ (61 ∷ value)) → Seen bytes (Err (wrong_at (61 ∷ value)))
   Blank : list_all is_blank bytes ≡ true → Seen bytes (Ok (None, bytes))
-  Found : (p : Payload) (rest : List ℕ) → IsRun is_blank p.gap → IsRun in_payload p.word → Ends in_word rest → bytes ≡ p.gap ++ (p.word ++ rest) → Seen bytes (Ok (Some p, rest))
+  Found : (p : Payload) (rest : List ℕ) → IsRunOfBytes is_blank p.gap → IsRunOfBytes in_payload p.word → Ends in_word rest → bytes ≡ p.gap ++ (p.word ++ rest) → Seen bytes (Ok (Some p, rest))
 
 only_blank : (rest : List ℕ) → Ends is_blank rest → Ends in_payload rest → next_is 61 rest ≡ false → rest ≡ []
 only_blank [] a b c = refl
@@ -147,18 +147,18 @@ only_blank (d ∷ rest) a b c = absurd (contradiction d a b c)
     contradiction : (d : ℕ) → is_blank d ≡ false → in_payload d ≡ false → eqb d 61 ≡ false → ⊥
     contradiction d a b c = grind arith
 
-seen_equals : (bytes gap w value : List ℕ) → bytes ≡ gap ++ (w ++ (61 ∷ value)) → IsRun is_blank gap → list_all in_payload w ≡ true → (t : Bool) → is_key w ≡ t → Seen bytes (cond t (Ok (None, bytes)) (Err (wrong_at (61 ∷ value))))
+seen_equals : (bytes gap w value : List ℕ) → bytes ≡ gap ++ (w ++ (61 ∷ value)) → IsRunOfBytes is_blank gap → list_all in_payload w ≡ true → (t : Bool) → is_key w ≡ t → Seen bytes (cond t (Ok (None, bytes)) (Err (wrong_at (61 ∷ value))))
 seen_equals bytes gap w value parts is_gap all true e = Keyed gap w value is_gap (is_key_run w e) parts
 seen_equals bytes gap w value parts is_gap all false e = Wrong gap w value is_gap all e parts
 
-seen_no_equals : (bytes gap w rest : List ℕ) → bytes ≡ gap ++ (w ++ rest) → IsRun is_blank gap → list_all in_payload w ≡ true → Ends is_blank (w ++ rest) → Ends in_payload rest → next_is 61 rest ≡ false
+seen_no_equals : (bytes gap w rest : List ℕ) → bytes ≡ gap ++ (w ++ rest) → IsRunOfBytes is_blank gap → list_all in_payload w ≡ true → Ends is_blank (w ++ rest) → Ends in_payload rest → next_is 61 rest ≡ false
     → Seen bytes (cond (is_none w) (Ok (None, bytes)) (Ok (Some (record { gap = gap; word = w }), rest)))
 seen_no_equals bytes gap [] rest parts is_gap all first ends none =
     let nothing = only_blank rest first ends none in
     Blank (ap (list_all is_blank) (parts ∙ ap (λ (l : List ℕ). gap ++ l) nothing ∙ append-nil gap) ∙ run_all is_blank gap is_gap)
 seen_no_equals bytes gap (b ∷ w) rest parts is_gap all first ends none = Found (record { gap = gap; word = b ∷ w }) rest is_gap all (payload_ends rest ends none) parts
 
-seen_spaced : (bytes gap w rest : List ℕ) → bytes ≡ gap ++ (w ++ rest) → IsRun is_blank gap → list_all in_payload w ≡ true → Ends is_blank (w ++ rest) → Ends in_payload rest → (t : Bool) → next_is 61 rest ≡ t
+seen_spaced : (bytes gap w rest : List ℕ) → bytes ≡ gap ++ (w ++ rest) → IsRunOfBytes is_blank gap → list_all in_payload w ≡ true → Ends is_blank (w ++ rest) → Ends in_payload rest → (t : Bool) → next_is 61 rest ≡ t
     → Seen bytes (cond t (cond (is_key w) (Ok (None, bytes)) (Err (wrong_at rest))) (cond (is_none w) (Ok (None, bytes)) (Ok (Some (record { gap = gap; word = w }), rest))))
 seen_spaced bytes gap w rest parts is_gap all first ends true e =
     let cut = next_parts 61 rest e in
@@ -275,7 +275,7 @@ keeps_unspaced bytes ends front [] parts = tt
 keeps_unspaced bytes ends front (c ∷ tail) parts = λ more. payload_unspaced (front ++ (c ∷ more)) (ends_on is_blank front c tail more (subst (Ends is_blank) parts ends))
 
 -- a key and `=` that are cut could be continued to an attribute
-cut_key : (gap key t front : List ℕ) (c : ℕ) (kind : Part) → IsRun is_blank gap → IsRun in_key key → gap ++ (key ++ (61 ∷ [])) ≡ front ++ (c ∷ t) → ((more : List ℕ) → attributes_at (front ++ (c ∷ more)) ≡ Err (record { kind = kind; left = length (c ∷ more) })) → ⊥
+cut_key : (gap key t front : List ℕ) (c : ℕ) (kind : Part) → IsRunOfBytes is_blank gap → IsRunOfBytes in_key key → gap ++ (key ++ (61 ∷ [])) ≡ front ++ (c ∷ t) → ((more : List ℕ) → attributes_at (front ++ (c ∷ more)) ≡ Err (record { kind = kind; left = length (c ∷ more) })) → ⊥
 cut_key gap key t front c kind is_gap key_run cut same =
     let a : Attribute = record { gap = gap; key = key; value = Plain (97 ∷ []) } in
     let fits : IsAttribute a = record { gap = is_gap; key = key_run; value = (refl, refl) } in
@@ -285,7 +285,7 @@ cut_key gap key t front c kind is_gap key_run cut same =
     ∙ sym (append_assoc gap (key ++ (61 ∷ [])) (97 ∷ [])) ∙ ap (λ (l : List ℕ). l ++ (97 ∷ [])) cut ∙ append_assoc front (c ∷ t) (97 ∷ []) in
     ok_not_err (a ∷ [], []) (record { kind = kind; left = length (c ∷ (t ++ (97 ∷ []))) }) (sym read ∙ ap attributes_at text ∙ same (t ++ (97 ∷ [])))
 
-keeps_keyed : (bytes gap key value : List ℕ) (kind : Part) → IsRun is_blank gap → IsRun in_key key → bytes ≡ gap ++ (key ++ (61 ∷ value)) → (front tail : List ℕ) → bytes ≡ front ++ tail → Same front tail kind → Keeps front tail
+keeps_keyed : (bytes gap key value : List ℕ) (kind : Part) → IsRunOfBytes is_blank gap → IsRunOfBytes in_key key → bytes ≡ gap ++ (key ++ (61 ∷ value)) → (front tail : List ℕ) → bytes ≡ front ++ tail → Same front tail kind → Keeps front tail
 keeps_keyed bytes gap key value kind is_gap key_run text front [] parts same = tt
 keeps_keyed bytes gap key value kind is_gap key_run text front (c ∷ tail) parts same = λ more.
     let whole : (rest : List ℕ) → gap ++ (key ++ (61 ∷ rest)) ≡ (gap ++ (key ++ (61 ∷ []))) ++ rest = λ rest. ap (λ (l : List ℕ). gap ++ l) (sym (append_assoc key (61 ∷ []) rest)) ∙ sym (append_assoc gap (key ++ (61 ∷ [])) rest) in
@@ -296,14 +296,14 @@ keeps_keyed bytes gap key value kind is_gap key_run text front (c ∷ tail) part
           ap payload_at at ∙ payload_key gap key (t ++ (c ∷ more)) is_gap key_run ∙ ap (λ (l : List ℕ). Ok (None, l)) (sym at)
     ]
 
-same_word : (p : Payload) (front tail : List ℕ) (kind : Part) → IsRun is_blank p.gap → IsRun in_payload p.word → Ends in_word (front ++ tail) → Same front tail kind → SameBefore tail_at (payload_written (Some p) ++ front) tail kind
+same_word : (p : Payload) (front tail : List ℕ) (kind : Part) → IsRunOfBytes is_blank p.gap → IsRunOfBytes in_payload p.word → Ends in_word (front ++ tail) → Same front tail kind → SameBefore tail_at (payload_written (Some p) ++ front) tail kind
 same_word p front [] kind is_gap is_word ends same = tt
 same_word p front (c ∷ tail) kind is_gap is_word ends same = λ more.
     ap tail_at (append_assoc (p.gap ++ p.word) front (c ∷ more) ∙ append_assoc p.gap p.word (front ++ (c ∷ more)))
     ∙ ap (λ (r : Answer). r >>= tail_behind) (payload_word p (front ++ (c ∷ more)) is_gap is_word (ends_on in_word front c tail more ends))
     ∙ ap (λ (r : Result Rest (Stop Part)). r >>= λ others. Ok ((Some p, others), [])) (same more)
 
-stops_behind : (bytes : List ℕ) (p : Payload) (rest : List ℕ) (s : Stop Part) → IsRun is_blank p.gap → IsRun in_payload p.word → Ends in_word rest → bytes ≡ p.gap ++ (p.word ++ rest) → attributes_at rest ≡ Err s → TailStops bytes s
+stops_behind : (bytes : List ℕ) (p : Payload) (rest : List ℕ) (s : Stop Part) → IsRunOfBytes is_blank p.gap → IsRunOfBytes in_payload p.word → Ends in_word rest → bytes ≡ p.gap ++ (p.word ++ rest) → attributes_at rest ≡ Err s → TailStops bytes s
 stops_behind bytes p rest s is_gap is_word ends parts e =
     let u = rest_stops rest s e in
     record {
@@ -318,11 +318,11 @@ stops_behind bytes p rest s is_gap is_word ends parts e =
       local = same_word p u.front u.tail s.kind is_gap is_word (subst (Ends in_word) u.parts ends) u.local;
     }
 
-longer_word : (w : List ℕ) → list_all in_payload w ≡ true → IsRun in_payload (w ++ (97 ∷ []))
+longer_word : (w : List ℕ) → list_all in_payload w ≡ true → IsRunOfBytes in_payload (w ++ (97 ∷ []))
 longer_word [] h = refl
 longer_word (b ∷ w) h = list_all-append in_payload (b ∷ w) (97 ∷ []) ∙ rw h refl
 
-stops_wrong : (bytes gap w value : List ℕ) (s : Stop Part) → IsRun is_blank gap → list_all in_payload w ≡ true → is_key w ≡ false → bytes ≡ gap ++ (w ++ (61 ∷ value)) → (let d : Stop Part = wrong_at (61 ∷ value) in d) ≡ s → TailStops bytes s
+stops_wrong : (bytes gap w value : List ℕ) (s : Stop Part) → IsRunOfBytes is_blank gap → list_all in_payload w ≡ true → is_key w ≡ false → bytes ≡ gap ++ (w ++ (61 ∷ value)) → (let d : Stop Part = wrong_at (61 ∷ value) in d) ≡ s → TailStops bytes s
 stops_wrong bytes gap w value s is_gap all no_key parts same = record {
   front = gap ++ w;
   tail = 61 ∷ value;

@@ -8,7 +8,7 @@ use Rattle.ips_text.specs.Reading.{◌>>=◌, both, run}
 use Rattle.ips_text.proofs.Readers.{Stops, Reads, SameBefore, in_turn, Reads-via, chosen, bind_ok, bind_err, ok_is, ok_not_err, err_same}
 use Rattle.ips_line.specs.declared.fault.Part.{Part}
 use Rattle.ips_line.specs.declared.fault.Part.TheVariants as part
-use Rattle.ips_line.specs.Line.{is_blank, is_quote, in_word, in_key, IsRun, Written, Plain, Quoted, written_text, IsPlain, IsWritten, Attribute, attribute_written, IsAttribute}
+use Rattle.ips_line.specs.Line.{is_blank, is_quote, in_word, in_key, IsRunOfBytes, Written, Plain, Quoted, written_text, IsPlain, IsWritten, Attribute, attribute_written, IsAttribute}
 use Rattle.ips_line.specs.Reading.{wrong_at, some_at, equals_at, closing, closed, plain_at, written_at, made, attribute_at}
 use Rattle.ips_line.proofs.Runs.{equals_text, Reads-some, Reads-equals}
 use Rattle.ips_line.proofs.Quotes.{closing_takes, closing_again, closing_open, extra}
@@ -34,7 +34,7 @@ closed_takes q bytes left (Some x) z is_q e h =
     let made : Cut = (Quoted q x.0, x.1) in
     subst (Taken (q ∷ bytes)) (ok_is {E = Stop Part} made z h) (ap (λ (l : List ℕ). q ∷ l) (t.0 ∙ sym (append_assoc x.0 (q ∷ []) x.1)), (is_q, t.1), tt)
 
-plain_fits : (b : ℕ) (bytes w rest : List ℕ) → is_quote b ≡ false → b ∷ bytes ≡ w ++ rest → IsRun in_word w → IsPlain w
+plain_fits : (b : ℕ) (bytes w rest : List ℕ) → is_quote b ≡ false → b ∷ bytes ≡ w ++ rest → IsRunOfBytes in_word w → IsPlain w
 plain_fits b bytes [] rest ne e fits = absurd fits
 plain_fits b bytes (c ∷ w) rest ne e fits = let same : b ≡ c = cc in (subst (λ (d : ℕ). is_quote d ≡ false) same ne, fits)
 
@@ -135,7 +135,7 @@ abbrev read_text : Read → List ℕ
 read_text p = p.0 ++ (p.1.0 ++ (equals_text p.1.1.0 ++ written_text p.1.1.1))
 
 abbrev ReadFits : Read → Type 0
-ReadFits p = IsRun is_blank p.0 × (IsRun in_key p.1.0 × (Unit {0} × IsWritten p.1.1.1))
+ReadFits p = IsRunOfBytes is_blank p.0 × (IsRunOfBytes in_key p.1.0 × (Unit {0} × IsWritten p.1.1.1))
 
 abbrev ReadFollows : Read → List ℕ → Type 0
 ReadFollows p rest =
@@ -167,7 +167,7 @@ pub no_blank : (b : ℕ) → in_key b ≡ true → is_blank b ≡ false
 no_blank b h = grind arith
 
 -- what follows a `key=value` is what follows its value
-pub key_first : (key rest : List ℕ) → IsRun in_key key → Ends is_blank (key ++ rest)
+pub key_first : (key rest : List ℕ) → IsRunOfBytes in_key key → Ends is_blank (key ++ rest)
 key_first [] rest h = absurd h
 key_first (b ∷ key) rest h = no_blank b (and_parts (in_key b) (list_all in_key key) h).0
 

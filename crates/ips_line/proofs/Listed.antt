@@ -8,7 +8,7 @@ use Rattle.ips_text.specs.declared.refusal.Stop.{Stop}
 use Rattle.ips_text.specs.Reading.{◌>>=◌}
 use Rattle.ips_text.proofs.Readers.{Stops, SameBefore, chosen, bind_ok, bind_err, ok_is, ok_not_err}
 use Rattle.ips_line.specs.declared.fault.Part.{Part}
-use Rattle.ips_line.specs.Line.{is_blank, in_word, in_key, IsRun, Written, Plain, Quoted, written_text, Attribute, attribute_written, IsAttribute}
+use Rattle.ips_line.specs.Line.{is_blank, in_word, in_key, IsRunOfBytes, Written, Plain, Quoted, written_text, Attribute, attribute_written, IsAttribute}
 use Rattle.ips_line.specs.Reading.{attribute_at, attributes_within, attributes_at}
 use Rattle.ips_line.proofs.Keyed.{WrittenFollows, AttributeFollows, Reads-attribute, attribute_follows, no_blank}
 use Rattle.ips_text.proofs.Loops.{bind_same}
@@ -35,7 +35,7 @@ more_within count a = attributes_within count a.1 >>= λ others. Ok (a.0 ∷ oth
 
 -- ---- an attribute isn't blank
 
-run_some : (test : ℕ → Bool) (x : List ℕ) → IsRun test x → 0 < length x
+run_some : (test : ℕ → Bool) (x : List ℕ) → IsRunOfBytes test x → 0 < length x
 run_some test [] h = absurd h
 run_some test (b ∷ x) h = omega arith
 
@@ -50,7 +50,7 @@ and_false_left : (x y : Bool) → x ≡ false → (x && y) ≡ false
 and_false_left false y e = refl
 and_false_left true y e = absurd (true≢false e)
 
-pub key_not_blank : (key rest : List ℕ) → IsRun in_key key → list_all is_blank (key ++ rest) ≡ false
+pub key_not_blank : (key rest : List ℕ) → IsRunOfBytes in_key key → list_all is_blank (key ++ rest) ≡ false
 key_not_blank [] rest h = absurd h
 key_not_blank (b ∷ key) rest h = and_false_left (is_blank b) (list_all is_blank (key ++ rest)) (no_blank b (and_parts (in_key b) (list_all in_key key) h).0)
 
@@ -65,7 +65,7 @@ attribute_not_blank a rest h =
 ends_blank : (b : ℕ) → is_blank b ≡ true → in_word b ≡ false
 ends_blank b h = rw h refl
 
-pub run_ends : (gap rest : List ℕ) → IsRun is_blank gap → Ends in_word (gap ++ rest)
+pub run_ends : (gap rest : List ℕ) → IsRunOfBytes is_blank gap → Ends in_word (gap ++ rest)
 run_ends [] rest h = absurd h
 run_ends (b ∷ gap) rest h = ends_blank b (and_parts (is_blank b) (list_all is_blank gap) h).0
 
@@ -148,7 +148,7 @@ stopped_not_blank front c tail kind h more = false_from_ne_true (list_all is_bla
     let text : attribute_written a ++ [] ≡ front ++ (c ∷ 97 ∷ 61 ∷ 97 ∷ []) = append-nil (attribute_written a) ∙ append_assoc (front ++ (c ∷ [])) (97 ∷ []) (61 ∷ 97 ∷ []) ∙ append_assoc front (c ∷ []) (97 ∷ 61 ∷ 97 ∷ []) in
     ok_not_err (a, []) (record { kind = kind; left = length (c ∷ 97 ∷ 61 ∷ 97 ∷ []) }) (sym read ∙ ap attribute_at text ∙ h (97 ∷ 61 ∷ 97 ∷ [])))
   where
-    some_run : (x : List ℕ) → list_all is_blank x ≡ true → 0 < length x → IsRun is_blank x
+    some_run : (x : List ℕ) → list_all is_blank x ≡ true → 0 < length x → IsRunOfBytes is_blank x
     some_run [] h lt = absurd (omega arith)
     some_run (b ∷ x) h lt = h
 

@@ -7,7 +7,7 @@ use Rattle.std.proofs.lemmas.List.{append-nil}
 use Rattle.std.proofs.lemmas.Str.{IsUtf8-append, IsUtf8-take, IsUtf8-drop, IsUtf8-from_ascii, IsUtf8-past_char, IsCharBoundary-before_ascii, encode_ascii}
 use Rattle.ips_text.proofs.Truths.{both_true}
 use Rattle.ips_line.specs.declared.words.Pair.{Pair}
-use Rattle.ips_line.specs.Line.{is_blank, is_escape, IsRun, meant, Written, Plain, Quoted, written_text, value_of, IsWritten, Attribute, IsAttribute, attribute_written, Line, payload_written, pair_of, Said, Says}
+use Rattle.ips_line.specs.Line.{is_blank, is_escape, IsRunOfBytes, meant, Written, Plain, Quoted, written_text, value_of, IsWritten, Attribute, IsAttribute, attribute_written, Line, payload_written, pair_of, Said, Says}
 use Rattle.ips_line.specs.Canonical.{is_escaped, escaped_byte, needs_quotes, value_text, pair_text}
 use Rattle.ips_line.proofs.Runs.{low_blank}
 use Rattle.ips_line.proofs.Quotes.{low_quote}
@@ -209,7 +209,7 @@ cut_before : (xs rest : List ℕ) → Starts rest → CanStand (xs ++ rest) → 
 cut_before xs [] s c = (subst CanStand (append-nil xs) c, can_nil)
 cut_before xs (b ∷ rest) s c = can_part xs b rest (low_blank b s) c
 
-starts_run : (gap rest : List ℕ) → IsRun is_blank gap → Starts (gap ++ rest)
+starts_run : (gap rest : List ℕ) → IsRunOfBytes is_blank gap → Starts (gap ++ rest)
 starts_run [] rest h = absurd h
 starts_run (b ∷ gap) rest h = (and_parts (is_blank b) (list_all is_blank gap) h).0
 

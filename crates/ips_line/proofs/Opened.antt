@@ -7,7 +7,7 @@ use Rattle.ips_text.specs.Reading.{◌>>=◌, both, Begins, run}
 use Rattle.ips_text.proofs.Readers.{chosen, bind_err, ok_is, ok_not_err, err_same}
 use Rattle.ips_line.specs.declared.fault.Part.{Part}
 use Rattle.ips_line.specs.declared.fault.Part.TheVariants as part
-use Rattle.ips_line.specs.Line.{is_blank, is_quote, in_word, in_key, IsRun, stays_inside, Written, Plain, Quoted, Payload, payload_written, IsPayload, Attribute, attribute_written, IsAttribute, Line, line_written, IsLine, EndsInQuote, IsFault}
+use Rattle.ips_line.specs.Line.{is_blank, is_quote, in_word, in_key, IsRunOfBytes, stays_inside, Written, Plain, Quoted, Payload, payload_written, IsPayload, Attribute, attribute_written, IsAttribute, Line, line_written, IsLine, EndsInQuote, IsFault}
 use Rattle.ips_line.specs.Reading.{wrong_at, some_at, equals_at, closing, closed, plain_at, written_at, attribute_at, attributes_within, attributes_at, payload_at, read_line, opened, fault_of}
 use Rattle.ips_line.proofs.Runs.{Reads-some, Reads-equals}
 use Rattle.ips_line.proofs.Quotes.{closing_takes, closing_again}
@@ -108,8 +108,8 @@ pub record OpenAttribute (bytes : List ℕ) (left : ℕ) : Type 0 where
   pub quote : ℕ
   pub inside : List ℕ
   pub parts : bytes ≡ gap ++ (key ++ (61 ∷ quote ∷ inside))
-  pub is_gap : IsRun is_blank gap
-  pub is_key : IsRun in_key key
+  pub is_gap : IsRunOfBytes is_blank gap
+  pub is_key : IsRunOfBytes in_key key
   pub quotes : is_quote quote ≡ true
   pub none : closing quote inside ≡ None
   pub size : left ≡ length (quote ∷ inside)
@@ -128,7 +128,7 @@ attribute_open bytes s left e kind =
       | inr v ↦ absurd (ok_not_err (record { gap = v.0.0.0; key = v.0.0.1.0; value = v.0.0.1.1.1 }, v.0.1) s v.2)
     ]
   where
-    behind_equals : (gap key rest : List ℕ) → bytes ≡ gap ++ (key ++ rest) → IsRun is_blank gap → IsRun in_key key → both equals_at written_at rest ≡ Err s → OpenAttribute bytes left
+    behind_equals : (gap key rest : List ℕ) → bytes ≡ gap ++ (key ++ rest) → IsRunOfBytes is_blank gap → IsRunOfBytes in_key key → both equals_at written_at rest ≡ Err s → OpenAttribute bytes left
     behind_equals gap key rest parts is_gap key_run e =
         elim (bind_err (equals_at rest) (λ x. written_at x.1 >>= λ y. Ok ((x.0, y.0), y.1)) s e) [
           | inl e1 ↦ absurd (equals_quote rest s left e1 kind)
@@ -153,7 +153,7 @@ attribute_open bytes s left e kind =
               ]
         ]
 
-    behind_key : (gap rest : List ℕ) → bytes ≡ gap ++ rest → IsRun is_blank gap → both (some_at in_key) (both equals_at written_at) rest ≡ Err s → OpenAttribute bytes left
+    behind_key : (gap rest : List ℕ) → bytes ≡ gap ++ rest → IsRunOfBytes is_blank gap → both (some_at in_key) (both equals_at written_at) rest ≡ Err s → OpenAttribute bytes left
     behind_key gap rest parts is_gap e =
         elim (bind_err (some_at in_key rest) (λ x. both equals_at written_at x.1 >>= λ y. Ok ((x.0, y.0), y.1)) s e) [
           | inl e1 ↦ absurd (some_quote in_key rest s left e1 kind)
@@ -222,7 +222,7 @@ front_text : (before name : List ℕ) (payload : Option Payload) (attributes : L
     → ((line_written (open_line before name payload attributes) ++ gap) ++ key ++ (61 ∷ [])) ++ tail ≡ before ++ (name ++ (payload_written payload ++ (flat_map attribute_written attributes ++ (gap ++ (key ++ (61 ∷ tail))))))
 front_text before name payload attributes gap key tail = simp (append_assoc, append-nil)
 
-made_open : (text before name : List ℕ) (payload : Option Payload) (bytes : List ℕ) (left : ℕ) → list_all is_blank before ≡ true → IsRun in_word name → IsPayload payload → text ≡ before ++ (name ++ (payload_written payload ++ bytes)) → OpenRest bytes left
+made_open : (text before name : List ℕ) (payload : Option Payload) (bytes : List ℕ) (left : ℕ) → list_all is_blank before ≡ true → IsRunOfBytes in_word name → IsPayload payload → text ≡ before ++ (name ++ (payload_written payload ++ bytes)) → OpenRest bytes left
     → EndsInQuote text (length text - left) × (left ≤ length text)
 made_open text before name payload bytes left is_before is_name is_payload parts o =
     let a = o.open_end in
@@ -279,7 +279,7 @@ line_open text s left e kind =
 
 -- ---- and it is always told
 
-gap_not_blank : (gap key rest : List ℕ) → IsRun in_key key → list_all is_blank (gap ++ (key ++ rest)) ≡ false
+gap_not_blank : (gap key rest : List ℕ) → IsRunOfBytes in_key key → list_all is_blank (gap ++ (key ++ rest)) ≡ false
 gap_not_blank [] key rest h = key_not_blank key rest h
 gap_not_blank (b ∷ gap) key rest h = go (is_blank b) refl (gap_not_blank gap key rest h)
   where
@@ -295,7 +295,7 @@ all_end (a ∷ xs) last h ends = subst (Ends in_word) (sym (append_assoc (attrib
 abbrev stopped : ℕ → List ℕ → Stop Part
 stopped quote inside = record { kind = part.Quote (length (quote ∷ inside)); left = 0 }
 
-attribute_fails : (gap key inside : List ℕ) (quote : ℕ) → IsRun is_blank gap → IsRun in_key key → is_quote quote ≡ true → closing quote inside ≡ None → attribute_at (gap ++ (key ++ (61 ∷ quote ∷ inside))) ≡ Err (stopped quote inside)
+attribute_fails : (gap key inside : List ℕ) (quote : ℕ) → IsRunOfBytes is_blank gap → IsRunOfBytes in_key key → is_quote quote ≡ true → closing quote inside ≡ None → attribute_at (gap ++ (key ++ (61 ∷ quote ∷ inside))) ≡ Err (stopped quote inside)
 unfolding attribute_at equals_at written_at
 attribute_fails gap key inside quote is_gap key_run is_q none =
     let blanks = (Reads-some is_blank 32 refl).again gap (key ++ (61 ∷ quote ∷ inside)) is_gap (key_first key (61 ∷ quote ∷ inside) key_run) in
@@ -311,7 +311,7 @@ rest_fails (a ∷ before) last s h ends some e =
     ∙ rest_next (attribute_written a ++ others) (a, others) (attribute_not_blank a others h.0) one
     ∙ ap (λ (r : Result Rest (Stop Part)). r >>= λ others. Ok (a ∷ others.0, others.1)) (rest_fails before last s h.1 ends some e)
 
-line_fails : (before name : List ℕ) (payload : Option Payload) (rest : List ℕ) (s : Stop Part) → list_all is_blank before ≡ true → IsRun in_word name → IsPayload payload → Ends in_word rest → payload_at rest ≡ Ok (None, rest) → attributes_at rest ≡ Err s
+line_fails : (before name : List ℕ) (payload : Option Payload) (rest : List ℕ) (s : Stop Part) → list_all is_blank before ≡ true → IsRunOfBytes in_word name → IsPayload payload → Ends in_word rest → payload_at rest ≡ Ok (None, rest) → attributes_at rest ≡ Err s
     → read_line (before ++ (name ++ (payload_written payload ++ rest))) ≡ Err s
 unfolding read_line
 line_fails before name payload rest s is_before is_name is_payload ends none fails =

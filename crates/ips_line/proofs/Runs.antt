@@ -11,7 +11,7 @@ use Rattle.ips_text.proofs.Readers.{Stops, Reads, SameBefore, chosen, ok_is, ok_
 use Rattle.ips_line.specs.declared.fault.Part.{Part}
 use Rattle.ips_line.specs.declared.classes.Class.{Class}
 use Rattle.ips_line.specs.declared.classes.Class.TheVariants as class
-use Rattle.ips_line.specs.Line.{is_blank, in_word, in_payload, in_key, IsRun}
+use Rattle.ips_line.specs.Line.{is_blank, in_word, in_payload, in_key, IsRunOfBytes}
 use Rattle.ips_line.specs.Classes.{passes}
 use Rattle.ips_line.specs.Reading.{is_none, is_key, wrong_at, some_at, equals_at}
 use Rattle.ips_text.proofs.Runs.{run_is, run_again, Ends}
@@ -65,7 +65,7 @@ itself x = x
 abbrev pub RunFollows : (ℕ → Bool) → List ℕ → List ℕ → Type 0
 RunFollows test x rest = Ends test rest
 
-some_takes : (test : ℕ → Bool) (bytes : List ℕ) (z : List ℕ × List ℕ) → some_at test bytes ≡ Ok z → (bytes ≡ z.0 ++ z.1) × IsRun test z.0 × RunFollows test z.0 z.1
+some_takes : (test : ℕ → Bool) (bytes : List ℕ) (z : List ℕ × List ℕ) → some_at test bytes ≡ Ok z → (bytes ≡ z.0 ++ z.1) × IsRunOfBytes test z.0 × RunFollows test z.0 z.1
 unfolding some_at
 some_takes test [] z e = absurd (ok_not_err z (wrong_at []) (sym e))
 some_takes test (b ∷ bytes) z e =
@@ -73,12 +73,12 @@ some_takes test (b ∷ bytes) z e =
     let made : List ℕ × List ℕ = (b ∷ (run test bytes).0, (run test bytes).1) in
     elim (chosen (test b) (Ok made) (Err (wrong_at (b ∷ bytes))) (Ok z) e) [
       | inl w ↦
-          subst (λ (p : List ℕ × List ℕ). (b ∷ bytes ≡ p.0 ++ p.1) × IsRun test p.0 × RunFollows test p.0 p.1) (ok_is {E = Stop Part} made z w.1)
+          subst (λ (p : List ℕ × List ℕ). (b ∷ bytes ≡ p.0 ++ p.1) × IsRunOfBytes test p.0 × RunFollows test p.0 p.1) (ok_is {E = Stop Part} made z w.1)
           (ap (λ (l : List ℕ). b ∷ l) r.parts, rw (w.0) r.all, r.ends)
       | inr w ↦ absurd (ok_not_err z (wrong_at (b ∷ bytes)) (sym w.1))
     ]
 
-some_again : (test : ℕ → Bool) (x rest : List ℕ) → IsRun test x → RunFollows test x rest → some_at test (x ++ rest) ≡ Ok (x, rest)
+some_again : (test : ℕ → Bool) (x rest : List ℕ) → IsRunOfBytes test x → RunFollows test x rest → some_at test (x ++ rest) ≡ Ok (x, rest)
 unfolding some_at
 some_again test [] rest fits fol = absurd fits
 some_again test (b ∷ x) rest fits fol =
@@ -87,7 +87,7 @@ some_again test (b ∷ x) rest fits fol =
     rw (h.0, more) refl
 
 -- where the byte `one` passes
-some_stops : (test : ℕ → Bool) (one : ℕ) → test one ≡ true → (bytes : List ℕ) (s : Stop Part) → some_at test bytes ≡ Err s → Stops itself (IsRun test) (λ front tail. SameBefore (some_at test) front tail s.kind) bytes s
+some_stops : (test : ℕ → Bool) (one : ℕ) → test one ≡ true → (bytes : List ℕ) (s : Stop Part) → some_at test bytes ≡ Err s → Stops itself (IsRunOfBytes test) (λ front tail. SameBefore (some_at test) front tail s.kind) bytes s
 unfolding some_at
 some_stops test one passing [] s e =
     let same : (let d : Stop Part = wrong_at [] in d) ≡ s = err_same {A = List ℕ × List ℕ} (wrong_at []) s e in
@@ -111,7 +111,7 @@ some_stops test one passing (b ∷ bytes) s e =
           }
     ]
 
-pub Reads-some : (test : ℕ → Bool) (one : ℕ) → test one ≡ true → Reads itself (IsRun test) (RunFollows test) (some_at test)
+pub Reads-some : (test : ℕ → Bool) (one : ℕ) → test one ≡ true → Reads itself (IsRunOfBytes test) (RunFollows test) (some_at test)
 Reads-some test one passing = record {
   takes = some_takes test;
   again = some_again test;

@@ -7,8 +7,8 @@ use Rattle.std.proofs.lemmas.List.{append-nil}
 use Rattle.ips_text.proofs.Readers.{ok_is}
 use Rattle.ips_line.specs.declared.words.Pair.{Pair}
 use Rattle.ips_line.specs.declared.fault.WordFault.{WordFault}
-use Rattle.ips_line.specs.Line.{is_quote, in_word, in_key, IsRun, is_escape, meant, stays_inside, Written, Plain, Quoted, written_text, IsPlain, IsWritten, value_of, Payload, Attribute, Line, payload_written, attribute_written, line_written, IsPayload, IsAttribute, IsWrittenLine, Placed, Said, payload_of, pair_of, words_of}
-use Rattle.ips_line.specs.Canonical.{is_escaped, escaped_byte, is_special, needs_quotes, value_text, pair_text, payload_text, words_text, IfPayload, AreWords, payload_placed, said}
+use Rattle.ips_line.specs.Line.{is_quote, in_word, in_key, IsRunOfBytes, is_escape, meant, stays_inside, Written, Plain, Quoted, written_text, IsPlain, IsWritten, value_of, Payload, Attribute, Line, payload_written, attribute_written, line_written, IsPayload, IsAttribute, IsWrittenLine, Placed, Said, payload_of, pair_of, words_of}
+use Rattle.ips_line.specs.Canonical.{is_escaped, escaped_byte, is_special, needs_quotes, value_text, pair_text, payload_text, words_text, IfPayload, AreWords, payload_placed, canonical_words}
 use Rattle.ips_line.specs.Reading.{read_line, placed, read_words}
 use Rattle.ips_line.proofs.Whole.{line_only}
 
@@ -131,7 +131,7 @@ unfolding payload_line
 payload_fits None h = tt
 payload_fits (Some word) h = (refl, h)
 
-attributes_fit : (pairs : List Pair) → AllByRecursion (λ (p : Pair). IsRun in_key p.key) pairs → AllByRecursion IsAttribute (attribute_lines pairs)
+attributes_fit : (pairs : List Pair) → AllByRecursion (λ (p : Pair). IsRunOfBytes in_key p.key) pairs → AllByRecursion IsAttribute (attribute_lines pairs)
 unfolding attribute_lines attribute_line
 attributes_fit [] h = tt
 attributes_fit (p ∷ pairs) h = (record { gap = refl; key = h.0; value = (spells p.value).fits }, attributes_fit pairs h.1)
@@ -155,13 +155,13 @@ pairs_say (p ∷ pairs) =
     let more = pairs_say pairs in
     ap (λ (q : Pair). q ∷ map pair_of (attribute_lines pairs)) one ∙ ap (λ (l : List Pair). p ∷ l) more
 
-says : (name : List ℕ) (payload : Option (List ℕ)) (pairs : List Pair) → words_of (line_of name payload pairs) ≡ said name payload pairs
+says : (name : List ℕ) (payload : Option (List ℕ)) (pairs : List Pair) → words_of (line_of name payload pairs) ≡ canonical_words name payload pairs
 unfolding line_of
 says name payload pairs =
     ap (λ (p : Option Placed). record { name = record { text = name; place = 0 }; payload = p; pairs = map pair_of (attribute_lines pairs) }) (payload_says name payload)
-    ∙ ap (λ (l : List Pair). said name payload l) (pairs_say pairs)
+    ∙ ap (λ (l : List Pair). canonical_words name payload l) (pairs_say pairs)
 
-pub reads_back : (name : List ℕ) (payload : Option (List ℕ)) (pairs : List Pair) → AreWords name payload pairs → read_words (words_text name payload pairs) ≡ Ok (said name payload pairs)
+pub reads_back : (name : List ℕ) (payload : Option (List ℕ)) (pairs : List Pair) → AreWords name payload pairs → read_words (words_text name payload pairs) ≡ Ok (canonical_words name payload pairs)
 unfolding read_words
 reads_back name payload pairs h =
     let line = line_of name payload pairs in
@@ -184,7 +184,7 @@ payload_one name other payload another e = sym (payload_texts name payload) ∙ 
 pub one_line : (name other : List ℕ) (payload another : Option (List ℕ)) (pairs others : List Pair) → AreWords name payload pairs → AreWords other another others → words_text name payload pairs ≡ words_text other another others
     → (name ≡ other) × (payload ≡ another) × (pairs ≡ others)
 one_line name other payload another pairs others h g e =
-    let same = ok_is {E = WordFault} (said name payload pairs) (said other another others) (sym (reads_back name payload pairs h) ∙ ap read_words e ∙ reads_back other another others g) in (
+    let same = ok_is {E = WordFault} (canonical_words name payload pairs) (canonical_words other another others) (sym (reads_back name payload pairs h) ∙ ap read_words e ∙ reads_back other another others g) in (
       ap (λ (s : Said). s.name.text) same,
       payload_one name other payload another (ap (λ (s : Said). s.payload) same),
       ap (λ (s : Said). s.pairs) same,

@@ -8,7 +8,7 @@ use Rattle.ips_text.specs.Reading.{◌>>=◌, Reader, both, via, whole, IsFirstB
 use Rattle.ips_text.proofs.Readers.{Reads, in_turn, Reads-via, ok_is, ok_not_err, whole_found, whole_only, whole_first}
 use Rattle.ips_line.specs.declared.fault.Part.{Part}
 use Rattle.ips_line.specs.declared.fault.Part.TheVariants as part
-use Rattle.ips_line.specs.Line.{is_blank, in_word, IsRun, Payload, payload_written, IsPayload, attribute_written, Line, line_written, IsWrittenLine, IsLine}
+use Rattle.ips_line.specs.Line.{is_blank, in_word, IsRunOfBytes, Payload, payload_written, IsPayload, attribute_written, Line, line_written, IsWrittenLine, IsLine}
 use Rattle.ips_line.specs.Reading.{some_at, attributes_at, payload_at, read_line}
 use Rattle.ips_line.proofs.Runs.{itself, Reads-some}
 use Rattle.ips_line.proofs.Listed.{Rest, rest_ends}
@@ -24,7 +24,7 @@ abbrev parts_text : Parts → List ℕ
 parts_text p = p.0 ++ (p.1.0 ++ tail_text p.1.1)
 
 abbrev PartsFit : Parts → Type 0
-PartsFit p = (list_all is_blank p.0 ≡ true) × (IsRun in_word p.1.0 × TailFits p.1.1)
+PartsFit p = (list_all is_blank p.0 ≡ true) × (IsRunOfBytes in_word p.1.0 × TailFits p.1.1)
 
 abbrev PartsFollow : Parts → List ℕ → Type 0
 PartsFollow p rest = Ends is_blank ((p.1.0 ++ tail_text p.1.1) ++ rest) × (Ends in_word (tail_text p.1.1 ++ rest) × TailFollows p.1.1 rest)
@@ -83,7 +83,7 @@ Reads-line =
 
 -- ---- nothing follows a line
 
-pub word_first : (name rest : List ℕ) → IsRun in_word name → Ends is_blank (name ++ rest)
+pub word_first : (name rest : List ℕ) → IsRunOfBytes in_word name → Ends is_blank (name ++ rest)
 word_first [] rest h = absurd h
 word_first (b ∷ name) rest h = no_blank b (and_parts (in_word b) (list_all in_word name) h).0
   where
@@ -94,7 +94,7 @@ pub payload_starts : (p : Option Payload) (rest : List ℕ) → IsPayload p → 
 payload_starts None rest h ends = ends
 payload_starts (Some p) rest h ends = subst (Ends in_word) (sym (append_assoc p.gap p.word rest)) (gap_first p.gap (p.word ++ rest) h.0)
   where
-    gap_first : (gap rest : List ℕ) → IsRun is_blank gap → Ends in_word (gap ++ rest)
+    gap_first : (gap rest : List ℕ) → IsRunOfBytes is_blank gap → Ends in_word (gap ++ rest)
     gap_first [] rest h = absurd h
     gap_first (b ∷ gap) rest h = let blank = (and_parts (is_blank b) (list_all is_blank gap) h).0 in rw blank refl
 

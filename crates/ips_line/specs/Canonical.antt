@@ -2,7 +2,7 @@
 use Rattle.std.specs.Prelude.{ℕ, ◌+◌, Bool, true, ◌||◌, ◌==◌, if◌then◌else◌, List, [], ◌∷◌, ◌++◌, length, Option, Some, None}
 use Rattle.std.specs.List.{list_any, flat_map, AllByRecursion}
 use Rattle.ips_line.specs.declared.words.Pair.{Pair}
-use Rattle.ips_line.specs.Line.{is_blank, is_quote, in_word, in_payload, in_key, IsRun, Placed, Said}
+use Rattle.ips_line.specs.Line.{is_blank, is_quote, in_word, in_payload, in_key, IsRunOfBytes, Placed, Said}
 
 -- the byte has to be escaped between `"`: it is `"` or a backslash
 abbrev pub is_escaped : ℕ → Bool
@@ -41,13 +41,13 @@ words_text name payload pairs = name ++ payload_text payload ++ flat_map pair_te
 -- the word is a payload word, where there is one
 abbrev pub IfPayload : Option (List ℕ) → Type 0
 IfPayload None = Unit {0}
-IfPayload (Some word) = IsRun in_payload word
+IfPayload (Some word) = IsRunOfBytes in_payload word
 
 -- the name, the payload word and the keys have the form of a line's
 pub record AreWords (name : List ℕ) (payload : Option (List ℕ)) (pairs : List Pair) : Type 0 where
-  pub is_name : IsRun in_word name
+  pub is_name : IsRunOfBytes in_word name
   pub is_payload : IfPayload payload
-  pub are_keys : AllByRecursion (λ (p : Pair). IsRun in_key p.key) pairs
+  pub are_keys : AllByRecursion (λ (p : Pair). IsRunOfBytes in_key p.key) pairs
 
 -- the place of a payload word in the canonical line, behind the name and a blank
 abbrev pub payload_placed : List ℕ → Option (List ℕ) → Option Placed
@@ -55,5 +55,5 @@ payload_placed name None = None
 payload_placed name (Some word) = Some (record { text = word; place = length name + 1 })
 
 -- what the canonical line says
-abbrev pub said : List ℕ → Option (List ℕ) → List Pair → Said
-said name payload pairs = record { name = record { text = name; place = 0 }; payload = payload_placed name payload; pairs = pairs }
+abbrev pub canonical_words : List ℕ → Option (List ℕ) → List Pair → Said
+canonical_words name payload pairs = record { name = record { text = name; place = 0 }; payload = payload_placed name payload; pairs = pairs }

@@ -29,9 +29,9 @@ abbrev pub in_key : ℕ → Bool
 in_key b = not (is_blank b || (b == 61) || is_quote b)
 
 -- one or more bytes that pass
-abbrev pub IsRun : (ℕ → Bool) → List ℕ → Type 0
-IsRun passes [] = ⊥
-IsRun passes (b ∷ bytes) = list_all passes (b ∷ bytes) ≡ true
+abbrev pub IsRunOfBytes : (ℕ → Bool) → List ℕ → Type 0
+IsRunOfBytes passes [] = ⊥
+IsRunOfBytes passes (b ∷ bytes) = list_all passes (b ∷ bytes) ≡ true
 
 -- ---- values
 
@@ -113,18 +113,18 @@ line_written line = line.before ++ line.name ++ payload_written line.payload ++ 
 -- the payload word has its form, where there is one: neither a blank nor `=` stands in it
 abbrev pub IsPayload : Option Payload → Type 0
 IsPayload None = Unit {0}
-IsPayload (Some p) = IsRun is_blank p.gap × IsRun in_payload p.word
+IsPayload (Some p) = IsRunOfBytes is_blank p.gap × IsRunOfBytes in_payload p.word
 
 -- the `key=value` has its form
 pub record IsAttribute (a : Attribute) : Type 0 where
-  pub gap : IsRun is_blank a.gap
-  pub key : IsRun in_key a.key
+  pub gap : IsRunOfBytes is_blank a.gap
+  pub key : IsRunOfBytes in_key a.key
   pub value : IsWritten a.value
 
 -- each part of the line has its form
 pub record IsWrittenLine (line : Line) : Type 0 where
   pub before : list_all is_blank line.before ≡ true
-  pub name : IsRun in_word line.name
+  pub name : IsRunOfBytes in_word line.name
   pub payload : IsPayload line.payload
   pub attributes : AllByRecursion IsAttribute line.attributes
   pub behind : list_all is_blank line.behind ≡ true
@@ -178,8 +178,8 @@ pub record EndsInQuote (text : List ℕ) (place : ℕ) : Type 0 where
   pub inside : List ℕ
   pub is_line : IsWrittenLine line
   pub no_blanks : line.behind ≡ []
-  pub is_gap : IsRun is_blank gap
-  pub is_key : IsRun in_key key
+  pub is_gap : IsRunOfBytes is_blank gap
+  pub is_key : IsRunOfBytes in_key key
   pub quotes : is_quote quote ≡ true
   pub open_end : (front more : List ℕ) → inside ≡ front ++ quote ∷ more → stays_inside quote front ≡ true → ⊥
   pub written : text ≡ (line_written line ++ gap ++ key ++ 61 ∷ []) ++ quote ∷ inside

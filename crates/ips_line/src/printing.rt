@@ -4,7 +4,7 @@ ghost use Rattle.std.specs.Prelude.{◌≡◌, ◌++◌, ℕ, List, Option, OnOk
 ghost use Rattle.std.specs.List.{flat_map, position};
 ghost use Rattle.std.specs.Option.{option_map};
 ghost use Rattle.ips_line.specs.declared.words.Pair as declared;
-ghost use Rattle.ips_line.specs.Canonical.{value_text, pair_text, payload_text, words_text, AreWords, said, escaped_byte, is_escaped, is_special};
+ghost use Rattle.ips_line.specs.Canonical.{value_text, pair_text, payload_text, words_text, AreWords, canonical_words, escaped_byte, is_escaped, is_special};
 ghost use Rattle.ips_line.specs.Canonical as canonical;
 ghost use Rattle.ips_line.specs.Reading as reading;
 
@@ -117,5 +117,5 @@ fn escaped(text: &str) -> Option<usize>
 /// as them; and no two have one canonical line.
 pub fn lines_read_back()
     ensures one { (name other : List ℕ) (payload another : Option (List ℕ)) (pairs others : List declared.Pair) → AreWords name payload pairs → AreWords other another others → words_text name payload pairs ≡ words_text other another others → (name ≡ other) × (payload ≡ another) × (pairs ≡ others) }
-    ensures back { (name : List ℕ) (payload : Option (List ℕ)) (pairs : List declared.Pair) → AreWords name payload pairs → reading.read_words (words_text name payload pairs) ≡ Ok (said name payload pairs) }
+    ensures back { (name : List ℕ) (payload : Option (List ℕ)) (pairs : List declared.Pair) → AreWords name payload pairs → reading.read_words (words_text name payload pairs) ≡ Ok (canonical_words name payload pairs) }
 {}

@@ -13,7 +13,7 @@ use Rattle.std.proofs.Math.Seq.{take-append_seam}
 use Rattle.ips_text.specs.Path.{parts}
 use Rattle.ips_text.specs.Quote.{quoted}
 use Rattle.ips_text.specs.Cut.{has_byte, IsCut}
-use Rattle.ips_text.specs.Reading.{AllFit}
+use Rattle.ips_text.specs.Reading.{OneOrMore}
 use Rattle.ips_text.proofs.Cuts.{cut_once, not_cut}
 use Rattle.ips_fmri.specs.Name.{IsComponent, IsStem, IsPublisher}
 use Rattle.ips_index.proofs.IndexFiles.{same_line, other_line}
@@ -68,10 +68,10 @@ one_part (b ∷ s) h = let w = or_parts (eqb b 47) (has_byte 47 s) h in rw (w.0,
 
 -- a stem of one part is a publisher, and a publisher is one
 pub stem_publisher : (s : List ℕ) → IsStem false s → has_byte 47 s ≡ false → IsPublisher s
-stem_publisher s h lacks = record { form = subst (AllFit (IsComponent false)) (one_part s lacks) h.form; short = h.short }
+stem_publisher s h lacks = record { form = subst (OneOrMore (IsComponent false)) (one_part s lacks) h.form; short = h.short }
 
 pub publisher_stem : (p : List ℕ) → IsPublisher p → IsStem false p
-publisher_stem p h = record { form = subst (AllFit (IsComponent false)) (sym (one_part p (publisher_lacks 47 p (inl refl) h))) h.form; short = h.short }
+publisher_stem p h = record { form = subst (OneOrMore (IsComponent false)) (sym (one_part p (publisher_lacks 47 p (inl refl) h))) h.form; short = h.short }
 
 pub no_slash : (bytes first rest : List ℕ) → IsCut 47 bytes first rest → IsPublisher bytes → ⊥
 no_slash bytes first rest c h = not_cut 47 bytes first rest (publisher_lacks 47 bytes (inl refl) h) c.parts

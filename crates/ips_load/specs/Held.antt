@@ -6,7 +6,7 @@ use Rattle.ips_outside.specs.Image.{Image, is_dir}
 use Rattle.ips_outside.specs.Children.{is_child, is_foreign}
 use Rattle.ips_manifest.specs.Manifest.{IsManifestOf}
 use Rattle.ips_files.specs.Files.{file_at}
-use Rattle.ips_index.specs.Rows.{Row, index_text}
+use Rattle.ips_index.specs.Rows.{IndexedValue, index_text}
 use Rattle.ips_state.specs.State.{Installed, Recorded, head_of}
 use Rattle.ips_records.specs.Lines.{lines_text}
 use Rattle.ips_state.specs.Text.{head_lines, versioned_stem, name_lines, mediator_line, package_head}
@@ -54,7 +54,7 @@ HoldsPackages true t packages = HoldsListed t packages
 HoldsPackages false t packages = HoldsFolder t packages
 
 -- The record of an index stands in its place; where there is none, nothing stands there.
-abbrev pub HoldsIndex : Image → Option (List Row) → Type 0
+abbrev pub HoldsIndex : Image → Option (List IndexedValue) → Type 0
 HoldsIndex t None = t.look index_path ≡ None
 HoldsIndex t (Some rows) = Stands t index_path (index_text rows)
 

@@ -30,7 +30,7 @@ use Rattle.ips_conflict.proofs.FirstPair.{place_tie}
 use Rattle.ips_conflict.proofs.Marked.{below_covers, up_one, down_one, no_parent}
 use Rattle.ips_meaning.specs.declared.entry.Entry.{Entry}
 use Rattle.ips_meaning.specs.declared.entry.Entry.TheVariants.{Dir, File, Link, Hard}
-use Rattle.ips_meaning.specs.Want.{Means, Gives, IsWanted, IsWantOf, IsFreeOfClashes, is_needed}
+use Rattle.ips_meaning.specs.Want.{MeansEntry, GivesEntry, IsWanted, IsWantOf, IsFreeOfClashes, is_needed}
 use Rattle.ips_meaning.specs.Places.{IsWantedPath}
 use Rattle.ips_meaning.specs.Together.{IsDirWanted, IsFileWanted, LeadsToWanted, HangTogether, is_sure}
 use Rattle.ips_meaning.proofs.Wants.{wanted_path}
@@ -111,7 +111,7 @@ missing_by preserve.InstallOnly e = refl
 may_miss : (preserve : Preserve) (a : Fields) → values_of (codes "preserve") a.attrs ≡ preserve_values preserve → is_sure preserve ≡ false → may_be_missing a ≡ true
 may_miss preserve a values e = ap missing_in values ∙ missing_by preserve e
 
-means_dir : (a : Fields) (entry : Entry) → is_dir a.kind ≡ true → Means a entry → (mode : Option ℕ) × (entry ≡ Dir mode)
+means_dir : (a : Fields) (entry : Entry) → is_dir a.kind ≡ true → MeansEntry a entry → (mode : Option ℕ) × (entry ≡ Dir mode)
 means_dir a (Dir mode) is means = (mode, refl)
 means_dir a (File payload mode preserve) is means = absurd (true≢false (sym is ∙ ap is_dir means.0))
 means_dir a (Link target) is means = absurd (true≢false (sym is ∙ ap is_dir means.0))
@@ -156,7 +156,7 @@ module _ (kept : List Placed) (free : IsFreeOfClashes kept) where
   ]
 
   -- where a sure file counts, what is wanted is given
-  given_there : (path : List ℕ) (entry : Entry) → HasSureFile kept path → IsWanted kept path entry → Gives kept path entry
+  given_there : (path : List ℕ) (entry : Entry) → HasSureFile kept path → IsWanted kept path entry → GivesEntry kept path entry
   given_there path entry sure at = elim at [ inl gives ↦ gives | inr implicit ↦ absurd (implicit.0.not_given (sure.i, sure.p, sure.counts.at.at)) ]
 
   -- and no other kind

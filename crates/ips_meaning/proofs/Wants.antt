@@ -28,7 +28,7 @@ use Rattle.ips_conflict.proofs.Places.{one_there}
 use Rattle.ips_conflict.proofs.Kept.{found_at}
 use Rattle.ips_meaning.specs.declared.entry.Entry.{Entry}
 use Rattle.ips_meaning.specs.declared.wanted.Wanted.{Wanted}
-use Rattle.ips_meaning.specs.Want.{Means, Gives, IsGiven, IsImplicit, IsWanted, IsWantOf}
+use Rattle.ips_meaning.specs.Want.{MeansEntry, GivesEntry, IsGiven, IsImplicit, IsWanted, IsWantOf}
 use Rattle.ips_meaning.specs.View.{paths_of, entries_of, AreByPath}
 use Rattle.ips_meaning.specs.Together.{HasProperParts, AreProper}
 use Rattle.ips_meaning.specs.Places.{PathMap, found_in, rank_of, rank_at, count_cmp, Leads, IsLeading, AreLeading, IsWantedPath, AreWanted}
@@ -59,7 +59,7 @@ rank_same kept i q here file =
     ∙ ap (λ (k : ActionKind). cond (kind_place k == 1) (cond (takes_place q.action) 0 1) 2) file
     ∙ sym (ap (λ (o : Option Placed). option_map_or (λ p. cond (takes_place p.action) 0 1) o 1) here)
 
-pub leads_gives : (kept : List Placed) (path : List ℕ) (i : ℕ) (q : Placed) (entry : Entry) → Leads kept path i → slice_get kept i ≡ Some q → Means q.action entry → Gives kept path entry
+pub leads_gives : (kept : List Placed) (path : List ℕ) (i : ℕ) (q : Placed) (entry : Entry) → Leads kept path i → slice_get kept i ≡ Some q → MeansEntry q.action entry → GivesEntry kept path entry
 leads_gives kept path i q entry h here means =
     let one : h.p ≡ q = one_there kept i h.p q h.at.here here in
     let at : HasKey kept (path_key path) i q = subst (λ (p : Placed). HasKey kept (path_key path) i p) one h.at in

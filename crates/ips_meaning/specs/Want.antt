@@ -23,19 +23,19 @@ use Rattle.ips_meaning.specs.Taken.{Taken}
 use Rattle.ips_meaning.specs.Reserved.{IsFreeOfReserved, IsLeastReserved}
 
 -- The action means this entry: a directory, file or link with what its attributes say of it.
-abbrev pub Means : Fields → Entry → Type 0
-Means a (Dir mode) = (a.kind ≡ kind.Dir) × (mode ≡ Some (mode_of a))
-Means a (File payload mode preserve) = (a.kind ≡ kind.File) × (a.payload ≡ Some payload) × (mode ≡ mode_of a) × (values_of (codes "preserve") a.attrs ≡ preserve_values preserve)
-Means a (Link target) = (a.kind ≡ kind.Link) × (target ≡ value_of (codes "target") a)
-Means a (Hard to) = (a.kind ≡ kind.Hardlink) × (led_to a ≡ Some to.bytes)
+abbrev pub MeansEntry : Fields → Entry → Type 0
+MeansEntry a (Dir mode) = (a.kind ≡ kind.Dir) × (mode ≡ Some (mode_of a))
+MeansEntry a (File payload mode preserve) = (a.kind ≡ kind.File) × (a.payload ≡ Some payload) × (mode ≡ mode_of a) × (values_of (codes "preserve") a.attrs ≡ preserve_values preserve)
+MeansEntry a (Link target) = (a.kind ≡ kind.Link) × (target ≡ value_of (codes "target") a)
+MeansEntry a (Hard to) = (a.kind ≡ kind.Hardlink) × (led_to a ≡ Some to.bytes)
 
 -- An action gives the path this entry. Of two files there it is the one that counts: that which takes the place of the other.
-pub record Gives (kept : List Placed) (path : List ℕ) (entry : Entry) : Type 0 where
+pub record GivesEntry (kept : List Placed) (path : List ℕ) (entry : Entry) : Type 0 where
   pub i : ℕ
   pub p : Placed
   pub at : HasKey kept (path_key path) i p
   pub counts : p.action.kind ≡ kind.File → Counts kept path i p
-  pub means : Means p.action entry
+  pub means : MeansEntry p.action entry
 
 -- Some action gives the path.
 abbrev pub IsGiven : List Placed → List ℕ → Type 0
@@ -56,7 +56,7 @@ pub record IsImplicit (kept : List Placed) (path : List ℕ) : Type 0 where
 
 -- The entry is wanted at the path: an action gives it, or it is an implicit directory, which may have any mode.
 abbrev pub IsWanted : List Placed → List ℕ → Entry → Type 0
-IsWanted kept path entry = Gives kept path entry ⊎ (IsImplicit kept path × (entry ≡ Dir None))
+IsWanted kept path entry = GivesEntry kept path entry ⊎ (IsImplicit kept path × (entry ≡ Dir None))
 
 -- The entries are just the wanted ones, in the order of their paths' bytes, each path once: each entry is wanted at its path, and each path at which one is wanted has one.
 pub record IsWantOf (kept : List Placed) (entries : List (List ℕ × Entry)) : Type 0 where

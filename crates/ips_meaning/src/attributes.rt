@@ -10,7 +10,7 @@ ghost use Rattle.ips_conflict.specs.Alike.{has_mode, led_to, mode_of};
 ghost use Rattle.ips_conflict.specs.Alike as alike;
 ghost use Rattle.ips_conflict.specs.declared.placed.Sort as sorts;
 ghost use Rattle.ips_meaning.specs.Places.{given_path};
-ghost use Rattle.ips_meaning.specs.Want.{Means};
+ghost use Rattle.ips_meaning.specs.Want.{MeansEntry};
 ghost use Rattle.ips_meaning.specs.Together.{HasProperParts};
 
 use crate::entry::Entry;
@@ -78,7 +78,7 @@ pub fn takes_place(file: &Action) -> bool
 /// What an action that gives a path wants there.
 pub fn entry_of(alloc: Global, action: &Action) -> Result<Entry, AllocError>
     requires { sort_of action.now.kind ≡ Some Sort.Path }
-    ensures means { IfOk result (λ entry. Means action.now entry) }
+    ensures means { IfOk result (λ entry. MeansEntry action.now entry) }
     ensures proper { IfOk result (λ entry. HasProperParts entry) }
 {
     match action.kind {
@@ -107,7 +107,7 @@ fn target(alloc: Global, action: &Action) -> Result<Text, AllocError>
 
 fn file_of(action: &Action) -> Entry
     requires { action.now.kind ≡ ActionKind.File }
-    ensures means { Means action.now result }
+    ensures means { MeansEntry action.now result }
     ensures proper { HasProperParts result }
 {
     let mode = mode(action);

@@ -3,7 +3,7 @@ use Rattle.std.proofs.Common.{◌≡◌, ℕ, Bool, true, false, cond, not, ◌&
 use Rattle.std.proofs.lemmas.Bool.{or_from}
 use Rattle.ips_text.specs.Ancestry.{same_path, covers, is_below}
 use Rattle.ips_outside.specs.Image.{Entry, Dir, File, Link, Other, Image, Agrees, is_dir, is_file, with_mode}
-use Rattle.ips_outside.specs.Change.{placed, joined, moded, names}
+use Rattle.ips_outside.specs.Change.{with_entry_at, joined, moded, names}
 use Rattle.ips_text.proofs.Ancestry.{same_path-true}
 
 pub mode_over : (v w : ℕ) (x : Option Entry) → with_mode v (with_mode w x) ≡ with_mode v x
@@ -51,7 +51,7 @@ same_two true d x y z h = refl
 same_two false true x y z h = refl
 same_two false false x y z h = h refl refl
 
-pub placed_agrees : (p : List ℕ) (e : Option Entry) (free loose : List ℕ → Bool) (t u : Image) → Agrees (λ q. covers p q || free q) loose t u → Agrees free loose (placed p e t) (placed p e u)
+pub placed_agrees : (p : List ℕ) (e : Option Entry) (free loose : List ℕ → Bool) (t u : Image) → Agrees (λ q. covers p q || free q) loose t u → Agrees free loose (with_entry_at p e t) (with_entry_at p e u)
 placed_agrees p e free loose t u h = record {
   look = λ q fq lq. look_two (same_path p q) (covers p q) e e None (u.look q) (t.look q) (λ _. refl) (λ c. h.look q (or_from _ _ c fq) lq);
   but_mode = λ q fq. mode_two (same_path p q) (covers p q) e e None (u.look q) (t.look q) (λ _. refl) (λ c. h.but_mode q (or_from _ _ c fq));

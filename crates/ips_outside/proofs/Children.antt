@@ -17,7 +17,7 @@ use Rattle.ips_text.proofs.Ancestry.{same_path-true, same_path-self, covers_shor
 use Rattle.ips_outside.specs.Image.{IsImage}
 use Rattle.ips_outside.specs.Table.{kind_at, image_of}
 use Rattle.ips_outside.specs.Order.{comes_after, front_below, IsNextBelow, IsNoneBelow}
-use Rattle.ips_outside.specs.Children.{is_directory, has_child, HasChildren, AreChildren, bytes_of}
+use Rattle.ips_outside.specs.Children.{is_directory, has_child, HasChildren, AreChildren, path_bytes}
 use Rattle.ips_text.specs.Kept.{Kept}
 use Rattle.ips_outside.specs.declared.table.Kind.{Kind}
 use Rattle.ips_outside.specs.declared.table.Node.{Node}
@@ -336,7 +336,7 @@ children_of table nodes dir paths formed has = record {
   order = has.order;
 }
 
-pub bytes_more : (paths : List Kept) (more : Kept) (next : List ℕ) → more.bytes ≡ next → bytes_of (paths ++ more ∷ []) ≡ bytes_of paths ++ next ∷ []
+pub bytes_more : (paths : List Kept) (more : Kept) (next : List ℕ) → more.bytes ≡ next → path_bytes (paths ++ more ∷ []) ≡ path_bytes paths ++ next ∷ []
 bytes_more [] more next is = ap (λ (x : List ℕ). x ∷ []) is
 bytes_more (p ∷ paths) more next is = ap (λ (xs : List (List ℕ)). p.bytes ∷ xs) (bytes_more paths more next is)
 

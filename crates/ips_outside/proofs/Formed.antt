@@ -4,7 +4,7 @@ use Rattle.std.proofs.lemmas.Bool.{false_from_ne_true, lt-ltb}
 use Rattle.ips_text.specs.Ancestry.{same_path, covers, is_below}
 use Rattle.ips_text.specs.Path.{IsPath}
 use Rattle.ips_outside.specs.Image.{has_small_mode, Entry, Dir, File, Link, Other, Image, IsImage, is_dir, is_file, with_mode, has_parent, dir_or_none}
-use Rattle.ips_outside.specs.Change.{placed, joined, moded, names, appended, more_bytes, marked, with_mark}
+use Rattle.ips_outside.specs.Change.{with_entry_at, joined, moded, names, appended, more_bytes, marked, with_mark}
 use Rattle.ips_text.proofs.Ancestry.{same_path-true, same_path-self, uncovered, covers_trans, above, at_parent_of, same_covers}
 use Rattle.ips_outside.proofs.Agree.{is_dir-mode, is_file-mode}
 use Rattle.ips_outside.proofs.Images.{placed_nodes, joined_nodes, moded_nodes, Twins, names_twins}
@@ -100,7 +100,7 @@ module _ (p : List ℕ) (e : Option Entry) (t : Image) (formed : IsImage t) wher
   placed_trans false false false false true sz ab az bz ha hb f h = refl
   placed_trans false false false false false sz ab az bz ha hb f h = f h
 
-  pub placed_formed : (is_none e ≡ false → has_parent t p ≡ true) → (is_some e ≡ true → IsPath p) → has_small_mode e ≡ true → IsImage (placed p e t)
+  pub placed_formed : (is_none e ≡ false → has_parent t p ≡ true) → (is_some e ≡ true → IsPath p) → has_small_mode e ≡ true → IsImage (with_entry_at p e t)
   placed_formed has path small = record {
     paths = put_paths path;
     modes = put_modes small;

@@ -2,7 +2,7 @@
 use Rattle.std.proofs.Common.{◌≡◌, ℕ, Bool, true, false, cond, not, ◌&&◌, ◌||◌, List, Option, None, refl, sym, ◌∙◌, ap}
 use Rattle.ips_text.specs.Ancestry.{same_path, covers}
 use Rattle.ips_outside.specs.Image.{Entry, Image, is_file, with_mode}
-use Rattle.ips_outside.specs.Change.{placed, joined, moded, names}
+use Rattle.ips_outside.specs.Change.{with_entry_at, joined, moded, names}
 use Rattle.ips_text.proofs.Ancestry.{same_path-true, same_path-self, covers-self, uncovered, same_covers}
 use Rattle.ips_outside.proofs.Agree.{is_file-mode}
 
@@ -33,7 +33,7 @@ placed_self true false f x e y is sc h here = absurd (let no = sc refl in cc)
 placed_self false true f x e y is sc h here = here
 placed_self false false f x e y is sc h here = h here
 
-pub placed_nodes : (p : List ℕ) (e : Option Entry) (t : Image) → HasNodes t → HasNodes (placed p e t)
+pub placed_nodes : (p : List ℕ) (e : Option Entry) (t : Image) → HasNodes t → HasNodes (with_entry_at p e t)
 placed_nodes p e t h = record { self = λ a here. placed_self (same_path p a) (covers p a) (is_file e) (t.same a a) e (t.look a) refl (same_covers p a) (h.self a) here }
 
 moded_file : (n : Bool) (m : ℕ) (y : Option Entry) → is_file (cond n (with_mode m y) y) ≡ is_file y

@@ -2,11 +2,11 @@
 use Rattle.std.proofs.Common.{◌≡◌, ℕ, Bool, true, false, cond, ◌&&◌, ◌||◌, List, Option, Some, None, refl, sym, subst}
 use Rattle.ips_text.specs.Ancestry.{same_path, covers, parent}
 use Rattle.ips_outside.specs.Image.{Entry, Image, IsImage, is_file, with_mode, has_parent, dir_or_none}
-use Rattle.ips_outside.specs.Change.{placed, moded, names}
+use Rattle.ips_outside.specs.Change.{with_entry_at, moded, names}
 use Rattle.ips_text.proofs.Ancestry.{same_path-true, same_path-self, covers-self, uncovered, covers-parent}
 use Rattle.ips_outside.proofs.Images.{image_ext}
 
-pub look_placed : (p : List ℕ) (e : Option Entry) (t : Image) → (placed p e t).look p ≡ e
+pub look_placed : (p : List ℕ) (e : Option Entry) (t : Image) → (with_entry_at p e t).look p ≡ e
 look_placed p e t = rw (same_path-self p) refl
 
 over : {A : Type 0} (s c : Bool) (e f n x : A) → cond s e (cond c n (cond s f (cond c n x))) ≡ cond s e (cond c n x)
@@ -18,7 +18,7 @@ over_same : (c x y z : Bool) → cond c x (cond c y z) ≡ cond c x z
 over_same true x y z = refl
 over_same false x y z = refl
 
-pub placed_twice : (p : List ℕ) (e f : Option Entry) (t : Image) → placed p e (placed p f t) ≡ placed p e t
+pub placed_twice : (p : List ℕ) (e f : Option Entry) (t : Image) → with_entry_at p e (with_entry_at p f t) ≡ with_entry_at p e t
 placed_twice p e f t = image_ext _ _ (λ q. over (same_path p q) (covers p q) e f None (t.look q)) (λ a b. over_same (covers p a || covers p b) _ _ _)
 
 own_name : (c d s x f y : Bool) → c ≡ true → s ≡ true → cond (c || d) (s && (x && f)) y ≡ true → x ≡ true
@@ -28,14 +28,14 @@ own_name true d false x f y ec es h = cc
 own_name false d s x f y ec es h = cc
 
 -- what was placed shares its node with nothing
-pub placed_sole : (p q : List ℕ) (e : Option Entry) (t : Image) → (placed p e t).same p q ≡ true → q ≡ p
+pub placed_sole : (p q : List ℕ) (e : Option Entry) (t : Image) → (with_entry_at p e t).same p q ≡ true → q ≡ p
 placed_sole p q e t h = sym (same_path-true p q (own_name (covers p p) (covers p q) (same_path p p) (same_path p q) (is_file e) _ (covers-self p) (same_path-self p) h))
 
 -- a change at a path leaves its parent
-pub parent_kept : (p : List ℕ) (e : Option Entry) (t : Image) → has_parent t p ≡ true → has_parent (placed p e t) p ≡ true
+pub parent_kept : (p : List ℕ) (e : Option Entry) (t : Image) → has_parent t p ≡ true → has_parent (with_entry_at p e t) p ≡ true
 parent_kept p e t here = go (parent p) refl here
   where
-    go : (o : Option (List ℕ)) → parent p ≡ o → dir_or_none t o ≡ true → dir_or_none (placed p e t) o ≡ true
+    go : (o : Option (List ℕ)) → parent p ≡ o → dir_or_none t o ≡ true → dir_or_none (with_entry_at p e t) o ≡ true
     go (Some q) is dir = let off = covers-parent p q is in rw (uncovered p q off, off) dir
     go None is dir = refl
 

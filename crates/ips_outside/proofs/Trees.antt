@@ -6,7 +6,7 @@ use Rattle.ips_text.specs.Ancestry.{same_path, covers, is_below}
 use Rattle.ips_text.proofs.Ancestry.{same_path-true, same_path-self, same_covers}
 use Rattle.ips_text.specs.Path.{IsPath}
 use Rattle.ips_outside.specs.Image.{Entry, Dir, File, Link, Other, Image, IsImage, has_small_mode, is_dir, is_file, has_parent, with_mode}
-use Rattle.ips_outside.specs.Change.{placed, joined, moded, appended, more_bytes, marked, with_mark}
+use Rattle.ips_outside.specs.Change.{with_entry_at, joined, moded, appended, more_bytes, marked, with_mark}
 use Rattle.ips_outside.specs.Table.{kind_at, file_of, entry_of, node_of, one_node, image_of, with_dir_mode, with_dir_mark, has_dir}
 use Rattle.ips_outside.specs.Making.{fault_at}
 use Rattle.ips_outside.specs.declared.table.Kind.{Kind}
@@ -128,16 +128,16 @@ module _ (old new : List (Vec ℕ Global × Kind)) (nodes more : List Node) (p :
     (kept : (q : List ℕ) → entry_of more (kind_at old q) ≡ entry_of nodes (kind_at old q))
     (own : one_node (node_of (Some k)) (node_of (Some k)) ≡ is_file (entry_of more (Some k)))
     (apart : (q : List ℕ) → (one_node (node_of (Some k)) (node_of (kind_at old q)) ≡ false) × (one_node (node_of (kind_at old q)) (node_of (Some k)) ≡ false)) where
-  pub image_put : image_of new more ≡ placed p (entry_of more (Some k)) (image_of old nodes)
+  pub image_put : image_of new more ≡ with_entry_at p (entry_of more (Some k)) (image_of old nodes)
   image_put = image_ext _ _ looks sames
     where
-      looks : (q : List ℕ) → entry_of more (kind_at new q) ≡ (placed p (entry_of more (Some k)) (image_of old nodes)).look q
+      looks : (q : List ℕ) → entry_of more (kind_at new q) ≡ (with_entry_at p (entry_of more (Some k)) (image_of old nodes)).look q
       looks q =
           ap (entry_of more) (put q) ∙ entry_of-cond more (same_path p q) (Some k) (kind_at old q)
           ∙ ap (λ (x : Option Entry). cond (same_path p q) (entry_of more (Some k)) x) (kept q)
           ∙ look_put (same_path p q) (covers p q) (entry_of more (Some k)) (entry_of nodes (kind_at old q)) (same_covers p q) (nothing_below (image_of old nodes) p formed absent q)
 
-      sames : (a b : List ℕ) → one_node (node_of (kind_at new a)) (node_of (kind_at new b)) ≡ (placed p (entry_of more (Some k)) (image_of old nodes)).same a b
+      sames : (a b : List ℕ) → one_node (node_of (kind_at new a)) (node_of (kind_at new b)) ≡ (with_entry_at p (entry_of more (Some k)) (image_of old nodes)).same a b
       sames a b =
           ap (λ (x : Option Kind). one_node (node_of x) (node_of (kind_at new b))) (put a)
           ∙ ap (λ (x : Option ℕ). one_node x (node_of (kind_at new b))) (node_of-cond (same_path p a) (Some k) (kind_at old a))
@@ -164,19 +164,19 @@ one_node-none (Some n) = refl
 one_node-none None = refl
 
 -- what was added has a directory above it
-added_formed : (t u : Image) (p : List ℕ) (e : Option Entry) → IsImage t → has_parent t p ≡ true → IsPath p → has_small_mode e ≡ true → u ≡ placed p e t → IsImage u
+added_formed : (t u : Image) (p : List ℕ) (e : Option Entry) → IsImage t → has_parent t p ≡ true → IsPath p → has_small_mode e ≡ true → u ≡ with_entry_at p e t → IsImage u
 added_formed t u p e formed above path small is = subst IsImage (sym is) (placed_formed p e t formed (λ _. above) (λ _. path) small)
 
 module _ (old new : List (Vec ℕ Global × Kind)) (nodes : List Node) (p : List ℕ) (k : Kind) (formed : IsImage (image_of old nodes)) (can : fault_at (image_of old nodes) p ≡ None)
     (plain : node_of (Some k) ≡ None) where
   -- what is no file
-  pub image_plain : ((q : List ℕ) → kind_at new q ≡ cond (same_path p q) (Some k) (kind_at old q)) → image_of new nodes ≡ placed p (entry_of [] (Some k)) (image_of old nodes)
+  pub image_plain : ((q : List ℕ) → kind_at new q ≡ cond (same_path p q) (Some k) (kind_at old q)) → image_of new nodes ≡ with_entry_at p (entry_of [] (Some k)) (image_of old nodes)
   image_plain put =
       let same : entry_of nodes (Some k) ≡ entry_of [] (Some k) = plain_entry nodes k plain in
       image_put old new nodes nodes p k formed put (no_fault (image_of old nodes) p can).1 (λ q. refl)
       (ap (λ (x : Option ℕ). one_node x x) plain ∙ sym (ap is_file same ∙ plain_file k plain))
       (λ q. (ap (λ (x : Option ℕ). one_node x (node_of (kind_at old q))) plain, ap (one_node (node_of (kind_at old q))) plain ∙ one_node-none (node_of (kind_at old q))))
-      ∙ ap (λ (e : Option Entry). placed p e (image_of old nodes)) same
+      ∙ ap (λ (e : Option Entry). with_entry_at p e (image_of old nodes)) same
 
   -- whatever `put` answers
   pub formed_plain : {E : Type 0} (r : Result (Unit {0}) E) → IsPath p → has_small_mode (entry_of [] (Some k)) ≡ true → OnOk r ((q : List ℕ) → kind_at new q ≡ cond (same_path p q) (Some k) (kind_at old q)) → OnErr r (new ≡ old) → IsImage (image_of new nodes)
@@ -211,12 +211,12 @@ module _ (old new : List (Vec ℕ Global × Kind)) (nodes : List Node) (p : List
   new_node q None is = (refl, refl)
 
   -- a file with a node of its own
-  pub image_file : image_of new (nodes ++ node ∷ []) ≡ placed p (Some (File node.mode node.bytes.items)) (image_of old nodes)
+  pub image_file : image_of new (nodes ++ node ∷ []) ≡ with_entry_at p (Some (File node.mode node.bytes.items)) (image_of old nodes)
   image_file =
       let shown : file_of (nodes ++ node ∷ []) (length nodes) ≡ Some (File node.mode node.bytes.items) = file_of-last nodes node in
       image_put old new nodes (nodes ++ node ∷ []) p (kind.File (length nodes)) formed put (no_fault (image_of old nodes) p can).1 (λ q. still q (kind_at old q) refl)
       (one_node-self (length nodes) ∙ sym (ap is_file shown)) (λ q. new_node q (kind_at old q) refl)
-      ∙ ap (λ (e : Option Entry). placed p e (image_of old nodes)) shown
+      ∙ ap (λ (e : Option Entry). with_entry_at p e (image_of old nodes)) shown
 
   pub formed_file : IsPath p → node.mode < 4096 → IsImage (image_of new (nodes ++ node ∷ []))
   formed_file path small = added_formed (image_of old nodes) (image_of new (nodes ++ node ∷ [])) p (Some (File node.mode node.bytes.items)) formed (no_fault (image_of old nodes) p can).0 path (lt-ltb node.mode 4096 small) image_file
@@ -458,7 +458,7 @@ module _ (old new : List (Vec ℕ Global × Kind)) (nodes : List Node) (p : List
   same_taken false true sa sb a b = one_node-none (node_of a) ∙ sym (never sa sb)
   same_taken false false sa sb a b = refl
 
-  pub image_taken : image_of new nodes ≡ placed p None (image_of old nodes)
+  pub image_taken : image_of new nodes ≡ with_entry_at p None (image_of old nodes)
   image_taken = image_ext _ _ (λ q. ap (entry_of nodes) (taken q) ∙ look_taken (same_path p q) (covers p q) (kind_at old q) (same_covers p q))
       (λ a b. (λ i. one_node (node_of (taken a i)) (node_of (taken b i))) ∙ same_taken (covers p a) (covers p b) (same_path p a) (same_path p b) (kind_at old a) (kind_at old b))
 
@@ -466,7 +466,7 @@ module _ (old new : List (Vec ℕ Global × Kind)) (nodes : List Node) (p : List
   formed_taken = subst IsImage (sym image_taken) (placed_formed p None (image_of old nodes) formed (λ some. absurd (cc)) (λ some. absurd (cc)) refl)
 
 -- where nothing stands nothing goes
-pub none_taken : (p : List ℕ) (t : Image) → IsImage t → t.look p ≡ None → t ≡ placed p None t
+pub none_taken : (p : List ℕ) (t : Image) → IsImage t → t.look p ≡ None → t ≡ with_entry_at p None t
 none_taken p t formed absent = image_ext _ _ (λ q. look_none (same_path p q) (covers p q) (t.look q) (same_covers p q) (nothing_below t p formed absent q))
     (λ a b. same_none (covers p a) (covers p b) (same_path p a) (same_path p b) (t.same a b) (alone t p formed absent a b) (alone-back t p formed absent b a))
   where

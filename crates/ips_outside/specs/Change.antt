@@ -4,8 +4,8 @@ use Rattle.ips_text.specs.Ancestry.{same_path, covers, is_below}
 use Rattle.ips_outside.specs.Image.{Entry, Dir, File, Link, Other, Image, is_file, with_mode}
 
 -- This entry in place of what stands at and below the path; a file has a node of its own.
-abbrev pub placed : List ℕ → Option Entry → Image → Image
-placed p e t = record {
+abbrev pub with_entry_at : List ℕ → Option Entry → Image → Image
+with_entry_at p e t = record {
   look = λ q. cond (same_path p q) e (cond (covers p q) None (t.look q));
   same = λ a b. cond (covers p a || covers p b) (same_path p a && (same_path p b && is_file e)) (t.same a b);
 }

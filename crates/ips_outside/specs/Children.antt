@@ -35,8 +35,8 @@ pub record AreChildren (t : Image) (dir : List ℕ) (paths : List (List ℕ)) : 
   pub order : IsStrictlySortedBy (slice_cmp nat_cmp) paths
 
 -- the bytes of each path
-abbrev pub bytes_of : List Kept → List (List ℕ)
-bytes_of paths = map (λ p. p.bytes) paths
+abbrev pub path_bytes : List Kept → List (List ℕ)
+path_bytes paths = map (λ p. p.bytes) paths
 
 -- the table has the path, and its parent is the directory
 abbrev pub has_child : List (Vec ℕ Global × Kind) → List ℕ → List ℕ → Bool

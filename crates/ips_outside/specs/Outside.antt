@@ -29,8 +29,8 @@ pub record IsOutside {F : Type 0} (o : Outside F) : Type 0 where
   pub counts_now : (f : F) (t : ℕ) → t ≤ o.clock f → o.states f t (o.state f)
 
 -- one count more, up to the last value of its counter
-abbrev pub counted : ℕ → ℕ
-counted n = min (n + 1) (2 ^ 64 - 1)
+abbrev pub risen : ℕ → ℕ
+risen n = min (n + 1) (2 ^ 64 - 1)
 
 -- A count rose, or stands at the last value of its counter.
 abbrev pub Rose : ℕ → ℕ → Type 0
@@ -50,7 +50,7 @@ pub record RoseWhere (before now : ℕ) (some : Type 0) : Type 0 where
 -- One call more was counted.
 pub record OneMore (before now : ℕ) : Type 0 where
   pub later : before ≤ now
-  pub one : now ≡ counted before
+  pub one : now ≡ risen before
 
 -- Time goes on, and nothing is forgotten: the states since a moment are those from before the call, and the one after it.
 pub record Elapses {F : Type 0} (o : Outside F) (old new : F) : Type 0 where

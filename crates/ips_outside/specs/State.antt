@@ -47,7 +47,7 @@ abbrev pub MayChange : (List ℕ → Bool) → (List ℕ → Bool) → State →
 MayChange free loose old new = (new ≡ old) ⊎ Changed free loose old new
 
 -- Reached from an older state by changes at these paths and in these modes alone.
-pub record Within (free loose : List ℕ → Bool) (old s : State) : Type 0 where
+pub record ChangedWithin (free loose : List ℕ → Bool) (old s : State) : Type 0 where
   pub whole : (q : List ℕ) → IsFalse (free q) → IsFalse (old.whole q) → IsFalse (s.whole q)
   pub modes : (q : List ℕ) → IsFalse (loose q) → IsFalse (old.modes q) → IsFalse (s.modes q)
   pub agrees : Agrees free loose old.held s.held

@@ -4,7 +4,7 @@ ghost use Rattle.std.specs.Prelude.{◌≡◌, ◌≤◌, List, ℕ, Some, IfOk,
 ghost use Rattle.ips_text.specs.Ancestry as ancestry;
 ghost use Rattle.ips_text.specs.Path.{IsPath};
 ghost use Rattle.ips_outside.specs.Table.{kind_at};
-ghost use Rattle.ips_outside.specs.Children.{HasChildren, bytes_of};
+ghost use Rattle.ips_outside.specs.Children.{HasChildren, path_bytes};
 
 use crate::subtree::{next_below, spare, write_behind};
 use crate::table::Paths;
@@ -50,7 +50,7 @@ fn copied(alloc: Global, path: &[u8]) -> Result<RelPath, AllocError>
 pub fn children(alloc: Global, paths: &Paths, dir: &[u8]) -> Result<Vec<RelPath>, AllocError>
     requires paths { (q : List ℕ) → IsTrue (is_some (kind_at paths.now.entries q)) → IsPath q }
     requires fits { length dir.now ≤ 1023 }
-    ensures { IfOk result (λ found. HasChildren paths.now.entries dir.now (bytes_of found.items)) }
+    ensures { IfOk result (λ found. HasChildren paths.now.entries dir.now (path_bytes found.items)) }
 {
     let mut found = Vec::new(alloc);
     let mut from = spare(alloc)?;

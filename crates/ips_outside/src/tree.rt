@@ -4,11 +4,11 @@
 ghost use Rattle.std.specs.Prelude.{◌≡◌, ◌<◌, [], ℕ, false, IsTrue, IsFalse, List, Option, Some, None, IfOk, OnOk, OnErr, ◌≤◌, length};
 ghost use Rattle.std.specs.Option.{option_copied};
 ghost use Rattle.ips_outside.specs.Image.{IsImage, Dir, File, Link, Other, nothing, is_dir, is_file, file_bytes, link_target, has_small_mode};
-ghost use Rattle.ips_outside.specs.Change.{placed, joined, moded, appended, marked};
+ghost use Rattle.ips_outside.specs.Change.{with_entry_at, joined, moded, appended, marked};
 ghost use Rattle.ips_outside.specs.Outside.{look_of, IsSmall, readable, IsRead};
 ghost use Rattle.ips_outside.specs.Table.{image_of, entry_of, node_of};
 ghost use Rattle.ips_outside.specs.Order.{HasRoom};
-ghost use Rattle.ips_outside.specs.Children.{is_foreign, AreChildren, bytes_of};
+ghost use Rattle.ips_outside.specs.Children.{is_foreign, AreChildren, path_bytes};
 ghost use Rattle.ips_outside.specs.Tearing.{IsTorn, in_set};
 ghost use Rattle.ips_outside.specs.Making.{fault_at, hard_fault_at, Refuses};
 
@@ -129,7 +129,7 @@ impl Tree {
     /// The paths of all that stands right below the directory at the path, each once, in the order of their bytes; none
     /// where no directory stands.
     pub fn children(&self, alloc: Global, dir: &RelPath) -> Result<Vec<RelPath>, AllocError>
-        ensures { IfOk result (λ paths. AreChildren (tree_image self.now) dir.now.bytes (bytes_of paths.items)) }
+        ensures { IfOk result (λ paths. AreChildren (tree_image self.now) dir.now.bytes (path_bytes paths.items)) }
     {
         children(alloc, &self.paths, dir.bytes())
     }
@@ -155,7 +155,7 @@ impl Tree {
         requires free { fault_at (tree_image self.old) path.now.bytes ≡ None }
         requires plain { node_of (Some kind) ≡ None }
         requires mode { IsTrue (has_small_mode (entry_of [] (Some kind))) }
-        ensures made { OnOk result (tree_image self.new ≡ placed path.now.bytes (entry_of [] (Some kind)) (tree_image self.old)) }
+        ensures made { OnOk result (tree_image self.new ≡ with_entry_at path.now.bytes (entry_of [] (Some kind)) (tree_image self.old)) }
         ensures as_before { OnErr result (tree_image self.new ≡ tree_image self.old) }
     {
         let key = key(alloc, path, &mut self.spare)?;
@@ -166,7 +166,7 @@ impl Tree {
     fn add(&mut self, alloc: Global, path: &RelPath, kind: Kind) -> Result<(), Or<TreeFault>>
         requires plain { node_of (Some kind) ≡ None }
         requires mode { IsTrue (has_small_mode (entry_of [] (Some kind))) }
-        ensures made { OnOk result (tree_image self.new ≡ placed path.now.bytes (entry_of [] (Some kind)) (tree_image self.old)) }
+        ensures made { OnOk result (tree_image self.new ≡ with_entry_at path.now.bytes (entry_of [] (Some kind)) (tree_image self.old)) }
         ensures as_before { OnErr result (tree_image self.new ≡ tree_image self.old) }
         ensures refused { Refuses (fault_at (tree_image self.old) path.now.bytes) result }
     {
@@ -180,7 +180,7 @@ impl Tree {
     /// Adds a directory, with permission bits below 0o10000.
     pub fn dir(&mut self, alloc: Global, path: &RelPath, mode: u16) -> Result<(), Or<TreeFault>>
         requires { mode < 4096 }
-        ensures made { OnOk result (tree_image self.new ≡ placed path.now.bytes (Some (Dir mode false)) (tree_image self.old)) }
+        ensures made { OnOk result (tree_image self.new ≡ with_entry_at path.now.bytes (Some (Dir mode false)) (tree_image self.old)) }
         ensures as_before { OnErr result (tree_image self.new ≡ tree_image self.old) }
         ensures refused { Refuses (fault_at (tree_image self.old) path.now.bytes) result }
     {
@@ -200,7 +200,7 @@ impl Tree {
         bytes: &[u8],
     ) -> Result<(), Or<TreeFault>>
         requires { mode < 4096 }
-        ensures made { OnOk result (tree_image self.new ≡ placed path.now.bytes (Some (File mode bytes.now)) (tree_image self.old)) }
+        ensures made { OnOk result (tree_image self.new ≡ with_entry_at path.now.bytes (Some (File mode bytes.now)) (tree_image self.old)) }
         ensures as_before { OnErr result (tree_image self.new ≡ tree_image self.old) }
         ensures refused { Refuses (fault_at (tree_image self.old) path.now.bytes) result }
     {
@@ -223,7 +223,7 @@ impl Tree {
         path: &RelPath,
         target: &[u8],
     ) -> Result<(), Or<TreeFault>>
-        ensures made { OnOk result (tree_image self.new ≡ placed path.now.bytes (Some (Link target.now)) (tree_image self.old)) }
+        ensures made { OnOk result (tree_image self.new ≡ with_entry_at path.now.bytes (Some (Link target.now)) (tree_image self.old)) }
         ensures as_before { OnErr result (tree_image self.new ≡ tree_image self.old) }
         ensures refused { Refuses (fault_at (tree_image self.old) path.now.bytes) result }
     {
@@ -237,7 +237,7 @@ impl Tree {
 
     /// Adds what is neither a directory nor a file nor a symbolic link, as a device or a named pipe.
     pub fn other(&mut self, alloc: Global, path: &RelPath) -> Result<(), Or<TreeFault>>
-        ensures made { OnOk result (tree_image self.new ≡ placed path.now.bytes (Some Other) (tree_image self.old)) }
+        ensures made { OnOk result (tree_image self.new ≡ with_entry_at path.now.bytes (Some Other) (tree_image self.old)) }
         ensures as_before { OnErr result (tree_image self.new ≡ tree_image self.old) }
         ensures refused { Refuses (fault_at (tree_image self.old) path.now.bytes) result }
     {
@@ -275,7 +275,7 @@ impl Tree {
 
     /// Takes away what stands at the path, with all below it, and does nothing where nothing stands. It takes no memory.
     pub fn remove(&mut self, path: &RelPath)
-        ensures { tree_image self.new ≡ placed path.now.bytes None (tree_image self.old) }
+        ensures { tree_image self.new ≡ with_entry_at path.now.bytes None (tree_image self.old) }
     {
         let name = path.bytes();
         if find(&self.paths, name).is_some() {

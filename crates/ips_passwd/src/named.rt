@@ -19,10 +19,10 @@ pub struct Named {
 
 impl Model for Named {
     ghost use Rattle.std.specs.Prelude.{List};
-    ghost use Rattle.ips_books.specs.Lines.{Line};
+    ghost use Rattle.ips_books.specs.Lines.{AccountLine};
     ghost use Rattle.ips_passwd.specs.Entries.{LeadByName};
 
-    ghost Value = { List Line };
+    ghost Value = { List AccountLine };
 
     ghost view = { λ n. n.lines.items };
 

@@ -22,10 +22,10 @@ pub struct Numbered {
 
 impl Model for Numbered {
     ghost use Rattle.std.specs.Prelude.{List};
-    ghost use Rattle.ips_books.specs.Lines.{Line};
+    ghost use Rattle.ips_books.specs.Lines.{AccountLine};
     ghost use Rattle.ips_passwd.specs.Entries.{IsByNumber};
 
-    ghost Value = { List Line };
+    ghost Value = { List AccountLine };
 
     ghost view = { λ n. n.named };
 
@@ -55,7 +55,7 @@ impl Numbered {
 
     /// Whether the number is that of a line that speaks of another name.
     pub fn is_taken(&self, name: &[u8], id: u32) -> bool
-        ensures { result ≡ writing_spec.is_taken self.now name.now id }
+        ensures { result ≡ writing_spec.is_number_taken self.now name.now id }
     {
         is_taken(&self.numbers, self.named.lines(), name, id)
     }
@@ -70,7 +70,7 @@ impl Numbered {
 
     /// Writes the line of a name: its first line is rewritten at its place, or a line is added at the end.
     pub fn put(&mut self, alloc: Global, name: &[u8], text: Vec<u8>) -> Result<(), AllocError>
-        ensures { OnOk result (self.new ≡ writing_spec.put name.now text.items self.old) }
+        ensures { OnOk result (self.new ≡ writing_spec.with_line name.now text.items self.old) }
     {
         match self.named.place_of(name) {
             Some(place) => {

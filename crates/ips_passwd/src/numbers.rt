@@ -126,7 +126,7 @@ fn is_number(line: &[u8], id: usize) -> bool
 /// Whether the number is that of a line that speaks of another name.
 pub fn is_taken(numbers: &Numbers, lines: &[Line], name: &[u8], id: u32) -> bool
     requires { LeadByNumber numbers.now lines.now }
-    ensures { result ≡ writing_spec.is_taken lines.now name.now id }
+    ensures { result ≡ writing_spec.is_number_taken lines.now name.now id }
 {
     led(numbers, id as usize)
         .iter()

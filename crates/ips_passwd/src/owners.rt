@@ -52,7 +52,7 @@ impl Owners {
 
 // The lines of a text, found by name.
 fn read(alloc: Global, text: &[u8]) -> Result<Named, AllocError>
-    ensures { IfOk result (λ named. named ≡ lines_spec.lines_of text.now) }
+    ensures { IfOk result (λ named. named ≡ lines_spec.account_lines text.now) }
 {
     Named::new(alloc, lines_of(alloc, text)?)
 }

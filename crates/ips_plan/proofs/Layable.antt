@@ -20,7 +20,7 @@ use Rattle.ips_outside.proofs.Agree.{is_dir-alike}
 use Rattle.ips_outside.proofs.Images.{HasNodes}
 use Rattle.ips_outside.proofs.Trees.{nothing_below}
 use Rattle.ips_steps.specs.Steps as step
-use Rattle.ips_steps.specs.Steps.{Step, Stage, bytes_of, path_of, frees, freed, named, distinct, sound, can_lay, possible}
+use Rattle.ips_steps.specs.Steps.{Step, Stage, content_bytes, path_of, frees, freed, named, distinct, sound, can_lay, possible}
 use Rattle.ips_steps.specs.Outcome.{back, source, made, bare, with_modes, outcome}
 use Rattle.ips_steps.proofs.Lists.{clash, same_path-sym}
 use Rattle.ips_steps.proofs.ByPath.{freed_by, made_next}
@@ -31,7 +31,7 @@ use Rattle.ips_meaning.specs.declared.entry.Entry.{Entry}
 use Rattle.ips_meaning.specs.declared.entry.Entry.TheVariants.{Dir, File, Link, Hard}
 use Rattle.ips_meaning.specs.Together.{HangTogether}
 use Rattle.ips_plan.specs.Meant.{implicit_mode}
-use Rattle.ips_plan.specs.Planned.{Fits, AllFit, payload_of, payloads_of}
+use Rattle.ips_plan.specs.Planned.{Fits, AllCanBeLaid, payload_of, payloads_of}
 use Rattle.ips_plan.specs.StepsFor.{new_step, step_at, makers, link_step, links, looks, steps_for}
 use Rattle.ips_plan.proofs.Elements.{here_or_later, first_of, later_of, place_of, recursion_from}
 use Rattle.ips_plan.proofs.InOrder.{Entries, AreInOrder, less_apart-back, later_covers, later_parent, later_less, rest_order, one_wanted, held_by, leads_to, hard_covers}
@@ -174,7 +174,7 @@ pub record AreReady (entries : Entries) (t : Image) : Type 0 where
   pub order : AreInOrder entries
   pub together : HangTogether entries
   pub formed : IsImage t
-  pub fit : AllFit t entries
+  pub fit : AllCanBeLaid t entries
 
 module _ (entries : Entries) (t : Image) (ready : AreReady entries t) where
   abbrev steps : List Step
@@ -272,7 +272,7 @@ module _ (entries : Entries) (t : Image) (ready : AreReady entries t) where
         let none = fits_none (t.look p) (File payload mode preserve) (fits_at p (File payload mode preserve) one) (λ m e. cc) in
         let n = (has_maker p (File payload mode preserve) one).number in
         let s = step.Put n mode p in
-        ap is_file (made_there s (File payload mode preserve) (Some (image.File mode (bytes_of (stage n)))) (new_in p (File payload mode preserve) s one none refl) one (λ to e. cc) (covers-self p) (λ rest. rw (same_path-self p) refl))
+        ap is_file (made_there s (File payload mode preserve) (Some (image.File mode (content_bytes (stage n)))) (new_in p (File payload mode preserve) s one none refl) one (λ to e. cc) (covers-self p) (λ rest. rw (same_path-self p) refl))
 
     parent_stands : (p : List ℕ) (e : Entry) → Contains entries (p, e) → has_parent left p ≡ true
     parent_stands p e one = go (parent p) refl

@@ -16,7 +16,7 @@ use Rattle.ips_outside.specs.Image.{Image, IsImage, is_dir, is_file}
 use Rattle.ips_outside.specs.Change.{names}
 use Rattle.ips_outside.specs.Outside.{look_of}
 use Rattle.ips_steps.specs.Steps as step
-use Rattle.ips_steps.specs.Steps.{Step, Stage, bytes_of, path_of, frees, freed, named, all_laid}
+use Rattle.ips_steps.specs.Steps.{Step, Stage, content_bytes, path_of, frees, freed, named, all_laid}
 use Rattle.ips_steps.specs.Journal.{AllProper}
 use Rattle.ips_steps.specs.Outcome.{source, last_mode, mode_or, given, IsLaidByPath}
 use Rattle.ips_steps.proofs.Lists.{clash, same_path-sym}
@@ -207,7 +207,7 @@ module _ (entries : Entries) (t : Image) (ready : AreReady entries t) where
         let bytes = staged put.0 (each put.0 (slice_get_within (payloads_of entries) put.0 payload put.1)) in (
           bytes.0,
           record { at = put.0; stands = put.1; holds = bytes.1 },
-          laid.put put.0 mode p put.2 ∙ ap (λ (x : Option (List ℕ)). Some (image.File mode (bytes_of x))) bytes.1,
+          laid.put put.0 mode p put.2 ∙ ap (λ (x : Option (List ℕ)). Some (image.File mode (content_bytes x))) bytes.1,
         )
       where
         some_of : (x : Option (List ℕ)) → is_some x ≡ true → (bytes : List ℕ) × (x ≡ Some bytes)

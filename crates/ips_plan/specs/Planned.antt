@@ -31,8 +31,8 @@ Fits (Some (image.Link says)) entry = ⊥
 Fits (Some image.Other) entry = ⊥
 
 -- each wanted entry can come to what stands at its path
-abbrev pub AllFit : Image → List (List ℕ × Entry) → Type 0
-AllFit t entries = (k : ℕ) (path : List ℕ) (entry : Entry) → slice_get entries k ≡ Some (path, entry) → Fits (t.look path) entry
+abbrev pub AllCanBeLaid : Image → List (List ℕ × Entry) → Type 0
+AllCanBeLaid t entries = (k : ℕ) (path : List ℕ) (entry : Entry) → slice_get entries k ≡ Some (path, entry) → Fits (t.look path) entry
 
 -- The path is the first, by its bytes, at which something stands to which the wanted entry can't come.
 pub record IsInTheWay (t : Image) (entries : List (List ℕ × Entry)) (path : List ℕ) : Type 0 where
@@ -100,7 +100,7 @@ step_cmp s x = ordering_then (nat_cmp (rank s) (rank x)) (slice_cmp nat_cmp (pat
 -- A plan: steps that can be laid on the image, and make it what the entries mean, whatever the bytes of the payloads. They
 -- change wanted paths alone, and modes of directories that have another one. Where all stands already there are none.
 pub record IsPlanOf (entries : List (List ℕ × Entry)) (t : Image) (steps : List Step) (contents : List PayloadName) : Type 0 where
-  pub fit : AllFit t entries
+  pub fit : AllCanBeLaid t entries
   pub contents_are : contents ≡ payloads_of entries
   pub order : IsStrictlySortedBy step_cmp steps
   pub layable : AreLayable (length contents) t steps

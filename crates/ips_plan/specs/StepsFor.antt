@@ -15,7 +15,7 @@ use Rattle.ips_steps.specs.Journal.{AllProper, numbered}
 use Rattle.ips_meaning.specs.declared.entry.Entry.{Entry}
 use Rattle.ips_meaning.specs.declared.entry.Entry.TheVariants.{Dir, File, Link, Hard}
 use Rattle.ips_plan.specs.Meant.{implicit_mode}
-use Rattle.ips_plan.specs.Planned.{AllFit, payload_of, payloads_of}
+use Rattle.ips_plan.specs.Planned.{AllCanBeLaid, payload_of, payloads_of}
 
 -- the entry can come to what was found: nothing, or for a directory one
 abbrev pub can_come : Look → Entry → Bool
@@ -99,6 +99,6 @@ pub record AreNumbered (count : ℕ) (steps : List Step) : Type 0 where
 -- are in the order of their paths' bytes.
 pub record AreMade (t : Image) (entries : List (List ℕ × Entry)) (steps : List Step) (contents : List PayloadName) : Type 0 where
   pub in_order : IsStrictlySortedBy (slice_cmp nat_cmp) (map (λ e. e.0) entries)
-  pub fit : AllFit t entries
+  pub fit : AllCanBeLaid t entries
   pub steps_are : steps ≡ makers (looks t) 0 entries
   pub contents_are : contents ≡ payloads_of entries

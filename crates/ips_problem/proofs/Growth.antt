@@ -14,7 +14,7 @@ use Rattle.ips_repo.specs.Manifest.{manifest_limit}
 use Rattle.ips_request.specs.declared.fault.ProblemFault.{ProblemFault}
 use Rattle.ips_request.specs.declared.read.Read.{Read}
 use Rattle.ips_request.specs.Stems.{has, put, put_all, firsts, stems_of}
-use Rattle.ips_request.specs.Case.{Case, said}
+use Rattle.ips_request.specs.Case.{Case, manifest_facts}
 use Rattle.ips_request.specs.Candidates.{candidates}
 use Rattle.ips_request.specs.Manifests.{Needed, IsManifestFault, all_manifests_limit, bytes_read, needed}
 use Rattle.ips_request.proofs.Lookups.{put_all_append}
@@ -22,7 +22,7 @@ use Rattle.ips_problem.specs.declared.rows.Numbered as numbers
 use Rattle.ips_problem.specs.declared.rows.Row as declared
 use Rattle.ips_problem.specs.Fault.{AreRead, IsFirstFault, all_bytes, manifests_at, manifests_of}
 use Rattle.ips_problem.specs.Reach.{drawn_in, grown, seeds, stems_wanted}
-use Rattle.ips_problem.specs.Posed.{Numbered, Row, numbered, row_of, still_avoided, tests_from, tests_of_candidates}
+use Rattle.ips_problem.specs.Posed.{Numbered, StemRow, numbered, row_of, still_avoided, tests_from, tests_of_candidates}
 use Rattle.ips_problem.specs.Seen.{seen_row, seen_test}
 use Rattle.ips_problem.proofs.Offering.{drawn_alike, tests_alike}
 use Rattle.ips_problem.specs.Gathered.{AreReadBehind, IsFaultAmong, IsGoneThrough, IsPosedBy, IsReadBehind, IsReadOf, IsRowOf, asked_at, tests_asked}
@@ -51,7 +51,7 @@ put_longer k xs (y ∷ more) l = put_longer k (put xs y) more (longer k xs y l)
 
 -- ---- one stem
 
-told_of : (c : Case) (stem : List ℕ) (vs : List Parts) (reads : List Read) → AllZip (IsReadOf c stem) vs reads → AllByRecursion (λ (n : Needed). is_some (said c n.stem n.version) ≡ true) (manifests_at stem vs)
+told_of : (c : Case) (stem : List ℕ) (vs : List Parts) (reads : List Read) → AllZip (IsReadOf c stem) vs reads → AllByRecursion (λ (n : Needed). is_some (manifest_facts c n.stem n.version) ≡ true) (manifests_at stem vs)
 told_of c stem [] reads h = tt
 told_of c stem (v ∷ vs) [] h = absurd h
 told_of c stem (v ∷ vs) (x ∷ reads) h = (ap is_some h.0.says, told_of c stem vs reads h.1)
@@ -158,7 +158,7 @@ module _ (c : Case) (cur : List (List ℕ)) (k : ℕ) (stem : List ℕ) (at : sl
         omega arith
   ]
 
-  pub gone_more : (rows : List Row) (tests : List Numbered) (total now : ℕ) (reads : List Read) → IsGoneThrough c cur k rows tests total → AreReadBehind c total now stem (needed c stem) reads → now ≤ all_manifests_limit
+  pub gone_more : (rows : List StemRow) (tests : List Numbered) (total now : ℕ) (reads : List Read) → IsGoneThrough c cur k rows tests total → AreReadBehind c total now stem (needed c stem) reads → now ≤ all_manifests_limit
       → IsGoneThrough c drawn (k + 1) (rows ++ row_of c stem ∷ []) (tests ++ tests_of_candidates c k stem 0 (candidates c stem)) now
   gone_more rows tests total now reads g r few =
       let before = manifests_of c (take k cur) in
@@ -177,8 +177,8 @@ module _ (c : Case) (cur : List (List ℕ)) (k : ℕ) (stem : List ℕ) (at : sl
             ∙ ap (λ (n : ℕ). tests_from c 0 (take k cur) ++ tests_of_candidates c n stem 0 (candidates c stem)) (sym place)
             ∙ sym (ap (tests_from c 0) taken ∙ tests_more c 0 (take k cur) stem);
         read = record {
-          said = subst (AllByRecursion (λ (n : Needed). is_some (said c n.stem n.version) ≡ true)) (sym all)
-              (all_append (λ (n : Needed). is_some (said c n.stem n.version) ≡ true) before own g.read.said (told_of c stem (needed c stem) reads r.each));
+          said = subst (AllByRecursion (λ (n : Needed). is_some (manifest_facts c n.stem n.version) ≡ true)) (sym all)
+              (all_append (λ (n : Needed). is_some (manifest_facts c n.stem n.version) ≡ true) before own g.read.said (told_of c stem (needed c stem) reads r.each));
           each = subst (AllByRecursion (λ (n : Needed). bytes_read c n ≤ manifest_limit)) (sym all) (all_append (λ (n : Needed). bytes_read c n ≤ manifest_limit) before own g.read.each r.few);
           all = omega arith;
         };
@@ -186,7 +186,7 @@ module _ (c : Case) (cur : List (List ℕ)) (k : ℕ) (stem : List ℕ) (at : sl
       }
 
   -- the first fault of what the stem needs is the first of all
-  pub first_fault : (settings : Set) (rows : List Row) (tests : List Numbered) (total : ℕ) (why : ProblemFault) → IsGoneThrough c cur k rows tests total → IsFaultAmong settings c total stem (needed c stem) why
+  pub first_fault : (settings : Set) (rows : List StemRow) (tests : List Numbered) (total : ℕ) (why : ProblemFault) → IsGoneThrough c cur k rows tests total → IsFaultAmong settings c total stem (needed c stem) why
       → IsFirstFault settings c why
   first_fault settings rows tests total why g f =
       let earlier = manifests_of c (take k cur) in
@@ -214,7 +214,7 @@ module _ (c : Case) (cur : List (List ℕ)) (k : ℕ) (stem : List ℕ) (at : sl
         at_turn = at;
         next = f.next;
         read = record {
-          said = all_append (λ (n : Needed). is_some (said c n.stem n.version) ≡ true) earlier own g.read.said f.told;
+          said = all_append (λ (n : Needed). is_some (manifest_facts c n.stem n.version) ≡ true) earlier own g.read.said f.told;
           each = all_append (λ (n : Needed). bytes_read c n ≤ manifest_limit) earlier own g.read.each f.few;
           all = omega arith;
         };
@@ -233,7 +233,7 @@ gone_none c = record {
 }
 
 -- once all of them were
-pub gone_all : (c : Case) (cur : List (List ℕ)) (k : ℕ) (rows : List Row) (tests : List Numbered) (total : ℕ) (avoid : List (List ℕ)) → k ≡ length cur → avoid ≡ still_avoided c
+pub gone_all : (c : Case) (cur : List (List ℕ)) (k : ℕ) (rows : List StemRow) (tests : List Numbered) (total : ℕ) (avoid : List (List ℕ)) → k ≡ length cur → avoid ≡ still_avoided c
     → IsGoneThrough c cur k rows tests total → IsPosedBy c (record { stems = cur; rows = rows; tests = tests; avoid = avoid })
 gone_all c cur k rows tests total avoid e a g =
     let whole = take_all k cur (omega arith) in
@@ -293,9 +293,9 @@ within_more keys new more k e l =
     omega arith
 
 -- with the next stem
-pub gathered_next : (c : Case) (cur : List (List ℕ)) (k : ℕ) (stem : List ℕ) (rows : List Row) (tests : List Numbered) (total now : ℕ) (row : declared.Row) → slice_get cur k ≡ Some stem
+pub gathered_next : (c : Case) (cur : List (List ℕ)) (k : ℕ) (stem : List ℕ) (rows : List StemRow) (tests : List Numbered) (total now : ℕ) (row : declared.Row) → slice_get cur k ≡ Some stem
     → IsGoneThrough c cur k rows tests total → IsRowOf c stem row → AreReadBehind c total now stem (needed c stem) row.reads.items → now ≤ all_manifests_limit
-    → (more : List (List ℕ)) (after : ℕ) (others : List Row) (asked : List Numbered) → more ≡ put_all cur (flat_map (λ o. stems_wanted (asked_at row.reads.items o)) row.candidates.items) → after ≡ k + 1
+    → (more : List (List ℕ)) (after : ℕ) (others : List StemRow) (asked : List Numbered) → more ≡ put_all cur (flat_map (λ o. stems_wanted (asked_at row.reads.items o)) row.candidates.items) → after ≡ k + 1
     → others ≡ rows ++ seen_row row ∷ [] → asked ≡ tests ++ tests_asked k 0 row.reads.items row.candidates.items → IsGoneThrough c more after others asked now
 gathered_next c cur k stem rows tests total now row at g r h few more after others asked m a o t =
     let reads = row.reads.items in
@@ -311,7 +311,7 @@ gathered_next c cur k stem rows tests total now row at g r h few more after othe
     (subst (λ ts. IsGoneThrough c (put_all cur (drawn_in c stem)) (k + 1) (rows ++ row_of c stem ∷ []) ts now) (sym asks) whole)))
 
 -- where the list begins
-pub gathered_none : (c : Case) (stems : List (List ℕ)) (k : ℕ) (rows : List Row) (tests : List Numbered) (total : ℕ) → stems ≡ firsts (seeds c) → k ≡ 0 → rows ≡ [] → tests ≡ [] → total ≡ 0 → IsGoneThrough c stems k rows tests total
+pub gathered_none : (c : Case) (stems : List (List ℕ)) (k : ℕ) (rows : List StemRow) (tests : List Numbered) (total : ℕ) → stems ≡ firsts (seeds c) → k ≡ 0 → rows ≡ [] → tests ≡ [] → total ≡ 0 → IsGoneThrough c stems k rows tests total
 gathered_none c stems k rows tests total s a o t n =
     subst (λ ss. IsGoneThrough c ss k rows tests total) (sym s)
     (subst (λ (k : ℕ). IsGoneThrough c (firsts (seeds c)) k rows tests total) (sym a)

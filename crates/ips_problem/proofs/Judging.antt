@@ -13,9 +13,9 @@ use Rattle.ips_repo.specs.Manifest.{manifest_limit}
 use Rattle.ips_request.specs.declared.fault.ProblemFault.{ProblemFault}
 use Rattle.ips_request.specs.declared.fault.ProblemFault.TheVariants as fault
 use Rattle.ips_request.specs.declared.read.Read.{Read}
-use Rattle.ips_request.specs.Case.{Case, Reading, IsReading, at_version, facts_of, facts_in, installed_at, installed_version, is_same_version, own, said_of}
+use Rattle.ips_request.specs.Case.{Case, ManifestReading, IsReading, at_version, facts_of, facts_in, installed_at, installed_version, is_same_version, own, said_of}
 use Rattle.ips_request.specs.Candidates.{greatest, is_version, may_come, tell_obsolete}
-use Rattle.ips_request.specs.Manifests.{FaultOf, IsFetched, IsFetchFault, IsFileFault, IsOwnFault, IsThere, bytes_of}
+use Rattle.ips_request.specs.Manifests.{FaultOf, IsFetched, IsFetchFault, IsManifestFileFault, IsOwnFault, IsThere, manifest_bytes_read}
 use Rattle.ips_problem.specs.Gathered.{Got, GotFault, IsJudgedRead, IsReadBehind}
 use Rattle.ips_request.proofs.Lookups.{there_mapped}
 
@@ -29,10 +29,10 @@ asked_read : (settings : Set) (lines : List Line) (ds : List Dependency) (o : Op
 asked_read settings lines ds None m a = absurd (m ds a)
 asked_read settings lines ds (Some es) m a = ap (λ es. Some es) (lines_once settings lines es ds m a)
 
-facts_read : (settings : Set) (r : Reading) (lines : List Line) (ds : List Dependency) → IsReading settings r → LinesAsk settings lines ds → facts_of r lines ≡ Some (record { lines = lines; dependencies = ds })
+facts_read : (settings : Set) (r : ManifestReading) (lines : List Line) (ds : List Dependency) → IsReading settings r → LinesAsk settings lines ds → facts_of r lines ≡ Some (record { lines = lines; dependencies = ds })
 facts_read settings r lines ds is a = ap (option_map (λ ds. record { lines = lines; dependencies = ds })) (asked_read settings lines ds (r.dependencies lines) (is.dependencies lines) a)
 
-facts_there : (settings : Set) (r : Reading) (before now : ℕ) (lines : List Line) (ds : List Dependency) (file : Option (List ℕ)) → IsReading settings r → IsThere file (IsFetched before now lines) → LinesAsk settings lines ds
+facts_there : (settings : Set) (r : ManifestReading) (before now : ℕ) (lines : List Line) (ds : List Dependency) (file : Option (List ℕ)) → IsReading settings r → IsThere file (IsFetched before now lines) → LinesAsk settings lines ds
     → facts_in r file ≡ Some (record { lines = lines; dependencies = ds })
 facts_there settings r before now lines ds None is f a = absurd f
 facts_there settings r before now lines ds (Some bytes) is f a =
@@ -43,12 +43,12 @@ says_of : (settings : Set) (c : Case) (stem : List ℕ) (v : Parts) (o : Option 
 says_of settings c stem v None before now lines ds is g a = facts_there settings c.reading before now lines ds (c.file stem v) is g a
 says_of settings c stem v (Some p) before now lines ds is g a = ap (facts_of c.reading) (sym g.0) ∙ facts_read settings c.reading lines ds is a
 
-few_of : (o : Option Installed) (file : Option (List ℕ)) (before now : ℕ) (lines : List Line) → Got o file before now lines → bytes_of o file ≤ manifest_limit
+few_of : (o : Option Installed) (file : Option (List ℕ)) (before now : ℕ) (lines : List Line) → Got o file before now lines → manifest_bytes_read o file ≤ manifest_limit
 few_of None None before now lines g = absurd g
 few_of None (Some bytes) before now lines g = g.fits.alone
 few_of (Some p) file before now lines g = omega arith
 
-counted_of : (o : Option Installed) (file : Option (List ℕ)) (before now : ℕ) (lines : List Line) → Got o file before now lines → now ≡ before + bytes_of o file
+counted_of : (o : Option Installed) (file : Option (List ℕ)) (before now : ℕ) (lines : List Line) → Got o file before now lines → now ≡ before + manifest_bytes_read o file
 counted_of None None before now lines g = absurd g
 counted_of None (Some bytes) before now lines g = g.counted
 counted_of (Some p) file before now lines g = g.1 ∙ omega arith
@@ -94,7 +94,7 @@ read_behind settings c stem v before now lines read is g j = record {
 
 -- ---- why it wasn't
 
-file_fault : (settings : Set) (total : ℕ) (file : Option (List ℕ)) (name : List ℕ) (why : ProblemFault) → IsFetchFault total file name why → IsFileFault settings total file name why
+file_fault : (settings : Set) (total : ℕ) (file : Option (List ℕ)) (name : List ℕ) (why : ProblemFault) → IsFetchFault total file name why → IsManifestFileFault settings total file name why
 file_fault settings total file name (fault.NoMatch pattern) h = absurd h
 file_fault settings total file name (fault.Ambiguous pattern stems) h = absurd h
 file_fault settings total file name (fault.ManifestMissing fmri) h = h
@@ -108,7 +108,7 @@ got_fault settings total None file name why h = file_fault settings total file n
 got_fault settings total (Some p) file name why h = absurd h
 
 there_fault : (settings : Set) (before now : ℕ) (lines : List Line) (file : Option (List ℕ)) (name : List ℕ) (why : ProblemFault) → IsThere file (IsFetched before now lines) → IsOwnFault settings lines name why
-    → IsFileFault settings before file name why
+    → IsManifestFileFault settings before file name why
 there_fault settings before now lines file name (fault.NoMatch pattern) g h = absurd h
 there_fault settings before now lines file name (fault.Ambiguous pattern stems) g h = absurd h
 there_fault settings before now lines file name (fault.ManifestMissing fmri) g h = absurd h

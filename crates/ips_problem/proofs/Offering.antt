@@ -21,10 +21,10 @@ use Rattle.ips_request.specs.declared.role.Role.{Role}
 use Rattle.ips_request.specs.declared.role.Role.TheVariants.{Refused, Gone, Asked, Renewed, Standing, Free}
 use Rattle.ips_request.specs.declared.read.Read.{Read}
 use Rattle.ips_request.specs.Stems.{has}
-use Rattle.ips_request.specs.Case.{Case, is_named, is_installed, installed_version, said}
+use Rattle.ips_request.specs.Case.{Case, is_named, is_installed, installed_version, manifest_facts}
 use Rattle.ips_request.specs.Candidates.{with_installed, newest, may_come, coming, greatest, is_version, is_obsolete, is_obsolete_at, says_obsolete, present, present_or_gone, beyond, candidates_in, candidates, role, role_by, is_target_of, is_spared}
 use Rattle.ips_request.specs.Manifests.{is_needed, needed}
-use Rattle.ips_request.specs.Reads.{is_gone, is_gone_at, stands, stands_at}
+use Rattle.ips_request.specs.Reads.{is_taken_out, is_gone_at, is_installed_at, stands_at}
 use Rattle.ips_problem.specs.declared.rows.Row as declared
 use Rattle.ips_problem.specs.Reach.{dependencies_of, dependencies_said, stems_wanted}
 use Rattle.ips_problem.specs.Posed.{numbered, lines_said, offer_of, tests_of_candidates}
@@ -134,10 +134,10 @@ zip_coming c stem reads k (x ∷ xs) (v ∷ vs) at h =
     h.0.comes (record { read = x; at = here; is = h.0 }, rest) rest
 
 gone_alike : (c : Case) (stem : List ℕ) (reads : List Read) (i : ℕ) (v : Parts) → IsAt c stem reads i v → is_gone_at reads i ≡ is_obsolete c stem v
-gone_alike c stem reads i v a = ap is_gone a.at ∙ a.is.gone ∙ ap says_obsolete (sym a.is.says)
+gone_alike c stem reads i v a = ap is_taken_out a.at ∙ a.is.gone ∙ ap says_obsolete (sym a.is.says)
 
 stands_alike : (c : Case) (stem : List ℕ) (reads : List Read) (i : ℕ) (v : Parts) → IsAt c stem reads i v → stands_at reads i ≡ is_version (installed_version c stem) v
-stands_alike c stem reads i v a = ap stands a.at ∙ a.is.stands
+stands_alike c stem reads i v a = ap is_installed_at a.at ∙ a.is.stands
 
 -- ---- which versions are gone through
 
@@ -179,7 +179,7 @@ role_ignores Update named false target installed h = absurd (both_ways true h re
 role_ignores Uninstall named rejected target installed h = absurd (both_ways true h refl)
 role_ignores Keep named rejected target installed h = absurd (both_ways true h refl)
 
-all_said : (c : Case) (stem : List ℕ) (vs : List Parts) (reads : List Read) → AllZip (IsReadOf c stem) vs reads → AllByRecursion (λ v. is_some (said c stem v) ≡ true) vs
+all_said : (c : Case) (stem : List ℕ) (vs : List Parts) (reads : List Read) → AllZip (IsReadOf c stem) vs reads → AllByRecursion (λ v. is_some (manifest_facts c stem v) ≡ true) vs
 all_said c stem [] reads h = tt
 all_said c stem (v ∷ vs) [] h = absurd h
 all_said c stem (v ∷ vs) (x ∷ reads) h = (ap is_some h.0.says, all_said c stem vs reads h.1)
@@ -189,7 +189,7 @@ pub offered_alike : (c : Case) (stem : List ℕ) (reads : List Read) → AllZip 
     → AllZip (Both (IsAt c stem reads)) (candidates_in (role c stem) c.kind (is_gone_at reads) (stands_at reads) (coming_from 0 reads)) (candidates c stem)
 offered_alike c stem reads h = elim (cases_Bool (goes_through c.kind (has stem c.rejected))) [
   | inl e ↦
-      let through = filter_within (may_come c stem) (is_needed c.kind c stem) (λ v. is_some (said c stem v)) (newest c stem) (λ v m. comes_needed c.kind c stem v e m) (all_said c stem (needed c stem) reads h) in
+      let through = filter_within (may_come c stem) (is_needed c.kind c stem) (λ v. is_some (manifest_facts c stem v)) (newest c stem) (λ v m. comes_needed c.kind c stem v e m) (all_said c stem (needed c stem) reads h) in
       let zipped = zip_coming c stem reads 0 reads (needed c stem) (λ j. ap (slice_get reads) (omega arith)) h in
       let all = subst (AllZip (IsAt c stem reads) (coming_from 0 reads)) (sym through) zipped in
       zip_candidates (IsAt c stem reads) (is_gone_at reads) (stands_at reads) (is_obsolete c stem) (is_version (installed_version c stem)) (gone_alike c stem reads) (stands_alike c stem reads)

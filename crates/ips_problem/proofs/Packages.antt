@@ -24,7 +24,7 @@ use Rattle.ips_state.specs.State.{Ascend, Installed, installed}
 use Rattle.ips_request.specs.Stems.{stems_of}
 use Rattle.ips_request.proofs.StemLists.{AreDistinct, own_number, same_stem, none_or_some}
 use Rattle.ips_problem.specs.declared.rows.Row as declared
-use Rattle.ips_problem.specs.Posed.{Offer, Row, Posed, candidate_of, number_of, picked, version_at, version_of}
+use Rattle.ips_problem.specs.Posed.{Offer, StemRow, Posed, candidate_of, number_of, picked, version_at, version_of}
 use Rattle.ips_problem.specs.Seen.{puzzle_of, seen_row}
 use Rattle.ips_problem.specs.Taken.{AreTaken, offer_at, package_of, package_with, selected_at, selected_below}
 use Rattle.ips_problem.proofs.Members.{Among, among_left, among_right, among_cases, among_at, place_among, contained_at, at_contained}
@@ -174,7 +174,7 @@ distinct_moved xs ys moved d =
 
 -- ---- the selection of a choice
 
-version_selected : (r : Option Row) (k : Option ℕ) → version_at r k ≡ option_map (λ (o : Offer). o.version) (offer_at r k)
+version_selected : (r : Option StemRow) (k : Option ℕ) → version_at r k ≡ option_map (λ (o : Offer). o.version) (offer_at r k)
 version_selected None k = refl
 version_selected (Some row) None = refl
 version_selected (Some row) (Some k) = go (slice_get row.candidates k)

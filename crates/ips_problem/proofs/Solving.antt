@@ -18,7 +18,7 @@ use Rattle.ips_request.specs.Case.{Case, installed_at, installed_version, is_ins
 use Rattle.ips_request.specs.Candidates.{candidates, is_spared}
 use Rattle.ips_request.proofs.StemLists.{AreDistinct, distinct_firsts, number_found, number_within, standing_has, own_number}
 use Rattle.ips_problem.specs.Reach.{dependencies_of, seeds, drawn_in, IsReach}
-use Rattle.ips_problem.specs.Selecting.{IsAdmissible, restricted, IsWithin, AreNumbers, IsBestSelection}
+use Rattle.ips_problem.specs.Selecting.{IsAdmissible, restricted, IsWithin, AreCandidateNumbers, IsBestSelection}
 use Rattle.ips_problem.specs.Posed.{Numbered, offer_of, posed, candidate_of, count_at, number_of, picked, before, spared, stems_of_test, is_number, decides, breaks, breaks_at, meaning_of}
 use Rattle.ips_problem.proofs.Members.{Among, contained_at, at_contained, among_at, place_among, all_from_among, all_at_among}
 use Rattle.ips_problem.proofs.Reached.{absence_offered, installed_in_reach, wanted_in_reach}
@@ -28,14 +28,14 @@ use Rattle.ips_problem.proofs.Picking.{chosen_at, row_at, picked_at, picked_apar
 
 -- ---- numbers of a selection
 
-pub length_numbers : (c : Case) (s : Selection) (stems : List (List ℕ)) (numbers : List ℕ) → AreNumbers c s stems numbers → length numbers ≡ length stems
+pub length_numbers : (c : Case) (s : Selection) (stems : List (List ℕ)) (numbers : List ℕ) → AreCandidateNumbers c s stems numbers → length numbers ≡ length stems
 length_numbers c s [] [] a = refl
 length_numbers c s [] (k ∷ numbers) a = absurd a
 length_numbers c s (stem ∷ stems) [] a = absurd a
 length_numbers c s (stem ∷ stems) (k ∷ numbers) a = ap suc (length_numbers c s stems numbers a.1)
 
 -- the number of the stem at a place
-number_at : (c : Case) (s : Selection) (stems : List (List ℕ)) (numbers : List ℕ) (i : ℕ) (stem : List ℕ) → AreNumbers c s stems numbers → slice_get stems i ≡ Some stem
+number_at : (c : Case) (s : Selection) (stems : List (List ℕ)) (numbers : List ℕ) (i : ℕ) (stem : List ℕ) → AreCandidateNumbers c s stems numbers → slice_get stems i ≡ Some stem
     → (k : ℕ) × (slice_get numbers i ≡ Some k) × (slice_get (candidates c stem) k ≡ Some (s stem))
 number_at c s [] numbers i stem a e = absurd (none-some stem e)
 number_at c s (t ∷ stems) [] i stem a e = absurd a
@@ -44,7 +44,7 @@ number_at c s (t ∷ stems) (k ∷ numbers) zero stem a e =
 number_at c s (t ∷ stems) (k ∷ numbers) (suc i) stem a e = number_at c s stems numbers i stem a.1 e
 
 -- an admissible selection has numbers
-pub numbers_of : (c : Case) (s : Selection) (stems : List (List ℕ)) → IsAdmissible c s → (numbers : List ℕ) × AreNumbers c s stems numbers
+pub numbers_of : (c : Case) (s : Selection) (stems : List (List ℕ)) → IsAdmissible c s → (numbers : List ℕ) × AreCandidateNumbers c s stems numbers
 numbers_of c s [] a = ([], tt)
 numbers_of c s (stem ∷ stems) a =
     let (k, at) = contained_at (candidates c stem) (s stem) (a.offered stem) in
@@ -54,7 +54,7 @@ numbers_of c s (stem ∷ stems) a =
 -- ---- from a selection to a choice
 
 -- the numbers of a selection pick it
-picks_it : (c : Case) (reach : List (List ℕ)) (s : Selection) (numbers : List ℕ) → IsWithin reach s → AreNumbers c s reach numbers → (y : List ℕ) → picked (posed c reach) (pairs numbers) y ≡ s y
+picks_it : (c : Case) (reach : List (List ℕ)) (s : Selection) (numbers : List ℕ) → IsWithin reach s → AreCandidateNumbers c s reach numbers → (y : List ℕ) → picked (posed c reach) (pairs numbers) y ≡ s y
 picks_it c reach s numbers w a y = elim (cases_Bool (has y reach)) [
   | inl h ↦
       let (i, number, at) = number_found y reach h in
@@ -77,7 +77,7 @@ before_all c reach r y = elim (cases_Bool (has y reach)) [
 ]
 
 -- a test of an admissible selection isn't broken
-unbroken : (c : Case) (reach : List (List ℕ)) (s : Selection) (numbers : List ℕ) (n : Numbered) → IsReach c reach → IsAdmissible c s → IsWithin reach s → AreNumbers c s reach numbers
+unbroken : (c : Case) (reach : List (List ℕ)) (s : Selection) (numbers : List ℕ) (n : Numbered) → IsReach c reach → IsAdmissible c s → IsWithin reach s → AreCandidateNumbers c s reach numbers
     → Among n (posed c reach).tests → breaks (posed c reach) (pairs numbers) n ≡ true → ⊥
 unbroken c reach s numbers n r a w are among e =
     let p = posed c reach in
@@ -97,7 +97,7 @@ unbroken c reach s numbers n r a w are among e =
     let judged = judged_by_wanted (picked p (pairs numbers)) s (before p) (installed_version c) (spared p) (is_spared c) n.dependency (picks_it c reach s numbers w are) (before_all c reach r) saved in
     both_ways (not (holds (picked p (pairs numbers)) (before p) (spared p) n.dependency)) (ap not (judged ∙ holding)) outer.1
 
-unbroken_at : (c : Case) (reach : List (List ℕ)) (s : Selection) (numbers : List ℕ) (o : Option Numbered) → IsReach c reach → IsAdmissible c s → IsWithin reach s → AreNumbers c s reach numbers
+unbroken_at : (c : Case) (reach : List (List ℕ)) (s : Selection) (numbers : List ℕ) (o : Option Numbered) → IsReach c reach → IsAdmissible c s → IsWithin reach s → AreCandidateNumbers c s reach numbers
     → ((n : Numbered) → o ≡ Some n → Among n (posed c reach).tests) → breaks_at (posed c reach) (pairs numbers) o ≡ false
 unbroken_at c reach s numbers None r a w are among = refl
 unbroken_at c reach s numbers (Some n) r a w are among = false_from_ne_true (breaks (posed c reach) (pairs numbers) n) (unbroken c reach s numbers n r a w are (among n refl))
@@ -110,7 +110,7 @@ stem_at : (reach : List (List ℕ)) (i : ℕ) → i < length reach → (stem : L
 stem_at reach i l = (get_or reach i [], slice_get-get_or reach i [] l)
 
 -- the numbers of an admissible selection in reach are a choice that breaks no test
-pub solving : (c : Case) (reach : List (List ℕ)) (s : Selection) (numbers : List ℕ) → IsReach c reach → IsAdmissible c s → IsWithin reach s → AreNumbers c s reach numbers
+pub solving : (c : Case) (reach : List (List ℕ)) (s : Selection) (numbers : List ℕ) → IsReach c reach → IsAdmissible c s → IsWithin reach s → AreCandidateNumbers c s reach numbers
     → Solves (meaning_of (posed c reach)) numbers
 solving c reach s numbers r a w are =
     let long = length_numbers c s reach numbers are in (
@@ -211,7 +211,7 @@ reach_distinct c reach r = subst AreDistinct (sym r.whole) (distinct_firsts (see
 -- the choice has the numbers of what it picks, from a place on
 numbers_from : (c : Case) (s : Selection) (stems : List (List ℕ)) (choice : List ℕ) → length choice ≡ length stems
     → ((i : ℕ) (stem : List ℕ) → slice_get stems i ≡ Some stem → (k : ℕ) × (slice_get choice i ≡ Some k) × (slice_get (candidates c stem) k ≡ Some (s stem)))
-    → AreNumbers c s stems choice
+    → AreCandidateNumbers c s stems choice
 numbers_from c s [] [] long w = tt
 numbers_from c s [] (k ∷ choice) long w = absurd (omega arith)
 numbers_from c s (stem ∷ stems) [] long w = absurd (omega arith)
@@ -221,7 +221,7 @@ numbers_from c s (stem ∷ stems) (k ∷ choice) long w =
     (here, numbers_from c s stems choice (omega arith) (λ i x e. w (suc i) x e))
 
 -- a choice that breaks no test is numbered by its stems' candidates
-pub picked_numbers : (c : Case) (reach : List (List ℕ)) (choice : List ℕ) → IsReach c reach → Solves (meaning_of (posed c reach)) choice → AreNumbers c (picked (posed c reach) (pairs choice)) reach choice
+pub picked_numbers : (c : Case) (reach : List (List ℕ)) (choice : List ℕ) → IsReach c reach → Solves (meaning_of (posed c reach)) choice → AreCandidateNumbers c (picked (posed c reach) (pairs choice)) reach choice
 picked_numbers c reach choice r solves = numbers_from c (picked (posed c reach) (pairs choice)) reach choice solves.0 (λ i stem at.
     let (k, o, chosen, offered) = chosen_of c reach choice i stem solves at in
     (k, chosen, offered ∙ ap (λ q. Some q) (sym (picked_at c reach choice stem i k o (own_number reach i stem (reach_distinct c reach r) at) at chosen offered))))

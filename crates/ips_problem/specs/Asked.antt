@@ -5,7 +5,7 @@ use Rattle.ips_repo.specs.Opening.{Opened}
 use Rattle.ips_state.specs.State.{Recorded}
 use Rattle.ips_request.specs.declared.request.Request.{Request}
 use Rattle.ips_request.specs.declared.fault.ProblemFault.{ProblemFault}
-use Rattle.ips_request.specs.Case.{Reading, IsReading}
+use Rattle.ips_request.specs.Case.{ManifestReading, IsReading}
 use Rattle.ips_request.specs.Subject.{catalog_of, files_of}
 use Rattle.ips_request.specs.Request.{AreNames, IsPatternFault, asked_case}
 use Rattle.ips_problem.specs.Posed.{Posed}
@@ -17,14 +17,14 @@ pub record IsAsked (q : Request) (s : Recorded) (repo : Option Opened) (held : I
   pub named : List (List (List ℕ))
   pub rejects : List (List (List ℕ))
   pub names : AreNames q s (catalog_of repo) named rejects
-  pub poses : (r : Reading) → IsReading s.settings r → IsPosedBy (asked_case q s (catalog_of repo) (files_of repo held) named rejects r) p
+  pub poses : (r : ManifestReading) → IsReading s.settings r → IsPosedBy (asked_case q s (catalog_of repo) (files_of repo held) named rejects r) p
 
 -- Every pattern names stems, and this is the fault of the first needed manifest in the order of reach that has one.
 pub record IsNeededFault (q : Request) (s : Recorded) (repo : Option Opened) (held : Image) (why : ProblemFault) : Type 0 where
   pub named : List (List (List ℕ))
   pub rejects : List (List (List ℕ))
   pub names : AreNames q s (catalog_of repo) named rejects
-  pub first : (r : Reading) → IsReading s.settings r → IsFirstFault s.settings (asked_case q s (catalog_of repo) (files_of repo held) named rejects r) why
+  pub first : (r : ManifestReading) → IsReading s.settings r → IsFirstFault s.settings (asked_case q s (catalog_of repo) (files_of repo held) named rejects r) why
 
 -- Why a request poses no puzzle: the first pattern that is at fault, or else the first needed manifest that is.
 abbrev pub IsProblemFault : Request → Recorded → Option Opened → Image → ProblemFault → Type 0

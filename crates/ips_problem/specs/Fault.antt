@@ -5,7 +5,7 @@ use Rattle.ips_fmri.specs.Version.{Parts}
 use Rattle.ips_filter.specs.Settings.{Set}
 use Rattle.ips_repo.specs.Manifest.{manifest_limit}
 use Rattle.ips_request.specs.declared.fault.ProblemFault.{ProblemFault}
-use Rattle.ips_request.specs.Case.{Case, said}
+use Rattle.ips_request.specs.Case.{Case, manifest_facts}
 use Rattle.ips_request.specs.Manifests.{Needed, all_manifests_limit, bytes_read, needed, IsManifestFault}
 use Rattle.ips_problem.specs.Reach.{grown}
 
@@ -23,7 +23,7 @@ all_bytes c ns = sum_by (bytes_read c) ns
 
 -- Each of the manifests says something, and neither one of them nor all together are too large.
 pub record AreRead (c : Case) (ns : List Needed) : Type 0 where
-  pub said : AllByRecursion (λ (n : Needed). is_some (said c n.stem n.version) ≡ true) ns
+  pub said : AllByRecursion (λ (n : Needed). is_some (manifest_facts c n.stem n.version) ≡ true) ns
   pub each : AllByRecursion (λ (n : Needed). bytes_read c n ≤ manifest_limit) ns
   pub all : all_bytes c ns ≤ all_manifests_limit
 

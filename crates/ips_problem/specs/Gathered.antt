@@ -10,14 +10,14 @@ use Rattle.ips_state.specs.State.{Installed}
 use Rattle.ips_repo.specs.Manifest.{manifest_limit}
 use Rattle.ips_request.specs.declared.fault.ProblemFault.{ProblemFault}
 use Rattle.ips_request.specs.declared.read.Read.{Read}
-use Rattle.ips_request.specs.Case.{Case, installed_version, said}
+use Rattle.ips_request.specs.Case.{Case, installed_version, manifest_facts}
 use Rattle.ips_request.specs.Candidates.{may_come, greatest, is_version, tell_obsolete, candidates}
 use Rattle.ips_request.specs.Stems.{stems_of}
 use Rattle.ips_request.specs.Manifests.{Needed, IsFetched, IsFetchFault, IsManifestFault, IsThere, all_manifests_limit, bytes_read}
 use Rattle.ips_problem.specs.declared.rows.Row as declared
 use Rattle.ips_problem.specs.declared.gathered.Gathered.{Gathered}
 use Rattle.ips_problem.specs.Reach.{dependencies_of, grown, IsReach}
-use Rattle.ips_problem.specs.Posed.{Numbered, Posed, Row, numbered, posed, row_of, tests_from}
+use Rattle.ips_problem.specs.Posed.{Numbered, Posed, StemRow, numbered, posed, row_of, tests_from}
 use Rattle.ips_problem.specs.Seen.{seen_row, seen_test}
 use Rattle.ips_problem.specs.Fault.{AreRead, all_bytes, manifests_at, manifests_of}
 
@@ -26,7 +26,7 @@ use Rattle.ips_problem.specs.Fault.{AreRead, all_bytes, manifests_at, manifests_
 -- The manifest of the version of the stem was read, and all that is asked of it is known.
 pub record IsReadOf (c : Case) (stem : List ℕ) (v : Parts) (read : Read) : Type 0 where
   pub version : read.version ≡ v
-  pub says : said c stem v ≡ Some (record { lines = read.manifest.lines.items; dependencies = read.tests.items })
+  pub says : manifest_facts c stem v ≡ Some (record { lines = read.manifest.lines.items; dependencies = read.tests.items })
   pub gone : read.gone ≡ tell_obsolete read.manifest.lines.items
   pub comes : read.comes ≡ may_come c stem v
   pub stands : read.stands ≡ is_version (installed_version c stem) v
@@ -70,7 +70,7 @@ pub record IsFaultAmong (settings : Set) (c : Case) (total : ℕ) (stem : List �
   pub version : Parts
   pub behind : List Parts
   pub next : versions ≡ before ++ version ∷ behind
-  pub told : AllByRecursion (λ (n : Needed). is_some (said c n.stem n.version) ≡ true) (manifests_at stem before)
+  pub told : AllByRecursion (λ (n : Needed). is_some (manifest_facts c n.stem n.version) ≡ true) (manifests_at stem before)
   pub few : AllByRecursion (λ (n : Needed). bytes_read c n ≤ manifest_limit) (manifests_at stem before)
   pub all : total + all_bytes c (manifests_at stem before) ≤ all_manifests_limit
   pub fault : IsManifestFault settings c (total + all_bytes c (manifests_at stem before)) (record { stem = stem; version = version }) why
@@ -108,7 +108,7 @@ tests_asked i k reads (o ∷ os) = numbered i k (asked_at reads o) ++ tests_aske
 
 -- The first k stems of the list were gone through: it has grown so far, these are their rows and tests, and of what they need
 -- nothing has a fault.
-pub record IsGoneThrough (c : Case) (stems : List (List ℕ)) (k : ℕ) (rows : List Row) (tests : List Numbered) (total : ℕ) : Type 0 where
+pub record IsGoneThrough (c : Case) (stems : List (List ℕ)) (k : ℕ) (rows : List StemRow) (tests : List Numbered) (total : ℕ) : Type 0 where
   pub grows : stems ≡ grown c stems k
   pub on_list : (j : ℕ) → j < k → j < length (grown c stems j)
   pub known : rows ≡ map (row_of c) (take k stems)

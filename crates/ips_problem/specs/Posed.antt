@@ -11,7 +11,7 @@ use Rattle.ips_refute.specs.Meaning.{Meaning}
 use Rattle.ips_depend.specs.Dependency.{Dependency, mentions}
 use Rattle.ips_depend.specs.Selection.{Selection, Spared}
 use Rattle.ips_depend.specs.Holds.{holds}
-use Rattle.ips_request.specs.Case.{Case, Facts, installed_version, is_named, said}
+use Rattle.ips_request.specs.Case.{Case, Facts, installed_version, is_named, manifest_facts}
 use Rattle.ips_request.specs.Candidates.{candidates, is_spared, installs}
 use Rattle.ips_problem.specs.Reach.{dependencies_of}
 
@@ -24,7 +24,7 @@ pub record Offer : Type 0 where
 
 -- A stem in reach: the version at which it is installed before the request, whether it is spared, and its candidates in order, absence
 -- as None.
-pub record Row : Type 0 where
+pub record StemRow : Type 0 where
   pub before : Option Parts
   pub spared : Bool
   pub candidates : List (Option Offer)
@@ -38,7 +38,7 @@ pub record Numbered : Type 0 where
 -- The stems in reach, what is known of each, the tests by their numbers, and the stems that stay avoided.
 pub record Posed : Type 0 where
   pub stems : List (List ℕ)
-  pub rows : List Row
+  pub rows : List StemRow
   pub tests : List Numbered
   pub avoid : List (List ℕ)
 
@@ -52,10 +52,10 @@ lines_said (Some facts) = facts.lines
 -- a candidate, as an offer
 abbrev pub offer_of : Case → List ℕ → Option Parts → Option Offer
 offer_of c stem None = None
-offer_of c stem (Some v) = Some (record { version = v; lines = lines_said (said c stem v) })
+offer_of c stem (Some v) = Some (record { version = v; lines = lines_said (manifest_facts c stem v) })
 
 -- what is known of a stem
-abbrev pub row_of : Case → List ℕ → Row
+abbrev pub row_of : Case → List ℕ → StemRow
 row_of c stem = record { before = installed_version c stem; spared = is_spared c stem; candidates = map (offer_of c stem) (candidates c stem) }
 
 -- the dependencies of a candidate, each as a test
@@ -94,7 +94,7 @@ version_of (Some None) = None
 version_of (Some (Some offer)) = Some offer.version
 
 -- the version of the candidate with this number
-abbrev pub version_at : Option Row → Option ℕ → Option Parts
+abbrev pub version_at : Option StemRow → Option ℕ → Option Parts
 version_at None k = None
 version_at (Some row) None = None
 version_at (Some row) (Some k) = version_of (slice_get row.candidates k)
@@ -108,7 +108,7 @@ abbrev pub picked : Posed → List Pair → Selection
 picked p set stem = option_and_then (λ i. version_at (slice_get p.rows i) (candidate_of set i)) (number_of p stem)
 
 -- the version that a stem had before, by what is known of it
-abbrev pub version_before : Option Row → Option Parts
+abbrev pub version_before : Option StemRow → Option Parts
 version_before None = None
 version_before (Some row) = row.before
 
@@ -117,7 +117,7 @@ abbrev pub before : Posed → Selection
 before p stem = option_and_then (λ i. version_before (slice_get p.rows i)) (number_of p stem)
 
 -- what is known of a stem tells that it is spared
-abbrev pub tells_spared : Option Row → Bool
+abbrev pub tells_spared : Option StemRow → Bool
 tells_spared None = false
 tells_spared (Some row) = row.spared
 
@@ -166,7 +166,7 @@ last_at p None = 0
 last_at p (Some n) = greatest_of (stems_of_test p n)
 
 -- how many candidates a stem has
-abbrev pub count_at : Option Row → ℕ
+abbrev pub count_at : Option StemRow → ℕ
 count_at None = 0
 count_at (Some row) = length row.candidates
 

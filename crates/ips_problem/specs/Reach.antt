@@ -5,7 +5,7 @@ use Rattle.ips_fmri.specs.Version.{Parts}
 use Rattle.ips_depend.specs.Dependency.{Dependency, wanted, stems}
 use Rattle.ips_state.specs.State.{Installed}
 use Rattle.ips_request.specs.Stems.{firsts}
-use Rattle.ips_request.specs.Case.{Case, Naming, Facts, said}
+use Rattle.ips_request.specs.Case.{Case, Naming, Facts, manifest_facts}
 use Rattle.ips_request.specs.Candidates.{candidates}
 
 -- the dependencies of what is said
@@ -16,7 +16,7 @@ dependencies_said (Some facts) = facts.dependencies
 -- the dependencies of a candidate, in the order of its manifest; absence has none
 abbrev pub dependencies_of : Case → List ℕ → Option Parts → List Dependency
 dependencies_of c stem None = []
-dependencies_of c stem (Some v) = dependencies_said (said c stem v)
+dependencies_of c stem (Some v) = dependencies_said (manifest_facts c stem v)
 
 -- the stems that dependencies want, in their order
 abbrev pub stems_wanted : List Dependency → List (List ℕ)

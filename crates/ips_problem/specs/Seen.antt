@@ -10,7 +10,7 @@ use Rattle.ips_problem.specs.declared.rows.Numbered as numbered
 use Rattle.ips_problem.specs.declared.rows.Numbers.{Numbers}
 use Rattle.ips_fmri.specs.declared.fmri.Fmri.{Fmri}
 use Rattle.ips_depend.specs.Dependency.{mentions}
-use Rattle.ips_problem.specs.Posed.{Offer, Row, Numbered, Posed, number_of}
+use Rattle.ips_problem.specs.Posed.{Offer, StemRow, Numbered, Posed, number_of}
 
 -- what a version that was read offers
 abbrev pub seen_read : Read → Offer
@@ -22,7 +22,7 @@ seen_candidate reads None = None
 seen_candidate reads (Some i) = option_map seen_read (slice_get reads i)
 
 -- what is known of a stem
-abbrev pub seen_row : declared.Row → Row
+abbrev pub seen_row : declared.Row → StemRow
 seen_row r = record { before = r.before; spared = r.spared; candidates = map (seen_candidate r.reads.items) r.candidates.items }
 
 -- a test

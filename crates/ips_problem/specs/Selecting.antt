@@ -23,11 +23,11 @@ abbrev pub IsWithin : List (List ℕ) → Selection → Type 0
 IsWithin reach s = (stem : List ℕ) → has stem reach ≡ false → s stem ≡ None
 
 -- the numbers of the candidates that a selection gives these stems, one by one
-abbrev pub AreNumbers : Case → Selection → List (List ℕ) → List ℕ → Type 0
-AreNumbers c s [] [] = Unit {0}
-AreNumbers c s [] (k ∷ numbers) = ⊥
-AreNumbers c s (stem ∷ stems) [] = ⊥
-AreNumbers c s (stem ∷ stems) (k ∷ numbers) = (slice_get (candidates c stem) k ≡ Some (s stem)) × AreNumbers c s stems numbers
+abbrev pub AreCandidateNumbers : Case → Selection → List (List ℕ) → List ℕ → Type 0
+AreCandidateNumbers c s [] [] = Unit {0}
+AreCandidateNumbers c s [] (k ∷ numbers) = ⊥
+AreCandidateNumbers c s (stem ∷ stems) [] = ⊥
+AreCandidateNumbers c s (stem ∷ stems) (k ∷ numbers) = (slice_get (candidates c stem) k ≡ Some (s stem)) × AreCandidateNumbers c s stems numbers
 
 -- The best selection: it is admissible, selects only stems in reach, and its numbers of candidates in the order of reach come
 -- first, number by number, among those of all such selections.
@@ -35,5 +35,5 @@ pub record IsBestSelection (c : Case) (reach : List (List ℕ)) (s : Selection) 
   pub admissible : IsAdmissible c s
   pub within : IsWithin reach s
   pub numbers : List ℕ
-  pub numbered : AreNumbers c s reach numbers
-  pub first : (other : Selection) (others : List ℕ) → IsAdmissible c other → IsWithin reach other → AreNumbers c other reach others → NotLater numbers others
+  pub numbered : AreCandidateNumbers c s reach numbers
+  pub first : (other : Selection) (others : List ℕ) → IsAdmissible c other → IsWithin reach other → AreCandidateNumbers c other reach others → NotLater numbers others

@@ -4,7 +4,7 @@ use Rattle.std.specs.Option.{option_map, option_and_then, option_to_list}
 use Rattle.std.specs.Str.{bytes_eq}
 use Rattle.ips_refute.specs.Meaning.{pairs}
 use Rattle.ips_state.specs.State.{Installed, Ascend}
-use Rattle.ips_problem.specs.Posed.{Offer, Row, Posed, count_at, picked}
+use Rattle.ips_problem.specs.Posed.{Offer, StemRow, Posed, count_at, picked}
 
 -- A choice has a candidate for each stem, by its number.
 pub record IsChoice (p : Posed) (choice : List ℕ) : Type 0 where
@@ -12,7 +12,7 @@ pub record IsChoice (p : Posed) (choice : List ℕ) : Type 0 where
   pub offered : (i : ℕ) → i < length choice → slice_index choice i < count_at (slice_get p.rows i)
 
 -- the candidate with this number; absence offers nothing
-abbrev pub offer_at : Option Row → Option ℕ → Option Offer
+abbrev pub offer_at : Option StemRow → Option ℕ → Option Offer
 offer_at None k = None
 offer_at (Some row) None = None
 offer_at (Some row) (Some k) = option_and_then (λ o. o) (slice_get row.candidates k)

@@ -7,7 +7,7 @@ ghost use Rattle.ips_fmri.specs.Version.{Parts};
 ghost use Rattle.ips_outside.specs.Outside.{Reads};
 ghost use Rattle.ips_request.specs.Candidates as candidate;
 ghost use Rattle.ips_request.specs.Candidates.{candidates_in};
-ghost use Rattle.ips_request.specs.Case.{IsReading, Reading, installed_version, own};
+ghost use Rattle.ips_request.specs.Case.{IsReading, ManifestReading, installed_version, own};
 ghost use Rattle.ips_request.specs.Manifests as fault_of;
 ghost use Rattle.ips_request.specs.Manifests.{IsFetched, IsFetchFault, IsManifestFault, IsOwnFault, IsThere, all_manifests_limit, name_of};
 ghost use Rattle.ips_request.specs.Reads.{is_gone_at, stands_at};
@@ -35,11 +35,11 @@ pub fn row_of<S: Source>(
     total: &mut u64,
 ) -> Result<Row, Or<ProblemFault>>
     requires { total.old ≤ all_manifests_limit }
-    ensures row { IsTrue (S.outside.tells source.old) → IfOk result (λ row. (r : Reading) → IsReading subject.now.state.now.settings r
+    ensures row { IsTrue (S.outside.tells source.old) → IfOk result (λ row. (r : ManifestReading) → IsReading subject.now.state.now.settings r
         → IsRowOf (case_in subject.now (S.outside.state source.old).held r) stem.now row) }
-    ensures read { IsTrue (S.outside.tells source.old) → IfOk result (λ row. (r : Reading) → IsReading subject.now.state.now.settings r
+    ensures read { IsTrue (S.outside.tells source.old) → IfOk result (λ row. (r : ManifestReading) → IsReading subject.now.state.now.settings r
         → AreReadBehind (case_in subject.now (S.outside.state source.old).held r) total.old total.new stem.now (fault_of.needed (case_in subject.now (S.outside.state source.old).held r) stem.now) row.reads.items) }
-    ensures bad { IsTrue (S.outside.tells source.old) → IfBad result (λ why. (r : Reading) → IsReading subject.now.state.now.settings r
+    ensures bad { IsTrue (S.outside.tells source.old) → IfBad result (λ why. (r : ManifestReading) → IsReading subject.now.state.now.settings r
         → IsFaultAmong subject.now.state.now.settings (case_in subject.now (S.outside.state source.old).held r) total.old stem.now (fault_of.needed (case_in subject.now (S.outside.state source.old).held r) stem.now) why) }
     ensures few { total.new ≤ all_manifests_limit }
     ensures candidates { IfOk result (λ row. vec_len row.candidates < 2 ^ 32) }
@@ -54,7 +54,7 @@ pub fn row_of<S: Source>(
 
 // The versions of the stem whose manifests are needed, newest first.
 fn needed(alloc: Global, subject: &Subject<'_>, stem: &str) -> Result<Vec<Version>, AllocError>
-    ensures { IfOk result (λ v. (file : List ℕ → Parts → Option (List ℕ)) (r : Reading) → v.items ≡ fault_of.needed (case_of subject.now file r) stem.now) }
+    ensures { IfOk result (λ v. (file : List ℕ → Parts → Option (List ℕ)) (r : ManifestReading) → v.items ≡ fault_of.needed (case_of subject.now file r) stem.now) }
 {
     let newest = newest_first(alloc, subject.listed(stem), subject.installed_version(stem))?;
     chosen(alloc, subject, stem, newest.as_slice())
@@ -67,7 +67,7 @@ fn chosen(
     stem: &str,
     versions: &[Version],
 ) -> Result<Vec<Version>, AllocError>
-    ensures { IfOk result (λ v. (file : List ℕ → Parts → Option (List ℕ)) (r : Reading) → v.items ≡ filter (fault_of.is_needed subject.now.kind (case_of subject.now file r) stem.now) versions.now) }
+    ensures { IfOk result (λ v. (file : List ℕ → Parts → Option (List ℕ)) (r : ManifestReading) → v.items ≡ filter (fault_of.is_needed subject.now.kind (case_of subject.now file r) stem.now) versions.now) }
 {
     let mut needed = Vec::new(alloc);
     for version in versions {
@@ -88,9 +88,9 @@ fn read_all<S: Source>(
     total: &mut u64,
 ) -> Result<Vec<Read>, Or<ProblemFault>>
     requires { total.old ≤ all_manifests_limit }
-    ensures read { IsTrue (S.outside.tells source.old) → IfOk result (λ reads. (r : Reading) → IsReading subject.now.state.now.settings r
+    ensures read { IsTrue (S.outside.tells source.old) → IfOk result (λ reads. (r : ManifestReading) → IsReading subject.now.state.now.settings r
         → AreReadBehind (case_in subject.now (S.outside.state source.old).held r) total.old total.new stem.now versions.now reads.items) }
-    ensures bad { IsTrue (S.outside.tells source.old) → IfBad result (λ why. (r : Reading) → IsReading subject.now.state.now.settings r
+    ensures bad { IsTrue (S.outside.tells source.old) → IfBad result (λ why. (r : ManifestReading) → IsReading subject.now.state.now.settings r
         → IsFaultAmong subject.now.state.now.settings (case_in subject.now (S.outside.state source.old).held r) total.old stem.now versions.now why) }
     ensures few { total.new ≤ all_manifests_limit }
     ensures reads { Reads S.outside source.old source.new (result ≡ Err (Bad fault.SourceFault)) }
@@ -116,9 +116,9 @@ fn read_version<S: Source>(
     total: &mut u64,
 ) -> Result<Read, Or<ProblemFault>>
     requires { total.old ≤ all_manifests_limit }
-    ensures read { IsTrue (S.outside.tells source.old) → IfOk result (λ read. (r : Reading) → IsReading subject.now.state.now.settings r
+    ensures read { IsTrue (S.outside.tells source.old) → IfOk result (λ read. (r : ManifestReading) → IsReading subject.now.state.now.settings r
         → IsReadBehind (case_in subject.now (S.outside.state source.old).held r) total.old total.new stem.now version.now read) }
-    ensures bad { IsTrue (S.outside.tells source.old) → IfBad result (λ why. (r : Reading) → IsReading subject.now.state.now.settings r
+    ensures bad { IsTrue (S.outside.tells source.old) → IfBad result (λ why. (r : ManifestReading) → IsReading subject.now.state.now.settings r
         → IsManifestFault subject.now.state.now.settings (case_in subject.now (S.outside.state source.old).held r) total.old (record { stem = stem.now; version = version.now }) why) }
     ensures few { total.new ≤ all_manifests_limit }
     ensures reads { Reads S.outside source.old source.new (result ≡ Err (Bad fault.SourceFault)) }
@@ -139,9 +139,9 @@ fn manifest_of<S: Source>(
     total: &mut u64,
 ) -> Result<Manifest, Or<ProblemFault>>
     requires { total.old ≤ all_manifests_limit }
-    ensures got { IsTrue (S.outside.tells source.old) → IfOk result (λ m. (r : Reading)
+    ensures got { IsTrue (S.outside.tells source.old) → IfOk result (λ m. (r : ManifestReading)
         → Got (own (case_in subject.now (S.outside.state source.old).held r) stem.now version.now) (files_of (repo_of subject.now) (S.outside.state source.old).held stem.now version.now) total.old total.new m.lines.items) }
-    ensures bad { IsTrue (S.outside.tells source.old) → IfBad result (λ why. (r : Reading)
+    ensures bad { IsTrue (S.outside.tells source.old) → IfBad result (λ why. (r : ManifestReading)
         → GotFault (own (case_in subject.now (S.outside.state source.old).held r) stem.now version.now) (files_of (repo_of subject.now) (S.outside.state source.old).held stem.now version.now) total.old (name_of (record { stem = stem.now; version = version.now })) why) }
     ensures few { total.new ≤ all_manifests_limit }
     ensures reads { Reads S.outside source.old source.new (result ≡ Err (Bad fault.SourceFault)) }
@@ -183,7 +183,7 @@ fn judged_read(
     version: &Version,
     manifest: Manifest,
 ) -> Result<Read, Or<ProblemFault>>
-    ensures read { IfOk result (λ read. (file : List ℕ → Parts → Option (List ℕ)) (r : Reading)
+    ensures read { IfOk result (λ read. (file : List ℕ → Parts → Option (List ℕ)) (r : ManifestReading)
         → IsJudgedRead subject.now.state.now.settings (case_of subject.now file r) stem.now version.now manifest.lines.items read) }
     ensures bad { IfBad result (IsOwnFault subject.now.state.now.settings manifest.lines.items (name_of (record { stem = stem.now; version = version.now }))) }
 {
@@ -211,11 +211,11 @@ fn arranged_row(
     stem: &str,
     reads: Vec<Read>,
 ) -> Result<Row, AllocError>
-    ensures candidates { IfOk result (λ row. (file : List ℕ → Parts → Option (List ℕ)) (r : Reading)
+    ensures candidates { IfOk result (λ row. (file : List ℕ → Parts → Option (List ℕ)) (r : ManifestReading)
         → row.candidates.items ≡ candidates_in (candidate.role (case_of subject.now file r) stem.now) subject.now.kind (is_gone_at reads.items) (stands_at reads.items) (coming_from 0 reads.items)) }
-    ensures spared { IfOk result (λ row. (file : List ℕ → Parts → Option (List ℕ)) (r : Reading)
+    ensures spared { IfOk result (λ row. (file : List ℕ → Parts → Option (List ℕ)) (r : ManifestReading)
         → candidate.is_obsolete_at (case_of subject.now file r) stem.now (candidate.greatest (case_of subject.now file r) stem.now) ≡ spec.is_newest_gone reads.items → row.spared ≡ candidate.is_spared (case_of subject.now file r) stem.now) }
-    ensures before { IfOk result (λ row. (file : List ℕ → Parts → Option (List ℕ)) (r : Reading) → row.before ≡ installed_version (case_of subject.now file r) stem.now) }
+    ensures before { IfOk result (λ row. (file : List ℕ → Parts → Option (List ℕ)) (r : ManifestReading) → row.before ≡ installed_version (case_of subject.now file r) stem.now) }
     ensures reads { IfOk result (λ row. row.reads.items ≡ reads.items) }
     ensures few { IfOk result (λ row. vec_len row.candidates < 2 ^ 32) }
 {
@@ -247,7 +247,7 @@ fn version_before(
     subject: &Subject<'_>,
     stem: &str,
 ) -> Result<Option<Version>, AllocError>
-    ensures { IfOk result (λ v. (file : List ℕ → Parts → Option (List ℕ)) (r : Reading) → v ≡ installed_version (case_of subject.now file r) stem.now) }
+    ensures { IfOk result (λ v. (file : List ℕ → Parts → Option (List ℕ)) (r : ManifestReading) → v ≡ installed_version (case_of subject.now file r) stem.now) }
 {
     match subject.installed_version(stem) {
         Some(version) => Ok(Some(version.copy(alloc)?)),

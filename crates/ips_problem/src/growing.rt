@@ -8,7 +8,7 @@ ghost use Rattle.ips_fmri.specs.Version.{Parts};
 ghost use Rattle.ips_outside.specs.Outside.{Reads};
 ghost use Rattle.ips_depend.specs.Dependency as depend;
 ghost use Rattle.ips_request.specs.Case as case;
-ghost use Rattle.ips_request.specs.Case.{IsReading, Reading};
+ghost use Rattle.ips_request.specs.Case.{IsReading, ManifestReading};
 ghost use Rattle.ips_request.specs.Manifests.{all_manifests_limit};
 ghost use Rattle.ips_request.specs.Stems.{stems_of, put_all};
 ghost use Rattle.ips_request.specs.Subject.{case_in, case_of, seen_naming};
@@ -39,9 +39,9 @@ pub fn posed_by<S: Source>(
     subject: &Subject<'_>,
     source: &mut S,
 ) -> Result<Problem, Or<ProblemFault>>
-    ensures posed { IsTrue (S.outside.tells source.old) → IfOk result (λ p. (r : Reading) → IsReading subject.now.state.now.settings r
+    ensures posed { IsTrue (S.outside.tells source.old) → IfOk result (λ p. (r : ManifestReading) → IsReading subject.now.state.now.settings r
         → IsPosedBy (case_in subject.now (S.outside.state source.old).held r) (posed_of p)) }
-    ensures bad { IsTrue (S.outside.tells source.old) → IfBad result (λ why. (r : Reading) → IsReading subject.now.state.now.settings r
+    ensures bad { IsTrue (S.outside.tells source.old) → IfBad result (λ why. (r : ManifestReading) → IsReading subject.now.state.now.settings r
         → IsFirstFault subject.now.state.now.settings (case_in subject.now (S.outside.state source.old).held r) why) }
     ensures reads { Reads S.outside source.old source.new (result ≡ Err (Bad fault.SourceFault)) }
 {
@@ -60,7 +60,7 @@ pub fn posed_by<S: Source>(
 
 // Where the list of stems begins, before any of them was gone through.
 fn begun(alloc: Global, subject: &Subject<'_>) -> Result<Gathered, AllocError>
-    ensures { IfOk result (λ g. (file : List ℕ → Parts → Option (List ℕ)) (r : Reading) → IsGathered (case_of subject.now file r) g) }
+    ensures { IfOk result (λ g. (file : List ℕ → Parts → Option (List ℕ)) (r : ManifestReading) → IsGathered (case_of subject.now file r) g) }
 {
     let mut stems = IndexSet::new(alloc);
     add_named(alloc, &mut stems, &subject.named)?;
@@ -95,9 +95,9 @@ fn next<S: Source>(
     gathered: Gathered,
 ) -> Result<Gathered, Or<ProblemFault>>
     requires { length gathered.rows.items < length gathered.stems.keys }
-    ensures gathered { IsTrue (S.outside.tells source.old) → IfOk result (λ g. (r : Reading) → IsReading subject.now.state.now.settings r
+    ensures gathered { IsTrue (S.outside.tells source.old) → IfOk result (λ g. (r : ManifestReading) → IsReading subject.now.state.now.settings r
         → IsGathered (case_in subject.now (S.outside.state source.old).held r) gathered → IsGathered (case_in subject.now (S.outside.state source.old).held r) g) }
-    ensures bad { IsTrue (S.outside.tells source.old) → IfBad result (λ why. (r : Reading) → IsReading subject.now.state.now.settings r
+    ensures bad { IsTrue (S.outside.tells source.old) → IfBad result (λ why. (r : ManifestReading) → IsReading subject.now.state.now.settings r
         → IsGathered (case_in subject.now (S.outside.state source.old).held r) gathered
         → IsFirstFault subject.now.state.now.settings (case_in subject.now (S.outside.state source.old).held r) why) }
     ensures reads { Reads S.outside source.old source.new (result ≡ Err (Bad fault.SourceFault)) }
@@ -248,7 +248,7 @@ fn wanted(dependency: &Test) -> &[Fmri]
 // The puzzle of all that was gathered.
 fn whole(alloc: Global, subject: &Subject<'_>, gathered: Gathered) -> Result<Problem, AllocError>
     requires { length gathered.rows.items ≡ length gathered.stems.keys }
-    ensures { IfOk result (λ p. (file : List ℕ → Parts → Option (List ℕ)) (r : Reading)
+    ensures { IfOk result (λ p. (file : List ℕ → Parts → Option (List ℕ)) (r : ManifestReading)
         → IsGathered (case_of subject.now file r) gathered → IsPosedBy (case_of subject.now file r) (posed_of p)) }
 {
     let avoid = still_avoided(alloc, subject)?;
@@ -263,7 +263,7 @@ fn whole(alloc: Global, subject: &Subject<'_>, gathered: Gathered) -> Result<Pro
 
 // The avoided stems that the request doesn't ask for.
 fn still_avoided(alloc: Global, subject: &Subject<'_>) -> Result<Vec<Text>, AllocError>
-    ensures { IfOk result (λ avoid. (file : List ℕ → Parts → Option (List ℕ)) (r : Reading) → avoid.items ≡ posed.still_avoided (case_of subject.now file r)) }
+    ensures { IfOk result (λ avoid. (file : List ℕ → Parts → Option (List ℕ)) (r : ManifestReading) → avoid.items ≡ posed.still_avoided (case_of subject.now file r)) }
 {
     let mut avoid = Vec::new(alloc);
     for stem in &subject.state.avoid {

@@ -1,6 +1,6 @@
 //! Why literals went, and what follows from that: one resolution is one line.
 
-use crate::board::{Board, Clash, Why};
+use crate::board::{Board, Conflict, Why};
 use crate::gathered::Gathered;
 use crate::learned::Learned;
 use crate::lines::Lines;
@@ -249,9 +249,13 @@ fn last_ahead(
     Ok(best)
 }
 
-/// The set of values that a clash gives, with at most one of the last level, and why no solution has it.
-pub fn analyse(known: &mut Known, work: &mut Work, clash: Clash) -> Result<Reason, AllocError> {
-    let Clash { literal, why } = clash;
+/// The set of values that a conflict gives, with at most one of the last level, and why no solution has it.
+pub fn analyse(
+    known: &mut Known,
+    work: &mut Work,
+    conflict: Conflict,
+) -> Result<Reason, AllocError> {
+    let Conflict { literal, why } = conflict;
     let stem = known.board.stem(literal);
     known.board.explain_now(literal, why);
     work.set.clear();

@@ -27,7 +27,7 @@ pub enum Why {
 
 /// The last candidate that was left for a stem, and why it is to go.
 #[derive(Clone, Copy)]
-pub struct Clash {
+pub struct Conflict {
     pub literal: u32,
     pub why: Why,
 }

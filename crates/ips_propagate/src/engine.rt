@@ -166,11 +166,11 @@ impl Engine {
     // Seeks the first solution in the stems' order.
     fn first_end<P: Puzzle>(&mut self, puzzle: &P) -> Result<End, AllocError> {
         let most = self.effort.min(PATIENCE);
-        let (refuted, clash) = self.search.begin(puzzle)?;
+        let (refuted, conflict) = self.search.begin(puzzle)?;
         if let Some(reason) = refuted {
             return Ok(End::Refuted(reason));
         }
-        if let Some(end) = self.search.quiet(puzzle, clash, most)? {
+        if let Some(end) = self.search.quiet(puzzle, conflict, most)? {
             return Ok(end);
         }
         self.search.by_reach(puzzle, most)

@@ -1,7 +1,7 @@
 //! The engine's own search for a solution.
 
 use crate::analysis::{Known, Work, analyse};
-use crate::board::{Clash, Why};
+use crate::board::{Conflict, Why};
 use crate::numbers::{NONE, at, counted};
 use crate::order::Order;
 use crate::spreading::Watches;
@@ -58,11 +58,11 @@ impl Search {
         })
     }
 
-    /// What follows before any decision: why there is no solution, or a clash, or neither.
+    /// What follows before any decision: why there is no solution, or a conflict, or neither.
     pub fn begin<P: Puzzle>(
         &mut self,
         puzzle: &P,
-    ) -> Result<(Option<Reason>, Option<Clash>), AllocError> {
+    ) -> Result<(Option<Reason>, Option<Conflict>), AllocError> {
         for stem in 0..self.stems {
             let first = self.known.board.first(stem);
             let end = self.known.board.end(stem);
@@ -75,36 +75,36 @@ impl Search {
             }
         }
         let tests = counted(self.known.tables.own.len())?;
-        let mut clash = self.watches.put_supports(&mut self.known, tests);
-        if clash.is_none() {
+        let mut conflict = self.watches.put_supports(&mut self.known, tests);
+        if conflict.is_none() {
             let wides = counted(self.known.tables.wide_own.len())?;
-            clash = self.watches.put_wides(puzzle, &mut self.known, wides)?;
+            conflict = self.watches.put_wides(puzzle, &mut self.known, wides)?;
         }
-        Ok((None, clash))
+        Ok((None, conflict))
     }
 
-    /// Goes through all that follows, and learns from each clash. None where no clash is left.
+    /// Goes through all that follows, and learns from each conflict. None where no conflict is left.
     pub fn quiet<P: Puzzle>(
         &mut self,
         puzzle: &P,
-        first: Option<Clash>,
+        first: Option<Conflict>,
         most: u64,
     ) -> Result<Option<End>, AllocError> {
         let mut next = first;
         for _ in 0..u64::MAX {
-            let clash = match next {
-                Some(clash) => clash,
+            let conflict = match next {
+                Some(conflict) => conflict,
                 None => match self.watches.spread(puzzle, &mut self.known)? {
-                    Some(clash) => clash,
+                    Some(conflict) => conflict,
                     None => return Ok(None),
                 },
             };
-            // A clash without a decision is the last one: the puzzle has no solution.
+            // A conflict without a decision is the last one: the puzzle has no solution.
             if self.conflicts >= most && self.known.board.level > 0 {
                 return Ok(Some(End::Tired));
             }
             self.conflicts = self.conflicts.saturating_add(1);
-            let reason = analyse(&mut self.known, &mut self.work, clash)?;
+            let reason = analyse(&mut self.known, &mut self.work, conflict)?;
             if self.work.set.members.is_empty() {
                 return Ok(Some(End::Refuted(reason)));
             }
@@ -114,7 +114,7 @@ impl Search {
     }
 
     // Learns the set that was resolved, goes back to where all but one of it are true, and removes that one.
-    fn learn(&mut self, reason: Reason) -> Result<Option<Clash>, AllocError> {
+    fn learn(&mut self, reason: Reason) -> Result<Option<Conflict>, AllocError> {
         self.raise_met();
         let known = &mut self.known;
         let set = known
@@ -135,7 +135,7 @@ impl Search {
         if known.board.remove(literal, why) {
             Ok(None)
         } else {
-            Ok(Some(Clash { literal, why }))
+            Ok(Some(Conflict { literal, why }))
         }
     }
 

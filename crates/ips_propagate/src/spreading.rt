@@ -1,7 +1,7 @@
 //! What follows at once from a value, or from a literal's removal.
 
 use crate::analysis::Known;
-use crate::board::{Board, Clash, Why};
+use crate::board::{Board, Conflict, Why};
 use crate::numbers::{Chains, NONE, at};
 use crate::tables::Tables;
 use ips_refute::{Pair, Puzzle, is_broken};
@@ -27,27 +27,27 @@ fn good_left(board: &Board, tables: &Tables, test: u32) -> u32 {
 }
 
 // The bad literals of a test whose own literal became true go.
-fn strike_bads(known: &mut Known, test: u32) -> Option<Clash> {
+fn strike_bads(known: &mut Known, test: u32) -> Option<Conflict> {
     for place in known.tables.start(test)..known.tables.start(test.saturating_add(1)) {
         let literal = known.tables.bad_at(place);
         let why = Why::Test(place);
         if !known.board.remove(literal, why) {
-            return Some(Clash { literal, why });
+            return Some(Conflict { literal, why });
         }
     }
     None
 }
 
 // A literal became true that is tests' own.
-fn spread_own(known: &mut Known, literal: u32) -> Option<Clash> {
+fn spread_own(known: &mut Known, literal: u32) -> Option<Conflict> {
     let mut test = known.tables.first_of(literal);
     for _ in 0..u64::MAX {
         if test == NONE {
             break;
         }
-        let clash = strike_bads(known, test);
-        if clash.is_some() {
-            return clash;
+        let conflict = strike_bads(known, test);
+        if conflict.is_some() {
+            return conflict;
         }
         test = known.tables.next_of(test);
     }
@@ -55,7 +55,7 @@ fn spread_own(known: &mut Known, literal: u32) -> Option<Clash> {
 }
 
 // A literal became true that tests don't take.
-fn spread_bad(known: &mut Known, literal: u32) -> Option<Clash> {
+fn spread_bad(known: &mut Known, literal: u32) -> Option<Conflict> {
     let mut place = known.tables.first_bad(literal);
     for _ in 0..u64::MAX {
         if place == NONE {
@@ -64,7 +64,7 @@ fn spread_bad(known: &mut Known, literal: u32) -> Option<Clash> {
         let why = Why::Test(place);
         let literal = known.tables.own_at(place);
         if !known.board.remove(literal, why) {
-            return Some(Clash { literal, why });
+            return Some(Conflict { literal, why });
         }
         place = known.tables.next_bad(place);
     }
@@ -72,9 +72,9 @@ fn spread_bad(known: &mut Known, literal: u32) -> Option<Clash> {
 }
 
 // A literal became true that learned sets watch.
-fn spread_learned(known: &mut Known, literal: u32) -> Option<Clash> {
+fn spread_learned(known: &mut Known, literal: u32) -> Option<Conflict> {
     let mut watch = known.learned.take(literal);
-    let mut clash = None;
+    let mut conflict = None;
     for _ in 0..u64::MAX {
         if watch == NONE {
             break;
@@ -82,13 +82,13 @@ fn spread_learned(known: &mut Known, literal: u32) -> Option<Clash> {
         let next = known.learned.after(watch);
         if let Some((literal, set)) = known.learned.watch_again(&known.board, watch, literal) {
             let why = Why::Learned(set);
-            if clash.is_none() && !known.board.remove(literal, why) {
-                clash = Some(Clash { literal, why });
+            if conflict.is_none() && !known.board.remove(literal, why) {
+                conflict = Some(Conflict { literal, why });
             }
         }
         watch = next;
     }
-    clash
+    conflict
 }
 
 impl Watches {
@@ -111,14 +111,14 @@ impl Watches {
     }
 
     /// Puts each test of two stems to a good literal; its own goes where there is none.
-    pub fn put_supports(&mut self, known: &mut Known, tests: u32) -> Option<Clash> {
+    pub fn put_supports(&mut self, known: &mut Known, tests: u32) -> Option<Conflict> {
         for test in 0..tests {
             let good = good_left(&known.board, &known.tables, test);
             self.supports.put(good, test);
             let literal = at(&known.tables.own, test);
             let why = Why::Support(test);
             if good == NONE && !known.board.remove(literal, why) {
-                return Some(Clash { literal, why });
+                return Some(Conflict { literal, why });
             }
         }
         None
@@ -130,7 +130,7 @@ impl Watches {
         puzzle: &P,
         known: &mut Known,
         tests: u32,
-    ) -> Result<Option<Clash>, AllocError> {
+    ) -> Result<Option<Conflict>, AllocError> {
         for wide in 0..tests {
             let first = known.tables.watched(wide, 0);
             if known.tables.stems(wide).len() > 1 {
@@ -139,9 +139,9 @@ impl Watches {
                 self.wides
                     .put(second, wide.saturating_mul(2).saturating_add(1));
             } else {
-                let clash = self.press(puzzle, known, wide, first)?;
-                if clash.is_some() {
-                    return Ok(clash);
+                let conflict = self.press(puzzle, known, wide, first)?;
+                if conflict.is_some() {
+                    return Ok(conflict);
                 }
             }
         }
@@ -149,9 +149,9 @@ impl Watches {
     }
 
     // A literal went that may be a support.
-    fn spread_removed(&mut self, known: &mut Known, removed: u32) -> Option<Clash> {
+    fn spread_removed(&mut self, known: &mut Known, removed: u32) -> Option<Conflict> {
         let mut test = self.supports.take(removed);
-        let mut clash = None;
+        let mut conflict = None;
         for _ in 0..u64::MAX {
             if test == NONE {
                 break;
@@ -167,13 +167,13 @@ impl Watches {
                 self.supports.put(good, test);
             } else {
                 self.supports.put(removed, test);
-                if clash.is_none() && !known.board.remove(literal, why) {
-                    clash = Some(Clash { literal, why });
+                if conflict.is_none() && !known.board.remove(literal, why) {
+                    conflict = Some(Conflict { literal, why });
                 }
             }
             test = next;
         }
-        clash
+        conflict
     }
 
     // A stem got a value that wide tests watch.
@@ -182,9 +182,9 @@ impl Watches {
         puzzle: &P,
         known: &mut Known,
         stem: u32,
-    ) -> Result<Option<Clash>, AllocError> {
+    ) -> Result<Option<Conflict>, AllocError> {
         let mut watch = self.wides.take(stem);
-        let mut clash = None;
+        let mut conflict = None;
         for _ in 0..u64::MAX {
             if watch == NONE {
                 break;
@@ -194,13 +194,13 @@ impl Watches {
             let side = watch % 2;
             let place = known.tables.watch_another(&known.board, wide, side);
             self.wides.put(place, watch);
-            if place == stem && clash.is_none() {
+            if place == stem && conflict.is_none() {
                 let open = known.tables.watched(wide, 1 - side);
-                clash = self.press(puzzle, known, wide, open)?;
+                conflict = self.press(puzzle, known, wide, open)?;
             }
             watch = next;
         }
-        Ok(clash)
+        Ok(conflict)
     }
 
     // All stems of the wide test but one have a value: what of that one breaks it goes.
@@ -210,7 +210,7 @@ impl Watches {
         known: &mut Known,
         wide: u32,
         open: u32,
-    ) -> Result<Option<Clash>, AllocError> {
+    ) -> Result<Option<Conflict>, AllocError> {
         let own = at(&known.tables.wide_own, wide);
         if own != NONE && !known.board.is_left(own) {
             return Ok(None);
@@ -223,7 +223,7 @@ impl Watches {
                 && is_broken(puzzle, number, &self.pairs, known.board.pair(literal))
                 && !known.board.remove(literal, why)
             {
-                return Ok(Some(Clash { literal, why }));
+                return Ok(Some(Conflict { literal, why }));
             }
         }
         Ok(None)
@@ -241,22 +241,22 @@ impl Watches {
         Ok(())
     }
 
-    /// Goes through all that became true or went; ends at a clash.
+    /// Goes through all that became true or went; ends at a conflict.
     pub fn spread<P: Puzzle>(
         &mut self,
         puzzle: &P,
         known: &mut Known,
-    ) -> Result<Option<Clash>, AllocError> {
+    ) -> Result<Option<Conflict>, AllocError> {
         for _ in 0..u64::MAX {
-            let clash = if let Some(stem) = known.board.next_truth() {
+            let conflict = if let Some(stem) = known.board.next_truth() {
                 self.spread_value(puzzle, known, stem)?
             } else if let Some(literal) = known.board.next_removed() {
                 self.spread_removed(known, literal)
             } else {
                 return Ok(None);
             };
-            if clash.is_some() {
-                return Ok(clash);
+            if conflict.is_some() {
+                return Ok(conflict);
             }
         }
         Ok(None)
@@ -268,18 +268,18 @@ impl Watches {
         puzzle: &P,
         known: &mut Known,
         stem: u32,
-    ) -> Result<Option<Clash>, AllocError> {
+    ) -> Result<Option<Conflict>, AllocError> {
         let literal = known.board.value(stem);
-        let mut clash = spread_own(known, literal);
-        if clash.is_none() {
-            clash = spread_bad(known, literal);
+        let mut conflict = spread_own(known, literal);
+        if conflict.is_none() {
+            conflict = spread_bad(known, literal);
         }
-        if clash.is_none() {
-            clash = spread_learned(known, literal);
+        if conflict.is_none() {
+            conflict = spread_learned(known, literal);
         }
-        if clash.is_none() {
-            clash = self.spread_wide(puzzle, known, stem)?;
+        if conflict.is_none() {
+            conflict = self.spread_wide(puzzle, known, stem)?;
         }
-        Ok(clash)
+        Ok(conflict)
     }
 }

@@ -14,8 +14,8 @@ use Rattle.ips_fmri.specs.Version.{Parts, IsVersion, version_text}
 use Rattle.ips_fmri.specs.declared.fmri.Fmri.{Fmri}
 use Rattle.ips_outside.specs.Image.{Image, file_bytes}
 use Rattle.ips_files.specs.Files.{HasSize, file_at}
-use Rattle.ips_index.specs.Rows.{Row, index_text}
-use Rattle.ips_index.specs.Text.{AreRows, IsIndexFile}
+use Rattle.ips_index.specs.Rows.{IndexedValue, index_text}
+use Rattle.ips_index.specs.Text.{AreIndexRows, IsIndexFile}
 use Rattle.ips_index.proofs.IndexFiles.{not_bad, text_file}
 use Rattle.ips_manifest.specs.declared.fault.LineFault.{LineFault}
 use Rattle.ips_manifest.specs.declared.fault.LineFault.TheVariants as fault
@@ -128,7 +128,7 @@ no_head_fault t h FolderFault lawful s bad = refl
 no_size : (t : Image) (path : List ℕ) (count : ℕ) → t.look path ≡ None → HasSize (file_at t path) count → ⊥
 no_size t path count none size = subst (λ (o : Option (List ℕ)). HasSize o count) (ap file_bytes none) size
 
-no_index_fault : (t : Image) (o : Option (List Row)) (f : StateFault) → IfSome o AreRows → HoldsIndex t o → IsIndexFault t f → f ≡ FolderFault
+no_index_fault : (t : Image) (o : Option (List IndexedValue)) (f : StateFault) → IfSome o AreIndexRows → HoldsIndex t o → IsIndexFault t f → f ≡ FolderFault
 no_index_fault t o NoImage lawful h bad = absurd bad
 no_index_fault t None (BadImage file line) lawful h bad = absurd (bad.0 h)
 no_index_fault t None (TooLarge which count) lawful h bad = absurd (no_size t index_path count h bad.1)

@@ -4,7 +4,7 @@ use Rattle.std.specs.List.{list_all, join_with_byte}
 use Rattle.std.proofs.lemmas.Bool.{and_parts}
 use Rattle.std.proofs.lemmas.Bool.Decides.{nat_tests}
 use Rattle.std.proofs.lemmas.List.Splits.{join_with_byte-slice_split}
-use Rattle.ips_text.specs.Reading.{AllFit}
+use Rattle.ips_text.specs.Reading.{OneOrMore}
 use Rattle.ips_text.specs.Path.{parts}
 use Rattle.ips_fmri.specs.Version.{Parts, version_text, IsVersion}
 use Rattle.ips_fmri.specs.Name.{may_begin, may_go_on, IsComponent, IsStem}
@@ -25,7 +25,7 @@ component_clear : (x : List ℕ) → IsComponent false x → is_clear x ≡ true
 component_clear [] h = absurd h
 component_clear (b ∷ x) h = rw (byte_clear b (begin_goes_on b h.0), run_clear x h.1) refl
 
-joined_clear : (xs : List (List ℕ)) → AllFit (IsComponent false) xs → is_clear (join_with_byte 47 xs) ≡ true
+joined_clear : (xs : List (List ℕ)) → OneOrMore (IsComponent false) xs → is_clear (join_with_byte 47 xs) ≡ true
 joined_clear [] h = absurd h
 joined_clear (x ∷ []) h = component_clear x h
 joined_clear (x ∷ y ∷ xs) h = clear_append x (47 ∷ join_with_byte 47 (y ∷ xs)) (component_clear x h.0) (joined_clear (y ∷ xs) h.1)

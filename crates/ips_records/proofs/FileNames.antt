@@ -15,7 +15,7 @@ use Rattle.std.proofs.lemmas.Fmt.{IsAscii-decimal, decimal_is_IsNumeral}
 use Rattle.std.proofs.lemmas.List.Concat.{flat_map-cons}
 use Rattle.std.proofs.lemmas.List.Folds.{list_all-append}
 use Rattle.std.proofs.lemmas.List.Splits.{join_with_byte-slice_split}
-use Rattle.ips_text.specs.Reading.{AllFit}
+use Rattle.ips_text.specs.Reading.{OneOrMore}
 use Rattle.ips_text.specs.Path.{parts, is_dots}
 use Rattle.ips_text.specs.Quote.{quoted, quoted_byte, is_plain, fits_name}
 use Rattle.ips_fmri.specs.Name.{may_begin, may_go_on, IsComponent, HasStemForm, IsStem, IsPublisher}
@@ -94,7 +94,7 @@ pub low_component : (x : List ℕ) → IsComponent false x → list_all is_low x
 low_component [] h = absurd h
 low_component (b ∷ x) h = rw (low_byte b (begin_goes_on b h.0), low_run x h.1) refl
 
-low_joined : (xs : List (List ℕ)) → AllFit (IsComponent false) xs → list_all is_low (join_with_byte 47 xs) ≡ true
+low_joined : (xs : List (List ℕ)) → OneOrMore (IsComponent false) xs → list_all is_low (join_with_byte 47 xs) ≡ true
 low_joined [] h = absurd h
 low_joined (x ∷ []) h = low_component x h
 low_joined (x ∷ y ∷ xs) h = list_all-append is_low x (47 ∷ join_with_byte 47 (y ∷ xs)) ∙ rw (low_component x h.0, low_joined (y ∷ xs) h.1) refl
@@ -103,7 +103,7 @@ begins_component : (x : List ℕ) → IsComponent false x → BeginsPlain x
 begins_component [] h = absurd h
 begins_component (b ∷ x) h = begin_plain b h.0
 
-begins_onto : (slash : Bool) (b : ℕ) (xs : List (List ℕ)) → AllFit (IsComponent false) (cond slash ([] ∷ xs) (onto_first b xs)) → is_ascii_alphanumeric b ≡ true
+begins_onto : (slash : Bool) (b : ℕ) (xs : List (List ℕ)) → OneOrMore (IsComponent false) (cond slash ([] ∷ xs) (onto_first b xs)) → is_ascii_alphanumeric b ≡ true
 begins_onto true b [] h = absurd h
 begins_onto true b (x ∷ xs) h = absurd h.0
 begins_onto false b [] h = begin_plain b h.0

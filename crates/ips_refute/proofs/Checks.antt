@@ -8,7 +8,7 @@ use Rattle.std.proofs.lemmas.Option.{slice_get_within, same_Some}
 use Rattle.ips_refute.specs.declared.nogoods.Pair.{Pair}
 use Rattle.ips_refute.specs.declared.nogoods.Nogood.{Nogood}
 use Rattle.std.specs.Prelude.{IfSome, IfNone}
-use Rattle.ips_refute.specs.Meaning.{Meaning, Within, OnePerStem, Ascends}
+use Rattle.ips_refute.specs.Meaning.{Meaning, IsSubset, OnePerStem, Ascends}
 use Rattle.ips_refute.specs.Refuting.{ContainsEarlier, EndsEmpty, AreNogoods, IsRefutation}
 
 pub no_true : {A : Type 0} → IsTrue false → A
@@ -47,9 +47,9 @@ one_more set n d0 h free before i j d l m eq =
           free i d lt (ap (λ (q : Pair). q.stem) at_i ∙ eq ∙ ap (λ (q : Pair). q.stem) at_n)
     ]
 
-pub earlier_iff : (r : Bool) (earlier : List Nogood) (n : ℕ) (g : Nogood) (few set : List Pair) → slice_get earlier n ≡ Some g → few ≡ g.set.items → (IsTrue r ↔ Within few set) → IsTrue r ↔ ContainsEarlier earlier n set
+pub earlier_iff : (r : Bool) (earlier : List Nogood) (n : ℕ) (g : Nogood) (few set : List Pair) → slice_get earlier n ≡ Some g → few ≡ g.set.items → (IsTrue r ↔ IsSubset few set) → IsTrue r ↔ ContainsEarlier earlier n set
 earlier_iff r earlier n g few set e same (f, b) =
-    let P : List Pair → Type 0 = λ s. Within s set in (
+    let P : List Pair → Type 0 = λ s. IsSubset s set in (
       λ t. (g, e, subst P same (f t)),
       λ (g', e', w).
           let eq : g' ≡ g = same_Some g' g (sym e' ∙ e) in

@@ -3,7 +3,7 @@ use Rattle.std.proofs.Common.{◌≡◌, ℕ, zero, suc, ◌+◌, ◌<◌, ◌�
 use Rattle.std.proofs.lemmas.List.Elements.{All-contains, All-cons}
 use Rattle.std.proofs.lemmas.Option.{none-some}
 use Rattle.ips_refute.specs.declared.nogoods.Pair.{Pair}
-use Rattle.ips_refute.specs.Meaning.{Within, OnePerStem, pairs_from, pairs}
+use Rattle.ips_refute.specs.Meaning.{IsSubset, OnePerStem, pairs_from, pairs}
 
 abbrev pub pair : ℕ → ℕ → Pair
 pair s c = record { stem = s; candidate = c }
@@ -39,10 +39,10 @@ from_pairs choice q (k, l, e) =
     let es : k ≡ q.stem = omega (arith, ap (λ (p : Pair). p.stem) at) in
     (omega arith, ap (slice_index choice) (sym es) ∙ ap (λ (p : Pair). p.candidate) at)
 
-pub Within-trans : (a b c : List Pair) → Within a b → Within b c → Within a c
+pub Within-trans : (a b c : List Pair) → IsSubset a b → IsSubset b c → IsSubset a c
 Within-trans a b c f g k d h = All-contains (λ q. Contains c q) b (get_or a k d) g (f k d h)
 
-pub Within-cons : (q : Pair) (few many : List Pair) → Contains many q → Within few many → Within (q ∷ few) many
+pub Within-cons : (q : Pair) (few many : List Pair) → Contains many q → IsSubset few many → IsSubset (q ∷ few) many
 Within-cons q few many h w = All-cons (λ p. Contains many p) q few h w
 
 pub OnePerStem-cons : (q : Pair) (set : List Pair) → All (λ p. p.stem ≢ q.stem) set → OnePerStem set → OnePerStem (q ∷ set)

@@ -8,7 +8,7 @@ use Rattle.ips_refute.specs.declared.nogoods.Reason.{Reason}
 use Rattle.ips_refute.specs.declared.nogoods.Reason.TheVariants.{Test, Earlier}
 use Rattle.ips_refute.specs.declared.runs.Run.{Run}
 use Rattle.ips_refute.specs.Reading.{run}
-use Rattle.ips_refute.specs.Text.{Entry, Written, IsEntry, IsWritten, IsRun, IsSmallReason, is_same, meant, most, reasons_of, run_text, runs_behind, runs_of, runs_text, written}
+use Rattle.ips_refute.specs.Text.{RefutationEntry, Written, IsEntry, IsWritten, IsRun, IsSmallReason, is_same, meant, most, reasons_of, run_text, runs_behind, runs_of, runs_text, written}
 
 one_reason : (x y : Reason) → is_same x y ≡ true → x ≡ y
 one_reason (Test t) (Test u) e = ap (λ (n : ℕ). Test n) (eqb-true t u e)
@@ -53,10 +53,10 @@ runs_good [] small = λ k d l. absurd (omega arith)
 runs_good (x ∷ xs) small = behind_good x 1 xs (small 0 x (omega arith)) (omega arith) (omega arith) (All-tail IsSmallReason x xs small)
 
 -- a nogood in its spelling means that nogood
-pub written_back : (e : Entry) → meant (written e) ≡ e
-written_back e = ap (λ (rs : List Reason). let f : Entry = record { set = e.set; stem = e.stem; reasons = rs } in f) (runs_back e.reasons)
+pub written_back : (e : RefutationEntry) → meant (written e) ≡ e
+written_back e = ap (λ (rs : List Reason). let f : RefutationEntry = record { set = e.set; stem = e.stem; reasons = rs } in f) (runs_back e.reasons)
 
-pub written_good : (e : Entry) → IsEntry e → IsWritten true (written e)
+pub written_good : (e : RefutationEntry) → IsEntry e → IsWritten true (written e)
 written_good e is = record { ascends = is.ascends; pairs = is.pairs; stem = is.stem; runs = runs_good e.reasons is.reasons }
 
 -- the reasons of runs of the grammar are of the grammar

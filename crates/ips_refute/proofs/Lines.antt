@@ -13,7 +13,7 @@ use Rattle.ips_refute.specs.declared.nogoods.Reason.{Reason}
 use Rattle.ips_refute.specs.declared.nogoods.Reason.TheVariants.{Test, Earlier}
 use Rattle.ips_refute.specs.Meaning.{Ascends}
 use Rattle.ips_refute.specs.declared.runs.Run.{Run}
-use Rattle.ips_refute.specs.Text.{Entry, Written, IsWritten, IsRun, IsSmallPair, IsSmallReason, pair_text, set_text, reason_text, count_text, run_text, runs_text, line_text, meant, most, most_of, bar}
+use Rattle.ips_refute.specs.Text.{RefutationEntry, Written, IsWritten, IsRun, IsSmallPair, IsSmallReason, pair_text, set_text, reason_text, count_text, run_text, runs_text, line_text, meant, most, most_of, bar}
 use Rattle.ips_refute.specs.Reading.{Scanner, stop_at, small_at, mark_at, nothing, bar_at, pair_of, pair_at, pairs_at, ascends, set_at, reason_at, count_at, run, run_at, runs_at, between, stem_at, Fields, fields_at, written_from, entry_from, entry_at}
 use Rattle.ips_refute.proofs.Scanners.{Stopped, Scans, Scans-both, Scans-via, Scans-listed, AllFollow, NoDash, all_follow}
 
@@ -342,13 +342,13 @@ Scans-line counts =
     }
 
 -- what a line means is what it is read as
-abbrev meaning : Written × List ℕ → Result (Entry × List ℕ) Stopped
+abbrev meaning : Written × List ℕ → Result (RefutationEntry × List ℕ) Stopped
 meaning w = Ok (meant w.0, w.1)
 
 abbrev line_of : Fields × List ℕ → Result (Written × List ℕ) Stopped
 line_of x = Ok (written_from x.0, x.1)
 
-abbrev entry_in : Fields × List ℕ → Result (Entry × List ℕ) Stopped
+abbrev entry_in : Fields × List ℕ → Result (RefutationEntry × List ℕ) Stopped
 entry_in x = Ok (entry_from x.0, x.1)
 
 means_so : (v : Result (Fields × List ℕ) Stopped) → (v >>= entry_in) ≡ ((v >>= line_of) >>= meaning)
@@ -360,14 +360,14 @@ unfolding entry_at
 means_read counts bytes = means_so (fields_at counts bytes)
 
 -- a line that was read
-pub line_read : (counts : Bool) (bytes : List ℕ) (e : Entry) (after : List ℕ) → entry_at counts bytes ≡ Ok (e, after) → (w : Written) × (meant w ≡ e) × (bytes ≡ line_text w ++ after) × IsWritten counts w
+pub line_read : (counts : Bool) (bytes : List ℕ) (e : RefutationEntry) (after : List ℕ) → entry_at counts bytes ≡ Ok (e, after) → (w : Written) × (meant w ≡ e) × (bytes ≡ line_text w ++ after) × IsWritten counts w
 line_read counts bytes e after is =
     let a = bind_ok (via written_from (fields_at counts) bytes) meaning (e, after) (sym (means_read counts bytes) ∙ is) in
     let t = (Scans-line counts).takes bytes a.0 a.1 in
-    let left : Entry × List ℕ = (meant a.0.0, a.0.1) in
-    let right : Entry × List ℕ = (e, after) in
+    let left : RefutationEntry × List ℕ = (meant a.0.0, a.0.1) in
+    let right : RefutationEntry × List ℕ = (e, after) in
     let same : left ≡ right = ok_is {E = Stopped} left right a.2 in
-    (a.0.0, ap (λ (p : Entry × List ℕ). p.0) same, t.0 ∙ ap (λ (p : Entry × List ℕ). line_text a.0.0 ++ p.1) same, t.1)
+    (a.0.0, ap (λ (p : RefutationEntry × List ℕ). p.0) same, t.0 ∙ ap (λ (p : RefutationEntry × List ℕ). line_text a.0.0 ++ p.1) same, t.1)
 
 -- and a line that stands there is read
 pub line_again : (counts : Bool) (w : Written) (rest : List ℕ) → IsWritten counts w → entry_at counts (line_text w ++ rest) ≡ Ok (meant w, rest)

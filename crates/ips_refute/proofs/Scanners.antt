@@ -5,7 +5,7 @@ use Rattle.std.proofs.lemmas.List.Elements.{All-cons}
 use Rattle.std.specs.Prelude.{map}
 use Rattle.std.specs.List.{join_with_byte}
 use Rattle.ips_text.specs.declared.refusal.Stop.{Stop}
-use Rattle.ips_text.specs.Reading.{◌>>=◌, next_is, both, via, separated, one_or_more, AllFit}
+use Rattle.ips_text.specs.Reading.{◌>>=◌, next_is, both, via, separated, one_or_more, OneOrMore}
 use Rattle.ips_text.proofs.Readers.{bind_ok, chosen, ok_is, next_parts, next_same, one_more, fit_cons, spell_cons, count_length}
 use Rattle.ips_text.specs.declared.refusal.Or.{Or}
 use Rattle.ips_text.specs.declared.refusal.Or.TheVariants.{Bad, OutOfMemory}
@@ -74,7 +74,7 @@ AllFollow mark spell Follows (x ∷ y ∷ xs) rest = Follows x ((mark ∷ join_w
 
 separated_takes : {A : Type 0} (mark : ℕ) (spell : A → List ℕ) (Fits : A → Type 0) (Follows : A → List ℕ → Type 0) (r : Scanner A) → Scans spell Fits Follows r
     → (count : ℕ) (bytes : List ℕ) (z : List A × List ℕ) → length bytes < count → separated mark r count bytes ≡ Ok z
-    → (bytes ≡ join_with_byte mark (map spell z.0) ++ z.1) × AllFit Fits z.0
+    → (bytes ≡ join_with_byte mark (map spell z.0) ++ z.1) × OneOrMore Fits z.0
 unfolding separated
 separated_takes mark spell Fits Follows r reads zero bytes z lt e = absurd (omega arith)
 separated_takes {A} mark spell Fits Follows r reads (suc count) bytes z lt e =
@@ -91,14 +91,14 @@ separated_takes {A} mark spell Fits Follows r reads (suc count) bytes z lt e =
           = t.0 ∙ ap (λ (l : List ℕ). spell a.0.0 ++ l) rest ∙ sym (append_assoc (spell a.0.0) (mark ∷ join_with_byte mark (map spell b.0.0)) b.0.1)
           ∙ ap (λ (l : List ℕ). l ++ b.0.1) (sym (spell_cons mark spell Fits a.0.0 b.0.0 u.1)) in
           let made : List A × List ℕ = (a.0.0 ∷ b.0.0, b.0.1) in
-          subst (λ (p : List A × List ℕ). (bytes ≡ join_with_byte mark (map spell p.0) ++ p.1) × AllFit Fits p.0) (ok_is {E = Stopped} made z b.2) (parts, fit_cons Fits a.0.0 b.0.0 t.1 u.1)
+          subst (λ (p : List A × List ℕ). (bytes ≡ join_with_byte mark (map spell p.0) ++ p.1) × OneOrMore Fits p.0) (ok_is {E = Stopped} made z b.2) (parts, fit_cons Fits a.0.0 b.0.0 t.1 u.1)
       | inr w ↦
           let made : List A × List ℕ = (a.0.0 ∷ [], a.0.1) in
-          subst (λ (p : List A × List ℕ). (bytes ≡ join_with_byte mark (map spell p.0) ++ p.1) × AllFit Fits p.0) (ok_is {E = Stopped} made z w.1) (t.0, t.1)
+          subst (λ (p : List A × List ℕ). (bytes ≡ join_with_byte mark (map spell p.0) ++ p.1) × OneOrMore Fits p.0) (ok_is {E = Stopped} made z w.1) (t.0, t.1)
     ]
 
 separated_again : {A : Type 0} (mark : ℕ) (spell : A → List ℕ) (Fits : A → Type 0) (Follows : A → List ℕ → Type 0) (r : Scanner A) → Scans spell Fits Follows r
-    → (count : ℕ) (xs : List A) (rest : List ℕ) → length xs ≤ count → AllFit Fits xs → AllFollow mark spell Follows xs rest → separated mark r count (join_with_byte mark (map spell xs) ++ rest) ≡ Ok (xs, rest)
+    → (count : ℕ) (xs : List A) (rest : List ℕ) → length xs ≤ count → OneOrMore Fits xs → AllFollow mark spell Follows xs rest → separated mark r count (join_with_byte mark (map spell xs) ++ rest) ≡ Ok (xs, rest)
 unfolding separated
 separated_again mark spell Fits Follows r reads count [] rest le fits fol = absurd fits
 separated_again mark spell Fits Follows r reads zero (x ∷ xs) rest le fits fol = absurd (omega arith)
@@ -120,7 +120,7 @@ all_follow mark spell Follows (x ∷ []) rest inner last none = (last x, none)
 all_follow mark spell Follows (x ∷ y ∷ xs) rest inner last none = (inner x (join_with_byte mark (map spell (y ∷ xs)) ++ rest), all_follow mark spell Follows (y ∷ xs) rest inner last none)
 
 pub Scans-one_or_more : {A : Type 0} (mark : ℕ) (spell : A → List ℕ) (Fits : A → Type 0) (Follows : A → List ℕ → Type 0) (r : Scanner A) → Scans spell Fits Follows r
-    → Scans (λ (xs : List A). join_with_byte mark (map spell xs)) (AllFit Fits) (AllFollow mark spell Follows) (one_or_more mark r)
+    → Scans (λ (xs : List A). join_with_byte mark (map spell xs)) (OneOrMore Fits) (AllFollow mark spell Follows) (one_or_more mark r)
 Scans-one_or_more {A} mark spell Fits Follows r reads = record {
   takes = λ bytes z e. separated_takes mark spell Fits Follows r reads (suc (length bytes)) bytes z (omega arith) e;
   again = λ xs rest fits fol.
@@ -129,12 +129,12 @@ Scans-one_or_more {A} mark spell Fits Follows r reads = record {
 
 -- ---- lists, or a dash
 
-pub all_fit : {A : Type 0} (Fits : A → Type 0) (xs : List A) → AllFit Fits xs → All Fits xs
+pub all_fit : {A : Type 0} (Fits : A → Type 0) (xs : List A) → OneOrMore Fits xs → All Fits xs
 all_fit Fits [] h = absurd h
 all_fit Fits (x ∷ []) h = All-cons Fits x [] h (λ k d l. absurd (omega arith))
 all_fit Fits (x ∷ y ∷ xs) h = All-cons Fits x (y ∷ xs) h.0 (all_fit Fits (y ∷ xs) h.1)
 
-pub fit_all : {A : Type 0} (Fits : A → Type 0) (x : A) (xs : List A) → All Fits (x ∷ xs) → AllFit Fits (x ∷ xs)
+pub fit_all : {A : Type 0} (Fits : A → Type 0) (x : A) (xs : List A) → All Fits (x ∷ xs) → OneOrMore Fits (x ∷ xs)
 fit_all Fits x [] h = h 0 x (omega arith)
 fit_all Fits x (y ∷ xs) h = (h 0 x (omega arith), fit_all Fits y xs (λ k d l. h (suc k) d (omega arith)))
 
@@ -155,7 +155,7 @@ listed_again {A} mark spell Fits Follows r reads none (x ∷ xs) rest fits fol =
     ap (λ (b : Bool). cond b (Ok ([], drop 1 text)) (one_or_more mark r text)) (joined_front mark spell Fits none x xs rest (fits 0 x (omega arith)))
     ∙ (Scans-one_or_more mark spell Fits Follows r reads).again (x ∷ xs) rest (fit_all Fits x xs fits) fol
 
-listed_takes : {A : Type 0} (mark : ℕ) (spell : A → List ℕ) (Fits : A → Type 0) (xs : List A) → AllFit Fits xs → listed_text mark spell xs ≡ join_with_byte mark (map spell xs)
+listed_takes : {A : Type 0} (mark : ℕ) (spell : A → List ℕ) (Fits : A → Type 0) (xs : List A) → OneOrMore Fits xs → listed_text mark spell xs ≡ join_with_byte mark (map spell xs)
 listed_takes mark spell Fits [] h = absurd h
 listed_takes mark spell Fits (x ∷ xs) h = refl
 

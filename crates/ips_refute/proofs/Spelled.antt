@@ -11,7 +11,7 @@ use Rattle.ips_text.specs.Reading.{Fails, IfBad, via}
 use Rattle.ips_text.proofs.Readers.{ok_is, ok_not_err, err_same}
 use Rattle.ips_refute.specs.declared.nogoods.Nogood.{Nogood}
 use Rattle.ips_refute.specs.declared.reading.BadLine.{BadLine}
-use Rattle.ips_refute.specs.Text.{Entry, Written, IsEntry, IsWritten, IsTextOf, IsBadEntry, IsBadLine, entry_of, entries, entry_text, header, line_text, meant, refutation_text, runs_text, set_text, bar, written, written_text}
+use Rattle.ips_refute.specs.Text.{RefutationEntry, Written, IsEntry, IsWritten, IsTextOf, IsBadEntry, IsBadLine, entry_of, entries, entry_text, header, line_text, meant, refutation_text, runs_text, set_text, bar, written, written_text}
 use Rattle.std.specs.Fmt.{decimal}
 use Rattle.ips_refute.specs.Reading.{entry_at, fields_at, line_at, numbered, written_from}
 use Rattle.ips_refute.proofs.Scanners.{Stopped}
@@ -78,7 +78,7 @@ one_header false true x y e = absurd (apart y x (sym e))
 one_header false false x y e = refl
 
 -- no text is one of two refutations
-pub one_text : (es fs : List Entry) (text : List ℕ) → IsTextOf es text → IsTextOf fs text → es ≡ fs
+pub one_text : (es fs : List RefutationEntry) (text : List ℕ) → IsTextOf es text → IsTextOf fs text → es ≡ fs
 one_text es fs text a b =
     let counts = one_header b.counts a.counts (flat_map line_text b.lines) (flat_map line_text a.lines) (sym b.spelled ∙ a.spelled) in
     let good = subst (λ (c : Bool). All (IsWritten c) b.lines) counts b.good in
@@ -87,27 +87,27 @@ one_text es fs text a b =
     sym a.means ∙ ap (map meant) same ∙ b.means
 
 -- what is printed is a text
-all_back : (es : List Entry) → map meant (map written es) ≡ es
+all_back : (es : List RefutationEntry) → map meant (map written es) ≡ es
 all_back [] = refl
 all_back (e ∷ es) = λ i. written_back e i ∷ all_back es i
 
-all_good : (es : List Entry) → All IsEntry es → All (IsWritten true) (map written es)
+all_good : (es : List RefutationEntry) → All IsEntry es → All (IsWritten true) (map written es)
 all_good [] h = λ k d l. absurd (omega arith)
 all_good (e ∷ es) h = All-cons (IsWritten true) (written e) (map written es) (written_good e (h 0 e (omega arith))) (all_good es (All-tail IsEntry e es h))
 
-all_spelled : (es : List Entry) → flat_map entry_text es ≡ flat_map line_text (map written es)
+all_spelled : (es : List RefutationEntry) → flat_map entry_text es ≡ flat_map line_text (map written es)
 all_spelled [] = refl
 all_spelled (e ∷ es) = ap (λ (l : List ℕ). entry_text e ++ l) (all_spelled es)
 
-pub printed : (es : List Entry) → All IsEntry es → IsTextOf es (refutation_text es)
+pub printed : (es : List RefutationEntry) → All IsEntry es → IsTextOf es (refutation_text es)
 printed es h = record { counts = true; lines = map written es; good = all_good es h; means = all_back es; spelled = ap (λ (l : List ℕ). header true ++ l) (all_spelled es) }
 
 -- ---- the loop
 
-abbrev pub read_as : List Entry → Result (List Entry) BadLine
+abbrev pub read_as : List RefutationEntry → Result (List RefutationEntry) BadLine
 read_as es = Ok es
 
-abbrev failed : Or BadLine → Result (List Entry) (Or BadLine)
+abbrev failed : Or BadLine → Result (List RefutationEntry) (Or BadLine)
 failed e = Err e
 
 -- the lines so far, and the rest
@@ -147,7 +147,7 @@ read_more counts bytes rest ns g count after h e =
           ∙ ap (λ (l : List ℕ). l ++ after) (sym (push_text counts h.lines w));
     }
 
-pub read_shorter : (counts : Bool) (count : ℕ) (rest : List ℕ) (e : Entry) (after : List ℕ) → line_at counts count rest ≡ Ok (e, after) → length after < length rest
+pub read_shorter : (counts : Bool) (count : ℕ) (rest : List ℕ) (e : RefutationEntry) (after : List ℕ) → line_at counts count rest ≡ Ok (e, after) → length after < length rest
 read_shorter counts count rest e after h =
     let (w, is, text, good) = line_read counts rest e after (numbered_ok count (entry_at counts rest) (e, after) h) in
     omega (arith, ap length text, length-append (line_text w) after, line_some w)
@@ -170,7 +170,7 @@ read_all counts bytes rest ns h none = (
     all_meant counts (w ∷ ws) h = All-cons IsEntry (meant w) (map meant ws) (meant_good counts w (h 0 w (omega arith))) (all_meant counts ws (All-tail (IsWritten counts) w ws h))
 
 pub read_bad : (counts : Bool) (e : Or BadLine) (bytes rest : List ℕ) (ns : List Nogood) (count : ℕ) → HasRead counts bytes ns rest → 0 < length rest → count ≡ length ns → Fails e (line_at counts count rest)
-    → ((es : List Entry) → IsTextOf es bytes → Fails e (read_as es)) × IfBad (failed e) (λ bad. IsBadLine bytes bad.line)
+    → ((es : List RefutationEntry) → IsTextOf es bytes → Fails e (read_as es)) × IfBad (failed e) (λ bad. IsBadLine bytes bad.line)
 read_bad counts OutOfMemory bytes rest ns count h some at fails = (λ es eq. tt, tt)
 read_bad counts (Bad x) bytes rest ns count h some at fails =
     let (s, stops, line) = numbered_err count (entry_at counts rest) x fails in

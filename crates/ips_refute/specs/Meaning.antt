@@ -13,8 +13,8 @@ pub record Meaning : Type 0 where
   pub breaks : ℕ → List Pair → Bool
 
 -- each pair of the first set is in the second
-abbrev pub Within : List Pair → List Pair → Type 0
-Within few many = All (λ q. Contains many q) few
+abbrev pub IsSubset : List Pair → List Pair → Type 0
+IsSubset few many = All (λ q. Contains many q) few
 
 -- no two pairs are of one stem
 abbrev pub OnePerStem : List Pair → Type 0

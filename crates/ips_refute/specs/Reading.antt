@@ -8,7 +8,7 @@ use Rattle.ips_refute.specs.declared.nogoods.Reason.{Reason}
 use Rattle.ips_refute.specs.declared.nogoods.Reason.TheVariants.{Test, Earlier}
 use Rattle.ips_refute.specs.declared.reading.BadLine.{BadLine}
 use Rattle.ips_refute.specs.declared.runs.Run.{Run}
-use Rattle.ips_refute.specs.Text.{Entry, Written, most, reasons_of}
+use Rattle.ips_refute.specs.Text.{RefutationEntry, Written, most, reasons_of}
 
 -- a reader of which only this matters: whether it stops
 abbrev pub Scanner : Type 0 → Type 0
@@ -114,11 +114,11 @@ abbrev pub written_from : Fields → Written
 written_from x = record { set = x.0; stem = x.1.0; runs = x.1.1.0 }
 
 -- and what it means
-abbrev pub entry_from : Fields → Entry
+abbrev pub entry_from : Fields → RefutationEntry
 entry_from x = record { set = x.0; stem = x.1.0; reasons = reasons_of x.1.1.0 }
 
 -- a nogood's line, and what it means
-unfoldable pub entry_at : Bool → Scanner Entry
+unfoldable pub entry_at : Bool → Scanner RefutationEntry
 entry_at counts = via entry_from (fields_at counts)
 
 -- a nogood's line behind so many, or its number where it isn't of the grammar
@@ -127,5 +127,5 @@ numbered count (Ok x) = Ok x
 numbered count (Err s) = Err (record { line = count + 2 })
 
 -- a nogood's line behind so many
-abbrev pub line_at : Bool → ℕ → List ℕ → Result (Entry × List ℕ) BadLine
+abbrev pub line_at : Bool → ℕ → List ℕ → Result (RefutationEntry × List ℕ) BadLine
 line_at counts count bytes = numbered count (entry_at counts bytes)

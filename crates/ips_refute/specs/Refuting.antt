@@ -4,11 +4,11 @@ use Rattle.ips_refute.specs.declared.nogoods.Pair.{Pair}
 use Rattle.ips_refute.specs.declared.nogoods.Nogood.{Nogood}
 use Rattle.ips_refute.specs.declared.nogoods.Reason.{Reason}
 use Rattle.ips_refute.specs.declared.nogoods.Reason.TheVariants.{Test, Earlier}
-use Rattle.ips_refute.specs.Meaning.{Meaning, Within, Ascends, OnePerStem, IsOffered}
+use Rattle.ips_refute.specs.Meaning.{Meaning, IsSubset, Ascends, OnePerStem, IsOffered}
 
 -- it contains the set of the earlier nogood of that number
 abbrev pub ContainsEarlier : List Nogood → ℕ → List Pair → Type 0
-ContainsEarlier earlier n set = (g : Nogood) × (slice_get earlier n ≡ Some g) × Within g.set.items set
+ContainsEarlier earlier n set = (g : Nogood) × (slice_get earlier n ≡ Some g) × IsSubset g.set.items set
 
 -- `set` has the candidate in it: it breaks the test, or contains the set of the earlier nogood
 abbrev pub Explains : Meaning → List Nogood → List Pair → Reason → Type 0

@@ -10,17 +10,17 @@ use Rattle.ips_refute.specs.declared.runs.Run.{Run}
 use Rattle.ips_refute.specs.Meaning.{Ascends}
 
 -- a nogood, without where it lies in memory
-pub record Entry : Type 0 where
+pub record RefutationEntry : Type 0 where
   pub set : List Pair
   pub stem : ℕ
   pub reasons : List Reason
 
 -- what a nogood says
-abbrev pub entry_of : Nogood → Entry
+abbrev pub entry_of : Nogood → RefutationEntry
 entry_of g = record { set = g.set.items; stem = g.stem; reasons = g.reasons.items }
 
 -- what the nogoods of a refutation say, in their order
-abbrev pub entries : List Nogood → List Entry
+abbrev pub entries : List Nogood → List RefutationEntry
 entries nogoods = map entry_of nogoods
 
 -- a pair is written as its stem and its candidate, in decimal digits, with a dot between them
@@ -76,7 +76,7 @@ abbrev pub reasons_of : List Run → List Reason
 reasons_of runs = flat_map (λ (r : Run). replicate r.count r.reason) runs
 
 -- what a line means
-abbrev pub meant : Written → Entry
+abbrev pub meant : Written → RefutationEntry
 meant w = record { set = w.set; stem = w.stem; reasons = reasons_of w.runs }
 
 -- The first line: `refutation 1`, or `refutation 2` where counts may be written.
@@ -109,7 +109,7 @@ abbrev pub IsRun : Bool → Run → Type 0
 IsRun counts r = IsSmallReason r.reason × (0 < r.count) × (r.count ≤ most_of counts)
 
 -- a nogood whose set stands by ascending stem, with numbers below 2^32
-pub record IsEntry (e : Entry) : Type 0 where
+pub record IsEntry (e : RefutationEntry) : Type 0 where
   pub ascends : Ascends e.set
   pub pairs : All IsSmallPair e.set
   pub stem : e.stem < 2 ^ 32
@@ -123,7 +123,7 @@ pub record IsWritten (counts : Bool) (w : Written) : Type 0 where
   pub runs : All (IsRun counts) w.runs
 
 -- The text is one of these nogoods, with or without counts.
-pub record IsTextOf (es : List Entry) (text : List ℕ) : Type 0 where
+pub record IsTextOf (es : List RefutationEntry) (text : List ℕ) : Type 0 where
   pub counts : Bool
   pub lines : List Written
   pub good : All (IsWritten counts) lines
@@ -150,15 +150,15 @@ runs_of [] = []
 runs_of (x ∷ xs) = runs_behind x 1 xs
 
 -- a nogood in its one spelling
-abbrev pub written : Entry → Written
+abbrev pub written : RefutationEntry → Written
 written e = record { set = e.set; stem = e.stem; runs = runs_of e.reasons }
 
 -- the line of a nogood in its one spelling
-abbrev pub entry_text : Entry → List ℕ
+abbrev pub entry_text : RefutationEntry → List ℕ
 entry_text e = line_text (written e)
 
 -- a refutation is written as its first line, `refutation 2`, and a line for each nogood
-abbrev pub refutation_text : List Entry → List ℕ
+abbrev pub refutation_text : List RefutationEntry → List ℕ
 refutation_text es = header true ++ flat_map entry_text es
 
 -- ---- what isn't of the grammar

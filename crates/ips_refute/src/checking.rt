@@ -1,7 +1,7 @@
 //! The checker of refutations.
 
 ghost use Rattle.std.specs.Prelude.{◌≡◌, ℕ, ◌+◌, ◌<◌, ◌≤◌, ◌≢◌, ◌↔◌, ◌∷◌, All, Contains, IfNone, IfSome, IsTrue, length, true};
-ghost use Rattle.ips_refute.specs.Meaning.{Meaning, Within, OnePerStem, IsOffered, HasNoChoice};
+ghost use Rattle.ips_refute.specs.Meaning.{Meaning, IsSubset, OnePerStem, IsOffered, HasNoChoice};
 ghost use Rattle.ips_refute.specs.Refuting.{ContainsEarlier, Explains, ExplainsEach, IsNogood, AreNogoods, EndsEmpty, IsRefutation};
 
 use crate::ascending::ascend;
@@ -11,7 +11,7 @@ use crate::puzzle::Puzzle;
 // Whether each of the few pairs is `more` or in the set. The search for a pair goes on where the one before was found, so sets
 // in one order are gone through once.
 fn is_within(few: &[Pair], set: &[Pair], more: Pair) -> bool
-    ensures { IsTrue result ↔ Within few.now (more ∷ set.now) }
+    ensures { IsTrue result ↔ IsSubset few.now (more ∷ set.now) }
 {
     let mut from = 0;
     for q in few {

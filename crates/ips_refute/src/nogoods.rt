@@ -2,7 +2,7 @@
 
 ghost use Rattle.std.specs.Prelude.{◌≡◌, ℕ, IfOk, Ok, List, All};
 ghost use Rattle.ips_text.specs.Reading.{Gives, IfBad};
-ghost use Rattle.ips_refute.specs.Text.{Entry, IsEntry, IsBadLine, IsTextOf, entries, refutation_text};
+ghost use Rattle.ips_refute.specs.Text.{RefutationEntry, IsEntry, IsBadLine, IsTextOf, entries, refutation_text};
 
 use crate::printing::print_refutation;
 use crate::reading::{BadLine, read_refutation};
@@ -65,7 +65,7 @@ impl Refutation {
     /// `BadLine` has the number, from 1, of the first line that isn't of this grammar; a last line without its newline isn't.
     pub fn read(alloc: Global, bytes: &[u8]) -> Result<Refutation, Or<BadLine>>
         ensures found { IfOk result (λ r. All IsEntry (entries r.nogoods.items) × IsTextOf (entries r.nogoods.items) bytes.now) }
-        ensures only { (es : List Entry) → IsTextOf es bytes.now → Gives (λ r. entries r.nogoods.items) result (Ok es) }
+        ensures only { (es : List RefutationEntry) → IsTextOf es bytes.now → Gives (λ r. entries r.nogoods.items) result (Ok es) }
         ensures line { IfBad result (λ bad. IsBadLine bytes.now bad.line) }
     {
         let nogoods = read_refutation(alloc, bytes)?;
@@ -75,6 +75,6 @@ impl Refutation {
 
 /// The law of refutations' texts: what is printed is a text of the refutation, and no text is one of two refutations.
 pub fn refutations_read_back()
-    ensures printed { (es : List Entry) → All IsEntry es → IsTextOf es (refutation_text es) }
-    ensures one { (es fs : List Entry) (text : List ℕ) → IsTextOf es text → IsTextOf fs text → es ≡ fs }
+    ensures printed { (es : List RefutationEntry) → All IsEntry es → IsTextOf es (refutation_text es) }
+    ensures one { (es fs : List RefutationEntry) (text : List ℕ) → IsTextOf es text → IsTextOf fs text → es ≡ fs }
 {}

@@ -2,7 +2,7 @@
 
 ghost use Rattle.std.specs.Prelude.{◌≡◌, ℕ, ◌<◌, ◌^◌, ◌++◌, Bool, true, false, IfOk, Ok, IfNone, IfSome, List, All};
 ghost use Rattle.ips_text.specs.Reading.{Gives, IfBad, Sees, one_or_more};
-ghost use Rattle.ips_refute.specs.Text.{Entry, IsEntry, IsBadLine, IsTextOf, entries, entry_of, header};
+ghost use Rattle.ips_refute.specs.Text.{RefutationEntry, IsEntry, IsBadLine, IsTextOf, entries, entry_of, header};
 ghost use Rattle.ips_refute.specs.Reading as reading;
 ghost use Rattle.ips_refute.specs.Reading.{small_at, mark_at, pair_at, pairs_at, set_at, reason_at, count_at, run_at, runs_at, bar_at, entry_at};
 
@@ -22,7 +22,7 @@ pub struct BadLine {
 /// The nogoods of a refutation's text.
 pub fn read_refutation(alloc: Global, bytes: &[u8]) -> Result<Vec<Nogood>, Or<BadLine>>
     ensures found { IfOk result (λ ns. All IsEntry (entries ns.items) × IsTextOf (entries ns.items) bytes.now) }
-    ensures only { (es : List Entry) → IsTextOf es bytes.now → Gives (λ ns. entries ns.items) result (Ok es) }
+    ensures only { (es : List RefutationEntry) → IsTextOf es bytes.now → Gives (λ ns. entries ns.items) result (Ok es) }
     ensures line { IfBad result (λ bad. IsBadLine bytes.now bad.line) }
 {
     let Some((counts, lines)) = behind_header(bytes) else {

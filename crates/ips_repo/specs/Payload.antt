@@ -13,7 +13,7 @@ use Rattle.ips_repo.specs.declared.fault.RepoFault.TheVariants as fault
 
 -- A payload that is being read: its name, the place of its file, the size that the file had, the bytes given so far, and
 -- whether the last piece that was given had no bytes, which is the end.
-pub record Reading : Type 0 where
+pub record PayloadReading : Type 0 where
   pub name : PayloadName
   pub place : List ℕ
   pub size : ℕ
@@ -25,7 +25,7 @@ abbrev pub payload_limit : ℕ
 payload_limit = 4294967296
 
 -- A payload that was opened: nothing of it was given yet, and its file isn't too large.
-pub record IsOpened (place : List ℕ) (name : PayloadName) (r : Reading) : Type 0 where
+pub record IsOpened (place : List ℕ) (name : PayloadName) (r : PayloadReading) : Type 0 where
   pub named : r.name ≡ name
   pub placed : r.place ≡ place
   pub nothing_given : r.bytes ≡ []
@@ -33,7 +33,7 @@ pub record IsOpened (place : List ℕ) (name : PayloadName) (r : Reading) : Type
   pub within : r.size ≤ payload_limit
 
 -- what opening the payload of this name in this file means: it is missing, too large, or opened with the size of the file
-abbrev pub payload_in : PayloadName → List ℕ → Option (List ℕ) → Result Reading RepoFault
+abbrev pub payload_in : PayloadName → List ℕ → Option (List ℕ) → Result PayloadReading RepoFault
 payload_in name place None = Err fault.PayloadMissing
 payload_in name place (Some bytes) =
     if nat_lt payload_limit (length bytes)
@@ -41,7 +41,7 @@ payload_in name place (Some bytes) =
     else Ok (record { name = name; place = place; size = length bytes; bytes = []; ended = false })
 
 -- what opening a payload of the publisher means, by the file at its place
-abbrev pub payload_opening : List ℕ → PayloadName → Image → Result Reading RepoFault
+abbrev pub payload_opening : List ℕ → PayloadName → Image → Result PayloadReading RepoFault
 payload_opening publisher name t =
     let place = payload_place publisher name in payload_in name place (file_at t place)
 
@@ -64,16 +64,16 @@ fault_of_opening (file.TooLarge count) = fault.TooLarge PayloadBytes count
 fault_of_opening file.SourceFault = fault.SourceFault
 
 -- The same payload before its first piece.
-abbrev pub from_start : Reading → Reading
+abbrev pub from_start : PayloadReading → PayloadReading
 from_start r = record r { bytes = []; ended = false }
 
 -- Behind one more piece, of so many bytes from the front of the buffer.
-abbrev pub given : ℕ → List ℕ → Reading → Reading
+abbrev pub given : ℕ → List ℕ → PayloadReading → PayloadReading
 given count buffer r = record r { bytes = r.bytes ++ take count buffer; ended = count == 0 }
 
 -- A file of the size that was seen stands at the place, its first bytes are those given so far, and once the end was told
 -- they are all of it.
-pub record IsFrontOf (t : Image) (r : Reading) : Type 0 where
+pub record IsFrontOf (t : Image) (r : PayloadReading) : Type 0 where
   pub file : List ℕ
   pub stands : file_at t r.place ≡ Some file
   pub sized : length file ≡ r.size

@@ -40,9 +40,9 @@ impl Model for Payload {
     ghost use Rattle.std.specs.Prelude.{◌≡◌, ◌≤◌, length};
     ghost use Rattle.ips_digest.specs.Digest.{algorithm_of};
     ghost use Rattle.ips_repo.specs.Start.{start_of};
-    ghost use Rattle.ips_repo.specs.Payload.{Reading};
+    ghost use Rattle.ips_repo.specs.Payload.{PayloadReading};
 
-    ghost Value = { Reading };
+    ghost Value = { PayloadReading };
 
     ghost view = { λ p. record { name = p.name; place = p.place.bytes; size = p.size; bytes = p.hasher.bytes; ended = p.ended } };
 

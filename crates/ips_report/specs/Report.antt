@@ -28,8 +28,8 @@ abbrev pub behind_blanks : List (List ℕ) → List ℕ
 behind_blanks words = flat_map (λ (word : List ℕ). 32 ∷ word) words
 
 -- A line for each text, which begins so.
-abbrev pub lines_of : List ℕ → List (List ℕ) → List ℕ
-lines_of front texts = flat_map (λ (text : List ℕ). line (front ++ text)) texts
+abbrev pub prefixed_lines : List ℕ → List (List ℕ) → List ℕ
+prefixed_lines front texts = flat_map (λ (text : List ℕ). line (front ++ text)) texts
 
 -- What is wrong with a word.
 abbrev pub why_text : Why → List ℕ
@@ -95,7 +95,7 @@ failed_text after status = codes "actuator failed " ++ when_text after ++ codes 
 
 -- What was changed: the licenses to display, the packages and the steps.
 abbrev pub done_text : Counts → Sorts → List (List ℕ) → List ℕ
-done_text counts steps licenses = lines_of (codes "license: ") licenses ++ counts_text counts ++ sorts_text steps ++ line (codes "done")
+done_text counts steps licenses = prefixed_lines (codes "license: ") licenses ++ counts_text counts ++ sorts_text steps ++ line (codes "done")
 
 -- What a recovery did.
 abbrev pub recovered_text : Bool → List ℕ
@@ -133,7 +133,7 @@ report_text (Clash clash) = line (codes "clash " ++ clash.key ++ codes " " ++ cl
 report_text (BadAccountLine book number) = line (codes "bad account line " ++ book_text book ++ codes " " ++ decimal number)
 report_text (IdTaken id) = line (codes "id taken " ++ decimal id)
 report_text (UnknownOwner path name) = line (codes "unknown owner " ++ name ++ codes " of " ++ shown path.bytes)
-report_text (LicenseNeeded list) = lines_of (codes "license needed: ") list.items
+report_text (LicenseNeeded list) = prefixed_lines (codes "license needed: ") list.items
 report_text (Unmovable path) = line (codes "unmovable " ++ shown path.bytes)
 report_text (PayloadMissing name) = line (codes "payload missing " ++ spelling name)
 report_text (PayloadDamaged name found) = line (codes "payload damaged " ++ spelling name ++ codes " found " ++ spelling found)

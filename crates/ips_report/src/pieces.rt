@@ -3,7 +3,7 @@
 ghost use Rattle.std.specs.Prelude.{◌≡◌, ◌++◌, codes};
 ghost use Rattle.std.specs.Fmt.{decimal};
 ghost use Rattle.ips_report.specs.Report as report;
-ghost use Rattle.ips_report.specs.Report.{behind_blanks, counts_text, line, lines_of, sorts_text, three, why_text};
+ghost use Rattle.ips_report.specs.Report.{behind_blanks, counts_text, line, prefixed_lines, sorts_text, three, why_text};
 
 use crate::paper::Paper;
 use ips_accounts::Book;
@@ -89,7 +89,7 @@ pub fn put_blanks(out: &mut Paper, words: &[Text])
 
 /// Writes a line for each text.
 pub fn put_lines(out: &mut Paper, front: &str, texts: &[Text])
-    ensures text { out.new.text ≡ out.old.text ++ lines_of front.now texts.now }
+    ensures text { out.new.text ≡ out.old.text ++ prefixed_lines front.now texts.now }
     ensures room { out.new.room ≡ out.old.room }
 {
     for text in texts {

@@ -9,7 +9,7 @@ use Rattle.ips_manifest.specs.Manifest.{IsManifestOf, LinesMean, TextMeans}
 use Rattle.ips_filter.specs.Settings.{Set}
 use Rattle.ips_depend.specs.Asking.{LinesAsk}
 use Rattle.ips_depend.proofs.Lines.{lines_once}
-use Rattle.ips_request.specs.Case.{Reading, IsReading}
+use Rattle.ips_request.specs.Case.{ManifestReading, IsReading}
 
 -- a logical line gives one list of lines
 text_once : (skipped : Bool) (line : Logical) (a b : List Line) → TextMeans skipped line a → TextMeans skipped line b → a ≡ b
@@ -34,7 +34,7 @@ told_once P (Some x) None one h g = absurd (g x h)
 told_once P (Some x) (Some y) one h g = ap (λ z. Some z) (one x y h g)
 
 -- there is one way to read manifests by their grammar, and their dependencies as the settings take them
-pub one_reading : (settings : Set) (a b : Reading) → IsReading settings a → IsReading settings b → a ≡ b
+pub one_reading : (settings : Set) (a b : ManifestReading) → IsReading settings a → IsReading settings b → a ≡ b
 one_reading settings a b h g = λ i. record {
   lines = λ bytes. told_once (IsManifestOf bytes) (a.lines bytes) (b.lines bytes) (manifest_once (lines_of bytes)) (h.lines bytes) (g.lines bytes) i;
   dependencies = λ lines. told_once (LinesAsk settings lines) (a.dependencies lines) (b.dependencies lines) (lines_once settings lines) (h.dependencies lines) (g.dependencies lines) i;

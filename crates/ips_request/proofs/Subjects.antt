@@ -16,7 +16,7 @@ use Rattle.ips_request.specs.declared.request.Request.{Request}
 use Rattle.ips_request.specs.Request.{IsSubjectOf, kind_of, matched_against, patterns_of, rejects_of}
 use Rattle.ips_request.specs.Candidates.{is_target_of}
 use Rattle.ips_request.specs.Case.{Case, Naming, is_installed, is_named}
-use Rattle.ips_request.specs.Named.{AreKnown, AreNamed, IsFirstUnnamed, IsUnnamed, Names, limited}
+use Rattle.ips_request.specs.Named.{AreKnown, AreNamed, IsFirstUnnamed, IsUnnamed, Names, with_limits}
 use Rattle.ips_request.specs.Stems.{stems_of, firsts}
 use Rattle.ips_request.specs.Subject.{catalog_of, repo_of, seen_naming}
 use Rattle.ips_request.proofs.Lookups.{firsts_once}
@@ -36,7 +36,7 @@ package_stems (p ∷ ps) = ap (λ l. p.stem ∷ l) (package_stems ps)
 -- ---- patterns
 
 limited_more : (publisher : List ℕ) (known : List (List ℕ)) (ps : List Pattern) (named : List (List (List ℕ))) (p : Pattern) (stems : List (List ℕ)) → AreNamed publisher known ps named
-    → limited (ps ++ p ∷ []) (named ++ stems ∷ []) ≡ limited ps named ++ record { stems = stems; limit = p.version } ∷ []
+    → with_limits (ps ++ p ∷ []) (named ++ stems ∷ []) ≡ with_limits ps named ++ record { stems = stems; limit = p.version } ∷ []
 limited_more publisher known [] [] p stems all = refl
 limited_more publisher known [] (n ∷ named) p stems all = absurd cc
 limited_more publisher known (q ∷ ps) [] p stems all = absurd all
@@ -45,7 +45,7 @@ limited_more publisher known (q ∷ ps) (n ∷ named) p stems all = ap (λ (l : 
 -- What the patterns up to one name, at the versions that they admit.
 pub record AreNamedTo (publisher : List ℕ) (known : List (List ℕ)) (ps : List Pattern) (i : ℕ) (ns : List declared.Naming) : Type 0 where
   pub named : AreNamed publisher known (take i ps) (map (λ (n : declared.Naming). n.stems.items) ns)
-  pub limits : map seen_naming ns ≡ limited (take i ps) (map (λ (n : declared.Naming). n.stems.items) ns)
+  pub limits : map seen_naming ns ≡ with_limits (take i ps) (map (λ (n : declared.Naming). n.stems.items) ns)
 
 pub namings_more : (publisher : List ℕ) (known : List (List ℕ)) (ps : List Pattern) (old new : List declared.Naming) (i : ℕ) (p : Pattern) (n : declared.Naming) (stems : Vec (List ℕ) Global) → i < length ps → p ≡ get_or ps i p
     → AreNamedTo publisher known ps i old → Names publisher known p stems.items → n.stems ≡ stems → n.limit ≡ p.version → new ≡ old ++ n ∷ [] → AreNamedTo publisher known ps (i + 1) new
@@ -54,11 +54,11 @@ namings_more publisher known ps old new i p n stems l at done is same limit adde
     let here : f n ≡ stems.items = ap (λ v. v.items) same in
     let mapped = ap (map f) added ∙ map_push f old n in
     let one = map_push seen_naming old n in
-    let long = ap (λ (qs : List Pattern). limited qs (map f old ++ f n ∷ [])) (take_item ps i p l at) ∙ limited_more publisher known (take i ps) (map f old) p (f n) done.named in
+    let long = ap (λ (qs : List Pattern). with_limits qs (map f old ++ f n ∷ [])) (take_item ps i p l at) ∙ limited_more publisher known (take i ps) (map f old) p (f n) done.named in
     record {
       named = subst (AreNamed publisher known (take (i + 1) ps)) (sym mapped) (named_more publisher known ps (map f old) i p (f n) l at done.named (subst (Names publisher known p) (sym here) is));
-      limits = ap (map seen_naming) added ∙ one ∙ ap (λ ls. ls ++ seen_naming n ∷ []) done.limits ∙ ap (λ (v : Option Parts). limited (take i ps) (map f old) ++ record { stems = f n; limit = v } ∷ []) limit
-          ∙ sym (ap (limited (take (i + 1) ps)) mapped ∙ long);
+      limits = ap (map seen_naming) added ∙ one ∙ ap (λ ls. ls ++ seen_naming n ∷ []) done.limits ∙ ap (λ (v : Option Parts). with_limits (take i ps) (map f old) ++ record { stems = f n; limit = v } ∷ []) limit
+          ∙ sym (ap (with_limits (take (i + 1) ps)) mapped ∙ long);
     }
 
 -- the first pattern that names none is no failed call
@@ -102,7 +102,7 @@ pub record IsMade (q : Request) (s : State) (repo : Option Opened) (named : List
 
 pub subject_made : (q : Request) (s : State) (repo : Option Opened) (known all : List (List ℕ)) (named : List declared.Naming) (rejects : List (List (List ℕ))) (subject : Subject)
     → AreKnown (matched_against (kind_of q) (catalog_of repo)) (map installed s.installed.items) known → AreKnown (catalog_of repo) (map installed s.installed.items) all
-    → AreNamed s.publisher known (patterns_of q) (map (λ (n : declared.Naming). n.stems.items) named) → map seen_naming named ≡ limited (patterns_of q) (map (λ (n : declared.Naming). n.stems.items) named)
+    → AreNamed s.publisher known (patterns_of q) (map (λ (n : declared.Naming). n.stems.items) named) → map seen_naming named ≡ with_limits (patterns_of q) (map (λ (n : declared.Naming). n.stems.items) named)
     → AreNamed s.publisher all (rejects_of q) rejects → IsMade q s repo named rejects subject → IsSubjectOf q (recorded s) repo subject
 subject_made q s repo known all named rejects subject of_known of_all is_named limits is_rejected made = record {
   named = map (λ (n : declared.Naming). n.stems.items) named;

@@ -16,7 +16,7 @@ use Rattle.ips_request.specs.declared.kind.Kind.TheVariants.{Install, Update, Un
 use Rattle.ips_request.specs.declared.role.Role.{Role}
 use Rattle.ips_request.specs.declared.role.Role.TheVariants.{Refused, Gone, Asked, Renewed, Standing, Free}
 use Rattle.ips_request.specs.Stems.{has}
-use Rattle.ips_request.specs.Case.{Case, Naming, Facts, is_same_version, is_named, is_installed, installed_version, said}
+use Rattle.ips_request.specs.Case.{Case, Naming, Facts, is_same_version, is_named, is_installed, installed_version, manifest_facts}
 
 -- ---- the versions of a stem
 
@@ -41,7 +41,7 @@ may_come c stem v = reaches (installed_version c stem) v && is_allowed c stem v
 
 -- the versions that the stem may come to, newest first, whose manifests say something
 abbrev pub coming : Case → List ℕ → List Parts
-coming c stem = filter (λ v. may_come c stem v && is_some (said c stem v)) (newest c stem)
+coming c stem = filter (λ v. may_come c stem v && is_some (manifest_facts c stem v)) (newest c stem)
 
 -- it is this version, where there is one
 abbrev pub is_version : Option Parts → Parts → Bool
@@ -59,7 +59,7 @@ says_obsolete (Some facts) = tell_obsolete facts.lines
 
 -- the version is obsolete
 abbrev pub is_obsolete : Case → List ℕ → Parts → Bool
-is_obsolete c stem v = says_obsolete (said c stem v)
+is_obsolete c stem v = says_obsolete (manifest_facts c stem v)
 
 -- ---- candidates
 

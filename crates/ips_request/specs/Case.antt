@@ -29,12 +29,12 @@ pub record Facts : Type 0 where
 
 -- How manifests are read: the lines of a text, where it is a manifest, and the dependencies that lines ask for, where none of
 -- them is bad.
-pub record Reading : Type 0 where
+pub record ManifestReading : Type 0 where
   pub lines : List ℕ → Option (List Line)
   pub dependencies : List Line → Option (List Dependency)
 
 -- Manifests are read by their grammar, and dependencies as the image's settings take them.
-pub record IsReading (settings : Set) (r : Reading) : Type 0 where
+pub record IsReading (settings : Set) (r : ManifestReading) : Type 0 where
   pub lines : (bytes : List ℕ) → MatchOption (r.lines bytes) ((lines : List Line) → IsManifestOf bytes lines → ⊥) (IsManifestOf bytes)
   pub dependencies : (lines : List Line) → MatchOption (r.dependencies lines) ((ds : List Dependency) → LinesAsk settings lines ds → ⊥) (LinesAsk settings lines)
 
@@ -50,7 +50,7 @@ pub record Case : Type 0 where
   pub freeze : List Fmri
   -- the manifest file of the repository for a version of a stem, where one stands
   pub file : List ℕ → Parts → Option (List ℕ)
-  pub reading : Reading
+  pub reading : ManifestReading
 
 -- the versions are the same
 abbrev pub is_same_version : Parts → Parts → Bool
@@ -73,11 +73,11 @@ abbrev pub is_installed : Case → List ℕ → Bool
 is_installed c stem = is_some (installed_at c stem)
 
 -- what lines say, where none of them is bad
-abbrev pub facts_of : Reading → List Line → Option Facts
+abbrev pub facts_of : ManifestReading → List Line → Option Facts
 facts_of r lines = option_map (λ ds. record { lines = lines; dependencies = ds }) (r.dependencies lines)
 
 -- what a manifest file says, where it stands and is a manifest
-abbrev pub facts_in : Reading → Option (List ℕ) → Option Facts
+abbrev pub facts_in : ManifestReading → Option (List ℕ) → Option Facts
 facts_in r file = option_and_then (facts_of r) (option_and_then r.lines file)
 
 -- the installed package, where it is at this version
@@ -95,5 +95,5 @@ said_of c None stem v = facts_in c.reading (c.file stem v)
 said_of c (Some p) stem v = facts_of c.reading p.lines
 
 -- What the manifest of a version of a stem says: that of the installed version is the image's, any other the repository's.
-abbrev pub said : Case → List ℕ → Parts → Option Facts
-said c stem v = said_of c (own c stem v) stem v
+abbrev pub manifest_facts : Case → List ℕ → Parts → Option Facts
+manifest_facts c stem v = said_of c (own c stem v) stem v

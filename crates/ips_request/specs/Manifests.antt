@@ -49,13 +49,13 @@ size_of None = 0
 size_of (Some bytes) = length bytes
 
 -- how many bytes of a file are read, unless the manifest is the image's
-abbrev pub bytes_of : Option Installed → Option (List ℕ) → ℕ
-bytes_of None file = size_of file
-bytes_of (Some p) file = 0
+abbrev pub manifest_bytes_read : Option Installed → Option (List ℕ) → ℕ
+manifest_bytes_read None file = size_of file
+manifest_bytes_read (Some p) file = 0
 
 -- how many bytes the manifest takes from the repository
 abbrev pub bytes_read : Case → Needed → ℕ
-bytes_read c n = bytes_of (own c n.stem n.version) (c.file n.stem n.version)
+bytes_read c n = manifest_bytes_read (own c n.stem n.version) (c.file n.stem n.version)
 
 -- the name of what a manifest is of: its stem, `@` and its version
 abbrev pub name_of : Needed → List ℕ
@@ -85,15 +85,15 @@ IsThere (Some bytes) P = P bytes
 
 -- The fault of a manifest that is read from the repository behind so many bytes: missing, too large, no manifest, or with a
 -- line that should be a dependency and is none. A failed call says nothing of it.
-abbrev pub IsFileFault : Set → ℕ → Option (List ℕ) → List ℕ → ProblemFault → Type 0
-IsFileFault settings total file name (fault.NoMatch pattern) = ⊥
-IsFileFault settings total file name (fault.Ambiguous pattern stems) = ⊥
-IsFileFault settings total file name (fault.ManifestMissing fmri) = (file ≡ None) × (fmri ≡ name)
-IsFileFault settings total file name (fault.BadManifest fmri why) = IsThere file (λ bytes. FitsBehind total bytes × IsFaultOf bytes why) × (fmri ≡ name)
-IsFileFault settings total file name (fault.BadDepend fmri line) =
+abbrev pub IsManifestFileFault : Set → ℕ → Option (List ℕ) → List ℕ → ProblemFault → Type 0
+IsManifestFileFault settings total file name (fault.NoMatch pattern) = ⊥
+IsManifestFileFault settings total file name (fault.Ambiguous pattern stems) = ⊥
+IsManifestFileFault settings total file name (fault.ManifestMissing fmri) = (file ≡ None) × (fmri ≡ name)
+IsManifestFileFault settings total file name (fault.BadManifest fmri why) = IsThere file (λ bytes. FitsBehind total bytes × IsFaultOf bytes why) × (fmri ≡ name)
+IsManifestFileFault settings total file name (fault.BadDepend fmri line) =
     IsThere file (λ bytes. FitsBehind total bytes × ((lines : List Line) × IsManifestOf bytes lines × IsFirstBad settings lines line)) × (fmri ≡ name)
-IsFileFault settings total file name (fault.TooLarge which count) = IsThere file (λ bytes. IsTooLarge total bytes which count)
-IsFileFault settings total file name fault.SourceFault = Unit {0}
+IsManifestFileFault settings total file name (fault.TooLarge which count) = IsThere file (λ bytes. IsTooLarge total bytes which count)
+IsManifestFileFault settings total file name fault.SourceFault = Unit {0}
 
 -- the fault of a manifest of the image: one of its lines should be a dependency and is none
 abbrev pub IsOwnFault : Set → List Line → List ℕ → ProblemFault → Type 0
@@ -107,7 +107,7 @@ IsOwnFault settings lines name fault.SourceFault = ⊥
 
 -- the fault of the manifest of the image, where it has one, and else of the repository's file
 abbrev pub FaultOf : Option Installed → Set → ℕ → Option (List ℕ) → List ℕ → ProblemFault → Type 0
-FaultOf None settings total file name why = IsFileFault settings total file name why
+FaultOf None settings total file name why = IsManifestFileFault settings total file name why
 FaultOf (Some p) settings total file name why = IsOwnFault settings p.lines name why
 
 -- the fault of a needed manifest that is read behind so many bytes

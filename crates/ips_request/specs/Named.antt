@@ -84,7 +84,7 @@ AreNamed publisher known (p ∷ patterns) [] = ⊥
 AreNamed publisher known (p ∷ patterns) (stems ∷ named) = Names publisher known p stems × AreNamed publisher known patterns named
 
 -- what patterns name, at versions that they admit
-abbrev pub limited : List Pattern → List (List (List ℕ)) → List Naming
-limited [] named = []
-limited (p ∷ patterns) [] = []
-limited (p ∷ patterns) (stems ∷ named) = record { stems = stems; limit = p.version } ∷ limited patterns named
+abbrev pub with_limits : List Pattern → List (List (List ℕ)) → List Naming
+with_limits [] named = []
+with_limits (p ∷ patterns) [] = []
+with_limits (p ∷ patterns) (stems ∷ named) = record { stems = stems; limit = p.version } ∷ with_limits patterns named

@@ -3,22 +3,22 @@ use Rattle.std.specs.Prelude.{ℕ, Bool, true, false, not, List, slice_get, Opti
 use Rattle.ips_request.specs.declared.read.Read.{Read}
 
 -- the version is obsolete
-abbrev pub is_gone : Option Read → Bool
-is_gone None = false
-is_gone (Some read) = read.gone
+abbrev pub is_taken_out : Option Read → Bool
+is_taken_out None = false
+is_taken_out (Some read) = read.gone
 
 -- the version is installed
-abbrev pub stands : Option Read → Bool
-stands None = false
-stands (Some read) = read.stands
+abbrev pub is_installed_at : Option Read → Bool
+is_installed_at None = false
+is_installed_at (Some read) = read.stands
 
 -- the version with this number is obsolete
 abbrev pub is_gone_at : List Read → ℕ → Bool
-is_gone_at reads i = is_gone (slice_get reads i)
+is_gone_at reads i = is_taken_out (slice_get reads i)
 
 -- the version with this number is installed
 abbrev pub stands_at : List Read → ℕ → Bool
-stands_at reads i = stands (slice_get reads i)
+stands_at reads i = is_installed_at (slice_get reads i)
 
 -- the answers are the same
 abbrev pub is_same : Bool → Bool → Bool

@@ -11,8 +11,8 @@ use Rattle.ips_request.specs.declared.request.Request.{Request}
 use Rattle.ips_request.specs.declared.request.Request.TheVariants.{Install, Update, Uninstall, Keep}
 use Rattle.ips_request.specs.declared.fault.ProblemFault.{ProblemFault}
 use Rattle.ips_request.specs.Stems.{firsts}
-use Rattle.ips_request.specs.Case.{Case, Reading}
-use Rattle.ips_request.specs.Named.{AreKnown, AreNamed, IsFirstUnnamed, limited}
+use Rattle.ips_request.specs.Case.{Case, ManifestReading}
+use Rattle.ips_request.specs.Named.{AreKnown, AreNamed, IsFirstUnnamed, with_limits}
 use Rattle.ips_request.specs.Subject.{case_of, catalog_of, repo_of}
 use Rattle.ips_request.specs.declared.asking.Subject.{Subject}
 
@@ -70,10 +70,10 @@ pub record IsPatternFault (q : Request) (s : Recorded) (catalog : List Listed) (
       ⊎ (((named : List (List (List ℕ))) × AreNamed s.publisher known (patterns_of q) named) × IsFirstUnnamed s.publisher all (rejects_of q) why)
 
 -- the case of a request on what an image records, over a repository's catalog and manifest files
-abbrev pub asked_case : Request → Recorded → List Listed → (List ℕ → Parts → Option (List ℕ)) → List (List (List ℕ)) → List (List (List ℕ)) → Reading → Case
+abbrev pub asked_case : Request → Recorded → List Listed → (List ℕ → Parts → Option (List ℕ)) → List (List (List ℕ)) → List (List (List ℕ)) → ManifestReading → Case
 asked_case q s catalog file named rejects reading = record {
   kind = kind_of q;
-  named = limited (patterns_of q) named;
+  named = with_limits (patterns_of q) named;
   rejected = firsts (flat_map (λ (stems : List (List ℕ)). stems) rejects);
   catalog = catalog;
   installed = s.installed;
@@ -90,4 +90,4 @@ pub record IsSubjectOf (q : Request) (s : Recorded) (repo : Option Opened) (subj
   pub names : AreNames q s (catalog_of repo) named rejects
   pub offered : repo_of subject ≡ repo
   pub settings : subject.state.now.settings ≡ s.settings
-  pub same : (file : List ℕ → Parts → Option (List ℕ)) (r : Reading) → case_of subject file r ≡ asked_case q s (catalog_of repo) file named rejects r
+  pub same : (file : List ℕ → Parts → Option (List ℕ)) (r : ManifestReading) → case_of subject file r ≡ asked_case q s (catalog_of repo) file named rejects r

@@ -11,7 +11,7 @@ use Rattle.ips_state.specs.State.{installed}
 use Rattle.ips_request.specs.declared.asking.Naming as declared
 use Rattle.ips_request.specs.declared.asking.Subject.{Subject}
 use Rattle.ips_request.specs.Stems.{stems_of}
-use Rattle.ips_request.specs.Case.{Naming, Reading, Case}
+use Rattle.ips_request.specs.Case.{Naming, ManifestReading, Case}
 
 -- what a pattern names
 abbrev pub seen_naming : declared.Naming → Naming
@@ -32,7 +32,7 @@ abbrev pub repo_of : Subject → Option Opened
 repo_of s = option_map (λ r. r.now) s.repo
 
 -- the case that the request and the image make, over these manifest files, read so
-abbrev pub case_of : Subject → (List ℕ → Parts → Option (List ℕ)) → Reading → Case
+abbrev pub case_of : Subject → (List ℕ → Parts → Option (List ℕ)) → ManifestReading → Case
 case_of s file reading = record {
   kind = s.kind;
   named = map seen_naming s.named.items;
@@ -46,5 +46,5 @@ case_of s file reading = record {
 }
 
 -- the case over the manifest files in what a source holds
-abbrev pub case_in : Subject → Image → Reading → Case
+abbrev pub case_in : Subject → Image → ManifestReading → Case
 case_in s held reading = case_of s (files_of (repo_of s) held) reading

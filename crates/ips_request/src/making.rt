@@ -8,7 +8,7 @@ ghost use Rattle.ips_state.specs.State.{IsOrdered, Ascend, Installed, installed,
 ghost use Rattle.ips_request.specs.Request as asked;
 ghost use Rattle.ips_request.specs.Request.{IsPatternFault, IsSubjectOf};
 ghost use Rattle.ips_request.specs.Listing.{listing_of};
-ghost use Rattle.ips_request.specs.Named.{AreNamed, IsFirstUnnamed, limited};
+ghost use Rattle.ips_request.specs.Named.{AreNamed, IsFirstUnnamed, with_limits};
 ghost use Rattle.ips_request.specs.Stems.{stems_of, firsts};
 ghost use Rattle.ips_request.specs.Subject.{catalog_of, seen_naming};
 ghost use Rattle.ips_request.specs.declared.asking.Naming as naming;
@@ -139,7 +139,7 @@ fn namings(
     patterns: &[Pattern],
 ) -> Result<Vec<Naming>, Or<ProblemFault>>
     ensures named { IfOk result (λ namings. AreNamed publisher.now known.now patterns.now (map (λ (n : naming.Naming). n.stems.items) namings.items)) }
-    ensures limited { IfOk result (λ namings. map seen_naming namings.items ≡ limited patterns.now (map (λ (n : naming.Naming). n.stems.items) namings.items)) }
+    ensures with_limits { IfOk result (λ namings. map seen_naming namings.items ≡ with_limits patterns.now (map (λ (n : naming.Naming). n.stems.items) namings.items)) }
     ensures unnamed { IfBad result (λ why. IsFirstUnnamed publisher.now known.now patterns.now why) }
 {
     let mut namings = Vec::new(alloc);

@@ -10,7 +10,7 @@ ghost use Rattle.ips_catalog.specs.Listed.{versions_of};
 ghost use Rattle.ips_depend.specs.Matching as matching;
 ghost use Rattle.ips_state.specs.State.{Installed, installed};
 ghost use Rattle.ips_request.specs.Case as case;
-ghost use Rattle.ips_request.specs.Case.{Reading};
+ghost use Rattle.ips_request.specs.Case.{ManifestReading};
 ghost use Rattle.ips_request.specs.Candidates as candidate;
 ghost use Rattle.ips_request.specs.Manifests as fault;
 ghost use Rattle.ips_request.specs.Stems.{stems_of, has};
@@ -36,7 +36,7 @@ impl Subject<'_> {
 
     /// The version at which the stem is installed.
     pub fn installed_version(&self, stem: &str) -> Option<&Version>
-        ensures { (file : List ℕ → Parts → Option (List ℕ)) (r : Reading) → option_map (λ v. v.now) result ≡ case.installed_version (case_of self.now file r) stem.now }
+        ensures { (file : List ℕ → Parts → Option (List ℕ)) (r : ManifestReading) → option_map (λ v. v.now) result ≡ case.installed_version (case_of self.now file r) stem.now }
     {
         match self.installed(stem) {
             Some(package) => Some(&package.version),
@@ -46,7 +46,7 @@ impl Subject<'_> {
 
     /// The installed package with this stem, where it is at this version.
     pub fn own(&self, stem: &str, version: &Version) -> Option<&Package>
-        ensures { (file : List ℕ → Parts → Option (List ℕ)) (r : Reading) → option_map (λ p. installed p.now) result ≡ case.own (case_of self.now file r) stem.now version.now }
+        ensures { (file : List ℕ → Parts → Option (List ℕ)) (r : ManifestReading) → option_map (λ p. installed p.now) result ≡ case.own (case_of self.now file r) stem.now version.now }
     {
         match self.installed(stem) {
             Some(package) => at_version(package, version),
@@ -80,7 +80,7 @@ impl Subject<'_> {
 
     /// What the request has in mind for the stem.
     pub fn role(&self, stem: &str) -> Role
-        ensures { (file : List ℕ → Parts → Option (List ℕ)) (r : Reading) → result ≡ candidate.role (case_of self.now file r) stem.now }
+        ensures { (file : List ℕ → Parts → Option (List ℕ)) (r : ManifestReading) → result ≡ candidate.role (case_of self.now file r) stem.now }
     {
         role_of(
             self.kind,
@@ -95,7 +95,7 @@ impl Subject<'_> {
 
     // Whether an update is of the stem: where it names nothing, it is of each that is installed.
     fn is_target(&self, stem: &str) -> bool
-        ensures { (file : List ℕ → Parts → Option (List ℕ)) (r : Reading) → result ≡ candidate.is_target_of (map seen_naming self.now.named.items) (case_of self.now file r) stem.now }
+        ensures { (file : List ℕ → Parts → Option (List ℕ)) (r : ManifestReading) → result ≡ candidate.is_target_of (map seen_naming self.now.named.items) (case_of self.now file r) stem.now }
     {
         if self.named.is_empty() {
             self.is_installed(stem)
@@ -106,14 +106,14 @@ impl Subject<'_> {
 
     // Whether the stem is installed.
     fn is_installed(&self, stem: &str) -> bool
-        ensures { (file : List ℕ → Parts → Option (List ℕ)) (r : Reading) → result ≡ case.is_installed (case_of self.now file r) stem.now }
+        ensures { (file : List ℕ → Parts → Option (List ℕ)) (r : ManifestReading) → result ≡ case.is_installed (case_of self.now file r) stem.now }
     {
         self.installed(stem).is_some()
     }
 
     /// Whether the stem may come to the version.
     pub fn may_come(&self, stem: &str, version: &Version) -> bool
-        ensures { (file : List ℕ → Parts → Option (List ℕ)) (r : Reading) → result ≡ candidate.may_come (case_of self.now file r) stem.now version.now }
+        ensures { (file : List ℕ → Parts → Option (List ℕ)) (r : ManifestReading) → result ≡ candidate.may_come (case_of self.now file r) stem.now version.now }
     {
         self.reaches(stem, version)
             && patterns_admit(&self.named, stem, version)
@@ -122,7 +122,7 @@ impl Subject<'_> {
 
     /// Whether the version is the greatest of the catalog.
     pub fn is_greatest(&self, stem: &str, version: &Version) -> bool
-        ensures { (file : List ℕ → Parts → Option (List ℕ)) (r : Reading) → result ≡ candidate.is_version (candidate.greatest (case_of self.now file r) stem.now) version.now }
+        ensures { (file : List ℕ → Parts → Option (List ℕ)) (r : ManifestReading) → result ≡ candidate.is_version (candidate.greatest (case_of self.now file r) stem.now) version.now }
     {
         match greatest(self.listed(stem)) {
             Some(greatest) => version.cmp(greatest).is_eq(),
@@ -132,7 +132,7 @@ impl Subject<'_> {
 
     /// Whether the manifest of the version is needed.
     pub fn needs(&self, stem: &str, version: &Version) -> bool
-        ensures { (file : List ℕ → Parts → Option (List ℕ)) (r : Reading) → result ≡ fault.is_needed self.now.kind (case_of self.now file r) stem.now version.now }
+        ensures { (file : List ℕ → Parts → Option (List ℕ)) (r : ManifestReading) → result ≡ fault.is_needed self.now.kind (case_of self.now file r) stem.now version.now }
     {
         match self.kind {
             Kind::Install | Kind::Update => self.looks_at(stem, version),
@@ -142,14 +142,14 @@ impl Subject<'_> {
 
     // Whether the version is the greatest of the catalog, or one that the stem may come to, where it isn't rejected.
     fn looks_at(&self, stem: &str, version: &Version) -> bool
-        ensures { (file : List ℕ → Parts → Option (List ℕ)) (r : Reading) → result ≡ (candidate.is_version (candidate.greatest (case_of self.now file r) stem.now) version.now || (not (has stem.now (stems_of self.now.rejected.keys)) && candidate.may_come (case_of self.now file r) stem.now version.now)) }
+        ensures { (file : List ℕ → Parts → Option (List ℕ)) (r : ManifestReading) → result ≡ (candidate.is_version (candidate.greatest (case_of self.now file r) stem.now) version.now || (not (has stem.now (stems_of self.now.rejected.keys)) && candidate.may_come (case_of self.now file r) stem.now version.now)) }
     {
         self.is_greatest(stem, version) || (!self.rejects(stem) && self.may_come(stem, version))
     }
 
     /// Whether the stem is spared, where it is told whether its greatest version is obsolete.
     pub fn spares(&self, stem: &str, obsolete: bool) -> bool
-        ensures { (file : List ℕ → Parts → Option (List ℕ)) (r : Reading) → candidate.is_obsolete_at (case_of self.now file r) stem.now (candidate.greatest (case_of self.now file r) stem.now) ≡ obsolete
+        ensures { (file : List ℕ → Parts → Option (List ℕ)) (r : ManifestReading) → candidate.is_obsolete_at (case_of self.now file r) stem.now (candidate.greatest (case_of self.now file r) stem.now) ≡ obsolete
             → result ≡ candidate.is_spared (case_of self.now file r) stem.now }
     {
         let named = self.names(stem);

@@ -15,7 +15,7 @@ use Rattle.ips_kinds.specs.Tallies.{Carrier}
 use Rattle.ips_journal.specs.Text.{journal_text}
 use Rattle.ips_actuate.specs.declared.running.ActFault.{ActFault}
 use Rattle.ips_commit.specs.Due.{IsSafelyOpen, DueOnceOpen}
-use Rattle.ips_commit.specs.Pending.{IsDone, HasNoOtherMark}
+use Rattle.ips_commit.specs.Pending.{HasCommitted, HasNoOtherMark}
 use Rattle.ips_commit.specs.Staging.{IsStaged}
 use Rattle.ips_commit.specs.declared.fault.CommitFault.{CommitFault}
 use Rattle.ips_commit.specs.declared.fault.CommitFault.TheVariants as commit_fault
@@ -52,7 +52,7 @@ unmarked steps a s staged = λ q is others. staged.unmarked q is
 
 -- ---- what is due
 
-pub ended : (a : Image) (s : State) → IsDone a s → HasEnded (Some a) s
+pub ended : (a : Image) (s : State) → HasCommitted a s → HasEnded (Some a) s
 ended a s done = record { seen = ap (λ (t : Image). Some t) (sym done.seen); bare = done.bare; safe = done.safe }
 
 module _ {F : Type 0} (o : Outside F) (sane : IsOutside o) where
@@ -105,7 +105,7 @@ module _ {F : Type 0} (o : Outside F) (sane : IsOutside o) where
       carried_part why x unfinished is resumable = subst (λ (r : Ending T). IsCarried o a r before now old new) (sym (is ∙ ap (λ (w : CommitFault). uncommitted_as w) unfinished))
           (record { owed = owed; due = due; done = λ is. cc; kept = λ is. cc; resumes = λ is. resumable; unrecovered = refl; readable = refl; has_memory = refl })
 
-      module _ (done : IsDone a (o.state new)) where
+      module _ (done : HasCommitted a (o.state new)) where
         -- an actuator after it wasn't
         pub carried_but : (list : List (List (List ℕ))) (why : ActFault) (x : Ending T) → IsUnrun list true why x → IsCarried o a x before now old new
         carried_but list why x (Failed at) = record { owed = owed; due = due; done = λ is. ended a (o.state new) done; kept = λ is. cc; resumes = λ is. cc; unrecovered = refl; readable = refl; has_memory = refl }

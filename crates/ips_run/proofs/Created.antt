@@ -5,8 +5,8 @@ use Rattle.ips_outside.specs.Image.{Image, is_dir}
 use Rattle.ips_outside.specs.State.{State, IsSettled, nowhere, settled, untouched}
 use Rattle.ips_outside.specs.Outside.{Outside, IsOutside, Elapses}
 use Rattle.ips_outside.specs.Running.{Run, Running}
-use Rattle.ips_outside.specs.Change.{placed}
-use Rattle.ips_folder.specs.Calls.{Throughout, Keeps}
+use Rattle.ips_outside.specs.Change.{with_entry_at}
+use Rattle.ips_folder.specs.Calls.{Throughout, ChangesOnly}
 use Rattle.ips_folder.proofs.Runs.{started, goes_on, joins, weaker, begun, stays, keeps_then}
 use Rattle.ips_commit.proofs.OwnNames.{absent_below}
 use Rattle.std.proofs.lemmas.Bool.{and_from}
@@ -14,7 +14,7 @@ use Rattle.ips_text.specs.Ancestry.{covers}
 use Rattle.ips_steps.specs.Private.{records_name, gate_name}
 use Rattle.ips_steps.proofs.Lists.{clash}
 use Rattle.ips_kinds.specs.Tallies.{Carrier}
-use Rattle.ips_history.specs.Directories.{creates, fixes, var_name, with_directories, is_dir_or_free, CanHaveDirectories, IsInTheWay}
+use Rattle.ips_history.specs.Directories.{creates, fixes, var_name, with_directories, is_dir_or_free, CanHaveDirectories, IsFirstObstacle}
 use Rattle.ips_history.specs.Transition.{IsNotYetSafe}
 use Rattle.ips_history.specs.Run.{StaysShut}
 use Rattle.ips_history.specs.declared.effect.Effect.{Effect}
@@ -42,8 +42,8 @@ unmade_as {T = T} o old new why var records x is var_is records_is says = subst 
   where
     go : (why : DirectoryFault) → SaysOfDirectories o old new why → AreUnmade {T = T} o old new (ended_as why var records)
     go fault.Failed says = (refl, says)
-    go fault.Var says = (says.0, subst (IsInTheWay (o.state old).held) (sym var_is) says.1)
-    go fault.Records says = (says.0, subst (IsInTheWay (o.state old).held) (sym records_is) says.1)
+    go fault.Var says = (says.0, subst (IsFirstObstacle (o.state old).held) (sym var_is) says.1)
+    go fault.Records says = (says.0, subst (IsFirstObstacle (o.state old).held) (sym records_is) says.1)
 
 pub ended_source : (T : Type 0) (why : DirectoryFault) (var records : RelPath) → is_source_fault {T = T} (ended_as why var records) ≡ false
 ended_source T fault.Failed var records = refl
@@ -167,7 +167,7 @@ module _ {F : Type 0} (o : Outside F) (sane : IsOutside o) (old : F) (told : o.t
 
   -- nothing was changed until then
   module _ (mid new : F) (time : Elapses o old mid) (same : o.state mid ≡ o.state old) where
-    since : (free : List ℕ → Bool) → Keeps o free nowhere mid new → Keeps o free nowhere old new
+    since : (free : List ℕ → Bool) → ChangesOnly o free nowhere mid new → ChangesOnly o free nowhere old new
     since free kept = keeps_then o free nowhere old mid new (stays o free nowhere old old mid (begun o free nowhere old (sane.only_now old)) time same) kept
 
     making_of : (m : Missing) → IsMissing held m → HasMade o m mid new → ((new ≡ mid) × (m ≡ missing.Nothing)) ⊎ IsMaking o old new
@@ -219,10 +219,10 @@ module _ {F : Type 0} (o : Outside F) (sane : IsOutside o) (old : F) (told : o.t
       safe ∙ ap (λ (t : Image). untouched t) (sym (none_to_make held both.0 both.1))
 
   module _ (new : F) {U V : Type 0} (result : Result U V) (m : Missing) (is : IsMissing held m) where
-    pub made_records_alone : m ≡ missing.Records → OnOk result (o.state new ≡ untouched (placed records_name made_dir held)) → OnOk result (o.state new ≡ untouched (with_directories held))
+    pub made_records_alone : m ≡ missing.Records → OnOk result (o.state new ≡ untouched (with_entry_at records_name made_dir held)) → OnOk result (o.state new ≡ untouched (with_directories held))
     made_records_alone records done =
         let both : IsMissing held missing.Records = subst (IsMissing held) records is in
         on_ok result done (λ made. made ∙ ap (λ (t : Image). untouched t) (sym (records_to_make held both.0 both.1)))
 
-    pub made_both : m ≡ missing.Both → OnOk result (o.state new ≡ untouched (placed records_name made_dir (placed var_name made_dir held))) → OnOk result (o.state new ≡ untouched (with_directories held))
+    pub made_both : m ≡ missing.Both → OnOk result (o.state new ≡ untouched (with_entry_at records_name made_dir (with_entry_at var_name made_dir held))) → OnOk result (o.state new ≡ untouched (with_directories held))
     made_both two done = on_ok result done (λ made. made ∙ ap (λ (t : Image). untouched t) (sym (both_to_make held (subst (IsMissing held) two is))))

@@ -5,16 +5,16 @@ use Rattle.ips_text.specs.Path.{IsPath}
 use Rattle.ips_text.specs.Ancestry.{covers, same_path, parent}
 use Rattle.ips_text.proofs.Ancestry.{same_path-self, covers-self, covers_trans}
 use Rattle.ips_outside.specs.Image.{Entry, Dir, Image, is_dir, dir_or_none}
-use Rattle.ips_outside.specs.Change.{placed}
+use Rattle.ips_outside.specs.Change.{with_entry_at}
 use Rattle.ips_outside.specs.State.{State, MayChange, nowhere, written, settled, untouched}
 use Rattle.ips_outside.specs.Outside.{Outside, IsOutside, Elapses}
 use Rattle.ips_outside.proofs.Moments.{placed_within}
-use Rattle.ips_folder.specs.Calls.{CanMake, Writes, Syncs, Throughout, Keeps}
+use Rattle.ips_folder.specs.Calls.{CanMake, Writes, Syncs, Throughout, ChangesOnly}
 use Rattle.ips_folder.proofs.Runs.{started, goes_on, joins, weaker, one_write, one_sync, keeps_then, keeps_wider}
 use Rattle.ips_steps.specs.Private.{records_name, gate_name}
 use Rattle.ips_steps.proofs.Lists.{clash}
 use Rattle.ips_repo.proofs.Joined.{joined_path}
-use Rattle.ips_history.specs.Directories.{var_name, with_dir, with_directories, is_dir_or_free, CanHaveDirectories, IsInTheWay}
+use Rattle.ips_history.specs.Directories.{var_name, with_dir, with_directories, is_dir_or_free, CanHaveDirectories, IsFirstObstacle}
 use Rattle.ips_history.specs.Transition.{IsNotYetSafe}
 use Rattle.ips_history.specs.Run.{StaysShut}
 
@@ -61,7 +61,7 @@ abbrev pub made_dir : Option Entry
 made_dir = Some (Dir 493 false)
 
 with_there : (p : List ℕ) (t : Image) (e : Entry) → t.look p ≡ Some e → with_dir p t ≡ t
-with_there p t e is = ap (λ (x : Option Entry). cond (is_none x) (placed p made_dir t) t) is
+with_there p t e is = ap (λ (x : Option Entry). cond (is_none x) (with_entry_at p made_dir t) t) is
 
 with_old : (p : List ℕ) (t : Image) → is_dir (t.look p) ≡ true → with_dir p t ≡ t
 with_old p t dir = go (t.look p) refl dir
@@ -70,8 +70,8 @@ with_old p t dir = go (t.look p) refl dir
     go None is dir = cc
     go (Some e) is dir = with_there p t e is
 
-with_new : (p : List ℕ) (t : Image) → t.look p ≡ None → with_dir p t ≡ placed p made_dir t
-with_new p t is = ap (λ (e : Option Entry). cond (is_none e) (placed p made_dir t) t) is
+with_new : (p : List ℕ) (t : Image) → t.look p ≡ None → with_dir p t ≡ with_entry_at p made_dir t
+with_new p t is = ap (λ (e : Option Entry). cond (is_none e) (with_entry_at p made_dir t) t) is
 
 dir_made : (p : List ℕ) (t : Image) → is_dir_or_free (t.look p) ≡ true → is_dir ((with_dir p t).look p) ≡ true
 dir_made p t free = go (t.look p) refl free
@@ -83,17 +83,17 @@ dir_made p t free = go (t.look p) refl free
 dir_apart : (p q : List ℕ) (t : Image) → covers p q ≡ false → (with_dir p t).look q ≡ t.look q
 dir_apart p q t off = go (is_none (t.look p))
   where
-    go : (b : Bool) → (cond b (placed p made_dir t) t).look q ≡ t.look q
+    go : (b : Bool) → (cond b (with_entry_at p made_dir t) t).look q ≡ t.look q
     go true = (placed_within p made_dir t).look q off refl
     go false = refl
 
-pub below_new : (t : Image) → (placed var_name made_dir t).look records_name ≡ None
+pub below_new : (t : Image) → (with_entry_at var_name made_dir t).look records_name ≡ None
 below_new t = rw (records_other, records_below) refl
 
 records_free : (t : Image) → is_dir_or_free (t.look records_name) ≡ true → is_dir_or_free ((with_dir var_name t).look records_name) ≡ true
 records_free t free = go (is_none (t.look var_name))
   where
-    go : (b : Bool) → is_dir_or_free ((cond b (placed var_name made_dir t) t).look records_name) ≡ true
+    go : (b : Bool) → is_dir_or_free ((cond b (with_entry_at var_name made_dir t) t).look records_name) ≡ true
     go true = ap is_dir_or_free (below_new t)
     go false = free
 
@@ -112,11 +112,11 @@ can_have_still t can =
 pub none_to_make : (t : Image) → is_dir (t.look var_name) ≡ true → is_dir (t.look records_name) ≡ true → with_directories t ≡ t
 none_to_make t var records = ap (with_dir records_name) (with_old var_name t var) ∙ with_old records_name t records
 
-pub records_to_make : (t : Image) → is_dir (t.look var_name) ≡ true → t.look records_name ≡ None → with_directories t ≡ placed records_name made_dir t
+pub records_to_make : (t : Image) → is_dir (t.look var_name) ≡ true → t.look records_name ≡ None → with_directories t ≡ with_entry_at records_name made_dir t
 records_to_make t var records = ap (with_dir records_name) (with_old var_name t var) ∙ with_new records_name t records
 
-pub both_to_make : (t : Image) → t.look var_name ≡ None → with_directories t ≡ placed records_name made_dir (placed var_name made_dir t)
-both_to_make t var = ap (with_dir records_name) (with_new var_name t var) ∙ with_new records_name (placed var_name made_dir t) (below_new t)
+pub both_to_make : (t : Image) → t.look var_name ≡ None → with_directories t ≡ with_entry_at records_name made_dir (with_entry_at var_name made_dir t)
+both_to_make t var = ap (with_dir records_name) (with_new var_name t var) ∙ with_new records_name (with_entry_at var_name made_dir t) (below_new t)
 
 -- ---- they can be made
 
@@ -126,32 +126,32 @@ can_make_var t var = record { absent = var; parent = ap (dir_or_none t) var_pare
 pub can_make_records : (t : Image) → is_dir (t.look var_name) ≡ true → t.look records_name ≡ None → CanMake t records_name
 can_make_records t var records = record { absent = records; parent = ap (dir_or_none t) records_parent ∙ var }
 
-pub can_make_after : (t : Image) → CanMake (placed var_name made_dir t) records_name
-can_make_after t = can_make_records (placed var_name made_dir t) (ap (λ (b : Bool). is_dir (cond b made_dir (cond (covers var_name var_name) None (t.look var_name)))) (same_path-self var_name)) (below_new t)
+pub can_make_after : (t : Image) → CanMake (with_entry_at var_name made_dir t) records_name
+can_make_after t = can_make_records (with_entry_at var_name made_dir t) (ap (λ (b : Bool). is_dir (cond b made_dir (cond (covers var_name var_name) None (t.look var_name)))) (same_path-self var_name)) (below_new t)
 
-pub gate_after : (t : Image) → (placed records_name made_dir t).look gate_name ≡ None
+pub gate_after : (t : Image) → (with_entry_at records_name made_dir t).look gate_name ≡ None
 gate_after t = rw (gate_other, gate_below) refl
 
-pub gate_after_var : (t : Image) → (placed var_name made_dir t).look gate_name ≡ None
+pub gate_after_var : (t : Image) → (with_entry_at var_name made_dir t).look gate_name ≡ None
 gate_after_var t = rw (var_gate, covers_trans var_name records_name gate_name records_below gate_below) refl
 
 -- the gate stays closed
 pub gate_with : (t : Image) → t.look gate_name ≡ None → (with_directories t).look gate_name ≡ None
 gate_with t gate = go (is_none ((with_dir var_name t).look records_name)) (is_none (t.look var_name))
   where
-    inner : (b : Bool) → (cond b (placed var_name made_dir t) t).look gate_name ≡ None
+    inner : (b : Bool) → (cond b (with_entry_at var_name made_dir t) t).look gate_name ≡ None
     inner true = gate_after_var t
     inner false = gate
 
-    go : (a b : Bool) → (cond a (placed records_name made_dir (cond b (placed var_name made_dir t) t)) (cond b (placed var_name made_dir t) t)).look gate_name ≡ None
-    go true b = gate_after (cond b (placed var_name made_dir t) t)
+    go : (a b : Bool) → (cond a (with_entry_at records_name made_dir (cond b (with_entry_at var_name made_dir t) t)) (cond b (with_entry_at var_name made_dir t) t)).look gate_name ≡ None
+    go true b = gate_after (cond b (with_entry_at var_name made_dir t) t)
     go false b = inner b
 
 pub free_of : (e : Option Entry) → is_dir e ≡ true → is_dir_or_free e ≡ true
 free_of e is = or_right (is_none e) _ is
 
 -- where they stand, nothing is in their way
-pub nothing_in_the_way : (t : Image) → CanHaveDirectories t → (p : List ℕ) → IsInTheWay (with_directories t) p → ⊥
+pub nothing_in_the_way : (t : Image) → CanHaveDirectories t → (p : List ℕ) → IsFirstObstacle (with_directories t) p → ⊥
 nothing_in_the_way t can p (blocked, one) =
     let both = directories_stand t can in
     ⊎_elim
@@ -181,7 +181,7 @@ unsafe_still free p old s touched (inr changed) = ap (λ (f : List ℕ → Bool)
 
 module _ {F : Type 0} (o : Outside F) (sane : IsOutside o) where
   -- since the one call
-  one_change : (p q : List ℕ) → p ≡ q → (old new : F) → o.tells old ≡ true → {T E : Type 0} (made : Result T E) → Writes o (covers p) nowhere (written p (placed p made_dir (o.state old).held) (o.state old)) old new made
+  one_change : (p q : List ℕ) → p ≡ q → (old new : F) → o.tells old ≡ true → {T E : Type 0} (made : Result T E) → Writes o (covers p) nowhere (written p (with_entry_at p made_dir (o.state old).held) (o.state old)) old new made
       → Throughout o old new (MayChange (covers q) nowhere (o.state old))
   one_change p q same old new told made w = goes_on o old old new (MayChange (covers q) nowhere (o.state old)) (started o old (MayChange (covers q) nowhere (o.state old)) (sane.only_now old) (inl refl)) w.call.time
       (subst (λ (r : List ℕ). MayChange (covers r) nowhere (o.state old) (o.state new)) same (w.only told))
@@ -201,7 +201,7 @@ module _ {F : Type 0} (o : Outside F) (sane : IsOutside o) where
   pub shut_then : (old mid new : F) → StaysShut o old mid → StaysShut o mid new → StaysShut o old new
   shut_then old mid new first second = joins o old mid new Shut first second
 
-  pub both_kept : (old mid new : F) → Keeps o (covers var_name) nowhere old mid → Keeps o (covers records_name) nowhere mid new → Keeps o (covers var_name) nowhere old new
+  pub both_kept : (old mid new : F) → ChangesOnly o (covers var_name) nowhere old mid → ChangesOnly o (covers records_name) nowhere mid new → ChangesOnly o (covers var_name) nowhere old new
   both_kept old mid new first second = keeps_then o (covers var_name) nowhere old mid new first
       (keeps_wider o (covers records_name) nowhere (covers var_name) nowhere mid new (λ q off. below_off q off) (λ q off. off) second)
     where
@@ -214,9 +214,9 @@ module _ {F : Type 0} (o : Outside F) (sane : IsOutside o) where
 
   -- the folder of the records is made, and that is made safe
   module _ (p : List ℕ) (same : p ≡ records_name) (old mid : F) (told : o.tells old ≡ true) {T E : Type 0} (made : Result T E)
-      (w : Writes o (covers p) nowhere (written p (placed p made_dir (o.state old).held) (o.state old)) old mid made) where
-    pub records_failed : Keeps o (covers records_name) nowhere old mid
-    records_failed = subst (λ (q : List ℕ). Keeps o (covers q) nowhere old mid) same (one_write o sane old mid (covers p) nowhere (written p (placed p made_dir (o.state old).held) (o.state old)) made told w)
+      (w : Writes o (covers p) nowhere (written p (with_entry_at p made_dir (o.state old).held) (o.state old)) old mid made) where
+    pub records_failed : ChangesOnly o (covers records_name) nowhere old mid
+    records_failed = subst (λ (q : List ℕ). ChangesOnly o (covers q) nowhere old mid) same (one_write o sane old mid (covers p) nowhere (written p (with_entry_at p made_dir (o.state old).held) (o.state old)) made told w)
 
     pub records_in_part : Throughout o old mid (MayChange (covers records_name) nowhere (o.state old))
     records_in_part = one_change p records_name same old mid told made w
@@ -226,28 +226,28 @@ module _ {F : Type 0} (o : Outside F) (sane : IsOutside o) where
       records_unsynced = on_failure safe s.kept (λ kept.
           goes_on o old mid new (MayChange (covers records_name) nowhere (o.state old)) records_in_part s.call.time (subst (MayChange (covers records_name) nowhere (o.state old)) (sym kept) (subst (λ (q : List ℕ). MayChange (covers q) nowhere (o.state old) (o.state mid)) same (w.only told))))
 
-      pub records_kept : Keeps o (covers records_name) nowhere old new
+      pub records_kept : ChangesOnly o (covers records_name) nowhere old new
       records_kept = keeps_then o (covers records_name) nowhere old mid new records_failed (one_sync o sane (covers records_name) nowhere mid new safe (w.call.same_kind ∙ told) s)
 
-      module _ (is : o.state mid ≡ written p (placed p made_dir (o.state old).held) (o.state old)) where
-        pub records_made : OnOk safe (o.state new ≡ untouched (placed records_name made_dir (o.state old).held))
-        records_made = on_ok safe (s.done (w.call.same_kind ∙ told)) (λ synced. synced ∙ ap (λ (t : State). settled t) is ∙ ap (λ (q : List ℕ). untouched (placed q made_dir (o.state old).held)) same)
+      module _ (is : o.state mid ≡ written p (with_entry_at p made_dir (o.state old).held) (o.state old)) where
+        pub records_made : OnOk safe (o.state new ≡ untouched (with_entry_at records_name made_dir (o.state old).held))
+        records_made = on_ok safe (s.done (w.call.same_kind ∙ told)) (λ synced. synced ∙ ap (λ (t : State). settled t) is ∙ ap (λ (q : List ℕ). untouched (with_entry_at q made_dir (o.state old).held)) same)
 
         pub records_shut : (o.state old).held.look gate_name ≡ None → OnOk safe (StaysShut o old new)
         records_shut gate = on_ok safe records_made (λ done.
-            let there : Shut (o.state mid) = ap (λ (t : State). t.held.look gate_name) is ∙ ap (λ (q : List ℕ). (placed q made_dir (o.state old).held).look gate_name) same ∙ gate_after (o.state old).held in
+            let there : Shut (o.state mid) = ap (λ (t : State). t.held.look gate_name) is ∙ ap (λ (q : List ℕ). (with_entry_at q made_dir (o.state old).held).look gate_name) same ∙ gate_after (o.state old).held in
             shut_on old mid new (shut_on old old mid (shut_now old gate) w.call.time there) s.call.time (ap (λ (t : State). t.held.look gate_name) done ∙ gate_after (o.state old).held))
 
   -- both are
   module _ (p : List ℕ) (same : p ≡ var_name) (old mid : F) (told : o.tells old ≡ true) {T E : Type 0} (made : Result T E)
-      (w : Writes o (covers p) nowhere (written p (placed p made_dir (o.state old).held) (o.state old)) old mid made) where
-    pub var_failed : Keeps o (covers var_name) nowhere old mid
-    var_failed = subst (λ (q : List ℕ). Keeps o (covers q) nowhere old mid) same (one_write o sane old mid (covers p) nowhere (written p (placed p made_dir (o.state old).held) (o.state old)) made told w)
+      (w : Writes o (covers p) nowhere (written p (with_entry_at p made_dir (o.state old).held) (o.state old)) old mid made) where
+    pub var_failed : ChangesOnly o (covers var_name) nowhere old mid
+    var_failed = subst (λ (q : List ℕ). ChangesOnly o (covers q) nowhere old mid) same (one_write o sane old mid (covers p) nowhere (written p (with_entry_at p made_dir (o.state old).held) (o.state old)) made told w)
 
     pub var_in_part : Throughout o old mid (IsNotYetSafe var_name (o.state old))
     var_in_part = unsafe_since var_name old mid (one_change p var_name same old mid told made w)
 
-    module _ (is : o.state mid ≡ written p (placed p made_dir (o.state old).held) (o.state old)) where
+    module _ (is : o.state mid ≡ written p (with_entry_at p made_dir (o.state old).held) (o.state old)) where
       var_touched : (o.state mid).whole var_name ≡ true
       var_touched = ap (λ (t : State). t.whole var_name) is ∙ or_left (covers p var_name) ((o.state old).whole var_name) (ap (λ (q : List ℕ). covers q var_name) same ∙ covers-self var_name)
 
@@ -255,8 +255,8 @@ module _ {F : Type 0} (o : Outside F) (sane : IsOutside o) where
       both_in_part new rest later = on_failure rest later (λ run. joins o old mid new (IsNotYetSafe var_name (o.state old)) var_in_part
           (weaker o mid new (MayChange (covers records_name) nowhere (o.state mid)) (IsNotYetSafe var_name (o.state old)) (λ s may. inr (unsafe_still (covers records_name) var_name (o.state mid) s var_touched may)) run))
 
-      pub var_held : (o.state mid).held ≡ placed var_name made_dir (o.state old).held
-      var_held = ap (λ (t : State). t.held) is ∙ ap (λ (q : List ℕ). placed q made_dir (o.state old).held) same
+      pub var_held : (o.state mid).held ≡ with_entry_at var_name made_dir (o.state old).held
+      var_held = ap (λ (t : State). t.held) is ∙ ap (λ (q : List ℕ). with_entry_at q made_dir (o.state old).held) same
 
       pub var_can : CanMake (o.state mid).held records_name
       var_can = subst (λ (t : Image). CanMake t records_name) (sym var_held) (can_make_after (o.state old).held)
@@ -265,8 +265,8 @@ module _ {F : Type 0} (o : Outside F) (sane : IsOutside o) where
       var_gate_shut = ap (λ (t : Image). t.look gate_name) var_held ∙ gate_after_var (o.state old).held
 
       module _ (new : F) {U V : Type 0} (safe : Result U V) where
-        pub both_made : OnOk safe (o.state new ≡ untouched (placed records_name made_dir (o.state mid).held)) → OnOk safe (o.state new ≡ untouched (placed records_name made_dir (placed var_name made_dir (o.state old).held)))
-        both_made done = on_ok safe done (λ is_made. is_made ∙ ap (λ (t : Image). untouched (placed records_name made_dir t)) var_held)
+        pub both_made : OnOk safe (o.state new ≡ untouched (with_entry_at records_name made_dir (o.state mid).held)) → OnOk safe (o.state new ≡ untouched (with_entry_at records_name made_dir (with_entry_at var_name made_dir (o.state old).held)))
+        both_made done = on_ok safe done (λ is_made. is_made ∙ ap (λ (t : Image). untouched (with_entry_at records_name made_dir t)) var_held)
 
         pub both_shut : (o.state old).held.look gate_name ≡ None → OnOk safe (StaysShut o mid new) → OnOk safe (StaysShut o old new)
         both_shut gate later = on_ok safe later (λ stays. shut_then old mid new (shut_on old old mid (shut_now old gate) w.call.time var_gate_shut) stays)

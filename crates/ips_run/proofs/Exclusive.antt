@@ -14,9 +14,9 @@ use Rattle.ips_steps.specs.Private.{gate_name}
 use Rattle.ips_steps.specs.View.{step_of}
 use Rattle.ips_steps.proofs.Lists.{clash}
 use Rattle.ips_kinds.specs.Tallies.{Carrier}
-use Rattle.ips_commit.specs.Contents.{AreIntact, IsIntact, IsFaultOf, SaysOfStage}
+use Rattle.ips_commit.specs.Contents.{AreIntactContents, IsIntact, IsPayloadFileFault, SaysOfStage}
 use Rattle.ips_commit.specs.declared.fault.StageFault.TheVariants as stage
-use Rattle.ips_history.specs.Directories.{creates, fixes, var_name, is_dir_or_free, IsInTheWay}
+use Rattle.ips_history.specs.Directories.{creates, fixes, var_name, is_dir_or_free, IsFirstObstacle}
 use Rattle.ips_history.specs.declared.effect.Effect.{Effect}
 use Rattle.ips_run.specs.declared.operation.Change.{Change}
 use Rattle.ips_run.specs.declared.operation.Decision.{Decision}
@@ -32,7 +32,7 @@ use Rattle.ips_run.proofs.Opened.{creates_unfixed}
 over : (size count limit : ℕ) → size ≡ count → limit < count → size ≤ limit → ⊥
 over size count limit same many few = omega (arith, same, many, few)
 
-not_both : (name : PayloadName) (file : Option (List ℕ)) (why : RepoFault) → IsFaultOf name file why → IsIntact name file → ⊥
+not_both : (name : PayloadName) (file : Option (List ℕ)) (why : RepoFault) → IsPayloadFileFault name file why → IsIntact name file → ⊥
 not_both name file fault.NoRepository is intact = is
 not_both name file (fault.BadCatalog why) is intact = is
 not_both name file fault.ManifestMissing is intact = is
@@ -53,12 +53,12 @@ module _ {T : Type 0} (n : Effect) (decides : Decision T → Type 0) (repository
   abbrev Before : Way → Type 0
   Before AtGate = (fixes n ≡ false) × (held.look gate_name ≢ None)
   Before Recovering = (fixes n ≡ true) × IsStopped held
-  Before InTheWay = (creates n ≡ true) × (held.look gate_name ≡ None) × ((p : List ℕ) × IsInTheWay held p)
+  Before InTheWay = (creates n ≡ true) × (held.look gate_name ≡ None) × ((p : List ℕ) × IsFirstObstacle held p)
   Before Showing = IsToDecide n held × ((told : T) × decides (decision.Shown told))
   Before Refusing = IsToDecide n held × ((told : T) × decides (decision.Refused told))
   Before Needless = IsToDecide n held × decides decision.Nothing
   Before Damaged = IsToDecide n held × ((c : Change T) × decides (decision.Change c) × ((name : PayloadName) × (why : RepoFault) × SaysOfStage true repository c.publisher c.staged.items (stage.Payload name why)))
-  Before Carrying = IsToDecide n held × ((c : Change T) × decides (decision.Change c) × AreIntact repository c.publisher c.staged.items)
+  Before Carrying = IsToDecide n held × ((c : Change T) × decides (decision.Change c) × AreIntactContents repository c.publisher c.staged.items)
   Before Faulty = ⊥
 
   unready : (x : Ending T) → IsToDecide n held → IsUnready n decides true repository x → is_faulty x ≡ false → Before (way_of x)

@@ -16,7 +16,7 @@ use Rattle.ips_commit.specs.Due.{IsSafelyOpen}
 use Rattle.ips_commit.specs.Recovering.{IsJournalled, CanRollForward, IsUnfinished}
 use Rattle.ips_history.specs.Due.{NeverOpen}
 use Rattle.ips_history.specs.Directories.{shows, creates, fixes, with_directories, image_for}
-use Rattle.ips_history.specs.Transition.{StillOwes, IsRequest, Creating, CreatingInPart, Transition, Kept, Asked, Created, CreatedInPart}
+use Rattle.ips_history.specs.Transition.{StillOwes, IsRequestRun, Creating, CreatingInPart, Transition, Kept, Asked, Created, CreatedInPart}
 use Rattle.ips_history.specs.Run.{IsRecovered, StaysShut, HasOpened, IsRun}
 use Rattle.ips_history.specs.declared.effect.Effect.{Effect}
 use Rattle.ips_history.specs.declared.effect.Effect.TheVariants as effect
@@ -118,7 +118,7 @@ module _ {F : Type 0} (o : Outside F) (sane : IsOutside o) where
   module _ (means : Image → Image → Type 0) where
     -- a request of which nothing has come
     pub withdrawn : (done : Bool) → done ≡ false → (at new : F) → IsSettled (o.state at) → (o.state at).held.look gate_name ≡ None
-        → Throughout o at new (FolderOwes journal_text (visible (o.state at).held) None false) → IsRequest o means done at new
+        → Throughout o at new (FolderOwes journal_text (visible (o.state at).held) None false) → IsRequestRun o means done at new
     withdrawn done not_done at new clean shut owed = record {
       safe = clean;
       shut = shut;

@@ -4,9 +4,9 @@ use Rattle.ips_text.specs.declared.refusal.Or.{Or}
 use Rattle.ips_text.specs.declared.refusal.Or.TheVariants.{Bad, OutOfMemory}
 use Rattle.ips_text.specs.Reading.{IfBad}
 use Rattle.ips_outside.specs.Image.{Entry, Image}
-use Rattle.ips_outside.specs.State.{State, Within, nowhere}
+use Rattle.ips_outside.specs.State.{State, ChangedWithin, nowhere}
 use Rattle.ips_outside.specs.Outside.{Outside}
-use Rattle.ips_folder.specs.Calls.{Keeps}
+use Rattle.ips_folder.specs.Calls.{ChangesOnly}
 use Rattle.ips_folder.proofs.Runs.{weaker}
 use Rattle.ips_steps.specs.Steps.{Step, after}
 use Rattle.ips_steps.specs.Private.{gate_name, visible}
@@ -20,7 +20,7 @@ use Rattle.ips_journal.specs.Bad.{IsBadLine}
 use Rattle.ips_journal.specs.Reading.{journal_of}
 use Rattle.ips_journal.proofs.JournalLaws.{none_bad}
 use Rattle.ips_commit.specs.Answers.{IfStarved}
-use Rattle.ips_commit.specs.Pending.{IsDone, is_swept}
+use Rattle.ips_commit.specs.Pending.{HasCommitted, is_swept}
 use Rattle.ips_commit.specs.Recovering.{SaysOfRecovery, IfBadJournal, IsJournalled, CanRollForward, IsUnfinished}
 use Rattle.ips_commit.specs.declared.fault.CommitFault.{CommitFault}
 use Rattle.ips_commit.specs.declared.fault.CommitFault.TheVariants.{Unchanged, Unfinished, BadJournal}
@@ -37,7 +37,7 @@ use Rattle.ips_run.specs.Phases.{uncommitted_as, IsBack}
 use Rattle.ips_run.proofs.Carried.{ended}
 
 -- what is swept leaves a closed gate closed
-swept_shut : (old s : State) → old.held.look gate_name ≡ None → Within is_swept nowhere old s → s.held.look gate_name ≡ None
+swept_shut : (old s : State) → old.held.look gate_name ≡ None → ChangedWithin is_swept nowhere old s → s.held.look gate_name ≡ None
 swept_shut old s shut within = within.agrees.look gate_name gate_unswept refl ∙ shut
 
 module _ {F : Type 0} (o : Outside F) (before now : List Carrier) (old new : F) (still : StillOwes o old new) where
@@ -47,10 +47,10 @@ module _ {F : Type 0} (o : Outside F) (before now : List Carrier) (old new : F) 
   -- ---- it answered
 
   pub back : {T : Type 0} (forward : Bool) → forward ≡ is_some (t.look gate_name)
-      → ((steps : List Step) (count : ℕ) (a : Image) → IsOpen journal_text steps count a t → IsDone a (o.state new))
-      → (t.look gate_name ≢ None → (steps : List Step) × (count : ℕ) × CanRollForward t steps count × IsDone (visible (after (steps_left count steps) t)) (o.state new)
+      → ((steps : List Step) (count : ℕ) (a : Image) → IsOpen journal_text steps count a t → HasCommitted a (o.state new))
+      → (t.look gate_name ≢ None → (steps : List Step) × (count : ℕ) × CanRollForward t steps count × HasCommitted (visible (after (steps_left count steps) t)) (o.state new)
       × (now ≡ all_counted (steps_left count steps) before))
-      → (t.look gate_name ≡ None → IsDone (visible t) (o.state new)) → (t.look gate_name ≡ None → now ≡ before)
+      → (t.look gate_name ≡ None → HasCommitted (visible t) (o.state new)) → (t.look gate_name ≡ None → now ≡ before)
       → IsBack {T = T} o (ending.Recovered forward) before now old new
   back forward is meant on cleared uncounted = record {
     still = still;
@@ -105,7 +105,7 @@ module _ {F : Type 0} (o : Outside F) (before now : List Carrier) (old new : F) 
   owed_some b a due (New gone seen) there = absurd (there gone)
 
   pub back_fault : {T : Type 0} (why : CommitFault) (x : Ending T) → x ≡ uncommitted_as why → SaysOfRecovery (o.state old) (o.state new) before now why
-      → (t.look gate_name ≡ None → Keeps o is_swept nowhere old new)
+      → (t.look gate_name ≡ None → ChangesOnly o is_swept nowhere old new)
       → ((steps : List Step) (count : ℕ) (a : Image) → IsOpen journal_text steps count a t → (line : ℕ) → why ≡ BadJournal line → ⊥)
       → (why ≡ Unfinished → (steps : List Step) (count : ℕ) → IsJournalled t steps count → IsUnfinished t (o.state new) steps count before now)
       → IsBack o x before now old new
@@ -116,7 +116,7 @@ module _ {F : Type 0} (o : Outside F) (before now : List Carrier) (old new : F) 
       seen kept (Some e) there = ap (λ (s : State). visible s.held) (kept (λ none. cc))
 
       shut_still : t.look gate_name ≡ None → StaysShut o old new
-      shut_still shut = weaker o old new (Within is_swept nowhere (o.state old)) (λ s. s.held.look gate_name ≡ None) (λ s within. swept_shut (o.state old) s shut within) (closed shut).moments
+      shut_still shut = weaker o old new (ChangedWithin is_swept nowhere (o.state old)) (λ s. s.held.look gate_name ≡ None) (λ s within. swept_shut (o.state old) s shut within) (closed shut).moments
 
       go : (why : CommitFault) → SaysOfRecovery (o.state old) (o.state new) before now why → ((steps : List Step) (count : ℕ) (a : Image) → IsOpen journal_text steps count a t → (line : ℕ) → why ≡ BadJournal line → ⊥)
           → (why ≡ Unfinished → (steps : List Step) (count : ℕ) → IsJournalled t steps count → IsUnfinished t (o.state new) steps count before now)
@@ -155,14 +155,14 @@ module _ {F : Type 0} (o : Outside F) (before now : List Carrier) (old new : F) 
         resumes = λ is. cc;
       }
 
-  pub back_out_of_memory : {T : Type 0} → o.state new ≡ o.state old → (t.look gate_name ≡ None → Keeps o is_swept nowhere old new) → IsBack {T = T} o ending.OutOfMemory before now old new
+  pub back_out_of_memory : {T : Type 0} → o.state new ≡ o.state old → (t.look gate_name ≡ None → ChangesOnly o is_swept nowhere old new) → IsBack {T = T} o ending.OutOfMemory before now old new
   back_out_of_memory kept closed = record {
     still = still;
     undone = refl;
     needed = refl;
     recovered = tt;
     unseen = λ is. ap (λ (s : State). visible s.held) kept;
-    unopened = λ is shut. weaker o old new (Within is_swept nowhere (o.state old)) (λ s. s.held.look gate_name ≡ None) (λ s within. swept_shut (o.state old) s shut within) (closed shut).moments;
+    unopened = λ is shut. weaker o old new (ChangedWithin is_swept nowhere (o.state old)) (λ s. s.held.look gate_name ≡ None) (λ s within. swept_shut (o.state old) s shut within) (closed shut).moments;
     readable = λ is. cc;
     out_of_memory = λ is. kept;
     resumes = λ is. cc;
@@ -181,7 +181,7 @@ told_back {T = T} why x old new before now is says unlaid unread = subst (λ (r 
 
 -- what a recovery that answered is told of
 pub told_on : (s : State) (t : Image) (before now : List Carrier) (forward : Bool) → forward ≡ is_some (t.look gate_name)
-    → (t.look gate_name ≢ None → (steps : List Step) × (count : ℕ) × CanRollForward t steps count × IsDone (visible (after (steps_left count steps) t)) s × (now ≡ all_counted (steps_left count steps) before))
+    → (t.look gate_name ≢ None → (steps : List Step) × (count : ℕ) × CanRollForward t steps count × HasCommitted (visible (after (steps_left count steps) t)) s × (now ≡ all_counted (steps_left count steps) before))
     → (forward ≡ is_some (t.look gate_name)) × (forward ≡ true → (steps : List Step) × (count : ℕ) × CanRollForward t steps count)
 told_on s t before now forward is done = (is, λ on. let (steps, count, can, ended, counted) = done (λ none. clash forward on (is ∙ ap (λ (e : Option Entry). is_some e) none)) in (steps, count, can))
 

@@ -10,10 +10,10 @@ use Rattle.ips_steps.specs.Private.{visible}
 use Rattle.ips_steps.specs.View.{step_of}
 use Rattle.ips_steps.proofs.Lists.{clash}
 use Rattle.ips_kinds.specs.Tallies.{Carrier, all_counted}
-use Rattle.ips_actuate.specs.Running.{succeeded, Ends, IsFaultOf, IsSpawn}
+use Rattle.ips_actuate.specs.Running.{succeeded, Ends, IsFaultOfRun, IsSpawn}
 use Rattle.ips_actuate.specs.declared.running.ActFault.{ActFault}
 use Rattle.ips_actuate.specs.declared.running.ActFault.TheVariants as act_fault
-use Rattle.ips_commit.specs.Contents.{AreIntact}
+use Rattle.ips_commit.specs.Contents.{AreIntactContents}
 use Rattle.ips_commit.specs.Staging.{HasStaged}
 use Rattle.ips_commit.specs.declared.fault.CommitFault.{CommitFault}
 use Rattle.ips_commit.specs.declared.fault.CommitFault.TheVariants as commit_fault
@@ -66,12 +66,12 @@ module _ {P : Type 0} (r : Running P) (steps : List Step) (before behind : List 
       some_same : {a b : List (List ℕ)} → Some a ≡ Some b → a ≡ b
       some_same e = cc
 
-  pub told_unrun : (old new : P) (slice : List (List (List ℕ))) → slice ≡ before → (why : ActFault) (x : Ending T) → IsFaultOf slice why → IsUnrun before false why x → RanTo old new slice why
+  pub told_unrun : (old new : P) (slice : List (List (List ℕ))) → slice ≡ before → (why : ActFault) (x : Ending T) → IsFaultOfRun slice why → IsUnrun before false why x → RanTo old new slice why
       → IsCarriedTo steps before behind told start start (HasRun r old new) x
   told_unrun old new slice same why x within is ran =
-      go why x is (subst (λ (l : List (List (List ℕ))). IsFaultOf l why) same within) (subst (λ (l : List (List (List ℕ))). RanTo old new l why) same ran)
+      go why x is (subst (λ (l : List (List (List ℕ))). IsFaultOfRun l why) same within) (subst (λ (l : List (List (List ℕ))). RanTo old new l why) same ran)
     where
-      go : (why : ActFault) (x : Ending T) → IsUnrun before false why x → IsFaultOf before why → RanTo old new before why → IsCarriedTo steps before behind told start start (HasRun r old new) x
+      go : (why : ActFault) (x : Ending T) → IsUnrun before false why x → IsFaultOfRun before why → RanTo old new before why → IsCarriedTo steps before behind told start start (HasRun r old new) x
       go why x (Failed {index = index} {status = status} {words = words} at) within ran = record {
         index = index;
         stands = at;
@@ -111,12 +111,12 @@ module _ {P : Type 0} (r : Running P) (steps : List Step) (before behind : List 
       },
     )
 
-    pub told_but : (last : List (List (List ℕ))) → last ≡ behind → (why : ActFault) (x : Ending T) → IsFaultOf last why → IsUnrun behind true why x → RanTo mid new last why
+    pub told_but : (last : List (List (List ℕ))) → last ≡ behind → (why : ActFault) (x : Ending T) → IsFaultOfRun last why → IsUnrun behind true why x → RanTo mid new last why
         → IsCarriedTo steps before behind told start now (HasRun r old new) x
     told_but last same_last why x within is ran =
-        go why x is (subst (λ (l : List (List (List ℕ))). IsFaultOf l why) same_last within) (subst (λ (l : List (List (List ℕ))). RanTo mid new l why) same_last ran)
+        go why x is (subst (λ (l : List (List (List ℕ))). IsFaultOfRun l why) same_last within) (subst (λ (l : List (List (List ℕ))). RanTo mid new l why) same_last ran)
       where
-        go : (why : ActFault) (x : Ending T) → IsUnrun behind true why x → IsFaultOf behind why → RanTo mid new behind why → IsCarriedTo steps before behind told start now (HasRun r old new) x
+        go : (why : ActFault) (x : Ending T) → IsUnrun behind true why x → IsFaultOfRun behind why → RanTo mid new behind why → IsCarriedTo steps before behind told start now (HasRun r old new) x
         go why x (Failed {index = index} {status = status} {words = words} at) within ran = record {
           index = index;
           stands = at;
@@ -167,7 +167,7 @@ unready_behind effect decides tells now_tells repository now_repository c x chan
 pub readied : {T : Type 0} (means : Bool → Image → Image → Image → Type 0) (decides : Decision T → Type 0) (tells now_tells : Bool) (repository now_repository old mid new : State) (c : Change T) (p : Prepared T)
     → now_tells ≡ tells → now_repository ≡ repository → mid ≡ old → decides (decision.Change c) → IsPlanned means tells repository.held old.held c
     → p.before.items ≡ c.before.items → p.after.items ≡ c.after.items → p.told ≡ c.told
-    → HasStaged now_tells now_repository.held c.publisher (map step_of c.steps.items) c.staged.items mid.held new → (IsTrue now_tells → AreIntact now_repository.held c.publisher c.staged.items)
+    → HasStaged now_tells now_repository.held c.publisher (map step_of c.steps.items) c.staged.items mid.held new → (IsTrue now_tells → AreIntactContents now_repository.held c.publisher c.staged.items)
     → IsReadied (means tells repository.held) decides tells repository.held old new p
 readied means decides tells now_tells repository now_repository old mid new c p same_tells same_repository kept decided planned before behind told has intact =
     let a = subst (λ (b : Bool). HasStaged b now_repository.held c.publisher (map step_of c.steps.items) c.staged.items mid.held new) same_tells has in
@@ -183,7 +183,7 @@ readied means decides tells now_tells repository now_repository old mid new c p 
       after = visible (all_laid all.contents (map step_of c.steps.items) old.held);
       staged = all.is;
       is_meant = planned.is_meant all.contents all.are;
-      intact = λ is. subst (λ (s : State). AreIntact s.held c.publisher c.staged.items) same_repository (intact (same_tells ∙ is));
+      intact = λ is. subst (λ (s : State). AreIntactContents s.held c.publisher c.staged.items) same_repository (intact (same_tells ∙ is));
     }
 
 -- a change that was decided on is carried out with its own lists, by its own telling

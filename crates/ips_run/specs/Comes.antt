@@ -11,11 +11,11 @@ use Rattle.ips_journal.specs.Bad.{IsBadLine}
 use Rattle.ips_journal.specs.Reading.{journal_of}
 use Rattle.ips_actuate.specs.Running.{succeeded}
 use Rattle.ips_commit.specs.Pending.{IsBare, IsPending}
-use Rattle.ips_commit.specs.Contents.{AreIntact, SaysOfStage}
+use Rattle.ips_commit.specs.Contents.{AreIntactContents, SaysOfStage}
 use Rattle.ips_commit.specs.Recovering.{CanRollForward, IsBadJournal}
 use Rattle.ips_commit.specs.declared.found.Pending.TheVariants as pending
 use Rattle.ips_commit.specs.declared.fault.StageFault.TheVariants as stage
-use Rattle.ips_history.specs.Directories.{shows, creates, fixes, CanHaveDirectories, IsInTheWay}
+use Rattle.ips_history.specs.Directories.{shows, creates, fixes, CanHaveDirectories, IsFirstObstacle}
 use Rattle.ips_history.specs.declared.effect.Effect.{Effect}
 use Rattle.ips_run.specs.declared.operation.Change.{Change}
 use Rattle.ips_run.specs.declared.operation.Decision.{Decision}
@@ -114,7 +114,7 @@ pub data Comes {T : Type 0} (effect : Effect) (decides : Decision T → Type 0) 
   Unopened : {x : Ending T} → IsUnopened x → now ≡ old → Ran [] → Comes effect decides tells repository held left old now Ran x
   Unfinished : IsFalse (fixes effect) → held.look gate_name ≢ None → now ≡ old → Ran [] → Comes effect decides tells repository held left old now Ran ending.Unfinished
   Back : {x : Ending T} → IsTrue (fixes effect) → IsStopped held → IsBackTo held left old now x → Ran [] → Comes effect decides tells repository held left old now Ran x
-  NotDirectory : {path : RelPath} → IsTrue (creates effect) → held.look gate_name ≡ None → IsInTheWay held path.bytes → left ≡ held → now ≡ old → Ran [] → Comes effect decides tells repository held left old now Ran (ending.NotDirectory path)
+  NotDirectory : {path : RelPath} → IsTrue (creates effect) → held.look gate_name ≡ None → IsFirstObstacle held path.bytes → left ≡ held → now ≡ old → Ran [] → Comes effect decides tells repository held left old now Ran (ending.NotDirectory path)
   Unready : {x : Ending T} → IsToDecide effect held → IsUnready effect decides tells repository x → now ≡ old → Ran [] → Comes effect decides tells repository held left old now Ran x
-  Carried : {x : Ending T} (c : Change T) → IsFalse (shows effect) → IsToDecide effect held → decides (decision.Change c) → (IsTrue tells → AreIntact repository c.publisher c.staged.items)
+  Carried : {x : Ending T} (c : Change T) → IsFalse (shows effect) → IsToDecide effect held → decides (decision.Change c) → (IsTrue tells → AreIntactContents repository c.publisher c.staged.items)
       → IsCarriedTo (map step_of c.steps.items) c.before.items c.after.items c.told old now Ran x → Comes effect decides tells repository held left old now Ran x

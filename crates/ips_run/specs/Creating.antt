@@ -5,10 +5,10 @@ use Rattle.ips_text.specs.declared.path.RelPath.{RelPath}
 use Rattle.ips_outside.specs.Image.{Image, is_dir}
 use Rattle.ips_outside.specs.State.{nowhere, untouched}
 use Rattle.ips_outside.specs.Outside.{Outside, Elapses}
-use Rattle.ips_folder.specs.Calls.{Throughout, Keeps}
+use Rattle.ips_folder.specs.Calls.{Throughout, ChangesOnly}
 use Rattle.ips_steps.specs.Private.{records_name}
 use Rattle.ips_kinds.specs.Tallies.{Carrier}
-use Rattle.ips_history.specs.Directories.{var_name, with_directories, is_dir_or_free, CanHaveDirectories, IsInTheWay}
+use Rattle.ips_history.specs.Directories.{var_name, with_directories, is_dir_or_free, CanHaveDirectories, IsFirstObstacle}
 use Rattle.ips_history.specs.Transition.{IsNotYetSafe}
 use Rattle.ips_history.specs.Run.{StaysShut}
 use Rattle.ips_run.specs.declared.creating.Missing.{Missing}
@@ -37,7 +37,7 @@ pub record IsMaking {F : Type 0} (o : Outside F) (old new : F) : Type 0 where
   pub dir : List ℕ
   pub is : (dir ≡ var_name) ⊎ (dir ≡ records_name)
   pub absent : (o.state old).held.look dir ≡ None
-  pub kept : Keeps o (covers dir) nowhere old new
+  pub kept : ChangesOnly o (covers dir) nowhere old new
 
 -- The same, and at no moment the first of them stands and is safe.
 pub record IsMakingInPart {F : Type 0} (o : Outside F) (old new : F) : Type 0 where
@@ -51,8 +51,8 @@ IsAsBefore o old new = Elapses o old new × (o.state new ≡ o.state old)
 -- what is made where these are missing: nothing; or only what is at or below the first of them is changed
 abbrev pub HasMade : {F : Type 0} → Outside F → Missing → F → F → Type 0
 HasMade o missing.Nothing old new = new ≡ old
-HasMade o missing.Records old new = Keeps o (covers records_name) nowhere old new
-HasMade o missing.Both old new = Keeps o (covers var_name) nowhere old new
+HasMade o missing.Records old new = ChangesOnly o (covers records_name) nowhere old new
+HasMade o missing.Both old new = ChangesOnly o (covers var_name) nowhere old new
 
 -- the same where that failed: something was missing, and at no moment the first of it stands and is safe
 abbrev pub HasMadeInPart : {F : Type 0} → Outside F → Missing → F → F → Type 0
@@ -70,8 +70,8 @@ pub record AreMade {F : Type 0} (o : Outside F) (old new : F) : Type 0 where
 -- why they aren't made: something is in the way, and nothing has happened; or a call failed, before the first was made or before it was safe
 abbrev pub SaysOfDirectories : {F : Type 0} → Outside F → F → F → DirectoryFault → Type 0
 SaysOfDirectories o old new fault.Failed = IsAsBefore o old new ⊎ IsMakingInPart o old new
-SaysOfDirectories o old new fault.Var = IsAsBefore o old new × IsInTheWay (o.state old).held var_name
-SaysOfDirectories o old new fault.Records = IsAsBefore o old new × IsInTheWay (o.state old).held records_name
+SaysOfDirectories o old new fault.Var = IsAsBefore o old new × IsFirstObstacle (o.state old).held var_name
+SaysOfDirectories o old new fault.Records = IsAsBefore o old new × IsFirstObstacle (o.state old).held records_name
 
 -- how a run ends then
 abbrev pub ended_as : {T : Type 0} → DirectoryFault → RelPath → RelPath → Ending T
@@ -82,7 +82,7 @@ ended_as fault.Records var records = ending.NotDirectory records
 -- the same of an ending
 abbrev pub AreUnmade : {F T : Type 0} → Outside F → F → F → Ending T → Type 0
 AreUnmade o old new (ending.FolderFault unfinished) = IsFalse unfinished × (IsAsBefore o old new ⊎ IsMakingInPart o old new)
-AreUnmade o old new (ending.NotDirectory path) = IsAsBefore o old new × IsInTheWay (o.state old).held path.bytes
+AreUnmade o old new (ending.NotDirectory path) = IsAsBefore o old new × IsFirstObstacle (o.state old).held path.bytes
 AreUnmade o old new ending.OutOfMemory = IsAsBefore o old new
 AreUnmade o old new other = ⊥
 

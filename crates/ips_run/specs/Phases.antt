@@ -12,7 +12,7 @@ use Rattle.ips_kinds.specs.Tallies.{Carrier, all_counted}
 use Rattle.ips_journal.specs.Text.{journal_text}
 use Rattle.ips_actuate.specs.declared.running.ActFault.{ActFault}
 use Rattle.ips_actuate.specs.declared.running.ActFault.TheVariants as act_fault
-use Rattle.ips_commit.specs.Contents.{AreIntact, SaysOfStage}
+use Rattle.ips_commit.specs.Contents.{AreIntactContents, SaysOfStage}
 use Rattle.ips_commit.specs.Staging.{IsStaged}
 use Rattle.ips_commit.specs.Due.{DueOnceOpen}
 use Rattle.ips_commit.specs.Recovering.{IsJournalled, CanResume, IsUnfinished}
@@ -23,7 +23,7 @@ use Rattle.ips_commit.specs.declared.found.Pending.{Pending}
 use Rattle.ips_commit.specs.declared.found.Pending.TheVariants as pending
 use Rattle.ips_history.specs.Due.{HasEnded}
 use Rattle.ips_history.specs.Directories.{fixes}
-use Rattle.ips_history.specs.Transition.{StillOwes, IsRequest}
+use Rattle.ips_history.specs.Transition.{StillOwes, IsRequestRun}
 use Rattle.ips_history.specs.Run.{IsRecovered, StaysShut}
 use Rattle.ips_history.specs.declared.effect.Effect.{Effect}
 use Rattle.ips_history.specs.declared.effect.Effect.TheVariants as effect
@@ -67,7 +67,7 @@ pub record IsReadied {T : Type 0} (means : Image → Image → Type 0) (decides 
   pub after : Image
   pub staged : IsStaged (map step_of change.steps.items) after new
   pub is_meant : means (visible old.held) after
-  pub intact : IsTrue tells → AreIntact repository change.publisher change.staged.items
+  pub intact : IsTrue tells → AreIntactContents repository change.publisher change.staged.items
 
 -- why a change isn't staged: the first payload that has a fault is this one, or a call failed
 abbrev pub IsUnstaged : {T : Type 0} → Bool → Image → Change T → Ending T → Type 0
@@ -101,7 +101,7 @@ pub record IsCarried {F T : Type 0} (o : Outside F) (a : Image) (x : Ending T) (
 -- A request from a closed gate on: the image before it is owed, or one that it means; a refusal leaves what is seen as before and
 -- the gate closed; and memory runs out only before the gate's call.
 pub record IsAsked {F T : Type 0} (o : Outside F) (means : Image → Image → Type 0) (x : Ending T) (before now : List Carrier) (at new : F) : Type 0 where
-  pub request : IsRequest o means (is_done x) at new
+  pub request : IsRequestRun o means (is_done x) at new
   pub unseen : IsTrue (is_refused x) → visible (o.state new).held ≡ visible (o.state at).held
   pub unopened : IsTrue (is_refused x) → StaysShut o at new
   pub resumes : IsTrue (is_left x) → IsResumable o before now new

@@ -5,7 +5,7 @@ use Rattle.ips_steps.specs.Steps.{Stage, all_laid}
 use Rattle.ips_steps.specs.Private.{visible}
 use Rattle.ips_steps.specs.Journal.{IsJournal}
 use Rattle.ips_steps.specs.View.{step_of}
-use Rattle.ips_commit.specs.Contents.{AreContents, AreSeen}
+use Rattle.ips_commit.specs.Contents.{StagedContents, AreSeen}
 use Rattle.ips_commit.specs.Staging.{CanStage}
 use Rattle.ips_history.specs.Directories.{shows}
 use Rattle.ips_history.specs.declared.effect.Effect.{Effect}
@@ -35,5 +35,5 @@ pub record CanBeListed {T : Type 0} (c : Change T) : Type 0 where
 -- The change can be staged on an image; and laid with what is to be staged, it is seen as the operation means.
 pub record IsPlanned {T : Type 0} (means : Bool → Image → Image → Image → Type 0) (tells : Bool) (repository : Image) (t : Image) (c : Change T) : Type 0 where
   pub can : CanStage (map step_of c.steps.items) c.staged.items t
-  pub is_meant : (contents : Stage) → AreContents tells repository c.publisher t c.staged.items contents
+  pub is_meant : (contents : Stage) → StagedContents tells repository c.publisher t c.staged.items contents
       → means tells repository (visible t) (visible (all_laid contents (map step_of c.steps.items) t))

@@ -8,7 +8,7 @@ ghost use Rattle.ips_steps.specs.Steps.{Step};
 ghost use Rattle.ips_steps.specs.Private.{gate_name};
 ghost use Rattle.ips_steps.specs.declared.step.Sort.{Sort};
 ghost use Rattle.ips_kinds.specs.Tallies.{seen_by, taken};
-ghost use Rattle.ips_actuate.specs.Running.{IsFaultOf};
+ghost use Rattle.ips_actuate.specs.Running.{IsFaultOfRun};
 ghost use Rattle.ips_commit.specs.Pending.{HasNoOtherMark};
 ghost use Rattle.ips_commit.specs.Staging.{IsStaged};
 ghost use Rattle.ips_run.specs.Ending.{is_left, is_folder_fault, is_source_fault, is_spawn_fault};
@@ -67,7 +67,7 @@ pub(crate) fn carry_out<T: Drop, F: Folder, P: Spawner>(
 
 // How a run ends where an actuator of the list wasn't run to its end. Its words are taken out.
 fn unrun<T: Drop>(fault: ActFault, after: bool, list: &mut Vec<Words>) -> Ending<T>
-    requires { IsFaultOf list.old.items fault }
+    requires { IsFaultOfRun list.old.items fault }
     ensures { IsUnrun list.old.items after fault result }
 {
     match fault {

@@ -3,10 +3,10 @@
 ghost use Rattle.std.specs.Prelude.{◌≡◌, ◌≤◌, false, None, Some, IsTrue, IsFalse, IfOk, OnOk, OnErr, IfErr, IsErr, IsErrOf};
 ghost use Rattle.ips_text.specs.Path.{IsPath};
 ghost use Rattle.ips_outside.specs.Image.{Dir};
-ghost use Rattle.ips_outside.specs.Change.{placed};
+ghost use Rattle.ips_outside.specs.Change.{with_entry_at};
 ghost use Rattle.ips_outside.specs.State.{MayChange, nowhere, settled, untouched};
 ghost use Rattle.ips_outside.specs.Outside.{HasCause, Reads};
-ghost use Rattle.ips_folder.specs.Calls.{CanMake, Throughout, Keeps};
+ghost use Rattle.ips_folder.specs.Calls.{CanMake, Throughout, ChangesOnly};
 ghost use Rattle.ips_text.specs.Ancestry.{covers};
 ghost use Rattle.ips_steps.specs.Private.{records_name, gate_name};
 ghost use Rattle.ips_steps.specs.declared.step.Sort.{Sort};
@@ -213,9 +213,9 @@ fn make_both<F: Folder>(folder: &mut F, var: &RelPath, records: &RelPath) -> Res
     requires absent { IsTrue (F.outside.tells folder.old) → (F.outside.state folder.old).held.look var_name ≡ None }
     requires shut { IsTrue (F.outside.tells folder.old) → (F.outside.state folder.old).held.look gate_name ≡ None }
     ensures made { IsTrue (F.outside.tells folder.old) → OnOk result
-        (F.outside.state folder.new ≡ untouched (placed records_name (Some (Dir 493 false)) (placed var_name (Some (Dir 493 false)) (F.outside.state folder.old).held))) }
+        (F.outside.state folder.new ≡ untouched (with_entry_at records_name (Some (Dir 493 false)) (with_entry_at var_name (Some (Dir 493 false)) (F.outside.state folder.old).held))) }
     ensures shut { IsTrue (F.outside.tells folder.old) → OnOk result (StaysShut F.outside folder.old folder.new) }
-    ensures kept { IsTrue (F.outside.tells folder.old) → Keeps F.outside (covers var_name) nowhere folder.old folder.new }
+    ensures kept { IsTrue (F.outside.tells folder.old) → ChangesOnly F.outside (covers var_name) nowhere folder.old folder.new }
     ensures in_part { IsTrue (F.outside.tells folder.old) → OnErr result (Throughout F.outside folder.old folder.new (IsNotYetSafe var_name (F.outside.state folder.old))) }
     ensures cause { HasCause (F.outside.faults folder.old) (F.outside.faults folder.new) (IsErr result) }
     ensures later { F.outside.changes folder.old ≤ F.outside.changes folder.new }
@@ -233,9 +233,9 @@ fn make_records<F: Folder>(folder: &mut F, records: &RelPath) -> Result<(), Fail
     requires can { IsTrue (F.outside.tells folder.old) → CanMake (F.outside.state folder.old).held records_name }
     requires shut { IsTrue (F.outside.tells folder.old) → (F.outside.state folder.old).held.look gate_name ≡ None }
     ensures made { IsTrue (F.outside.tells folder.old) → OnOk result
-        (F.outside.state folder.new ≡ untouched (placed records_name (Some (Dir 493 false)) (F.outside.state folder.old).held)) }
+        (F.outside.state folder.new ≡ untouched (with_entry_at records_name (Some (Dir 493 false)) (F.outside.state folder.old).held)) }
     ensures shut { IsTrue (F.outside.tells folder.old) → OnOk result (StaysShut F.outside folder.old folder.new) }
-    ensures kept { IsTrue (F.outside.tells folder.old) → Keeps F.outside (covers records_name) nowhere folder.old folder.new }
+    ensures kept { IsTrue (F.outside.tells folder.old) → ChangesOnly F.outside (covers records_name) nowhere folder.old folder.new }
     ensures in_part { IsTrue (F.outside.tells folder.old) → OnErr result (Throughout F.outside folder.old folder.new (MayChange (covers records_name) nowhere (F.outside.state folder.old))) }
     ensures cause { HasCause (F.outside.faults folder.old) (F.outside.faults folder.new) (IsErr result) }
     ensures later { F.outside.changes folder.old ≤ F.outside.changes folder.new }

@@ -9,7 +9,7 @@ ghost use Rattle.ips_steps.specs.Private.{records_name, gate_name, visible};
 ghost use Rattle.ips_steps.specs.Owed.{FolderOwes};
 ghost use Rattle.ips_steps.specs.View.{step_of};
 ghost use Rattle.ips_journal.specs.Text.{journal_text};
-ghost use Rattle.ips_commit.specs.Contents.{AreIntact};
+ghost use Rattle.ips_commit.specs.Contents.{AreIntactContents};
 ghost use Rattle.ips_commit.specs.Staging.{CanStage, HasStaged};
 ghost use Rattle.ips_history.specs.Directories.{shows, creates};
 ghost use Rattle.ips_run.specs.Planned.{CanBeListed};
@@ -99,7 +99,7 @@ fn ready_for<T: Drop, S: Source, F: Folder>(
     ensures seen { IsTrue (F.outside.tells folder.old) → visible (F.outside.state folder.new).held ≡ visible (F.outside.state folder.old).held }
     ensures staged { IsTrue (F.outside.tells folder.old) → OnOk result
         (HasStaged (S.outside.tells source.old) (S.outside.state source.old).held change.now.publisher (map step_of change.now.steps.items) change.now.staged.items (F.outside.state folder.old).held (F.outside.state folder.new)) }
-    ensures intact { IsTrue (S.outside.tells source.old) → OnOk result (AreIntact (S.outside.state source.old).held change.now.publisher change.now.staged.items) }
+    ensures intact { IsTrue (S.outside.tells source.old) → OnOk result (AreIntactContents (S.outside.state source.old).held change.now.publisher change.now.staged.items) }
     ensures early { IfErr result IsEarly }
     ensures unstaged { IfErr result (IsUnstaged (S.outside.tells source.old) (S.outside.state source.old).held change.now) }
     ensures later { F.outside.changes folder.old ≤ F.outside.changes folder.new }

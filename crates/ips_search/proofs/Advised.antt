@@ -3,7 +3,7 @@ use Rattle.std.proofs.Common.{◌≡◌, ℕ, ◌<◌, get_or, length, List, [],
 use Rattle.std.proofs.lemmas.List.Elements.{All-push, All-cons, All-contains}
 use Rattle.ips_refute.specs.declared.nogoods.Nogood.{Nogood}
 use Rattle.ips_refute.specs.declared.nogoods.Pair.{Pair}
-use Rattle.ips_refute.specs.Meaning.{Meaning, Ascends, Within, OnePerStem, IsOffered, IsBeginning, pairs}
+use Rattle.ips_refute.specs.Meaning.{Meaning, Ascends, IsSubset, OnePerStem, IsOffered, IsBeginning, pairs}
 use Rattle.ips_refute.proofs.Choices.{pair}
 use Rattle.ips_refute.specs.Refuting.{IsNogood, AreNogoods}
 use Rattle.ips_search.specs.declared.state.State.{State}
@@ -44,12 +44,12 @@ learned_more m s t u a b = record { searching = b.searching; same = b.same ∙ a
 
 -- ---- a failure that is proposed
 
-pub core_offered : (m : Meaning) (p : List ℕ) (more : Pair) (chosen core : List Pair) → IsBeginning m p → chosen ≡ pairs p → more.stem < m.stems → more.candidate < m.candidates more.stem → Within core chosen → All (IsOffered m) (more ∷ core)
+pub core_offered : (m : Meaning) (p : List ℕ) (more : Pair) (chosen core : List Pair) → IsBeginning m p → chosen ≡ pairs p → more.stem < m.stems → more.candidate < m.candidates more.stem → IsSubset core chosen → All (IsOffered m) (more ∷ core)
 core_offered m p more chosen core good e a b w =
-    let w' : Within core (pairs p) = subst (λ (s : List Pair). Within core s) e w in
+    let w' : IsSubset core (pairs p) = subst (λ (s : List Pair). IsSubset core s) e w in
     All-cons (IsOffered m) more core (a, b) (λ k d h. All-contains (IsOffered m) (pairs p) (get_or core k d) (Offered-pairs m p good) (w' k d h))
 
-pub core_one : (p : List ℕ) (more : Pair) (chosen core : List Pair) → chosen ≡ pairs p → more.stem ≡ length p → Within core chosen → Ascends core → OnePerStem (more ∷ core)
+pub core_one : (p : List ℕ) (more : Pair) (chosen core : List Pair) → chosen ≡ pairs p → more.stem ≡ length p → IsSubset core chosen → Ascends core → OnePerStem (more ∷ core)
 core_one p more chosen core e at w a =
     let Q : ℕ → Type 0 = λ n. OnePerStem (pair n more.candidate ∷ core) in
-    subst Q (sym at) (one_with_top p more.candidate core (subst (λ (s : List Pair). Within core s) e w) a)
+    subst Q (sym at) (one_with_top p more.candidate core (subst (λ (s : List Pair). IsSubset core s) e w) a)

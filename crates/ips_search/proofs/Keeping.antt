@@ -9,7 +9,7 @@ use Rattle.ips_refute.specs.declared.nogoods.Pair.{Pair}
 use Rattle.ips_refute.specs.declared.nogoods.Nogood.{Nogood}
 use Rattle.ips_refute.specs.declared.nogoods.Reason.{Reason}
 use Rattle.ips_refute.specs.declared.nogoods.Reason.TheVariants.{Test, Earlier}
-use Rattle.ips_refute.specs.Meaning.{Meaning, Ascends, Within, OnePerStem, IsOffered}
+use Rattle.ips_refute.specs.Meaning.{Meaning, Ascends, IsSubset, OnePerStem, IsOffered}
 use Rattle.ips_refute.specs.Refuting.{Explains, ExplainsEach, IsNogood, AreNogoods, EndsEmpty, IsRefutation, IsTidyRefutation}
 use Rattle.ips_refute.proofs.Choices.{pair, slice_get-take}
 use Rattle.ips_search.specs.Renumbering.{AreTidy, Renames, AreRenamed, IsRenamed}
@@ -51,7 +51,7 @@ explains_so m ns places kept i set (Earlier n) s h (lt, some, e) (g, at, w) =
     let (g0, other, at0, there, same) = h.placed n lt some in
     let eq : g0 ≡ g = same_Some g0 g (sym at0 ∙ (slice_get-take i ns n g at).1) in
     let sets : other.set.items ≡ g.set.items = same ∙ ap (λ (x : Nogood). x.set.items) eq in
-    subst (λ (x : Reason). Explains m kept set x) (sym e) (other, there, subst (λ (l : List Pair). Within l set) (sym sets) w)
+    subst (λ (x : Reason). Explains m kept set x) (sym e) (other, there, subst (λ (l : List Pair). IsSubset l set) (sym sets) w)
 
 reason_at : (reasons others : List Reason) (c : ℕ) (s : Reason) → length others ≡ length reasons → slice_get others c ≡ Some s → slice_get reasons c ≡ Some (get_or reasons c s)
 reason_at reasons others c s len at = slice_get-get_or reasons c s (omega (arith, len, slice_get_within others c s at))

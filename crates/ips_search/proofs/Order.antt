@@ -2,7 +2,7 @@
 use Rattle.std.proofs.Common.{◌≡◌, ℕ, zero, suc, ◌+◌, ◌<◌, ◌≤◌, ◌⊎◌, inl, inr, Bool, false, ◌||◌, List, [], ◌∷◌, ◌++◌, length, get_or, slice_index, take, refl, sym, ap, ◌∙◌, arith, nat_lt, nat_eq, le-ltb, ne_eqb}
 use Rattle.std.proofs.lemmas.Bool.{cases_order, and_left, and_right}
 use Rattle.ips_refute.specs.declared.nogoods.Pair.{Pair}
-use Rattle.ips_refute.specs.Meaning.{Within, pairs}
+use Rattle.ips_refute.specs.Meaning.{IsSubset, pairs}
 use Rattle.ips_refute.proofs.Choices.{get_or-pairs, length-pairs, pair}
 use Rattle.ips_search.specs.Best.{NotLater}
 use Rattle.ips_search.specs.Beginnings.{later}
@@ -61,7 +61,7 @@ Begins-at (a ∷ p) [] h i l = absurd h
 Begins-at (a ∷ p) (b ∷ w) h zero l = h.0
 Begins-at (a ∷ p) (b ∷ w) h (suc i) l = Begins-at p w h.1 i (omega arith)
 
-pub Within-begins : (p w : List ℕ) → Begins p w → Within (pairs p) (pairs w)
+pub Within-begins : (p w : List ℕ) → Begins p w → IsSubset (pairs p) (pairs w)
 Within-begins p w h k d l =
     let lp : k < length p = omega (arith, length-pairs 0 p) in
     let lw : k < length w = omega (arith, Begins-length p w h) in

@@ -6,7 +6,7 @@ use Rattle.std.proofs.lemmas.List.Elements.{All-contains, All-append, All-cons, 
 use Rattle.ips_refute.specs.declared.nogoods.Pair.{Pair}
 use Rattle.ips_refute.specs.declared.nogoods.Nogood.{Nogood}
 use Rattle.ips_refute.specs.declared.nogoods.Reason.TheVariants.{Test}
-use Rattle.ips_refute.specs.Meaning.{Meaning, Ascends, Within, OnePerStem, IsOffered}
+use Rattle.ips_refute.specs.Meaning.{Meaning, Ascends, IsSubset, OnePerStem, IsOffered}
 use Rattle.std.proofs.Common.{Some, slice_get, Bool, ◌&&◌, eqb, eqb-true}
 use Rattle.std.proofs.lemmas.Bool.{and_parts}
 use Rattle.std.proofs.lemmas.List.{nil_from_length}
@@ -54,7 +54,7 @@ all_kept m whole more test n e b =
     }
 
 -- a front and the pairs that are kept
-pub fewer_inside : (m : Meaning) (whole : List Pair) (more : Pair) (test front n : ℕ) (kept : List Pair) → n ≤ front → IsKept m whole more test front kept → Within (take n whole ++ kept) whole
+pub fewer_inside : (m : Meaning) (whole : List Pair) (more : Pair) (test front n : ℕ) (kept : List Pair) → n ≤ front → IsKept m whole more test front kept → IsSubset (take n whole ++ kept) whole
 fewer_inside m whole more test front n kept le h =
     All-append (λ q. Contains whole q) (take n whole) kept
     (λ k d l.
@@ -161,8 +161,8 @@ kept_is_core m ns chosen more n core up (g, at, (rest, parts, within)) is =
     let same : core ≡ rest = is g at ∙ ap (λ k. take k set) len ∙ ap (take (length rest)) parts ∙ take_at rest (more ∷ []) (length rest) refl in
     let ascends : Ascends set = all_at (λ (x : Nogood). Ascends x.set.items) ns n g up at in
     let front : Ascends rest = Ascends-left rest (more ∷ []) (subst (λ (s : List Pair). Ascends s) parts ascends) in
-    let ending : Within (rest ++ more ∷ []) (more ∷ rest) = All-push (λ q. Contains (more ∷ rest) q) rest more (Within-behind more rest) (0, omega arith, refl) in
-    let has : Within set (more ∷ rest) = subst (λ (s : List Pair). Within s (more ∷ rest)) (sym parts) ending in
+    let ending : IsSubset (rest ++ more ∷ []) (more ∷ rest) = All-push (λ q. Contains (more ∷ rest) q) rest more (Within-behind more rest) (0, omega arith, refl) in
+    let has : IsSubset set (more ∷ rest) = subst (λ (s : List Pair). IsSubset s (more ∷ rest)) (sym parts) ending in
     let P : List Pair → Type 0 = λ s. IsCore m ns chosen more (Earlier n) s in
     subst P (sym same) (record { inside = within; ascends = front; explained = (g, at, has) })
 

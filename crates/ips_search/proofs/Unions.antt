@@ -5,7 +5,7 @@ use Rattle.std.proofs.lemmas.List.{get_or_default}
 use Rattle.std.proofs.lemmas.List.Elements.{All-contains, Contains-get_or, Contains-push, Contains-push_cases, Contains-append_left}
 use Rattle.std.proofs.lemmas.List.Quantifiers.{all_pairs_push}
 use Rattle.ips_refute.specs.declared.nogoods.Pair.{Pair}
-use Rattle.ips_refute.specs.Meaning.{Ascends, Within}
+use Rattle.ips_refute.specs.Meaning.{Ascends, IsSubset}
 use Rattle.ips_refute.proofs.Checks.{contains_more, contains_rest}
 use Rattle.ips_search.specs.Merging.{IsBefore, IsLeast, IsUnion}
 
@@ -29,10 +29,10 @@ record Advances (q : Pair) (left more : List Pair) : Type 0 where
   above : (p : Pair) → Contains more p → q.stem < p.stem
   left_over : (p : Pair) → Contains left p → (p ≡ q) ⊎ Contains more p
 
-within_all : (few many : List Pair) → Within few many → (p : Pair) → Contains few p → Contains many p
+within_all : (few many : List Pair) → IsSubset few many → (p : Pair) → Contains few p → Contains many p
 within_all few many w p h = All-contains (λ q. Contains many q) few p w h
 
-all_within : (few many : List Pair) → ((p : Pair) → Contains few p → Contains many p) → Within few many
+all_within : (few many : List Pair) → ((p : Pair) → Contains few p → Contains many p) → IsSubset few many
 all_within few many f k d l = f (get_or few k d) (Contains-get_or few k d l)
 
 in_none : (p : Pair) → Contains [] p → ⊥
@@ -114,7 +114,7 @@ push_pair whole first second left right set q more rest h in_whole above a b =
 front_in : (q : Pair) (more : List Pair) → Contains (q ∷ more) q
 front_in q more = (0, omega arith, refl)
 
-pub merge_none : (whole first second set : List Pair) → set ≡ [] → Ascends first → Ascends second → Within first whole → Within second whole → Merging whole first second first second set
+pub merge_none : (whole first second set : List Pair) → set ≡ [] → Ascends first → Ascends second → IsSubset first whole → IsSubset second whole → Merging whole first second first second set
 merge_none whole first second set e up1 up2 w1 w2 =
     let nothing : (p : Pair) → Contains set p → ⊥ = λ p c. in_none p (subst (λ (s : List Pair). Contains s p) e c) in
     record {

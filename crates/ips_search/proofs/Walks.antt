@@ -8,7 +8,7 @@ use Rattle.ips_refute.specs.declared.nogoods.Pair.{Pair}
 use Rattle.ips_refute.specs.declared.nogoods.Nogood.{Nogood}
 use Rattle.ips_refute.specs.declared.nogoods.Reason.{Reason}
 use Rattle.ips_refute.specs.declared.nogoods.Reason.TheVariants.{Test, Earlier}
-use Rattle.ips_refute.specs.Meaning.{Meaning, Lawful, Within, Ascends, OnePerStem, IsOffered, IsBeginning, Solves, BreaksNone, pairs_from, pairs}
+use Rattle.ips_refute.specs.Meaning.{Meaning, Lawful, IsSubset, Ascends, OnePerStem, IsOffered, IsBeginning, Solves, BreaksNone, pairs_from, pairs}
 use Rattle.ips_refute.specs.Refuting.{Explains, ExplainsEach, IsNogood, AreNogoods, IsTidyRefutation}
 use Rattle.ips_refute.proofs.Choices.{pair, from_pairs, Contains-pairs, OnePerStem-pairs, OnePerStem-cons, Within-trans, Within-cons, length-pairs, get_or-pairs, slice_get-take}
 use Rattle.ips_refute.proofs.Laws.{no_explanation}
@@ -45,13 +45,13 @@ Contains-old p c q h = subst (λ (s : List Pair). Contains s q) (sym (pairs-push
 pub from_new : (p : List ℕ) (c : ℕ) (q : Pair) → Contains (pairs (p ++ c ∷ [])) q → Contains (pairs p) q ⊎ (pair (length p) c ≡ q)
 from_new p c q h = Contains-push_cases (pairs p) (pair (length p) c) q (subst (λ (s : List Pair). Contains s q) (pairs-push p c) h)
 
-pub Within-push : (p : List ℕ) (c : ℕ) (set : List Pair) → Within set (pairs p) → Within (pair (length p) c ∷ set) (pairs (p ++ c ∷ []))
+pub Within-push : (p : List ℕ) (c : ℕ) (set : List Pair) → IsSubset set (pairs p) → IsSubset (pair (length p) c ∷ set) (pairs (p ++ c ∷ []))
 Within-push p c set h = Within-cons (pair (length p) c) set (pairs (p ++ c ∷ [])) (Contains-new p c) (λ k d l. Contains-old p c (get_or set k d) (h k d l))
 
-pub free_of_top : (p : List ℕ) (set : List Pair) → Within set (pairs p) → All (λ q. q.stem ≢ length p) set
+pub free_of_top : (p : List ℕ) (set : List Pair) → IsSubset set (pairs p) → All (λ q. q.stem ≢ length p) set
 free_of_top p set h k d l e = let r = from_pairs p (get_or set k d) (h k d l) in omega (arith, r.0, e)
 
-pub one_with_top : (p : List ℕ) (c : ℕ) (set : List Pair) → Within set (pairs p) → Ascends set → OnePerStem (pair (length p) c ∷ set)
+pub one_with_top : (p : List ℕ) (c : ℕ) (set : List Pair) → IsSubset set (pairs p) → Ascends set → OnePerStem (pair (length p) c ∷ set)
 one_with_top p c set w a = OnePerStem-cons (pair (length p) c) set (free_of_top p set w) (Ascends-one set a)
 
 pub Ascends-pairs : (p : List ℕ) → Ascends (pairs p)
@@ -62,7 +62,7 @@ Ascends-pairs p i j d l h =
     let ej = ap (λ (q : Pair). q.stem) (get_or-pairs 0 p j d hj) in
     omega (arith, ei, ej)
 
-pub Within-self : (set : List Pair) → Within set set
+pub Within-self : (set : List Pair) → IsSubset set set
 Within-self set k d h = (k, h, get_or-same set k d h)
 
 pub Offered-pairs : (m : Meaning) (p : List ℕ) → IsBeginning m p → All (IsOffered m) (pairs p)
@@ -74,7 +74,7 @@ Offered-pairs m p good k d h =
 
 -- ---- reasons
 
-pub Explains-wider : (m : Meaning) → Lawful m → (ns : List Nogood) (set other : List Pair) (r : Reason) → OnePerStem set → OnePerStem other → Within set other → Explains m ns set r → Explains m ns other r
+pub Explains-wider : (m : Meaning) → Lawful m → (ns : List Nogood) (set other : List Pair) (r : Reason) → OnePerStem set → OnePerStem other → IsSubset set other → Explains m ns set r → Explains m ns other r
 Explains-wider m law ns set other (Test t) a b w (lt, e) = (lt, law.keeps t set other lt a b e (λ k d h _. w k d h))
 Explains-wider m law ns set other (Earlier n) a b w (g, e, v) = (g, e, Within-trans g.set.items set other v w)
 
@@ -98,10 +98,10 @@ pub Explains-later : (m : Meaning) (ns : List Nogood) (g : Nogood) (set : List P
 Explains-later m ns g set (Test t) h = h
 Explains-later m ns g set (Earlier n) (f, e, w) = (f, slice_get-left ns (g ∷ []) n f e, w)
 
-pub Within-behind : (x : Pair) (set : List Pair) → Within set (x ∷ set)
+pub Within-behind : (x : Pair) (set : List Pair) → IsSubset set (x ∷ set)
 Within-behind x set k d h = (suc k, omega arith, get_or-same set k d h)
 
-pub ExplainsEach-wider : (m : Meaning) → Lawful m → (ns : List Nogood) (p : List ℕ) (set other : List Pair) (rs : List Reason) → Ascends set → Ascends other → Within set other → Within other (pairs p)
+pub ExplainsEach-wider : (m : Meaning) → Lawful m → (ns : List Nogood) (p : List ℕ) (set other : List Pair) (rs : List Reason) → Ascends set → Ascends other → IsSubset set other → IsSubset other (pairs p)
     → ExplainsEach m ns set (length p) rs → ExplainsEach m ns other (length p) rs
 ExplainsEach-wider m law ns p set other rs a b w v h c r e =
     let x = pair (length p) c in
@@ -138,7 +138,7 @@ IsLevel-later m ns g p level h = record { within = h.within; ascends = h.ascends
 
 -- ---- beginnings
 
-pub BreaksNone-part : (m : Meaning) → Lawful m → (p q : List ℕ) → Within (pairs p) (pairs q) → BreaksNone m (pairs q) → BreaksNone m (pairs p)
+pub BreaksNone-part : (m : Meaning) → Lawful m → (p q : List ℕ) → IsSubset (pairs p) (pairs q) → BreaksNone m (pairs q) → BreaksNone m (pairs p)
 BreaksNone-part m law p q w h t lt = false_from_ne_true (m.breaks t (pairs p)) (λ e.
     both_ways _ (h t lt) (law.keeps t (pairs p) (pairs q) lt (OnePerStem-pairs p) (OnePerStem-pairs q) e (λ k d l _. w k d l)))
 
@@ -203,7 +203,7 @@ opens m law best p good is ahead j h =
     )
 
 -- behind a candidate that fails
-pub ahead-next : (m : Meaning) → Lawful m → (ns : List Nogood) (p : List ℕ) (c : ℕ) (set : List Pair) (r : Reason) → AreNogoods m ns → Within set (pairs p) → Ascends set → Explains m ns (pair (length p) c ∷ set) r
+pub ahead-next : (m : Meaning) → Lawful m → (ns : List Nogood) (p : List ℕ) (c : ℕ) (set : List Pair) (r : Reason) → AreNogoods m ns → IsSubset set (pairs p) → Ascends set → Explains m ns (pair (length p) c ∷ set) r
     → ((w : List ℕ) → Solves m w → NotLater (p ++ c ∷ []) w) → (w : List ℕ) → Solves m w → NotLater (p ++ (c + 1) ∷ []) w
 ahead-next m law ns p c set r ok within ascends why ahead w solves = elim (NotLater-next p c w (ahead w solves)) [
   | inl next ↦ next
@@ -252,8 +252,8 @@ union_of a a' b b' c c' set x y z h =
     let R : List Pair → Type 0 = λ s. IsUnion a' b' s set in
     subst R z (subst Q y (subst P x h))
 
-pub Within-of : (a a' b b' : List Pair) → a ≡ a' → b ≡ b' → Within a b → Within a' b'
-Within-of a a' b b' x y h = subst (λ (s : List Pair). Within a' s) y (subst (λ (s : List Pair). Within s b) x h)
+pub Within-of : (a a' b b' : List Pair) → a ≡ a' → b ≡ b' → IsSubset a b → IsSubset a' b'
+Within-of a a' b b' x y h = subst (λ (s : List Pair). IsSubset a' s) y (subst (λ (s : List Pair). IsSubset s b) x h)
 
 -- what the state says in the words of `failing`
 pub Ascends-of : (p : List ℕ) (whole : List Pair) → whole ≡ pairs p → Ascends whole
@@ -264,13 +264,13 @@ Ascends-as a b e h = subst (λ (s : List Pair). Ascends s) e h
 
 -- the state with one more candidate that fails
 pub rejected : (m : Meaning) → Lawful m → (s : State) (level : Level) (r : Reason) → IsSearching m s → length s.choice.items < m.stems → length s.top.reasons.items < m.candidates (length s.choice.items)
-    → level.reasons.items ≡ s.top.reasons.items ++ r ∷ [] → Within s.top.set.items level.set.items → Within level.set.items s.pairs.items → Ascends level.set.items
+    → level.reasons.items ≡ s.top.reasons.items ++ r ∷ [] → IsSubset s.top.set.items level.set.items → IsSubset level.set.items s.pairs.items → Ascends level.set.items
     → Explains m s.nogoods.items (pair (length s.choice.items) (length s.top.reasons.items) ∷ level.set.items) r
     → IsSearching m (record { choice = s.choice; pairs = s.pairs; levels = s.levels; top = level; nogoods = s.nogoods })
 rejected m law s level r h room lt e wider inside ascends why =
     let p = s.choice.items in
     let ns = s.nogoods.items in
-    let within : Within level.set.items (pairs p) = subst (λ (x : List Pair). Within level.set.items x) h.paired inside in
+    let within : IsSubset level.set.items (pairs p) = subst (λ (x : List Pair). IsSubset level.set.items x) h.paired inside in
     let len : length level.reasons.items ≡ length s.top.reasons.items + 1 = ap length e ∙ length_push s.top.reasons.items r in
     let each = ExplainsEach-push m ns level.set.items (length p) s.top.reasons.items r
     (ExplainsEach-wider m law ns p s.top.set.items level.set.items s.top.reasons.items h.top.ascends ascends wider within h.top.explained) why in
@@ -304,8 +304,8 @@ pub reject_all : (m : Meaning) → Lawful m → (s : State) (level : Level) (r :
     → Rejected m s (record { choice = s.choice; pairs = s.pairs; levels = s.levels; top = level; nogoods = s.nogoods })
 reject_all m law s level r core h room lt ok union e =
     let p = s.choice.items in
-    let within : Within level.set.items (pairs p) = subst (λ (x : List Pair). Within level.set.items x) h.paired union.inside in
-    let core_in : Within core (pairs p) = subst (λ (x : List Pair). Within core x) h.paired ok.inside in
+    let within : IsSubset level.set.items (pairs p) = subst (λ (x : List Pair). IsSubset level.set.items x) h.paired union.inside in
+    let core_in : IsSubset core (pairs p) = subst (λ (x : List Pair). IsSubset core x) h.paired ok.inside in
     let x = next_pair s in
     let why = Explains-wider m law s.nogoods.items (x ∷ core) (x ∷ level.set.items) r
     (one_with_top p (length s.top.reasons.items) core core_in ok.ascends) (one_with_top p (length s.top.reasons.items) level.set.items within union.ascends)
@@ -334,7 +334,7 @@ pub settled_end : (m : Meaning) (s0 s : State) → IsSearching m s → length s.
 settled_end m s0 s h room same keeps at = record { searching = h; room = room; same = same; keeps = keeps; begins = λ e. absurd (both_ways false refl e); ends = λ _. at }
 
 pub advanced : (m : Meaning) (s : State) (choice : Vec ℕ Global) (chosen : Vec Pair Global) (levels : Vec Level Global) (top : Level) → IsSearching m s → length s.choice.items < m.stems → IsBeginning m (place s)
-    → choice.items ≡ place s → chosen.items ≡ s.pairs.items ++ next_pair s ∷ [] → levels.items ≡ s.levels.items ++ s.top ∷ [] → Within top.set.items chosen.items × Ascends top.set.items → top.reasons.items ≡ []
+    → choice.items ≡ place s → chosen.items ≡ s.pairs.items ++ next_pair s ∷ [] → levels.items ≡ s.levels.items ++ s.top ∷ [] → IsSubset top.set.items chosen.items × Ascends top.set.items → top.reasons.items ≡ []
     → Advanced m s (record { choice = choice; pairs = chosen; levels = levels; top = top; nogoods = s.nogoods })
 advanced m s choice chosen levels top h room begins e1 e2 e3 e4 e5 =
     let p = s.choice.items in
@@ -368,7 +368,7 @@ advanced m s choice chosen levels top h room begins e1 e2 e3 e4 e5 =
               (subst (λ (l : List ℕ). IsLevel m ns l level) (sym t) one, ap (λ (l : Level). length l.reasons.items) same ∙ sym x)
         ];
         top = record {
-          within = subst (λ (x : List Pair). Within top.set.items x) paired e4.0;
+          within = subst (λ (x : List Pair). IsSubset top.set.items x) paired e4.0;
           ascends = e4.1;
           explained = λ k r e. absurd (none-some r (subst (λ (x : List Reason). slice_get x k ≡ Some r) e5 e));
         };
@@ -405,7 +405,7 @@ pub pairs-take : (j : ℕ) (p : List ℕ) → pairs (take j p) ≡ take j (pairs
 pairs-take j p = pairs_from-take 0 j p
 
 -- a set that ends in a pair: the rest lies before its stem
-pub before_last : (p : List ℕ) (rest : List Pair) (y : Pair) → Within (rest ++ y ∷ []) (pairs p) → Ascends (rest ++ y ∷ []) → Within rest (pairs (take y.stem p)) × Ascends rest
+pub before_last : (p : List ℕ) (rest : List Pair) (y : Pair) → IsSubset (rest ++ y ∷ []) (pairs p) → Ascends (rest ++ y ∷ []) → IsSubset rest (pairs (take y.stem p)) × Ascends rest
 before_last p rest y w a = (
   (λ k d h.
       let q = get_or rest k d in
@@ -491,7 +491,7 @@ pub record EndsAt (s : State) (rest : List Pair) (y : Pair) : Type 0 where
   pub split : s.top.set.items ≡ rest ++ y ∷ []
   pub in_choice : y.stem < length s.choice.items
   pub chosen : slice_index s.choice.items y.stem ≡ y.candidate
-  pub within : Within rest (pairs (take y.stem s.choice.items))
+  pub within : IsSubset rest (pairs (take y.stem s.choice.items))
   pub ascends : Ascends rest
 
 pub ends_at : (m : Meaning) (s : State) (n : ℕ) (d : Pair) → IsSearching m s → length s.top.set.items ≡ n + 1 → EndsAt s (take n s.top.set.items) (get_or s.top.set.items n d)
@@ -499,7 +499,7 @@ ends_at m s n d h len =
     let set = s.top.set.items in
     let y = get_or set n d in
     let e : set ≡ take n set ++ y ∷ [] = sym (take_all (n + 1) set (omega arith)) ∙ take_more set n d (omega arith) in
-    let w = subst (λ (l : List Pair). Within l (pairs s.choice.items)) e h.top.within in
+    let w = subst (λ (l : List Pair). IsSubset l (pairs s.choice.items)) e h.top.within in
     let a = subst (λ (l : List Pair). Ascends l) e h.top.ascends in
     let b = before_last s.choice.items (take n set) y w a in
     let f = from_pairs s.choice.items y (h.top.within n d (omega arith)) in
@@ -523,11 +523,11 @@ back_core m s t rest y h at r =
     let x = next_pair t in
     let same : x ≡ y = ap (λ n. pair n (length t.top.reasons.items)) e.0 ∙ ap (λ n. pair y.stem n) e.1 in
     let chosen_t : t.pairs.items ≡ pairs (take y.stem s.choice.items) = r.chosen ∙ ap (take y.stem) h.paired ∙ sym (pairs-take y.stem s.choice.items) in
-    let inside : Within rest t.pairs.items = subst (λ (l : List Pair). Within rest l) (sym chosen_t) at.within in
-    let ending : Within (rest ++ y ∷ []) (y ∷ rest) = All-push (λ q. Contains (y ∷ rest) q) rest y (Within-behind y rest) (0, omega arith, refl) in
-    let whole : Within g.set.items (y ∷ rest) = subst (λ (l : List Pair). Within l (y ∷ rest)) (sym at.split) ending in
+    let inside : IsSubset rest t.pairs.items = subst (λ (l : List Pair). IsSubset rest l) (sym chosen_t) at.within in
+    let ending : IsSubset (rest ++ y ∷ []) (y ∷ rest) = All-push (λ q. Contains (y ∷ rest) q) rest y (Within-behind y rest) (0, omega arith, refl) in
+    let whole : IsSubset g.set.items (y ∷ rest) = subst (λ (l : List Pair). IsSubset l (y ∷ rest)) (sym at.split) ending in
     let new : slice_get t.nogoods.items (length ns) ≡ Some g = subst (λ (l : List Nogood). slice_get l (length ns) ≡ Some g) (sym r.nogoods) (slice_get-new ns g) in
-    record { inside = inside; ascends = at.ascends; explained = (g, new, subst (λ (q : Pair). Within g.set.items (q ∷ rest)) (sym same) whole) }
+    record { inside = inside; ascends = at.ascends; explained = (g, new, subst (λ (q : Pair). IsSubset g.set.items (q ∷ rest)) (sym same) whole) }
 
 pub back_counts : (m : Meaning) → Lawful m → (s t u : State) (rest : List Pair) (y : Pair) → IsSearching m s → length s.choice.items < m.stems → length s.top.reasons.items ≡ m.candidates (length s.choice.items)
     → EndsAt s rest y → Restored s t y.stem → Rejected m t u → KeepsCount m s u
@@ -651,11 +651,11 @@ judged_core m s more ns whole r core a b e h =
     subst R e (subst Q b (subst P a h))
 
 -- the set with which a stem is begun
-pub first_as : (m : Meaning) (s : State) (pushed seen set top : List Pair) → IsSearching m s → pushed ≡ s.pairs.items ++ next_pair s ∷ [] → seen ≡ pushed → top ≡ set → Within set seen × (Ascends seen → Ascends set) → Within top pushed × Ascends top
+pub first_as : (m : Meaning) (s : State) (pushed seen set top : List Pair) → IsSearching m s → pushed ≡ s.pairs.items ++ next_pair s ∷ [] → seen ≡ pushed → top ≡ set → IsSubset set seen × (Ascends seen → Ascends set) → IsSubset top pushed × Ascends top
 first_as m s pushed seen set top h e f g (within, up) =
     let paired : pushed ≡ pairs (place s) = e ∙ ap (λ l. l ++ next_pair s ∷ []) h.paired ∙ sym (pairs-push s.choice.items (length s.top.reasons.items)) in
     let ascends : Ascends seen = Ascends-as pushed seen (sym f) (Ascends-of (place s) pushed paired) in
     (Within-of set top seen pushed (sym g) f within, Ascends-as set top (sym g) (up ascends))
 
-pub same_set : (set whole : List Pair) → set ≡ whole → Within set whole × (Ascends whole → Ascends set)
-same_set set whole e = (subst (λ (s : List Pair). Within set s) e (Within-self set), λ up. Ascends-as whole set (sym e) up)
+pub same_set : (set whole : List Pair) → set ≡ whole → IsSubset set whole × (Ascends whole → Ascends set)
+same_set set whole e = (subst (λ (s : List Pair). IsSubset set s) e (Within-self set), λ up. Ascends-as whole set (sym e) up)

@@ -2,7 +2,7 @@
 use Rattle.std.specs.Prelude.{◌≡◌, ℕ, zero, suc, ◌+◌, ◌<◌, ◌≤◌, List, [], ◌∷◌, ◌++◌, length, take, get_or, slice_get, slice_index, All, Option, Some, None, Bool, true, IsTrue, IsFalse}
 use Rattle.ips_refute.specs.declared.nogoods.Pair.{Pair}
 use Rattle.ips_refute.specs.declared.nogoods.Nogood.{Nogood}
-use Rattle.ips_refute.specs.Meaning.{Meaning, Ascends, Within, IsBeginning, BreaksNone, Solves, pairs}
+use Rattle.ips_refute.specs.Meaning.{Meaning, Ascends, IsSubset, IsBeginning, BreaksNone, Solves, pairs}
 use Rattle.ips_refute.specs.Refuting.{Explains, ExplainsEach, AreNogoods, IsTidyRefutation}
 use Rattle.ips_refute.specs.declared.nogoods.Reason.{Reason}
 use Rattle.ips_search.specs.declared.state.Failure.{Failure}
@@ -15,7 +15,7 @@ use Rattle.ips_search.specs.Beginnings.{own, sum_below, beginnings_from}
 
 -- why each candidate at a stem that was tried fails, after the choice for the stems before it
 pub record IsLevel (m : Meaning) (nogoods : List Nogood) (choice : List ℕ) (level : Level) : Type 0 where
-  pub within : Within level.set.items (pairs choice)
+  pub within : IsSubset level.set.items (pairs choice)
   pub ascends : Ascends level.set.items
   pub explained : ExplainsEach m nogoods level.set.items (length choice) level.reasons.items
 
@@ -48,7 +48,7 @@ pub record IsCounted (m : Meaning) (s : State) (count : ℕ) : Type 0 where
 
 -- part of the choice with which the new pair fails for the reason
 pub record IsCore (m : Meaning) (nogoods : List Nogood) (whole : List Pair) (more : Pair) (reason : Reason) (core : List Pair) : Type 0 where
-  pub inside : Within core whole
+  pub inside : IsSubset core whole
   pub ascends : Ascends core
   pub explained : Explains m nogoods (more ∷ core) reason
 
@@ -115,7 +115,7 @@ IsJudged m s (Some failure) = IsCore m s.nogoods.items s.pairs.items (next_pair 
 
 -- the set is the new pair behind pairs of the choice
 abbrev pub EndsWith : List Pair → List Pair → Pair → Type 0
-EndsWith set chosen more = (rest : List Pair) × (set ≡ rest ++ more ∷ []) × Within rest chosen
+EndsWith set chosen more = (rest : List Pair) × (set ≡ rest ++ more ∷ []) × IsSubset rest chosen
 
 -- the choice with the new pair has the set of that nogood, and the new pair ends it
 abbrev pub HasKept : List Nogood → List Pair → Pair → ℕ → Type 0
@@ -124,7 +124,7 @@ HasKept nogoods chosen more n = (g : Nogood) × (slice_get nogoods n ≡ Some g)
 -- the test is broken with a front of the choice beside the pairs that are kept, which all come behind it
 pub record IsKept (m : Meaning) (whole : List Pair) (more : Pair) (test front : ℕ) (kept : List Pair) : Type 0 where
   pub bounded : front ≤ length whole
-  pub inside : Within kept whole
+  pub inside : IsSubset kept whole
   pub ascends : Ascends kept
   pub behind : (k j : ℕ) (d e : Pair) → k < length kept → j < front → (get_or whole j e).stem < (get_or kept k d).stem
   pub broken : m.breaks test (more ∷ (take front whole ++ kept)) ≡ true

@@ -1,7 +1,7 @@
 //! Why a candidate fails, and on which pairs of the choice that rests.
 
 ghost use Rattle.std.specs.Prelude.{◌≡◌, ◌<◌, ◌≤◌, ◌≢◌, ◌-◌, ◌∷◌, ◌++◌, [], length, take, true, List, All, Contains, IfOk, IfSome, IsTrue, MatchOption, Some, slice_get};
-ghost use Rattle.ips_refute.specs.Meaning.{Ascends, BreaksNone, IsBeginning, IsOffered, Meaning, OnePerStem, Within, pairs};
+ghost use Rattle.ips_refute.specs.Meaning.{Ascends, BreaksNone, IsBeginning, IsOffered, Meaning, OnePerStem, IsSubset, pairs};
 ghost use Rattle.ips_refute.specs.declared.nogoods.Nogood as declared;
 ghost use Rattle.ips_search.specs.Indexing.{IsIndexed};
 ghost use Rattle.ips_search.specs.Searching.{EndsWith, HasKept, IsCore, IsKept};
@@ -44,7 +44,7 @@ fn is_with_choice(set: &[Pair], chosen: &[Pair], more: Pair) -> bool
 
 /// Whether the choice has these pairs.
 pub fn are_chosen(few: &[Pair], chosen: &[Pair]) -> bool
-    ensures { IsTrue result → Within few.now chosen.now }
+    ensures { IsTrue result → IsSubset few.now chosen.now }
 {
     for q in few {
         if !is_chosen(chosen, *q) {

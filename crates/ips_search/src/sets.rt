@@ -1,7 +1,7 @@
 //! Sets of pairs by ascending stem.
 
 ghost use Rattle.std.specs.Prelude.{◌≡◌, ◌∷◌, [], List, IfOk, IfNone, IfSome};
-ghost use Rattle.ips_refute.specs.Meaning.{Ascends, Within};
+ghost use Rattle.ips_refute.specs.Meaning.{Ascends, IsSubset};
 ghost use Rattle.ips_refute.specs.declared.nogoods.Pair as declared;
 ghost use Rattle.ips_search.specs.Merging.{IsLeast, IsUnion};
 
@@ -12,7 +12,7 @@ use std::alloc::{AllocError, Global};
 pub fn union(alloc: Global, first: &[Pair], second: &[Pair]) -> Result<Vec<Pair>, AllocError>
     requires first { Ascends first.now }
     requires second { Ascends second.now }
-    ensures { IfOk result (λ set. (whole : List declared.Pair) → Ascends whole → Within first.now whole → Within second.now whole → IsUnion whole first.now second.now set.items) }
+    ensures { IfOk result (λ set. (whole : List declared.Pair) → Ascends whole → IsSubset first.now whole → IsSubset second.now whole → IsUnion whole first.now second.now set.items) }
 {
     let mut set = Vec::with_capacity(alloc, first.len())?;
     let mut left = first;

@@ -1,7 +1,7 @@
 //! The steps of a search.
 
 ghost use Rattle.std.specs.Prelude.{◌≡◌, ℕ, ◌<◌, ◌^◌, ◌∷◌, ◌++◌, [], length, IfOk, OnOk, true};
-ghost use Rattle.ips_refute.specs.Meaning.{Ascends, IsBeginning, Within};
+ghost use Rattle.ips_refute.specs.Meaning.{Ascends, IsBeginning, IsSubset};
 ghost use Rattle.ips_search.specs.Searching.{IsSearching, IsGuide, IsCore, IsJudged, Rejected, Settled, Retreated, Restored, Moved, Advanced, place, next_pair, top_nogood};
 ghost use Rattle.ips_search.specs.Indexing.{IsIndexed};
 
@@ -172,7 +172,7 @@ fn settle<P: Puzzle, A: Adviser>(
 
 // On which pairs the failure of a stem rests before any candidate was tried: on none, or without learning on the whole choice.
 fn first_set(alloc: Global, guide: &Guide, pairs: &[Pair]) -> Result<Vec<Pair>, AllocError>
-    ensures { IfOk result (λ set. Within set.items pairs.now × (Ascends pairs.now → Ascends set.items)) }
+    ensures { IfOk result (λ set. IsSubset set.items pairs.now × (Ascends pairs.now → Ascends set.items)) }
 {
     if guide.learns {
         return Ok(Vec::new(alloc));

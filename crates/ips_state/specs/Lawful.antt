@@ -1,7 +1,7 @@
 -- The states that records have texts for.
 use Rattle.std.specs.Prelude.{◌≡◌, ◌⊎◌, ℕ, false, List, [], ◌∷◌, map, IfSome}
 use Rattle.std.specs.List.{AllByRecursion}
-use Rattle.ips_index.specs.Text.{AreRows}
+use Rattle.ips_index.specs.Text.{AreIndexRows}
 use Rattle.ips_fmri.specs.Name.{IsPublisher, IsStem}
 use Rattle.ips_fmri.specs.declared.fmri.Fmri.{Fmri}
 use Rattle.ips_filter.specs.Settings.{Set, IsSet}
@@ -64,4 +64,4 @@ pub record IsLawful (r : Recorded) : Type 0 where
   pub freeze : AreVersioned r.freeze
   pub mediators : AreMediators r.mediators
   pub history : AllByRecursion IsRequestLine r.history
-  pub index : IfSome r.index AreRows
+  pub index : IfSome r.index AreIndexRows

@@ -5,7 +5,7 @@ use Rattle.std.specs.List.Sorted.{IsPermutation}
 use Rattle.std.specs.Str.{bytes_eq}
 use Rattle.ips_text.specs.Quote.{quoted}
 use Rattle.ips_manifest.specs.Manifest.{manifest_text}
-use Rattle.ips_index.specs.Rows.{Row, index_text}
+use Rattle.ips_index.specs.Rows.{IndexedValue, index_text}
 use Rattle.ips_state.specs.declared.state.Record.{Record}
 use Rattle.ips_state.specs.State.{Installed, Recorded, head_of, Ascend}
 use Rattle.ips_records.specs.Lines.{lines_text}
@@ -68,7 +68,7 @@ abbrev pub entry_of : Record → Entry
 entry_of r = (r.path.bytes, r.bytes.items)
 
 -- The record of the index, where there is one.
-abbrev pub index_records : Option (List Row) → List Entry
+abbrev pub index_records : Option (List IndexedValue) → List Entry
 index_records None = []
 index_records (Some rows) = (index_path, index_text rows) ∷ []
 
@@ -110,8 +110,8 @@ abbrev pub package_place : Bool → List ℕ → List ℕ
 package_place true stem = manifest_path stem
 package_place false stem = package_path stem
 
--- What is taken away with all below it: the record of each package that is gone, or, where format 2 comes in place of format 1
--- (the first flag tells that the old format is 1, the second that the new one is), the list and the folder of that.
+-- What is taken away with all below it: the record of each package that is gone, or the list and the folder of format 1, where format 2
+-- comes in its place. The first flag tells that the old format is 1, the second that the new one is.
 abbrev pub taken_by : Bool → Bool → List Installed → List Installed → List (List ℕ)
 taken_by true true old new = map manifest_path (gone_stems old new)
 taken_by true false old new = installed_path ∷ manifests_path ∷ []

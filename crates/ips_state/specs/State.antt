@@ -10,7 +10,7 @@ use Rattle.ips_manifest.specs.declared.line.Line.{Line}
 use Rattle.ips_manifest.specs.declared.package.Package.{Package}
 use Rattle.ips_filter.specs.Settings.{Set}
 use Rattle.ips_mediate.specs.declared.set.SetMediator.{SetMediator}
-use Rattle.ips_index.specs.Rows.{Row}
+use Rattle.ips_index.specs.Rows.{IndexedValue}
 use Rattle.ips_state.specs.declared.state.Origin.{Origin}
 use Rattle.ips_state.specs.declared.state.State.{State}
 
@@ -34,7 +34,7 @@ pub record Head : Type 0 where
   pub settings : Set
 
 -- What an image records: what it is by itself, the installed packages, the stems that are avoided, those that are kept at a
--- version, what is set of mediators, a line for each request that was carried out, and the rows of its index where it has one.
+-- version, and what is set of mediators; a line for each request that was carried out; and the rows of its index, where it has one.
 pub record Recorded : Type 0 where
   pub format : ℕ
   pub publisher : List ℕ
@@ -46,7 +46,7 @@ pub record Recorded : Type 0 where
   pub freeze : List Fmri
   pub mediators : List SetMediator
   pub history : List (List ℕ)
-  pub index : Option (List Row)
+  pub index : Option (List IndexedValue)
 
 -- What the image of these records is by itself.
 abbrev pub head_of : Recorded → Head

@@ -5,7 +5,7 @@ use Rattle.std.proofs.Math.Bool.{and-true}
 use Rattle.ips_text.specs.Ancestry.{same_path, covers}
 use Rattle.ips_outside.specs.Image.{Entry, Dir, File, Link, Image, is_file, with_mode, has_parent}
 use Rattle.ips_outside.specs.Change.{names}
-use Rattle.ips_steps.specs.Steps.{Step, Gone, Fresh, Mode, Put, Symlink, Hard, Stage, bytes_of, laid, all_laid, can_lay, possible, frees, freed, parent_freed, sound_before, sound, path_of, named, distinct}
+use Rattle.ips_steps.specs.Steps.{Step, Gone, Fresh, Mode, Put, Symlink, Hard, Stage, content_bytes, laid, all_laid, can_lay, possible, frees, freed, parent_freed, sound_before, sound, path_of, named, distinct}
 use Rattle.ips_steps.specs.Outcome.{back, source, made, with_modes, bare, bare_same, outcome, mode_or, last_mode, given, makes_at, IsLaidByPath}
 use Rattle.ips_text.proofs.Ancestry.{same_path-true, same_path-self, covers-self}
 use Rattle.ips_outside.proofs.Agree.{mode_over, is_file-alike}
@@ -54,7 +54,7 @@ abbrev entry_of : Stage → Step → Option Entry
 entry_of stage (Gone p) = None
 entry_of stage (Fresh m p) = Some (Dir m false)
 entry_of stage (Mode m p) = None
-entry_of stage (Put n m p) = Some (File m (bytes_of (stage n)))
+entry_of stage (Put n m p) = Some (File m (content_bytes (stage n)))
 entry_of stage (Symlink p target) = Some (Link target)
 entry_of stage (Hard p to) = None
 

@@ -3,8 +3,8 @@ use Rattle.std.proofs.Common.{◌≡◌, ℕ, Bool, true, false, cond, not, ◌&
 use Rattle.std.proofs.lemmas.Bool.{and_parts, and_from, and_right, or_from, not-true, false_from_ne_true}
 use Rattle.ips_text.specs.Ancestry.{same_path, covers, parent}
 use Rattle.ips_outside.specs.Image.{Entry, Dir, File, Link, Image, is_file, with_mode, has_parent, dir_or_none}
-use Rattle.ips_outside.specs.Change.{placed, joined, moded, names}
-use Rattle.ips_steps.specs.Steps.{Step, Gone, Fresh, Mode, Put, Symlink, Hard, Stage, bytes_of, laid, all_laid, can_lay, possible, frees, freed, at_parent, parent_freed, sound_before, sound, path_of, named, distinct}
+use Rattle.ips_outside.specs.Change.{with_entry_at, joined, moded, names}
+use Rattle.ips_steps.specs.Steps.{Step, Gone, Fresh, Mode, Put, Symlink, Hard, Stage, content_bytes, laid, all_laid, can_lay, possible, frees, freed, at_parent, parent_freed, sound_before, sound, path_of, named, distinct}
 use Rattle.ips_steps.specs.Outcome.{source, made, with_modes, bare, bare_same, outcome, all_fit}
 use Rattle.ips_text.proofs.Ancestry.{same_path-true, uncovered, covers-parent, same_covers}
 use Rattle.ips_outside.proofs.Agree.{is_dir-alike, is_file-alike}
@@ -38,23 +38,23 @@ module _ (stage : Stage) (p : List ℕ) (e : Option Entry) (t : Image) (rest : L
   met false false cr sp sr true f y e1 e2 e3 e4 = refl
   met false false cr sp sr false f y e1 e2 e3 e4 = rw e1 refl
 
-  pub placed_look : (r : List ℕ) → bare stage rest (placed p e t) r ≡ cond (wide r) (cond (same_path p r) e (made stage rest r)) (with_modes wide rest t r (t.look r))
+  pub placed_look : (r : List ℕ) → bare stage rest (with_entry_at p e t) r ≡ cond (wide r) (cond (same_path p r) e (made stage rest r)) (with_modes wide rest t r (t.look r))
   placed_look r = go (freed rest r) refl (covers p r) refl (same_path p r) refl
     where
       go : (f : Bool) → freed rest r ≡ f → (c : Bool) → covers p r ≡ c → (s : Bool) → same_path p r ≡ s
-          → cond f (made stage rest r) (with_modes (freed rest) rest (placed p e t) r (cond s e (cond c None (t.look r)))) ≡ cond (c || f) (cond s e (made stage rest r)) (with_modes wide rest t r (t.look r))
+          → cond f (made stage rest r) (with_modes (freed rest) rest (with_entry_at p e t) r (cond s e (cond c None (t.look r)))) ≡ cond (c || f) (cond s e (made stage rest r)) (with_modes wide rest t r (t.look r))
       go true isf true isc true iss =
           let is = same_path-true p r iss in
           ap (made stage rest) (sym is) ∙ made_unnamed stage rest p new ∙ sym (settled (ap (freed rest) is ∙ isf))
       go true isf true isc false iss = refl
       go true isf false isc true iss = clash _ (same_covers p r iss) isc
       go true isf false isc false iss = refl
-      go false isf true isc true iss = modes_still (freed rest) (placed p e t) rest r e (λ x on.
+      go false isf true isc true iss = modes_still (freed rest) (with_entry_at p e t) rest r e (λ x on.
           let apart = other rest p x new on in
           unmet (same_path x r) (same_path p x) (covers p x) (covers p r) (same_path p r) (is_file e) (t.same x r) isc (ap (same_path x) (sym (same_path-true p r iss)) ∙ flip p x apart) apart)
-      go false isf true isc false iss = modes_none (freed rest) (placed p e t) rest r ∙ sym (made_kept stage rest r isf)
+      go false isf true isc false iss = modes_none (freed rest) (with_entry_at p e t) rest r ∙ sym (made_kept stage rest r isf)
       go false isf false isc true iss = clash _ (same_covers p r iss) isc
-      go false isf false isc false iss = modes_alike (freed rest) wide (placed p e t) t rest r r (t.look r) (λ x on.
+      go false isf false isc false iss = modes_alike (freed rest) wide (with_entry_at p e t) t rest r r (t.look r) (λ x on.
           met (freed rest x) (covers p x) (covers p r) (same_path p x) (same_path p r) (same_path x r) (is_file e) (t.same x r) isc (λ s c. ap (covers p) (sym (same_path-true x r s)) ∙ c) (same_covers p x) iss)
 
   table : (fa fb ca cb sa sb x y : Bool) (m : Option Entry) → (fa ≡ false → m ≡ None) → (sa ≡ true → m ≡ None) → (sa ≡ true → fa ≡ true → e ≡ None) → (sa ≡ true → x ≡ sb) → (x ≡ true → fa ≡ fb)
@@ -76,7 +76,7 @@ module _ (stage : Stage) (p : List ℕ) (e : Option Entry) (t : Image) (rest : L
   table false false false true true sb x y m h1 h2 h3 h4 h5 = rw (h4 refl) refl
   table false false false true false sb x y m h1 h2 h3 h4 h5 = rw (h1 refl) (sym (and_right x false refl))
 
-  pub placed_same : (a b : List ℕ) → bare_same stage rest (placed p e t) a b ≡ cond (wide a || wide b) (same_path a b && is_file (cond (same_path p a) e (made stage rest a))) (t.same a b)
+  pub placed_same : (a b : List ℕ) → bare_same stage rest (with_entry_at p e t) a b ≡ cond (wide a || wide b) (same_path a b && is_file (cond (same_path p a) e (made stage rest a))) (t.same a b)
   placed_same a b = table (freed rest a) (freed rest b) (covers p a) (covers p b) (same_path p a) (same_path p b) (same_path a b) (t.same a b) (made stage rest a)
       (made_kept stage rest a)
       (λ s. ap (made stage rest) (sym (same_path-true p a s)) ∙ made_unnamed stage rest p new)
@@ -205,7 +205,7 @@ outcome_next stage (Fresh m p) rest t n so new ok =
     let settled = placed_next stage p (Dir m false) t rest (not-true _ so) new in
     image_ext _ _ (λ q. placed_look stage p _ t rest new settled (source rest q)) (λ a b. placed_same stage p _ t rest new settled (source rest a) (source rest b))
 outcome_next stage (Put k m p) rest t n so new ok =
-    let settled = placed_next stage p (File m (bytes_of (stage k))) t rest (not-true _ so) new in
+    let settled = placed_next stage p (File m (content_bytes (stage k))) t rest (not-true _ so) new in
     image_ext _ _ (λ q. placed_look stage p _ t rest new settled (source rest q)) (λ a b. placed_same stage p _ t rest new settled (source rest a) (source rest b))
 outcome_next stage (Symlink p target) rest t n so new ok =
     let settled = placed_next stage p (Link target) t rest (not-true _ so) new in

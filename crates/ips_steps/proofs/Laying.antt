@@ -3,7 +3,7 @@ use Rattle.std.proofs.Common.{◌≡◌, ℕ, Bool, true, false, cond, not, ◌&
 use Rattle.std.proofs.lemmas.Bool.{and_parts, and_from, or_parts, or_from, not-true}
 use Rattle.ips_text.specs.Ancestry.{same_path, covers, parent}
 use Rattle.ips_outside.specs.Image.{Entry, Image, Agrees, is_file, has_parent, dir_or_none}
-use Rattle.ips_outside.specs.Change.{placed, joined}
+use Rattle.ips_outside.specs.Change.{with_entry_at, joined}
 use Rattle.ips_steps.specs.Steps.{Step, Gone, Fresh, Mode, Put, Symlink, Hard, Stage, laid, frees, freed, at_parent, meets, met}
 use Rattle.ips_text.proofs.Ancestry.{uncovered, covers-parent}
 use Rattle.ips_outside.proofs.Agree.{is_dir-alike, is_file-alike}
@@ -15,7 +15,7 @@ placed_twin : (cx sx ca sa cb sb f x y : Bool) → ca ≡ false → sa ≡ false
 placed_twin true sx ca sa cb sb f x y e1 e2 e3 e4 e5 = rw (e2, e4) refl
 placed_twin false sx ca sa cb sb f x y e1 e2 e3 e4 e5 = rw (e1, e3, e5) refl
 
-placed_twins : (p : List ℕ) (e : Option Entry) (t : Image) (a b : List ℕ) → Twins t a b → covers p a ≡ false → covers p b ≡ false → Twins (placed p e t) a b
+placed_twins : (p : List ℕ) (e : Option Entry) (t : Image) (a b : List ℕ) → Twins t a b → covers p a ≡ false → covers p b ≡ false → Twins (with_entry_at p e t) a b
 placed_twins p e t a b h ca cb = record {
   alike = λ x. placed_twin (covers p x) (same_path p x) _ _ _ _ (is_file e) _ _ ca (uncovered p a ca) cb (uncovered p b cb) (h.alike x);
   there = rw (ca, cb) h.there;

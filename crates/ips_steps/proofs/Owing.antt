@@ -5,8 +5,8 @@ use Rattle.std.proofs.lemmas.Bool.{and_parts, or_parts, or_from, cases_lt, false
 use Rattle.std.proofs.lemmas.List.{drop-drop}
 use Rattle.ips_text.specs.Ancestry.{covers}
 use Rattle.ips_outside.specs.Image.{Entry, Dir, File, Link, Other, Image, Agrees, with_mode, file_bytes}
-use Rattle.ips_outside.specs.Change.{placed}
-use Rattle.ips_outside.specs.State.{State, MayLeave, Within, IsSettled, nowhere, untouched, settled}
+use Rattle.ips_outside.specs.Change.{with_entry_at}
+use Rattle.ips_outside.specs.State.{State, MayLeave, ChangedWithin, IsSettled, nowhere, untouched, settled}
 use Rattle.ips_steps.specs.Steps.{Step, Stage, stage_name, stage_path, stage_of, all_laid, after, possible, sound, sound_before, freed, met}
 use Rattle.ips_steps.specs.Private.{journal_name, gate_name, mark_front, mark_name, is_private, visible}
 use Rattle.ips_steps.specs.Journal.{allowed, step_allowed}
@@ -71,7 +71,7 @@ unfolding gate_name mark_front
 marks_off k = refl
 
 -- what a crash leaves where the gate alone was changed and touched
-gate_crash : (old s : State) (c : Image) → IsSettled old → Within (covers gate_name) nowhere old s → MayLeave s c → Agrees (covers gate_name) nowhere old.held c
+gate_crash : (old s : State) (c : Image) → IsSettled old → ChangedWithin (covers gate_name) nowhere old s → MayLeave s c → Agrees (covers gate_name) nowhere old.held c
 gate_crash old s c clean w may = agrees_less _ _ _ _ old.held c (λ q f. or_from _ _ f (clean.whole q)) (λ q l. or_from false _ refl (clean.modes q)) (within_crash (covers gate_name) nowhere old s c w may)
 
 not_at_gate : (q : List ℕ) → is_private q ≡ false → covers gate_name q ≡ false
@@ -81,8 +81,8 @@ gate_visible : (t u : Image) → Agrees (covers gate_name) nowhere t u → visib
 gate_visible t u h = visible_agrees t u (agrees_less _ _ _ _ t u not_at_gate (λ q l. refl) h)
 
 -- the gate gone, the image is seen
-pub closed_seen : (t : Image) → visible (placed gate_name None t) ≡ visible t
-closed_seen t = gate_visible t (placed gate_name None t) (placed_within gate_name None t)
+pub closed_seen : (t : Image) → visible (with_entry_at gate_name None t) ≡ visible t
+closed_seen t = gate_visible t (with_entry_at gate_name None t) (placed_within gate_name None t)
 
 mark_gate_off : (k : ℕ) → covers (mark_name k) gate_name ≡ false
 unfolding mark_front gate_name
@@ -151,7 +151,7 @@ module _ (text : List Step → List ℕ) (steps : List Step) (marks : ℕ) (a : 
 
   -- From an open gate with nothing touched, whatever the steps have changed and touched so far, the folder owes the same.
   pub owes_laying : (b : Image) (due : Bool) (old s : State) → IsOpen text steps marks a old.held → HasNodes old.held → IsSettled old
-      → Within (freed left) (λ q. freed left q || met (stage_of old.held) left old.held q) old s → FolderOwes text b (Some a) due s
+      → ChangedWithin (freed left) (λ q. freed left q || met (stage_of old.held) left old.held q) old s → FolderOwes text b (Some a) due s
   owes_laying b due old s o n clean w = record {
     now = Open steps marks (open_laying old.held s.held o n (agrees_kept _ _ old.held s.held w.agrees));
     left = λ c may.
@@ -168,7 +168,7 @@ module _ (text : List Step → List ℕ) (steps : List Step) (marks : ℕ) (a : 
       (same_marks t u marks (λ i. h.but_mode (mark_name i) (marks_off i)) r.marked)
       (agrees_less _ _ _ _ t u (λ q f. not_at_gate q (or_parts (freed left q) (is_private q) f).1) (λ q l. refl) h)
 
-  module _ (old s : State) (r : IsReady text steps marks a old.held) (n : HasNodes old.held) (clean : IsSettled old) (w : Within (covers gate_name) nowhere old s) where
+  module _ (old s : State) (r : IsReady text steps marks a old.held) (n : HasNodes old.held) (clean : IsSettled old) (w : ChangedWithin (covers gate_name) nowhere old s) where
     -- As the gate opens, before its sync: the old image, or the steps that mean the new one.
     pub owes_opening : FolderOwes text (visible old.held) (Some a) false s
     owes_opening = record { now = either s.held w.agrees; left = λ c may. either c (gate_crash old s c clean w may) }
@@ -266,7 +266,7 @@ module _ (text : List Step → List ℕ) (steps : List Step) (marks : ℕ) (a : 
   -- As a mark is made, before its sync, the folder owes the same.
   pub owes_marking : (b : Image) (due : Bool) (old s : State) → IsOpen text steps marks a old.held → HasNodes old.held → IsSettled old → marks + 2 < 2 ^ 64
       → possible (stage_of old.held) (steps_left (marks + 1) steps) old.held ≡ true → visible (after (steps_left (marks + 1) steps) old.held) ≡ a
-      → old.held.look (mark_name (marks + 2)) ≡ None → Within (covers (mark_name (marks + 1))) nowhere old s → FolderOwes text b (Some a) due s
+      → old.held.look (mark_name (marks + 2)) ≡ None → ChangedWithin (covers (mark_name (marks + 1))) nowhere old s → FolderOwes text b (Some a) due s
   owes_marking b due old s o n clean few can means bare w = record {
     now = either_mark old.held o n few can means bare s.held w.agrees b due;
     left = λ c may. either_mark old.held o n few can means bare c
@@ -329,7 +329,7 @@ closed_owes text b a due s t p shut off same closed (Open steps marks o) = absur
 closed_owes text b a due s t p shut off same closed (New gone seen) = subst (λ (x : Image). FolderOwes text b (Some x) due s) (same ∙ seen) (folder_new text s p shut off b due)
 
 pub owes_sweeping : (text : List Step → List ℕ) (b : Image) (a : Option Image) (due : Bool) (free : List ℕ → Bool) (old s : State) → Owes text b a due old.held → old.held.look gate_name ≡ None
-    → IsSettled old → ((q : List ℕ) → free q ≡ true → is_private q ≡ true) → free gate_name ≡ false → Within free nowhere old s → FolderOwes text b a due s
+    → IsSettled old → ((q : List ℕ) → free q ≡ true → is_private q ≡ true) → free gate_name ≡ false → ChangedWithin free nowhere old s → FolderOwes text b a due s
 owes_sweeping text b a due free old s owes shut clean own off w = closed_owes text b a due s old.held
     (record { whole = λ q is. private_whole q is (free q) refl; modes = λ q is. clash (s.modes q) is (w.modes q refl (clean.modes q)) })
     (none_alike _ _ (sym (w.agrees.but_mode gate_name off)) shut)

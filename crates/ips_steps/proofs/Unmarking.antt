@@ -3,7 +3,7 @@ use Rattle.std.proofs.Common.{◌≡◌, ◌≢◌, ℕ, zero, suc, ◌+◌, ◌
 use Rattle.std.proofs.lemmas.Bool.{or_from, cases_lt, false_from_ne_true}
 use Rattle.std.proofs.lemmas.List.{drop_all, length-drop}
 use Rattle.ips_outside.specs.Image.{Entry, Image, Agrees, file_bytes}
-use Rattle.ips_outside.specs.State.{State, Within, IsSettled, nowhere}
+use Rattle.ips_outside.specs.State.{State, ChangedWithin, IsSettled, nowhere}
 use Rattle.ips_steps.specs.Steps.{Step, stage_of, after, possible}
 use Rattle.ips_steps.specs.Private.{journal_name, gate_name, mark_front, mark_name, begins, visible}
 use Rattle.ips_steps.specs.Owed.{AreMarks, steps_left, IsOpen, Owes, Open, FolderOwes}
@@ -97,7 +97,7 @@ module _ (steps : List Step) (marks kept : ℕ) (t u : Image) (were : AreMarks t
 -- While such names go, other than the first ones and the next one, which doesn't stand, the folder owes the same.
 pub owes_unmarking : (text : List Step → List ℕ) (steps : List Step) (marks kept : ℕ) (b a : Image) (due : Bool) (free : List ℕ → Bool) (old s : State) → IsOpen text steps marks a old.held → IsSettled old
     → steps_left kept steps ≡ steps_left marks steps → ((q : List ℕ) → free q ≡ true → begins mark_front q ≡ true) → ((i : ℕ) → i < kept → free (mark_name (i + 1)) ≡ false) → free (mark_name (marks + 1)) ≡ false
-    → Within free nowhere old s → FolderOwes text b (Some a) due s
+    → ChangedWithin free nowhere old s → FolderOwes text b (Some a) due s
 owes_unmarking text steps marks kept b a due free old s o clean same own first next w = record {
   now = owes s.held w.agrees;
   left = λ c may. owes c (agrees_less _ _ free nowhere old.held c (λ q f. or_from _ _ f (clean.whole q)) (λ q l. or_from false _ refl (clean.modes q)) (within_crash free nowhere old s c w may));

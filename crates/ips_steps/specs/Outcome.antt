@@ -3,7 +3,7 @@ use Rattle.std.specs.Prelude.{◌≡◌, ℕ, Bool, true, false, cond, not, ◌&
 use Rattle.ips_text.specs.Ancestry.{same_path}
 use Rattle.ips_outside.specs.Image.{Entry, Dir, File, Link, Image, is_file, with_mode}
 use Rattle.ips_outside.specs.Change.{names}
-use Rattle.ips_steps.specs.Steps.{Step, Gone, Fresh, Mode, Put, Symlink, Hard, Stage, bytes_of, freed, can_lay}
+use Rattle.ips_steps.specs.Steps.{Step, Gone, Fresh, Mode, Put, Symlink, Hard, Stage, content_bytes, freed, can_lay}
 
 -- the path that a step's file comes from: at a hard link's own path its target, else the path itself
 abbrev pub back : Step → List ℕ → List ℕ
@@ -26,7 +26,7 @@ made stage (Gone p ∷ rest) q = made stage rest q
 made stage (Mode m p ∷ rest) q = made stage rest q
 made stage (Hard p to ∷ rest) q = made stage rest q
 made stage (Fresh m p ∷ rest) q = cond (same_path p q) (Some (Dir m false)) (made stage rest q)
-made stage (Put n m p ∷ rest) q = cond (same_path p q) (Some (File m (bytes_of (stage n)))) (made stage rest q)
+made stage (Put n m p ∷ rest) q = cond (same_path p q) (Some (File m (content_bytes (stage n)))) (made stage rest q)
 made stage (Symlink p target ∷ rest) q = cond (same_path p q) (Some (Link target)) (made stage rest q)
 
 -- what stands at a path, with the modes that the list sets at kept names of its directory or file, one after another
@@ -99,7 +99,7 @@ pub record IsLaidByPath (stage : Stage) (steps : List Step) (t u : Image) : Type
   -- a directory is made
   pub fresh : (m : ℕ) (p : List ℕ) → Contains steps (Fresh m p) → u.look p ≡ Some (Dir m false)
   -- a file is put, with a node that it shares with nothing but hard links that lead to it
-  pub put : (n m : ℕ) (p : List ℕ) → Contains steps (Put n m p) → u.look p ≡ Some (File m (bytes_of (stage n)))
+  pub put : (n m : ℕ) (p : List ℕ) → Contains steps (Put n m p) → u.look p ≡ Some (File m (content_bytes (stage n)))
   pub own_node : (n m : ℕ) (p : List ℕ) → Contains steps (Put n m p) → (q : List ℕ) → u.same p q ≡ same_path p (source steps q)
   -- a symbolic link is made
   pub symlink : (p target : List ℕ) → Contains steps (Symlink p target) → u.look p ≡ Some (Link target)

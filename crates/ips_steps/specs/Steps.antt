@@ -4,7 +4,7 @@ use Rattle.std.specs.Fmt.{decimal}
 use lib.Chars.{codes}
 use Rattle.ips_text.specs.Ancestry.{same_path, covers, parent}
 use Rattle.ips_outside.specs.Image.{Dir, File, Link, Image, is_file, file_bytes, has_parent}
-use Rattle.ips_outside.specs.Change.{placed, joined, moded, names}
+use Rattle.ips_outside.specs.Change.{with_entry_at, joined, moded, names}
 
 -- A step takes away what is at and below its path, makes a directory, sets a mode, puts a file with a numbered
 -- content, or makes a symbolic link or one more name of a file.
@@ -42,17 +42,17 @@ abbrev pub stage_of : Image → Stage
 stage_of t n = file_bytes (t.look (stage_path n))
 
 -- the bytes of a content; a content without a file has none
-abbrev pub bytes_of : Option (List ℕ) → List ℕ
-bytes_of (Some bytes) = bytes
-bytes_of None = []
+abbrev pub content_bytes : Option (List ℕ) → List ℕ
+content_bytes (Some bytes) = bytes
+content_bytes None = []
 
 -- the image after one step; a new directory, file or link takes the place of what stands at and below its path
 abbrev pub laid : Stage → Step → Image → Image
-laid stage (Gone p) t = placed p None t
-laid stage (Fresh m p) t = placed p (Some (Dir m false)) t
+laid stage (Gone p) t = with_entry_at p None t
+laid stage (Fresh m p) t = with_entry_at p (Some (Dir m false)) t
 laid stage (Mode m p) t = moded m p t
-laid stage (Put n m p) t = placed p (Some (File m (bytes_of (stage n)))) t
-laid stage (Symlink p target) t = placed p (Some (Link target)) t
+laid stage (Put n m p) t = with_entry_at p (Some (File m (content_bytes (stage n)))) t
+laid stage (Symlink p target) t = with_entry_at p (Some (Link target)) t
 laid stage (Hard p to) t = joined p to t
 
 -- the image after each step in turn

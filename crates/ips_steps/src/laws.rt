@@ -3,7 +3,7 @@
 ghost use Rattle.std.specs.Prelude.{◌≡◌, ◌≢◌, ℕ, ◌+◌, ◌^◌, ◌<◌, List, take, drop, slice_get, Bool, false, ◌||◌, IsTrue, IsFalse, Option, Some, None};
 ghost use Rattle.ips_text.specs.Ancestry.{covers};
 ghost use Rattle.ips_outside.specs.Image.{Image, IsImage, Agrees};
-ghost use Rattle.ips_outside.specs.State.{State, MayLeave, Within, IsSettled, nowhere, untouched, settled};
+ghost use Rattle.ips_outside.specs.State.{State, MayLeave, ChangedWithin, IsSettled, nowhere, untouched, settled};
 ghost use Rattle.ips_steps.specs.Steps.{Step, Stage, laid, all_laid, can_lay, possible, sound, frees, freed, meets, met, all_clear_of, distinct, stage_path, stage_of, after};
 ghost use Rattle.ips_steps.specs.Private.{gate_name, mark_front, mark_name, begins, is_private, visible};
 ghost use Rattle.ips_steps.specs.Journal.{IsProper, AllProper, allowed};
@@ -106,23 +106,23 @@ pub fn numbered_apart()
 /// steps. While private names other than the gate are written behind a closed gate, it owes what it owed.
 pub fn still_owed()
     ensures laying { (text : List Step → List ℕ) (steps : List Step) (marks : ℕ) (b a : Image) (due : Bool) (old s : State) → IsOpen text steps marks a old.held → IsImage old.held → IsSettled old
-        → Within (freed (steps_left marks steps)) (λ q. freed (steps_left marks steps) q || met (stage_of old.held) (steps_left marks steps) old.held q) old s
+        → ChangedWithin (freed (steps_left marks steps)) (λ q. freed (steps_left marks steps) q || met (stage_of old.held) (steps_left marks steps) old.held q) old s
         → FolderOwes text b (Some a) due s }
     ensures opening { (text : List Step → List ℕ) (steps : List Step) (marks : ℕ) (a : Image) (old s : State) → IsReady text steps marks a old.held → IsImage old.held → IsSettled old
-        → Within (covers gate_name) nowhere old s → FolderOwes text (visible old.held) (Some a) false s }
+        → ChangedWithin (covers gate_name) nowhere old s → FolderOwes text (visible old.held) (Some a) false s }
     ensures closing { (text : List Step → List ℕ) (steps : List Step) (marks : ℕ) (b a : Image) (due : Bool) (old s : State) → IsReady text steps marks a old.held → IsImage old.held → IsSettled old
-        → visible old.held ≡ a → Within (covers gate_name) nowhere old s → FolderOwes text b (Some a) due s }
+        → visible old.held ≡ a → ChangedWithin (covers gate_name) nowhere old s → FolderOwes text b (Some a) due s }
     ensures marking { (text : List Step → List ℕ) (steps : List Step) (marks : ℕ) (b a : Image) (due : Bool) (old s : State) → IsOpen text steps marks a old.held → IsImage old.held → IsSettled old
         → marks + 2 < 2 ^ 64 → IsTrue (possible (stage_of old.held) (steps_left (marks + 1) steps) old.held)
         → visible (after (steps_left (marks + 1) steps) old.held) ≡ a → old.held.look (mark_name (marks + 2)) ≡ None
-        → Within (covers (mark_name (marks + 1))) nowhere old s → FolderOwes text b (Some a) due s }
+        → ChangedWithin (covers (mark_name (marks + 1))) nowhere old s → FolderOwes text b (Some a) due s }
     ensures unmarking { (text : List Step → List ℕ) (steps : List Step) (marks kept : ℕ) (b a : Image) (due : Bool) (free : List ℕ → Bool) (old s : State) → IsOpen text steps marks a old.held
         → IsSettled old → steps_left kept steps ≡ steps_left marks steps → ((q : List ℕ) → IsTrue (free q) → IsTrue (begins mark_front q))
         → ((i : ℕ) → i < kept → IsFalse (free (mark_name (i + 1)))) → IsFalse (free (mark_name (marks + 1)))
-        → Within free nowhere old s → FolderOwes text b (Some a) due s }
+        → ChangedWithin free nowhere old s → FolderOwes text b (Some a) due s }
     ensures sweeping { (text : List Step → List ℕ) (b : Image) (a : Option Image) (due : Bool) (free : List ℕ → Bool) (old s : State) → Owes text b a due old.held → old.held.look gate_name ≡ None
         → IsSettled old → ((q : List ℕ) → IsTrue (free q) → IsTrue (is_private q)) → IsFalse (free gate_name)
-        → Within free nowhere old s → FolderOwes text b a due s }
+        → ChangedWithin free nowhere old s → FolderOwes text b a due s }
 {}
 
 /// What is ready stays so, for the same steps and marks: as the gate opens, and whatever of the steps that are left is laid,

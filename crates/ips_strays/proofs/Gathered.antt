@@ -9,7 +9,7 @@ use Rattle.ips_text.specs.Kept.{Kept}
 use Rattle.ips_text.proofs.Ancestry.{parent_length, same_covers, same_path-true}
 use Rattle.ips_text.proofs.Lists.{all_append, take_item}
 use Rattle.ips_text.proofs.Truths.{or_assoc, or_false}
-use Rattle.ips_outside.specs.Children.{AreChildren, bytes_of, is_foreign}
+use Rattle.ips_outside.specs.Children.{AreChildren, path_bytes, is_foreign}
 use Rattle.ips_outside.specs.Image.{Dir, Entry, File, Image, IsImage, Link, Other, is_dir}
 use Rattle.ips_outside.specs.Outside.{look_of}
 use Rattle.ips_outside.specs.declared.outside.Look.{Look}
@@ -189,15 +189,15 @@ adds_undirected t rows p old formed other = adds_none t (hangs rows p) old (λ q
 
 -- the first so many of them
 abbrev pub first_of : List Kept → ℕ → List (List ℕ)
-first_of paths i = bytes_of (take i paths)
+first_of paths i = path_bytes (take i paths)
 
-bytes_on : (xs : List Kept) (x : Kept) → bytes_of (xs ++ x ∷ []) ≡ bytes_of xs ++ x.bytes ∷ []
+bytes_on : (xs : List Kept) (x : Kept) → path_bytes (xs ++ x ∷ []) ≡ path_bytes xs ++ x.bytes ∷ []
 bytes_on [] x = refl
 bytes_on (y ∷ xs) x = ap (λ (l : List (List ℕ)). y.bytes ∷ l) (bytes_on xs x)
 
 pub any_next : (f : Test) (paths : List Kept) (i : ℕ) (path : Kept) → i < length paths → path ≡ get_or paths i path → list_any f (first_of paths (i + 1)) ≡ (list_any f (first_of paths i) || f path.bytes)
-any_next f paths i path lt is = ap (λ (l : List Kept). list_any f (bytes_of l)) (take_item paths i path lt is) ∙ ap (list_any f) (bytes_on (take i paths) path) ∙ list_any-append f (bytes_of (take i paths)) (path.bytes ∷ [])
-    ∙ ap (λ (b : Bool). list_any f (bytes_of (take i paths)) || b) (sym (or_false (f path.bytes)))
+any_next f paths i path lt is = ap (λ (l : List Kept). list_any f (path_bytes l)) (take_item paths i path lt is) ∙ ap (list_any f) (bytes_on (take i paths) path) ∙ list_any-append f (path_bytes (take i paths)) (path.bytes ∷ [])
+    ∙ ap (λ (b : Bool). list_any f (path_bytes (take i paths)) || b) (sym (or_false (f path.bytes)))
 
 -- one more path of a list, where a flag holds
 pub adds_next : (t : Image) (first : Test) (f : List ℕ → Test) (paths : List Kept) (i : ℕ) (path : Kept) (old mid new : List Stray) → i < length paths → path ≡ get_or paths i path

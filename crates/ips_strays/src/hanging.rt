@@ -7,7 +7,7 @@ ghost use Rattle.std.specs.Ordering.{nat_cmp};
 ghost use Rattle.std.specs.Cmp.Lexicographic.{slice_cmp};
 ghost use Rattle.ips_text.specs.Ancestry.{covers};
 ghost use Rattle.ips_outside.specs.Outside.{Reads};
-ghost use Rattle.ips_outside.specs.Children.{bytes_of};
+ghost use Rattle.ips_outside.specs.Children.{path_bytes};
 ghost use Rattle.ips_after.specs.Lists.{listed};
 ghost use Rattle.ips_content.specs.Failing.{HasFailed};
 ghost use Rattle.ips_survey.specs.Rows.{HasLooked};
@@ -55,7 +55,7 @@ fn gather_bare<F: Folder>(
 ) -> Result<(), Or<Failed>>
     requires order { IsStrictlySortedBy (slice_cmp nat_cmp) (row_paths rows.now) }
     ensures found { IsTrue (F.outside.tells folder.old)
-        → OnOk result (Adds (F.outside.state folder.old).held (λ q. list_any (λ c. not (listed (row_paths rows.now) c) && covers c q) (bytes_of paths.now)) strays.old.items strays.new.items) }
+        → OnOk result (Adds (F.outside.state folder.old).held (λ q. list_any (λ c. not (listed (row_paths rows.now) c) && covers c q) (path_bytes paths.now)) strays.old.items strays.new.items) }
     ensures reads { Reads F.outside folder.old folder.new (HasFailed result) }
 {
     for path in paths {

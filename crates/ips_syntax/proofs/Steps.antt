@@ -10,7 +10,7 @@ use Rattle.ips_syntax.specs.declared.values.Value.{Value}
 use Rattle.ips_syntax.specs.declared.values.Given.{Given}
 use Rattle.ips_syntax.specs.Table.{value_form}
 use Rattle.ips_syntax.specs.Values.{value_at}
-use Rattle.ips_syntax.specs.Reading.{stop, stopping, is_operand, role_of, again, takes, plain, valued, option_at, options_at}
+use Rattle.ips_syntax.specs.Reading.{stop, stopping, is_operand, role_of, again, takes_value, plain, valued, option_at, options_at}
 
 -- what is read behind the first option
 abbrev After : Type 0
@@ -44,10 +44,10 @@ pub options_more : (verb : Verb) (given : List Given) (word : List ℕ) (words :
 unfolding options_at
 options_more verb given word [] =
     let r = role_of verb word in
-    last_word (is_operand r) (again r given) (takes r) (given, word ∷ []) (given ++ plain r ∷ [], []) (stop Repeated 1) (stop Missing 0) (λ x. options_at verb x.0 x.1) refl
+    last_word (is_operand r) (again r given) (takes_value r) (given, word ∷ []) (given ++ plain r ∷ [], []) (stop Repeated 1) (stop Missing 0) (λ x. options_at verb x.0 x.1) refl
 options_more verb given word (next ∷ words) =
     let r = role_of verb word in
-    first_word (is_operand r) (again r given) (takes r) (Ok (given, word ∷ next ∷ words)) (stop Repeated (suc (suc (length words))))
+    first_word (is_operand r) (again r given) (takes_value r) (Ok (given, word ∷ next ∷ words)) (stop Repeated (suc (suc (length words))))
     (stopping (suc (length words)) (value_at (value_form r) next) >>= λ v. options_at verb (given ++ valued r v ∷ []) words)
     (stopping (suc (length words)) (value_at (value_form r) next) >>= λ v. Ok (given ++ valued r v ∷ [], words))
     (options_at verb (given ++ plain r ∷ []) (next ∷ words))

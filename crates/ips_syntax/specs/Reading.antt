@@ -52,24 +52,24 @@ is_nothing form.Nothing = true
 is_nothing f = false
 
 -- A word behind the option is its value.
-abbrev pub takes : Role → Bool
-takes r = not (is_nothing (value_form r))
+abbrev pub takes_value : Role → Bool
+takes_value r = not (is_nothing (value_form r))
 
 -- What was given sets what the option sets.
 abbrev pub is_set_by : Role → Given → Bool
 is_set_by r g = sets g.role == sets r
 
 -- The option, or one that excludes it, stands.
-abbrev pub stands : Role → List Given → Bool
-stands r given = list_any (is_set_by r) given
+abbrev pub is_given : Role → List Given → Bool
+is_given r given = list_any (is_set_by r) given
 
 -- The option may not stand again.
 abbrev pub again : Role → List Given → Bool
-again r given = not (repeats r) && stands r given
+again r given = not (repeats r) && is_given r given
 
 -- None of the options stands, of which one is required.
 abbrev pub lacks : List Role → List Given → Bool
-lacks roles given = not (length roles == 0) && not (list_any (λ r. stands r given) roles)
+lacks roles given = not (length roles == 0) && not (list_any (λ r. is_given r given) roles)
 
 -- What is given without a value.
 abbrev pub plain : Role → Given
@@ -88,11 +88,11 @@ is_dashed (b ∷ bytes) = b == 45
 abbrev pub option_at : Role → List Given → List (List ℕ) → Result (List Given × List (List ℕ)) (Stop Why)
 option_at r given [] =
     if again r given then Err (stop Repeated 1)
-    else (if takes r then Err (stop Missing 0)
+    else (if takes_value r then Err (stop Missing 0)
     else Ok (given ++ plain r ∷ [], []))
 option_at r given (word ∷ words) =
     if again r given then Err (stop Repeated (suc (suc (length words))))
-    else (if takes r then (stopping (suc (length words)) (value_at (value_form r) word) >>= λ v. Ok (given ++ valued r v ∷ [], words))
+    else (if takes_value r then (stopping (suc (length words)) (value_at (value_form r) word) >>= λ v. Ok (given ++ valued r v ∷ [], words))
     else Ok (given ++ plain r ∷ [], word ∷ words))
 
 -- The options are read, up to the first word that is none.
@@ -104,7 +104,7 @@ options_at verb given (word ∷ []) =
 options_at verb given (word ∷ next ∷ words) =
     if is_operand (role_of verb word) then Ok (given, word ∷ next ∷ words)
     else (if again (role_of verb word) given then Err (stop Repeated (suc (suc (length words))))
-    else (if takes (role_of verb word)
+    else (if takes_value (role_of verb word)
     then (stopping (suc (length words)) (value_at (value_form (role_of verb word)) next) >>= λ v. options_at verb (given ++ valued (role_of verb word) v ∷ []) words)
     else options_at verb (given ++ plain (role_of verb word) ∷ []) (next ∷ words)))
 
@@ -115,14 +115,14 @@ is_same_name (value.Freeze a) (value.Freeze b) = same a.stem b.stem
 is_same_name v w = false
 
 -- The name that a value sets is set already.
-abbrev pub is_named : Value → List Given → Bool
-is_named v given = list_any (λ (g : Given). is_same_name v g.value) given
+abbrev pub is_name_given : Value → List Given → Bool
+is_name_given v given = list_any (λ (g : Given). is_same_name v g.value) given
 
 -- One operand is read, which stands where so many words are left.
 abbrev pub operand_at : Form → ℕ → List Given → List ℕ → Result (List Given) (Stop Why)
 operand_at f left given word = do
   v ← stopping left (value_at f word)
-  if is_named v given then Err (stop Repeated left) else Ok (given ++ valued Operand v ∷ [])
+  if is_name_given v given then Err (stop Repeated left) else Ok (given ++ valued Operand v ∷ [])
 
 -- The operands are read to the end of the line, behind so many.
 unfoldable pub operands_at : Operands → ℕ → List Given → List (List ℕ) → Result (List Given) (Stop Why)
@@ -177,9 +177,9 @@ image_at (image ∷ []) = Err (stop Missing 0)
 image_at (image ∷ word ∷ words) = if same word (codes "-s") then repository_at words else Err (stop Unknown (suc (length words)))
 
 -- A whole line: its command with what is given, or a word that asks for help.
-abbrev pub line_at : List (List ℕ) → Result (Line × List Given) (Stop Why)
-line_at [] = Err (stop Missing 0)
-line_at (word ∷ words) =
+abbrev pub line_of_words : List (List ℕ) → Result (Line × List Given) (Stop Why)
+line_of_words [] = Err (stop Missing 0)
+line_of_words (word ∷ words) =
     if same word (codes "-R") then image_at words
     else (if same word (codes "--help") then alone Help words
     else (if same word (codes "--version") then alone Version words

@@ -37,14 +37,14 @@ abbrev pub checked : Bool → Value → Result Value Why
 checked holds v = if holds then Ok v else Err BadValue
 
 -- What is made of what was read, where something was.
-abbrev pub made : {X E : Type 0} → (X → Result Value Why) → Result X E → Result Value Why
-made f (Ok x) = f x
-made f (Err e) = Err BadValue
+abbrev pub value_made : {X E : Type 0} → (X → Result Value Why) → Result X E → Result Value Why
+value_made f (Ok x) = f x
+value_made f (Err e) = Err BadValue
 
 -- What is made of what is there.
-abbrev pub made_of : {X : Type 0} → (X → Result Value Why) → Option X → Result Value Why
-made_of f (Some x) = f x
-made_of f None = Err BadValue
+abbrev pub value_made_of : {X : Type 0} → (X → Result Value Why) → Option X → Result Value Why
+value_made_of f (Some x) = f x
+value_made_of f None = Err BadValue
 
 -- The pattern that a word writes.
 abbrev pub as_pattern : List ℕ → Result Pattern FmriFault
@@ -109,7 +109,7 @@ facet_named or_none name on = checked (goes_on (codes "facet.") name && (or_none
 
 -- A facet and what it is set to.
 abbrev pub facet_of : Bool → List ℕ × List ℕ → Result Value Why
-facet_of or_none x = made_of (facet_named or_none x.0) (switch_of x.1)
+facet_of or_none x = value_made_of (facet_named or_none x.0) (switch_of x.1)
 
 -- The value of a word in a form.
 abbrev pub value_at : Form → List ℕ → Result Value Why
@@ -118,12 +118,12 @@ value_at form.Any word = Ok (value.Word word)
 value_at form.Filled word = checked (not (is_empty word)) (value.Word word)
 value_at form.Implementation word = checked (not (is_empty word) && not (same word (codes "-"))) (value.Word word)
 value_at form.Publisher word = checked (is_publisher word) (value.Word word)
-value_at form.Stem word = made (λ (f : Fmri). checked (same f.stem word) (value.Word f.stem)) (as_fmri word)
-value_at form.Pattern word = made (λ (p : Pattern). Ok (value.Pattern p)) (as_pattern word)
-value_at form.Freeze word = made (λ (f : Fmri). checked (has_version_alone f && not (starts_with ◌==◌ word (codes "pkg:"))) (value.Freeze f)) (as_fmri word)
-value_at form.Version word = made (λ (v : Parts). checked (is_release v) (value.Version v)) (as_version word)
+value_at form.Stem word = value_made (λ (f : Fmri). checked (same f.stem word) (value.Word f.stem)) (as_fmri word)
+value_at form.Pattern word = value_made (λ (p : Pattern). Ok (value.Pattern p)) (as_pattern word)
+value_at form.Freeze word = value_made (λ (f : Fmri). checked (has_version_alone f && not (starts_with ◌==◌ word (codes "pkg:"))) (value.Freeze f)) (as_fmri word)
+value_at form.Version word = value_made (λ (v : Parts). checked (is_release v) (value.Version v)) (as_version word)
 value_at form.Limit word = within 1 (2 ^ 64 - 1) (number_at BadValue word)
 value_at form.Count word = within 1 2000 (number_at BadValue word)
-value_at form.Variant word = made_of variant_of (cut word)
-value_at form.Switch word = made_of (facet_of false) (cut word)
-value_at form.Setting word = made_of (facet_of true) (cut word)
+value_at form.Variant word = value_made_of variant_of (cut word)
+value_at form.Switch word = value_made_of (facet_of false) (cut word)
+value_at form.Setting word = value_made_of (facet_of true) (cut word)

@@ -77,7 +77,7 @@ fn role_in(roles: &[Role], word: &str) -> Role
 
 /// Whether the option, or one that excludes it, stands.
 pub fn stands(role: Role, given: &[Given]) -> bool
-    ensures { result ≡ reading.stands role given.now }
+    ensures { result ≡ reading.is_given role given.now }
 {
     given.iter().any(|g| sets(g.role) == sets(role))
 }
@@ -91,14 +91,14 @@ fn lacks(roles: &[Role], given: &[Given]) -> bool
 
 // Whether one of the options stands.
 fn any_stands(roles: &[Role], given: &[Given]) -> bool
-    ensures { result ≡ list_any (λ r. reading.stands r given.now) roles.now }
+    ensures { result ≡ list_any (λ r. reading.is_given r given.now) roles.now }
 {
     roles.iter().any(|role| stands(*role, given))
 }
 
 // Whether a word behind the option is its value.
 fn takes(role: Role) -> bool
-    ensures { result ≡ reading.takes role }
+    ensures { result ≡ reading.takes_value role }
 {
     !matches!(value_form(role), Form::Nothing)
 }
@@ -185,7 +185,7 @@ fn is_same_name(value: &Value, other: &Value) -> bool
 
 // Whether the name that a value sets is set already.
 fn is_named(value: &Value, given: &[Given]) -> bool
-    ensures { result ≡ reading.is_named value.now given.now }
+    ensures { result ≡ reading.is_name_given value.now given.now }
 {
     given.iter().any(|g| is_same_name(value, &g.value))
 }
@@ -341,7 +341,7 @@ pub fn read_line(
     given: &mut Vec<Given>,
 ) -> Result<Line, Or<Stop<Why>>>
     requires { given.old.items ≡ [] }
-    ensures { Gives (λ l. (l, given.new.items)) result (reading.line_at (map string_bytes words.now)) }
+    ensures { Gives (λ l. (l, given.new.items)) result (reading.line_of_words (map string_bytes words.now)) }
 {
     let Some((word, after)) = next_word(words) else {
         return Err(stop(Why::Missing, words));

@@ -9,7 +9,7 @@ ghost use Rattle.ips_syntax.specs.declared.table.Why.TheVariants as why;
 ghost use Rattle.ips_syntax.specs.declared.table.Form.TheVariants as form;
 ghost use Rattle.ips_syntax.specs.declared.values.Value.TheVariants as value;
 ghost use Rattle.ips_syntax.specs.Values as values;
-ghost use Rattle.ips_syntax.specs.Values.{checked, cut, facet_of, made_of, same_in_any_case, switch_of, value_at, within};
+ghost use Rattle.ips_syntax.specs.Values.{checked, cut, facet_of, value_made_of, same_in_any_case, switch_of, value_at, within};
 
 use crate::table::{Form, Role, Why};
 use ips_fmri::{Fmri, Pattern, Version};
@@ -225,7 +225,7 @@ fn goes_on(front: &[u8], text: &[u8]) -> bool
 
 // A facet and what it is set to.
 fn read_facet(alloc: Global, word: &str, or_none: bool) -> Result<Value, Or<Why>>
-    ensures { Gives (λ v. v) result (made_of (facet_of or_none) (cut word.now)) }
+    ensures { Gives (λ v. v) result (value_made_of (facet_of or_none) (cut word.now)) }
 {
     let Some((name, setting)) = cut_word(word) else {
         return Err(Or::Bad(Why::BadValue));

@@ -5,7 +5,7 @@ use Rattle.ips_outside.proofs.Children.{sorted_none}
 use Rattle.ips_repo.specs.Opening.{Opened}
 use Rattle.ips_state.specs.State.{Ascend, IsOrdered}
 use Rattle.ips_request.specs.declared.request.Request.{Request}
-use Rattle.ips_request.specs.Case.{Reading, IsReading}
+use Rattle.ips_request.specs.Case.{ManifestReading, IsReading}
 use Rattle.ips_request.specs.Subject.{files_of}
 use Rattle.ips_request.specs.Request.{asked_case}
 use Rattle.ips_request.specs.declared.fault.ProblemFault.{ProblemFault}
@@ -23,7 +23,7 @@ pub nothing_ordered : IsOrdered nothing_recorded
 nothing_ordered = record { installed = none_ascends; avoid = none_ascends; freeze = none_ascends; frozen = tt }
 
 -- the words ask for the puzzle of the request
-pub asks_posed : (words : List (List ℕ)) (t : Image) (r : Reading) (limit : ℕ) (request : Request) (repo : Opened) (p : Posed)
+pub asks_posed : (words : List (List ℕ)) (t : Image) (r : ManifestReading) (limit : ℕ) (request : Request) (repo : Opened) (p : Posed)
     → Opens words t limit request repo → IsReading nothing_set r → IsAsked request nothing_recorded (Some repo) t p → AsksPosed words t r limit p
 asks_posed words t r limit request repo p opens reading asked =
     let poses = asked.poses r reading in
@@ -45,7 +45,7 @@ asks_posed words t r limit request repo p opens reading asked =
     }
 
 -- a fault of the request is told as it is
-pub unposed_plans : (words : List (List ℕ)) (t : Image) (r : Reading) (why : ProblemFault) → IsUnposed words t why → PlansNothing words t r (unposed why)
+pub unposed_plans : (words : List (List ℕ)) (t : Image) (r : ManifestReading) (why : ProblemFault) → IsUnposed words t why → PlansNothing words t r (unposed why)
 unposed_plans words t r (fault.NoMatch pattern) is = is
 unposed_plans words t r (fault.Ambiguous pattern stems) is = is
 unposed_plans words t r (fault.ManifestMissing fmri) is = is

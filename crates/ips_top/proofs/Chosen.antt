@@ -11,11 +11,11 @@ use Rattle.ips_refute.specs.Refuting.{IsRefutation}
 use Rattle.ips_search.specs.Best.{IsFirst, NotLater}
 use Rattle.ips_depend.specs.Selection.{Selection}
 use Rattle.ips_request.specs.Stems.{has}
-use Rattle.ips_request.specs.Case.{Case, Reading, said}
+use Rattle.ips_request.specs.Case.{Case, ManifestReading, manifest_facts}
 use Rattle.ips_request.specs.Candidates.{candidates}
 use Rattle.ips_request.specs.Laws.{has_first}
 use Rattle.ips_problem.specs.Reach.{IsReach}
-use Rattle.ips_problem.specs.Selecting.{AreNumbers, IsAdmissible, IsBestSelection, restricted}
+use Rattle.ips_problem.specs.Selecting.{AreCandidateNumbers, IsAdmissible, IsBestSelection, restricted}
 use Rattle.ips_problem.specs.Posed.{Posed, Offer, offer_of, row_of, posed, lines_said, meaning_of, picked}
 use Rattle.ips_problem.specs.Taken.{AreTaken, IsChoice, offer_at, package_of}
 use Rattle.ips_problem.proofs.Restricting.{restricted_admissible, restricted_within}
@@ -29,14 +29,14 @@ use Rattle.ips_top.specs.declared.unsolved.Unsolved.{Unsolved}
 
 -- a candidate's package has the lines of its manifest
 offered_says : (c : Case) (stem : List ℕ) (o : Option (Option Parts)) (q : Installed) → package_of (Some stem) (option_and_then (λ (x : Option Offer). x) (option_map (offer_of c stem) o)) ≡ Some q
-    → q.lines ≡ lines_said (said c q.stem q.version)
+    → q.lines ≡ lines_said (manifest_facts c q.stem q.version)
 offered_says c stem None q is = absurd (none-some q is)
 offered_says c stem (Some None) q is = absurd (none-some q is)
 offered_says c stem (Some (Some v)) q is =
-    let own : Installed = record { stem = stem; version = v; lines = lines_said (said c stem v) } in
-    subst (λ (q : Installed). q.lines ≡ lines_said (said c q.stem q.version)) (same_Some own q is) refl
+    let own : Installed = record { stem = stem; version = v; lines = lines_said (manifest_facts c stem v) } in
+    subst (λ (q : Installed). q.lines ≡ lines_said (manifest_facts c q.stem q.version)) (same_Some own q is) refl
 
-selected_says : (c : Case) (stem : Option (List ℕ)) (k : Option ℕ) (q : Installed) → package_of stem (offer_at (option_map (row_of c) stem) k) ≡ Some q → q.lines ≡ lines_said (said c q.stem q.version)
+selected_says : (c : Case) (stem : Option (List ℕ)) (k : Option ℕ) (q : Installed) → package_of stem (offer_at (option_map (row_of c) stem) k) ≡ Some q → q.lines ≡ lines_said (manifest_facts c q.stem q.version)
 selected_says c None k q is = absurd (none-some q is)
 selected_says c (Some stem) None q is = absurd (none-some q is)
 selected_says c (Some stem) (Some k) q is =
@@ -45,7 +45,7 @@ selected_says c (Some stem) (Some k) q is =
 
 -- the numbers that a selection has for stems in reach stay where the stems out of reach are left out
 still_numbered : (c : Case) (reach : List (List ℕ)) (s : Selection) (stems : List (List ℕ)) (numbers : List ℕ) → ((stem : List ℕ) → has stem stems ≡ true → has stem reach ≡ true)
-    → AreNumbers c s stems numbers → AreNumbers c (restricted reach s) stems numbers
+    → AreCandidateNumbers c s stems numbers → AreCandidateNumbers c (restricted reach s) stems numbers
 still_numbered c reach s [] [] within are = tt
 still_numbered c reach s [] (k ∷ numbers) within are = absurd are
 still_numbered c reach s (stem ∷ stems) [] within are = absurd are
@@ -55,14 +55,14 @@ still_numbered c reach s (stem ∷ stems) (k ∷ numbers) within are = (
 )
 
 -- no admissible selection comes before the best, whether it selects stems out of reach or not
-first_of_all : (c : Case) (reach : List (List ℕ)) (s other : Selection) (others : List ℕ) → IsReach c reach → (best : IsBestSelection c reach s) → IsAdmissible c other → AreNumbers c other reach others
+first_of_all : (c : Case) (reach : List (List ℕ)) (s other : Selection) (others : List ℕ) → IsReach c reach → (best : IsBestSelection c reach s) → IsAdmissible c other → AreCandidateNumbers c other reach others
     → NotLater best.numbers others
 first_of_all c reach s other others is_reach best admissible are =
     best.first (restricted reach other) others (restricted_admissible c reach other is_reach admissible) (restricted_within reach other)
     (still_numbered c reach other reach others (λ stem there. there) are)
 
 -- the first choice takes the packages of the best selection
-pub first_chosen : (words : List (List ℕ)) (t : Image) (r : Reading) (limit : ℕ) (p : Posed) (choice : List ℕ) (packages : List Package)
+pub first_chosen : (words : List (List ℕ)) (t : Image) (r : ManifestReading) (limit : ℕ) (p : Posed) (choice : List ℕ) (packages : List Package)
     → AsksPosed words t r limit p → IsFirst (meaning_of p) choice → AreTaken p choice (map installed packages) → AreChosen words t r packages
 first_chosen words t r limit p choice packages asks first taken =
     let c = asks.the_case in
@@ -108,7 +108,7 @@ tried_back c [] = refl
 tried_back c (stem ∷ reach) =
     ap₂ (λ (os : List (Option Parts)) (l : List Tried). record { stem = stem; candidates = os } ∷ l) (versions_back c stem (candidates c stem)) (tried_back c reach)
 
-pub none_chosen : (words : List (List ℕ)) (t : Image) (r : Reading) (limit : ℕ) (p : Posed) (u : Unsolved) → AsksPosed words t r limit p
+pub none_chosen : (words : List (List ℕ)) (t : Image) (r : ManifestReading) (limit : ℕ) (p : Posed) (u : Unsolved) → AsksPosed words t r limit p
     → HasNoChoice (meaning_of p) → IsRefutation (meaning_of p) u.refutation.nogoods.items → map seen_tried u.stems.items ≡ tried_rows p.stems p.rows → HasNoSolution words t r u
 none_chosen words t r limit p u asks none refuted tried =
     let c = asks.the_case in
@@ -125,7 +125,7 @@ none_chosen words t r limit p u asks none refuted tried =
 
 -- ---- the limit
 
-pub limit_past : (words : List (List ℕ)) (t : Image) (r : Reading) (limit : ℕ) (p : Posed) → AsksPosed words t r limit p → IsPastLimit (meaning_of p) limit → IsSpent words t r limit
+pub limit_past : (words : List (List ℕ)) (t : Image) (r : ManifestReading) (limit : ℕ) (p : Posed) → AsksPosed words t r limit p → IsPastLimit (meaning_of p) limit → IsSpent words t r limit
 limit_past words t r limit p asks past = record {
   the_case = asks.the_case;
   reach = asks.reach;

@@ -2,7 +2,7 @@
 use Rattle.std.proofs.Common.{◌≡◌, inl, inr, ℕ, Bool, true, false, ◌&&◌, IsTrue, List, [], ◌∷◌, ◌<◌, zero, suc, length, get_or, slice_get, Option, Some, None, is_none, is_some, refl, sym, subst, ◌∙◌, arith}
 use Rattle.ips_outside.specs.Image.{Image, Entry}
 use Rattle.ips_outside.specs.Outside.{Outside, IsOutside, Reads}
-use Rattle.ips_folder.specs.Calls.{Keeps}
+use Rattle.ips_folder.specs.Calls.{ChangesOnly}
 use Rattle.ips_folder.proofs.Runs.{one_read, keeps_then, keeps_wider}
 use Rattle.ips_digest.specs.declared.name.PayloadName.{PayloadName}
 use Rattle.ips_steps.specs.Steps.{Step, Stage, all_laid, freed, named}
@@ -14,7 +14,7 @@ use Rattle.ips_install.specs.declared.fault.PayloadFault.{PayloadFault}
 use Rattle.ips_install.specs.declared.fault.PayloadFault.TheVariants as payload
 use Rattle.ips_install.specs.declared.fault.InstallFault.{InstallFault}
 use Rattle.ips_install.specs.declared.fault.InstallFault.TheVariants as fault
-use Rattle.ips_request.specs.Case.{Reading}
+use Rattle.ips_request.specs.Case.{ManifestReading}
 use Rattle.ips_meaning.specs.declared.entry.Entry as meaning
 use Rattle.ips_meaning.specs.declared.entry.Entry.TheVariants as entry
 use Rattle.ips_plan.specs.Meant.{IsMeant, Shows}
@@ -56,7 +56,7 @@ meant_by P Q more entries old new meant = record {
   sharing = meant.sharing;
 }
 
-module _ (words : List (List ℕ)) (repository : Image) (r : Reading) (o : Offer) (is : IsOffer words repository r o) where
+module _ (words : List (List ℕ)) (repository : Image) (r : ManifestReading) (o : Offer) (is : IsOffer words repository r o) where
   -- what is wanted
   abbrev pub wants_of : Wants words repository r
   wants_of = record { packages = o.packages.items; chosen = is.chosen; entries = o.want; mean = is.mean }
@@ -121,12 +121,12 @@ nothing_stands (Some e) is = cc
 
 module _ {F : Type 0} (o : Outside F) (sane : IsOutside o) (entries : List (List ℕ × meaning.Entry)) (old : F) where
   -- a call that only looks
-  pub only_looked : (new : F) (failure : Type 0) → Reads o old new failure → Keeps o (is_new entries (o.state old).held) (is_covered entries) old new
+  pub only_looked : (new : F) (failure : Type 0) → Reads o old new failure → ChangesOnly o (is_new entries (o.state old).held) (is_covered entries) old new
   only_looked new failure reads = one_read o sane (is_new entries (o.state old).held) (is_covered entries) old new failure reads
 
   -- and steps that are laid behind it
   pub looked_and_laid : (mid new : F) (failure : Type 0) (steps : List Step) (contents : List PayloadName) → Reads o old mid failure → IsPlanOf entries (o.state old).held steps contents
-      → Keeps o (freed steps) (named steps) mid new → Keeps o (is_new entries (o.state old).held) (is_covered entries) old new
+      → ChangesOnly o (freed steps) (named steps) mid new → ChangesOnly o (is_new entries (o.state old).held) (is_covered entries) old new
   looked_and_laid mid new failure steps contents reads plan keeps =
       let t = (o.state old).held in
       keeps_then o (is_new entries t) (is_covered entries) old mid new (only_looked mid failure reads)

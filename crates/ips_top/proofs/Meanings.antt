@@ -2,7 +2,7 @@
 use Rattle.std.proofs.Common.{◌≡◌, inl, inr, ℕ, List, [], sym, subst}
 use Rattle.ips_outside.specs.Image.{Image}
 use Rattle.ips_manifest.specs.declared.package.Package.{Package}
-use Rattle.ips_request.specs.Case.{Reading}
+use Rattle.ips_request.specs.Case.{ManifestReading}
 use Rattle.ips_meaning.specs.declared.entry.Entry.{Entry}
 use Rattle.ips_meaning.specs.declared.fault.WantFault.{WantFault}
 use Rattle.ips_meaning.specs.declared.fault.WantFault.TheVariants as want
@@ -26,7 +26,7 @@ pub unmeant_early : (packages : List Package) (o : Outcome) → IsUnmeant packag
 unmeant_early packages o (inl none) = (subst IsEarly (sym none) tt, λ is. cc)
 unmeant_early packages o (inr fails) = (subst IsEarly (sym fails.1) (unwanted_early fails.0), λ is. unwanted_source fails.0 (subst (λ (x : Outcome). x ≡ SourceFault) fails.1 is))
 
-module _ (words : List (List ℕ)) (t : Image) (r : Reading) (packages : List Package) (chosen : AreChosen words t r packages) where
+module _ (words : List (List ℕ)) (t : Image) (r : ManifestReading) (packages : List Package) (chosen : AreChosen words t r packages) where
   unwanted_plans : (why : WantFault) → PackagesFail nothing_set [] packages why → PlansNothing words t r (unwanted why)
   unwanted_plans (want.Reserved path) fail = record { packages = packages; chosen = chosen; fail = fail }
   unwanted_plans (want.Clash clash) fail = record { packages = packages; chosen = chosen; fail = fail }

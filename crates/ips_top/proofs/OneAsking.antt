@@ -8,9 +8,9 @@ use Rattle.ips_catalog.specs.Listed.{Listed}
 use Rattle.ips_repo.specs.Opening.{Opened}
 use Rattle.ips_state.specs.State.{Installed, Recorded}
 use Rattle.ips_request.specs.declared.request.Request.{Request}
-use Rattle.ips_request.specs.Case.{Case, Reading}
+use Rattle.ips_request.specs.Case.{Case, ManifestReading}
 use Rattle.ips_request.specs.Stems.{firsts}
-use Rattle.ips_request.specs.Named.{AreKnown, AreMatched, AreNamed, Names, limited, named_among}
+use Rattle.ips_request.specs.Named.{AreKnown, AreMatched, AreNamed, Names, with_limits, named_among}
 use Rattle.ips_request.specs.Request.{AreNames, asked_case, kind_of, matched_against, patterns_of, rejects_of}
 use Rattle.ips_request.specs.Subject.{files_of}
 use Rattle.ips_problem.specs.Reach.{IsReach}
@@ -105,7 +105,7 @@ opened_alike : (a b : Opened) → a.publisher ≡ b.publisher → a.catalog ≡ 
 opened_alike a b publisher catalog = λ i. record { publisher = publisher i; catalog = catalog i }
 
 -- what words ask for is one case
-pub one_case : (words : List (List ℕ)) (t : Image) (r : Reading) (m n : ℕ) (c d : Case) (reach other : List (List ℕ)) → Asks words t r m c reach → Asks words t r n d other → c ≡ d
+pub one_case : (words : List (List ℕ)) (t : Image) (r : ManifestReading) (m n : ℕ) (c d : Case) (reach other : List (List ℕ)) → Asks words t r m c reach → Asks words t r n d other → c ≡ d
 one_case words t r m n c d reach other a b =
     let asked = one_asked words m n a.opens.patterns b.opens.patterns a.opens.asked b.opens.asked in
     let kinds = a.opens.request_is.kind ∙ sym b.opens.request_is.kind in
@@ -121,7 +121,7 @@ one_case words t r m n c d reach other a b =
         → asked_case a.request nothing_recorded a.repo.catalog (files_of (Some a.repo) t) a.named a.rejects r ≡ asked_case b.request nothing_recorded b.repo.catalog (files_of (Some b.repo) t) b.named b.rejects r
     same kinds patterns catalog files named rejects i = record {
       kind = kinds i;
-      named = limited (patterns i) (named i);
+      named = with_limits (patterns i) (named i);
       rejected = firsts (flat_map (λ (stems : List (List ℕ)). stems) (rejects i));
       catalog = catalog i;
       installed = nothing_recorded.installed;
@@ -132,7 +132,7 @@ one_case words t r m n c d reach other a b =
     }
 
 -- over one list of stems in reach
-pub one_puzzle : (words : List (List ℕ)) (t : Image) (r : Reading) (m n : ℕ) (c d : Case) (reach other : List (List ℕ)) → Asks words t r m c reach → Asks words t r n d other → (c ≡ d) × (reach ≡ other)
+pub one_puzzle : (words : List (List ℕ)) (t : Image) (r : ManifestReading) (m n : ℕ) (c d : Case) (reach other : List (List ℕ)) → Asks words t r m c reach → Asks words t r n d other → (c ≡ d) × (reach ≡ other)
 one_puzzle words t r m n c d reach other a b =
     let same = one_case words t r m n c d reach other a b in
     (same, one_reach d reach other (subst (λ e. IsReach e reach) same a.is_reach) b.is_reach)

@@ -6,7 +6,7 @@ use Rattle.ips_filter.specs.Settings.{Set}
 use Rattle.ips_filter.specs.Admitted.{Admits}
 use Rattle.ips_mediate.specs.declared.set.SetMediator.{SetMediator}
 use Rattle.ips_state.specs.State.{Installed, installed}
-use Rattle.ips_request.specs.Case.{Reading}
+use Rattle.ips_request.specs.Case.{ManifestReading}
 use Rattle.ips_problem.specs.Selecting.{IsAdmissible}
 use Rattle.ips_conflict.specs.declared.placed.Placed.{Placed}
 use Rattle.ips_meaning.specs.declared.fault.WantFault.{WantFault}
@@ -19,7 +19,7 @@ use Rattle.ips_top.proofs.OneAsking.{one_case}
 use Rattle.ips_top.proofs.OneChosen.{one_chosen}
 
 -- where something is chosen, a selection is admissible
-pub chosen_or_none : (words : List (List ℕ)) (t : Image) (r : Reading) (u : Unsolved) → Chosen words t r → HasNoSolution words t r u → ⊥
+pub chosen_or_none : (words : List (List ℕ)) (t : Image) (r : ManifestReading) (u : Unsolved) → Chosen words t r → HasNoSolution words t r u → ⊥
 chosen_or_none words t r u a b =
     let same = one_case words t r a.limit b.limit a.the_case b.the_case a.reach b.reach a.asks b.asks in
     b.none a.selection (subst (λ c. IsAdmissible c a.selection) same a.best.admissible)
@@ -47,7 +47,7 @@ same_fault s mediators a b why same f =
     }
 
 -- the chosen packages mean an image, or have a fault
-pub image_or_fault : (words : List (List ℕ)) (t : Image) (r : Reading) (why : WantFault) → Wants words t r → MeanNothing words t r why → ⊥
+pub image_or_fault : (words : List (List ℕ)) (t : Image) (r : ManifestReading) (why : WantFault) → Wants words t r → MeanNothing words t r why → ⊥
 image_or_fault words t r why w m =
     apart nothing_set [] w.packages w.entries why w.mean
     (same_fault nothing_set [] m.packages w.packages why (one_chosen words t r m.packages w.packages m.chosen w.chosen) m.fail)

@@ -7,7 +7,7 @@ use Rattle.ips_install.specs.Fault as install
 use Rattle.ips_install.specs.declared.fault.PayloadFault.TheVariants as payload
 use Rattle.ips_install.specs.declared.fault.InstallFault.{InstallFault}
 use Rattle.ips_install.specs.declared.fault.InstallFault.TheVariants as fault
-use Rattle.ips_request.specs.Case.{Reading}
+use Rattle.ips_request.specs.Case.{ManifestReading}
 use Rattle.ips_top.specs.Request.{AsksForSome}
 use Rattle.ips_manifest.specs.declared.line.Line.{Line}
 use Rattle.ips_manifest.specs.declared.package.Package.{Package}
@@ -43,7 +43,7 @@ early_words words SourceFault asks early = asks
 early_words words (FolderFault unfinished) asks early = absurd early
 early_words words OutOfMemory asks early = tt
 
-pub early_repository : (words : List (List ℕ)) (t : Image) (r : Reading) (o : Outcome) → PlansNothing words t r o → SaysOfRepository words t r o
+pub early_repository : (words : List (List ℕ)) (t : Image) (r : ManifestReading) (o : Outcome) → PlansNothing words t r o → SaysOfRepository words t r o
 early_repository words t r (Usage place why) says = absurd says
 early_repository words t r NoRepository says = says
 early_repository words t r (BadCatalog why) says = says
@@ -67,7 +67,7 @@ early_repository words t r (FolderFault unfinished) says = absurd says
 early_repository words t r OutOfMemory says = says
 
 -- they say nothing of the image, but which line can't be installed yet, or that too much was to be read
-pub early_lines : (words : List (List ℕ)) (t : Image) (r : Reading) (image : Image) (o : Outcome) → PlansNothing words t r o → SaysOfLines words t r image o
+pub early_lines : (words : List (List ℕ)) (t : Image) (r : ManifestReading) (image : Image) (o : Outcome) → PlansNothing words t r o → SaysOfLines words t r image o
 early_lines words t r image (Usage place why) says = absurd says
 early_lines words t r image NoRepository says = tt
 early_lines words t r image (BadCatalog why) says = tt
@@ -119,7 +119,7 @@ install_words words SourceFault asks late = asks
 install_words words (FolderFault unfinished) asks late = asks
 install_words words OutOfMemory asks late = tt
 
-pub install_repository : (words : List (List ℕ)) (t : Image) (r : Reading) (o : Outcome) (wants : Wants words t r) → IsInstallOutcome o → SaysOfRepository words t r o
+pub install_repository : (words : List (List ℕ)) (t : Image) (r : ManifestReading) (o : Outcome) (wants : Wants words t r) → IsInstallOutcome o → SaysOfRepository words t r o
 install_repository words t r (Usage place why) wants late = absurd late
 install_repository words t r NoRepository wants late = absurd late
 install_repository words t r (BadCatalog why) wants late = absurd late

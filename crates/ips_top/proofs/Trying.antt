@@ -2,7 +2,7 @@
 use Rattle.std.proofs.Common.{◌≡◌, ℕ, zero, suc, ◌+◌, ◌<◌, List, [], ◌∷◌, ◌++◌, length, map, take, slice_get, Option, Some, None, refl, sym, ap, ◌∙◌, arith}
 use Rattle.std.proofs.lemmas.Option.{none-some, same_Some}
 use Rattle.std.proofs.lemmas.List.{append-nil, append_assoc, length-map}
-use Rattle.ips_problem.specs.Posed.{Offer, Row, count_at, version_at, version_of}
+use Rattle.ips_problem.specs.Posed.{Offer, StemRow, count_at, version_at, version_of}
 use Rattle.ips_top.proofs.Fronts.{map_more}
 use Rattle.ips_top.specs.Unsolved.{Tried, offered, offered_in, seen_tried, tried_rows, tried_text, tried_texts}
 use Rattle.ips_top.specs.declared.unsolved.Tried as declared
@@ -10,17 +10,17 @@ use Rattle.ips_install.proofs.Places.{front_more}
 
 -- ---- stems
 
-abbrev pub tried_at : List ℕ → Option Row → Tried
+abbrev pub tried_at : List ℕ → Option StemRow → Tried
 tried_at stem row = record { stem = stem; candidates = offered_in row }
 
-pub tried_there : (stems : List (List ℕ)) (rows : List Row) (i : ℕ) (stem : List ℕ) → slice_get stems i ≡ Some stem → slice_get (tried_rows stems rows) i ≡ Some (tried_at stem (slice_get rows i))
+pub tried_there : (stems : List (List ℕ)) (rows : List StemRow) (i : ℕ) (stem : List ℕ) → slice_get stems i ≡ Some stem → slice_get (tried_rows stems rows) i ≡ Some (tried_at stem (slice_get rows i))
 tried_there [] rows i stem at = absurd (none-some stem at)
 tried_there (s ∷ stems) [] zero stem at = ap (λ (x : List ℕ). Some (tried_at x None)) (same_Some s stem at)
 tried_there (s ∷ stems) [] (suc i) stem at = tried_there stems [] i stem at
 tried_there (s ∷ stems) (row ∷ rows) zero stem at = ap (λ (x : List ℕ). Some (tried_at x (Some row))) (same_Some s stem at)
 tried_there (s ∷ stems) (row ∷ rows) (suc i) stem at = tried_there stems rows i stem at
 
-pub as_many_tried : (stems : List (List ℕ)) (rows : List Row) → length (tried_rows stems rows) ≡ length stems
+pub as_many_tried : (stems : List (List ℕ)) (rows : List StemRow) → length (tried_rows stems rows) ≡ length stems
 as_many_tried [] rows = refl
 as_many_tried (s ∷ stems) [] = let rest = as_many_tried stems [] in omega (arith, rest)
 as_many_tried (s ∷ stems) (row ∷ rows) = let rest = as_many_tried stems rows in omega (arith, rest)
@@ -33,11 +33,11 @@ version_there (None ∷ os) zero less = refl
 version_there (Some o ∷ os) zero less = refl
 version_there (o ∷ os) (suc k) less = version_there os k (omega arith)
 
-pub candidate_there : (row : Option Row) (k : ℕ) → k < count_at row → slice_get (offered_in row) k ≡ Some (version_at row (Some k))
+pub candidate_there : (row : Option StemRow) (k : ℕ) → k < count_at row → slice_get (offered_in row) k ≡ Some (version_at row (Some k))
 candidate_there None k less = absurd (omega arith)
 candidate_there (Some row) k less = version_there row.candidates k less
 
-pub as_many_offered : (row : Option Row) → length (offered_in row) ≡ count_at row
+pub as_many_offered : (row : Option StemRow) → length (offered_in row) ≡ count_at row
 as_many_offered None = refl
 as_many_offered (Some row) = length-map row.candidates offered
 

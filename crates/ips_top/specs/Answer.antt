@@ -5,7 +5,7 @@ use Rattle.ips_text.specs.declared.limits.Which.TheVariants as which
 use Rattle.ips_outside.specs.Image.{Image}
 use Rattle.ips_outside.specs.State.{nowhere}
 use Rattle.ips_outside.specs.Outside.{Outside}
-use Rattle.ips_folder.specs.Calls.{Keeps}
+use Rattle.ips_folder.specs.Calls.{ChangesOnly}
 use Rattle.ips_digest.specs.declared.name.PayloadName.{PayloadName}
 use Rattle.ips_repo.specs.Opening.{opening}
 use Rattle.ips_repo.specs.declared.fault.RepoFault.{RepoFault}
@@ -14,12 +14,12 @@ use Rattle.ips_repo.specs.Payload.{AreIntact, IsPayload}
 use Rattle.ips_install.specs.Fault.{IsFirstWrong}
 use Rattle.ips_install.specs.declared.fault.PayloadFault.{PayloadFault}
 use Rattle.ips_install.specs.declared.fault.PayloadFault.TheVariants as payload
-use Rattle.ips_request.specs.Case.{Reading}
+use Rattle.ips_request.specs.Case.{ManifestReading}
 use Rattle.ips_request.specs.declared.fault.ProblemFault.TheVariants as problem
 use Rattle.ips_meaning.specs.declared.entry.Entry.{Entry}
 use Rattle.ips_meaning.specs.declared.fault.WantFault.TheVariants as want
 use Rattle.ips_plan.specs.Meant.{IsMeant}
-use Rattle.ips_plan.specs.Planned.{AllFit, AllStand, IsInTheWay, is_covered, payloads_of}
+use Rattle.ips_plan.specs.Planned.{AllCanBeLaid, AllStand, IsInTheWay, is_covered, payloads_of}
 use Rattle.ips_resolve.specs.Lines.{IsUnbuilt}
 use Rattle.ips_top.specs.Request.{AsksForNothing, AsksForSome, publisher}
 use Rattle.ips_top.specs.Plan.{Wants, MeanNothing, AreBuilt, IsUnposed, HasNoSolution, IsSpent, IsFirstNamed, IsNamedFor, nothing_set}
@@ -62,7 +62,7 @@ IsTooMuch words t which count = DoesNotOpen words t (fault.TooLarge which count)
 
 -- Errors of the repository come exactly under their cause, in this order: mark, catalog, patterns, manifests, the choice, what
 -- the packages mean. At any other outcome but a fault or want of memory an image is wanted.
-abbrev pub SaysOfRepository : List (List ℕ) → Image → Reading → Outcome → Type 0
+abbrev pub SaysOfRepository : List (List ℕ) → Image → ManifestReading → Outcome → Type 0
 SaysOfRepository words t r (Usage place why) = Unit {0}
 SaysOfRepository words t r NoRepository = DoesNotOpen words t fault.NoRepository
 SaysOfRepository words t r (BadCatalog why) = DoesNotOpen words t (fault.BadCatalog why)
@@ -88,12 +88,12 @@ SaysOfRepository words t r OutOfMemory = Unit {0}
 -- ---- what is wanted, and what the image holds
 
 -- The packages mean an image, and the line of this package, by its number, is their first that can't be installed yet.
-pub record IsUnbuiltAt (words : List (List ℕ)) (repository : Image) (r : Reading) (fmri : List ℕ) (number : ℕ) : Type 0 where
+pub record IsUnbuiltAt (words : List (List ℕ)) (repository : Image) (r : ManifestReading) (fmri : List ℕ) (number : ℕ) : Type 0 where
   pub wants : Wants words repository r
   pub first : IsFirstNamed (IsUnbuilt nothing_set) wants.packages fmri number
 
 -- Each line can be installed, but something stands in the way of what is wanted, and this line is the first at or below that path.
-pub record IsBlockedAt (words : List (List ℕ)) (repository : Image) (r : Reading) (t : Image) (fmri : List ℕ) (number : ℕ) : Type 0 where
+pub record IsBlockedAt (words : List (List ℕ)) (repository : Image) (r : ManifestReading) (t : Image) (fmri : List ℕ) (number : ℕ) : Type 0 where
   pub wants : Wants words repository r
   pub built : AreBuilt wants.packages
   pub path : List ℕ
@@ -101,28 +101,28 @@ pub record IsBlockedAt (words : List (List ℕ)) (repository : Image) (r : Readi
   pub told : IsNamedFor path wants.packages fmri number
 
 -- Each line can be installed and nothing stands in the way, and this payload is the first that isn't intact in the repository.
-pub record LacksFirst (words : List (List ℕ)) (repository : Image) (r : Reading) (t : Image) (name : PayloadName) (why : PayloadFault) : Type 0 where
+pub record LacksFirst (words : List (List ℕ)) (repository : Image) (r : ManifestReading) (t : Image) (name : PayloadName) (why : PayloadFault) : Type 0 where
   pub wants : Wants words repository r
   pub built : AreBuilt wants.packages
-  pub fit : AllFit t wants.entries
+  pub fit : AllCanBeLaid t wants.entries
   pub first : IsFirstWrong publisher repository (payloads_of wants.entries) name why
 
 -- All that is wanted can be laid: each line can be installed, nothing stands in the way, and every payload is intact.
-pub record CouldInstall (words : List (List ℕ)) (repository : Image) (r : Reading) (t : Image) : Type 0 where
+pub record CouldInstall (words : List (List ℕ)) (repository : Image) (r : ManifestReading) (t : Image) : Type 0 where
   pub wants : Wants words repository r
   pub built : AreBuilt wants.packages
-  pub fit : AllFit t wants.entries
+  pub fit : AllCanBeLaid t wants.entries
   pub intact : AreIntact publisher repository (payloads_of wants.entries)
 
 -- All of it can be laid, and it doesn't stand already.
-pub record CouldChange (words : List (List ℕ)) (repository : Image) (r : Reading) (t : Image) : Type 0 where
+pub record CouldChange (words : List (List ℕ)) (repository : Image) (r : ManifestReading) (t : Image) : Type 0 where
   pub could : CouldInstall words repository r t
   pub some : AllStand t could.wants.entries → ⊥
 
 -- Errors of the image, in this order: NotYet at the first line that can't be installed, else at what stands in the way; a
 -- payload's fault at the first that isn't intact. An unfinished fault comes only behind these, where something is to be
 -- changed.
-abbrev pub SaysOfLines : List (List ℕ) → Image → Reading → Image → Outcome → Type 0
+abbrev pub SaysOfLines : List (List ℕ) → Image → ManifestReading → Image → Outcome → Type 0
 SaysOfLines words repository r t (Usage place why) = Unit {0}
 SaysOfLines words repository r t NoRepository = Unit {0}
 SaysOfLines words repository r t (BadCatalog why) = Unit {0}
@@ -148,7 +148,7 @@ SaysOfLines words repository r t OutOfMemory = Unit {0}
 
 -- What was asked for is done: the image is the old one with what is wanted, the bytes of each file are those of its payload in the
 -- repository, and every other path is as before.
-pub record IsDone (words : List (List ℕ)) (repository : Image) (r : Reading) (old new : Image) : Type 0 where
+pub record IsDone (words : List (List ℕ)) (repository : Image) (r : ManifestReading) (old new : Image) : Type 0 where
   pub could : CouldInstall words repository r old
   pub meant : IsMeant (IsPayload true publisher repository) could.wants.entries old new
 
@@ -158,10 +158,10 @@ is_new entries t q = is_covered entries q && is_none (t.look q)
 
 -- At every moment of a run of calls, and after it, nothing is changed and touched; or only paths at or below wanted ones are, of which those at
 -- which something stood are changed in their mode alone.
-abbrev pub ChangesWanted : {F : Type 0} → Outside F → List (List ℕ) → Image → Reading → F → F → Type 0
+abbrev pub ChangesWanted : {F : Type 0} → Outside F → List (List ℕ) → Image → ManifestReading → F → F → Type 0
 ChangesWanted o words repository r old new =
-    Keeps o nowhere nowhere old new
-    ⊎ ((w : Wants words repository r) × Keeps o (is_new w.entries (o.state old).held) (is_covered w.entries) old new)
+    ChangesOnly o nowhere nowhere old new
+    ⊎ ((w : Wants words repository r) × ChangesOnly o (is_new w.entries (o.state old).held) (is_covered w.entries) old new)
 
 -- ---- refusals
 

@@ -9,7 +9,7 @@ use Rattle.ips_install.specs.declared.fault.PayloadFault.{PayloadFault}
 use Rattle.ips_install.specs.declared.fault.PayloadFault.TheVariants as payload
 use Rattle.ips_install.specs.declared.fault.InstallFault.{InstallFault}
 use Rattle.ips_install.specs.declared.fault.InstallFault.TheVariants as install
-use Rattle.ips_request.specs.Case.{Case, Reading}
+use Rattle.ips_request.specs.Case.{Case, ManifestReading}
 use Rattle.ips_request.specs.declared.fault.ProblemFault.{ProblemFault}
 use Rattle.ips_request.specs.declared.fault.ProblemFault.TheVariants as problem
 use Rattle.ips_problem.specs.Posed.{Posed, posed}
@@ -23,14 +23,14 @@ use Rattle.ips_top.specs.declared.outcome.Outcome.{Outcome}
 use Rattle.ips_top.specs.declared.outcome.Outcome.TheVariants.{Usage, NoRepository, BadCatalog, NoMatch, Ambiguous, ManifestMissing, BadManifest, BadDepend, NoSolution, SearchSpent, Reserved, Clash, NotYet, PayloadMissing, PayloadDamaged, Compressed, TooLarge, Done, SourceFault, FolderFault, OutOfMemory}
 
 -- The words ask for this puzzle.
-pub record AsksPosed (words : List (List ℕ)) (t : Image) (r : Reading) (limit : ℕ) (p : Posed) : Type 0 where
+pub record AsksPosed (words : List (List ℕ)) (t : Image) (r : ManifestReading) (limit : ℕ) (p : Posed) : Type 0 where
   pub the_case : Case
   pub reach : List (List ℕ)
   pub asks : Asks words t r limit the_case reach
   pub same : p ≡ posed the_case reach
 
 -- This is what is to be laid: the chosen packages mean it, and each of their lines can be installed.
-pub record IsOffer (words : List (List ℕ)) (t : Image) (r : Reading) (o : Offer) : Type 0 where
+pub record IsOffer (words : List (List ℕ)) (t : Image) (r : ManifestReading) (o : Offer) : Type 0 where
   pub chosen : AreChosen words t r o.packages.items
   pub mean : PackagesMean nothing_set [] o.packages.items o.want
   pub built : AreBuilt o.packages.items
@@ -84,7 +84,7 @@ IsInstallOutcome (FolderFault unfinished) = Unit {0}
 IsInstallOutcome OutOfMemory = Unit {0}
 
 -- Nothing is to be laid, and the outcome tells why: what the repository holds is its cause, or a call failed, or memory was refused.
-abbrev pub PlansNothing : List (List ℕ) → Image → Reading → Outcome → Type 0
+abbrev pub PlansNothing : List (List ℕ) → Image → ManifestReading → Outcome → Type 0
 PlansNothing words t r (Usage place why) = ⊥
 PlansNothing words t r NoRepository = DoesNotOpen words t fault.NoRepository
 PlansNothing words t r (BadCatalog why) = DoesNotOpen words t (fault.BadCatalog why)

@@ -17,12 +17,12 @@ use Rattle.ips_depend.specs.Selection.{Selection}
 use Rattle.ips_request.specs.declared.kind.Kind.TheVariants as kind
 use Rattle.ips_request.specs.declared.request.Request.{Request}
 use Rattle.ips_request.specs.declared.fault.ProblemFault.{ProblemFault}
-use Rattle.ips_request.specs.Case.{Case, Reading, said}
+use Rattle.ips_request.specs.Case.{Case, ManifestReading, manifest_facts}
 use Rattle.ips_request.specs.Request.{AreNames, asked_case, kind_of, patterns_of, rejects_of}
 use Rattle.ips_request.specs.Subject.{files_of}
 use Rattle.ips_problem.specs.Reach.{IsReach}
 use Rattle.ips_problem.specs.Fault.{AreRead, manifests_of}
-use Rattle.ips_problem.specs.Selecting.{AreNumbers, IsAdmissible, IsBestSelection}
+use Rattle.ips_problem.specs.Selecting.{AreCandidateNumbers, IsAdmissible, IsBestSelection}
 use Rattle.ips_problem.specs.Posed.{meaning_of, posed, lines_said}
 use Rattle.ips_problem.specs.Taken.{package_with}
 use Rattle.ips_problem.specs.Asked.{IsProblemFault}
@@ -73,7 +73,7 @@ pub record Opens (words : List (List ℕ)) (t : Image) (limit : ℕ) (request : 
 
 -- The words ask for what this case says, with these stems in reach, where manifests are read so; of the manifests that these stems
 -- need none has a fault.
-pub record Asks (words : List (List ℕ)) (t : Image) (r : Reading) (limit : ℕ) (c : Case) (reach : List (List ℕ)) : Type 0 where
+pub record Asks (words : List (List ℕ)) (t : Image) (r : ManifestReading) (limit : ℕ) (c : Case) (reach : List (List ℕ)) : Type 0 where
   pub request : Request
   pub repo : Opened
   pub opens : Opens words t limit request repo
@@ -91,35 +91,35 @@ pub record Asks (words : List (List ℕ)) (t : Image) (r : Reading) (limit : ℕ
 pub record AreSelected (c : Case) (s : Selection) (packages : List Installed) : Type 0 where
   pub order : Ascend (map (λ (q : Installed). q.stem) packages)
   pub versions : (stem : List ℕ) → s stem ≡ option_map (λ (q : Installed). q.version) (package_with stem packages)
-  pub lines : (q : Installed) → Contains packages q → q.lines ≡ lines_said (said c q.stem q.version)
+  pub lines : (q : Installed) → Contains packages q → q.lines ≡ lines_said (manifest_facts c q.stem q.version)
 
 -- What is chosen: the packages of the best selection. None that is admissible comes before it, also of those that select stems out of reach.
-pub record Chosen (words : List (List ℕ)) (t : Image) (r : Reading) : Type 0 where
+pub record Chosen (words : List (List ℕ)) (t : Image) (r : ManifestReading) : Type 0 where
   pub limit : ℕ
   pub the_case : Case
   pub reach : List (List ℕ)
   pub asks : Asks words t r limit the_case reach
   pub selection : Selection
   pub best : IsBestSelection the_case reach selection
-  pub foremost : (other : Selection) (others : List ℕ) → IsAdmissible the_case other → AreNumbers the_case other reach others → NotLater best.numbers others
+  pub foremost : (other : Selection) (others : List ℕ) → IsAdmissible the_case other → AreCandidateNumbers the_case other reach others → NotLater best.numbers others
   pub packages : List Installed
   pub selected : AreSelected the_case selection packages
 
 -- these are the packages that are chosen
-abbrev pub AreChosen : List (List ℕ) → Image → Reading → List Package → Type 0
+abbrev pub AreChosen : List (List ℕ) → Image → ManifestReading → List Package → Type 0
 AreChosen words t r packages = (chosen : Chosen words t r) × (map installed packages ≡ chosen.packages)
 
 -- ---- what is wanted
 
 -- What is wanted: what the chosen packages mean in an image in which nothing is set.
-pub record Wants (words : List (List ℕ)) (t : Image) (r : Reading) : Type 0 where
+pub record Wants (words : List (List ℕ)) (t : Image) (r : ManifestReading) : Type 0 where
   pub packages : List Package
   pub chosen : AreChosen words t r packages
   pub entries : List (List ℕ × Entry)
   pub mean : PackagesMean nothing_set [] packages entries
 
 -- The chosen packages mean no image, and this is why.
-pub record MeanNothing (words : List (List ℕ)) (t : Image) (r : Reading) (why : WantFault) : Type 0 where
+pub record MeanNothing (words : List (List ℕ)) (t : Image) (r : ManifestReading) (why : WantFault) : Type 0 where
   pub packages : List Package
   pub chosen : AreChosen words t r packages
   pub fail : PackagesFail nothing_set [] packages why
@@ -139,7 +139,7 @@ pub record IsUnposed (words : List (List ℕ)) (t : Image) (why : ProblemFault) 
   pub fault : IsProblemFault request nothing_recorded (Some repo) t why
 
 -- No selection is admissible. What is told has the stems in reach with their candidates, and a refutation of the puzzle.
-pub record HasNoSolution (words : List (List ℕ)) (t : Image) (r : Reading) (u : Unsolved) : Type 0 where
+pub record HasNoSolution (words : List (List ℕ)) (t : Image) (r : ManifestReading) (u : Unsolved) : Type 0 where
   pub limit : ℕ
   pub the_case : Case
   pub reach : List (List ℕ)
@@ -153,7 +153,7 @@ abbrev pub IsPastLimit : Meaning → ℕ → Type 0
 IsPastLimit m limit = (best : Option (List ℕ)) → IsBest m best → limit < beginnings m best
 
 -- The search needs more beginnings than the limit that the words give.
-pub record IsSpent (words : List (List ℕ)) (t : Image) (r : Reading) (limit : ℕ) : Type 0 where
+pub record IsSpent (words : List (List ℕ)) (t : Image) (r : ManifestReading) (limit : ℕ) : Type 0 where
   pub the_case : Case
   pub reach : List (List ℕ)
   pub asks : Asks words t r limit the_case reach

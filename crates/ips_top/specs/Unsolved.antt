@@ -8,7 +8,7 @@ use Rattle.ips_refute.specs.declared.nogoods.Nogood.{Nogood}
 use Rattle.ips_refute.specs.Text.{entries, refutation_text}
 use Rattle.ips_request.specs.Case.{Case}
 use Rattle.ips_request.specs.Candidates.{candidates}
-use Rattle.ips_problem.specs.Posed.{Offer, Row}
+use Rattle.ips_problem.specs.Posed.{Offer, StemRow}
 use Rattle.ips_top.specs.Text.{line}
 use Rattle.ips_top.specs.declared.unsolved.Tried as declared
 
@@ -52,16 +52,16 @@ abbrev pub offered : Option Offer → Option Parts
 offered o = option_map (λ (offer : Offer). offer.version) o
 
 -- the versions that the candidates of a stem offer
-abbrev pub offered_in : Option Row → List (Option Parts)
+abbrev pub offered_in : Option StemRow → List (Option Parts)
 offered_in None = []
 offered_in (Some row) = map offered row.candidates
 
 -- what is known of a stem, as far as it is to be tried
-abbrev pub tried_row : List ℕ → Row → Tried
+abbrev pub tried_row : List ℕ → StemRow → Tried
 tried_row stem row = record { stem = stem; candidates = map offered row.candidates }
 
 -- what there is to try of the stems of a puzzle
-abbrev pub tried_rows : List (List ℕ) → List Row → List Tried
+abbrev pub tried_rows : List (List ℕ) → List StemRow → List Tried
 tried_rows [] rows = []
 tried_rows (stem ∷ stems) [] = record { stem = stem; candidates = [] } ∷ tried_rows stems []
 tried_rows (stem ∷ stems) (row ∷ rows) = tried_row stem row ∷ tried_rows stems rows

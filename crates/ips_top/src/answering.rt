@@ -3,12 +3,12 @@
 ghost use Rattle.std.specs.Prelude.{◌≡◌, ◌⊎◌, ℕ, IsTrue, false, List, Err, IfOk, IfErr, length, map, string_bytes};
 ghost use Rattle.ips_outside.specs.State.{IsSettled};
 ghost use Rattle.ips_outside.specs.Outside.{HasCause, Reads};
-ghost use Rattle.ips_folder.specs.Calls.{Keeps};
+ghost use Rattle.ips_folder.specs.Calls.{ChangesOnly};
 ghost use Rattle.ips_steps.specs.View.{step_of};
 ghost use Rattle.ips_steps.specs.Listed.{AreListed};
 ghost use Rattle.ips_meaning.specs.Together.{AreProper, HangTogether};
 ghost use Rattle.ips_plan.specs.Planned.{IsInTheWay, IsPlanOf, is_covered};
-ghost use Rattle.ips_request.specs.Case.{Reading, IsReading};
+ghost use Rattle.ips_request.specs.Case.{ManifestReading, IsReading};
 ghost use Rattle.ips_top.specs.Plan.{IsNamedFor, nothing_set};
 ghost use Rattle.ips_top.specs.Offer.{IsInstallOutcome, IsOffer, IsUnplanned};
 ghost use Rattle.ips_top.specs.Answer.{SaysOfWords, SaysOfRepository, SaysOfLines, ChangesWanted, CouldInstall, IsDone, IsFolderFault, is_new, is_refusal};
@@ -34,16 +34,16 @@ pub fn answer<S: Source, F: Folder>(
     image: &mut F,
 ) -> Outcome
     ensures words { SaysOfWords (map string_bytes words.now) result }
-    ensures repository { IsTrue (S.outside.tells repo.old) → (r : Reading) → IsReading nothing_set r → SaysOfRepository (map string_bytes words.now) (S.outside.state repo.old).held r result }
-    ensures lines { IsTrue (S.outside.tells repo.old) → IsTrue (F.outside.tells image.old) → (r : Reading) → IsReading nothing_set r
+    ensures repository { IsTrue (S.outside.tells repo.old) → (r : ManifestReading) → IsReading nothing_set r → SaysOfRepository (map string_bytes words.now) (S.outside.state repo.old).held r result }
+    ensures lines { IsTrue (S.outside.tells repo.old) → IsTrue (F.outside.tells image.old) → (r : ManifestReading) → IsReading nothing_set r
         → SaysOfLines (map string_bytes words.now) (S.outside.state repo.old).held r (F.outside.state image.old).held result }
-    ensures done { IsTrue (S.outside.tells repo.old) → IsTrue (F.outside.tells image.old) → (r : Reading) → IsReading nothing_set r → result ≡ Done
+    ensures done { IsTrue (S.outside.tells repo.old) → IsTrue (F.outside.tells image.old) → (r : ManifestReading) → IsReading nothing_set r → result ≡ Done
         → IsDone (map string_bytes words.now) (S.outside.state repo.old).held r (F.outside.state image.old).held (F.outside.state image.new).held }
     ensures safe { IsTrue (F.outside.tells image.old) → result ≡ Done → IsSettled (F.outside.state image.new) }
     ensures refusals { IsTrue (is_refusal (S.outside.tells repo.old) result) → F.outside.state image.new ≡ F.outside.state image.old }
-    ensures looked { IsTrue (S.outside.tells repo.old) → IsTrue (F.outside.tells image.old) → (r : Reading) → IsReading nothing_set r
+    ensures looked { IsTrue (S.outside.tells repo.old) → IsTrue (F.outside.tells image.old) → (r : ManifestReading) → IsReading nothing_set r
         → (F.outside.state image.new ≡ F.outside.state image.old) ⊎ CouldInstall (map string_bytes words.now) (S.outside.state repo.old).held r (F.outside.state image.old).held }
-    ensures any_moment { IsTrue (S.outside.tells repo.old) → IsTrue (F.outside.tells image.old) → (r : Reading) → IsReading nothing_set r
+    ensures any_moment { IsTrue (S.outside.tells repo.old) → IsTrue (F.outside.tells image.old) → (r : ManifestReading) → IsReading nothing_set r
         → ChangesWanted F.outside (map string_bytes words.now) (S.outside.state repo.old).held r image.old image.new }
     ensures repository_kept { S.outside.state repo.new ≡ S.outside.state repo.old }
     ensures source_cause { HasCause (S.outside.faults repo.old) (S.outside.faults repo.new) (result ≡ SourceFault) }
@@ -74,15 +74,15 @@ fn install_offer<S: Source, F: Folder>(
     requires proper { AreProper offer.want }
     requires together { HangTogether offer.want }
     ensures late { IsInstallOutcome result }
-    ensures lines { IsTrue (S.outside.tells repo.old) → IsTrue (F.outside.tells image.old) → (r : Reading) (words : List (List ℕ)) → IsOffer words (S.outside.state repo.old).held r offer
+    ensures lines { IsTrue (S.outside.tells repo.old) → IsTrue (F.outside.tells image.old) → (r : ManifestReading) (words : List (List ℕ)) → IsOffer words (S.outside.state repo.old).held r offer
         → SaysOfLines words (S.outside.state repo.old).held r (F.outside.state image.old).held result }
-    ensures done { IsTrue (S.outside.tells repo.old) → IsTrue (F.outside.tells image.old) → (r : Reading) (words : List (List ℕ)) → IsOffer words (S.outside.state repo.old).held r offer
+    ensures done { IsTrue (S.outside.tells repo.old) → IsTrue (F.outside.tells image.old) → (r : ManifestReading) (words : List (List ℕ)) → IsOffer words (S.outside.state repo.old).held r offer
         → result ≡ Done → IsDone words (S.outside.state repo.old).held r (F.outside.state image.old).held (F.outside.state image.new).held }
     ensures safe { IsTrue (F.outside.tells image.old) → result ≡ Done → IsSettled (F.outside.state image.new) }
     ensures refusals { IsTrue (is_refusal (S.outside.tells repo.old) result) → F.outside.state image.new ≡ F.outside.state image.old }
-    ensures looked { IsTrue (S.outside.tells repo.old) → IsTrue (F.outside.tells image.old) → (r : Reading) (words : List (List ℕ)) → IsOffer words (S.outside.state repo.old).held r offer
+    ensures looked { IsTrue (S.outside.tells repo.old) → IsTrue (F.outside.tells image.old) → (r : ManifestReading) (words : List (List ℕ)) → IsOffer words (S.outside.state repo.old).held r offer
         → (F.outside.state image.new ≡ F.outside.state image.old) ⊎ CouldInstall words (S.outside.state repo.old).held r (F.outside.state image.old).held }
-    ensures any_moment { IsTrue (F.outside.tells image.old) → Keeps F.outside (is_new offer.want (F.outside.state image.old).held) (is_covered offer.want) image.old image.new }
+    ensures any_moment { IsTrue (F.outside.tells image.old) → ChangesOnly F.outside (is_new offer.want (F.outside.state image.old).held) (is_covered offer.want) image.old image.new }
     ensures repository_kept { S.outside.state repo.new ≡ S.outside.state repo.old }
     ensures source_cause { HasCause (S.outside.faults repo.old) (S.outside.faults repo.new) (result ≡ SourceFault) }
     ensures folder_cause { HasCause (F.outside.faults image.old) (F.outside.faults image.new) (IsFolderFault result) }

@@ -8,7 +8,7 @@ ghost use Rattle.ips_repo.specs.Opening.{opening, IsOpeningFault};
 ghost use Rattle.ips_repo.specs.declared.fault.RepoFault.TheVariants as repo_fault;
 ghost use Rattle.ips_state.specs.State.{recorded};
 ghost use Rattle.ips_refute.specs.Refuting.{IsRefutation};
-ghost use Rattle.ips_request.specs.Case.{Reading, IsReading};
+ghost use Rattle.ips_request.specs.Case.{ManifestReading, IsReading};
 ghost use Rattle.ips_problem.specs.Held.{posed_of};
 ghost use Rattle.ips_problem.specs.Posed.{meaning_of};
 ghost use Rattle.ips_top.specs.Request.{AsksFor, AsksForSome, publisher};
@@ -41,9 +41,9 @@ pub fn chosen_for<S: Source>(
     asked: Asked,
     source: &mut S,
 ) -> Result<Vec<Package>, Outcome>
-    ensures chosen { IsTrue (S.outside.tells source.old) → (r : Reading) → IsReading nothing_set r → (words : List (List ℕ)) → AsksFor words asked.limit asked.patterns.items
+    ensures chosen { IsTrue (S.outside.tells source.old) → (r : ManifestReading) → IsReading nothing_set r → (words : List (List ℕ)) → AsksFor words asked.limit asked.patterns.items
         → IfOk result (λ packages. AreChosen words (S.outside.state source.old).held r packages.items) }
-    ensures refused { IsTrue (S.outside.tells source.old) → (r : Reading) → IsReading nothing_set r → (words : List (List ℕ)) → AsksFor words asked.limit asked.patterns.items
+    ensures refused { IsTrue (S.outside.tells source.old) → (r : ManifestReading) → IsReading nothing_set r → (words : List (List ℕ)) → AsksFor words asked.limit asked.patterns.items
         → IfErr result (PlansNothing words (S.outside.state source.old).held r) }
     ensures faults { IfErr result IsEarly }
     ensures reads { Reads S.outside source.old source.new (result ≡ Err SourceFault) }
@@ -59,7 +59,7 @@ pub fn chosen_for<S: Source>(
 fn open<S: Source>(alloc: Global, source: &mut S) -> Result<Repo, Outcome>
     ensures publisher { IfOk result (λ repo. repo.publisher ≡ publisher) }
     ensures opened { IsTrue (S.outside.tells source.old) → IfOk result (λ repo. opening publisher (S.outside.state source.old).held ≡ Ok repo.catalog) }
-    ensures refused { IsTrue (S.outside.tells source.old) → (r : Reading) (words : List (List ℕ)) → AsksForSome words → IfErr result (PlansNothing words (S.outside.state source.old).held r) }
+    ensures refused { IsTrue (S.outside.tells source.old) → (r : ManifestReading) (words : List (List ℕ)) → AsksForSome words → IfErr result (PlansNothing words (S.outside.state source.old).held r) }
     ensures faults { IfErr result IsEarly }
     ensures reads { Reads S.outside source.old source.new (result ≡ Err SourceFault) }
 {
@@ -73,7 +73,7 @@ fn open<S: Source>(alloc: Global, source: &mut S) -> Result<Repo, Outcome>
 // What is answered where the repository doesn't open.
 fn not_opened(fault: RepoFault) -> Outcome
     requires { IsOpeningFault fault }
-    ensures told { (t : Image) (r : Reading) (words : List (List ℕ)) → AsksForSome words → IsMeantFault fault (opening publisher t) → PlansNothing words t r result }
+    ensures told { (t : Image) (r : ManifestReading) (words : List (List ℕ)) → AsksForSome words → IsMeantFault fault (opening publisher t) → PlansNothing words t r result }
     ensures early { IsEarly result }
     ensures failed { fault ≡ repo_fault.SourceFault → result ≡ SourceFault }
     ensures steady { result ≡ SourceFault → fault ≡ repo_fault.SourceFault }
@@ -95,10 +95,10 @@ fn pose<S: Source>(
     source: &mut S,
 ) -> Result<Problem, Outcome>
     requires { repo.now.publisher ≡ publisher }
-    ensures posed { IsTrue (S.outside.tells source.old) → (r : Reading) → IsReading nothing_set r → (words : List (List ℕ)) (limit : ℕ) → AsksFor words limit patterns.items
+    ensures posed { IsTrue (S.outside.tells source.old) → (r : ManifestReading) → IsReading nothing_set r → (words : List (List ℕ)) (limit : ℕ) → AsksFor words limit patterns.items
         → opening publisher (S.outside.state source.old).held ≡ Ok repo.now.catalog
         → IfOk result (λ p. AsksPosed words (S.outside.state source.old).held r limit (posed_of p)) }
-    ensures refused { IsTrue (S.outside.tells source.old) → (r : Reading) → IsReading nothing_set r → (words : List (List ℕ)) (limit : ℕ) → AsksFor words limit patterns.items
+    ensures refused { IsTrue (S.outside.tells source.old) → (r : ManifestReading) → IsReading nothing_set r → (words : List (List ℕ)) (limit : ℕ) → AsksFor words limit patterns.items
         → opening publisher (S.outside.state source.old).held ≡ Ok repo.now.catalog
         → IfErr result (PlansNothing words (S.outside.state source.old).held r) }
     ensures faults { IfErr result IsEarly }
@@ -152,8 +152,8 @@ fn unposed(fault: ProblemFault) -> Outcome
 
 /// The packages of the best selection.
 fn choose(alloc: Global, problem: &Problem, limit: u64) -> Result<Vec<Package>, Outcome>
-    ensures chosen { (words : List (List ℕ)) (t : Image) (r : Reading) → AsksPosed words t r limit (posed_of problem.now) → IfOk result (λ packages. AreChosen words t r packages.items) }
-    ensures refused { (words : List (List ℕ)) (t : Image) (r : Reading) → AsksPosed words t r limit (posed_of problem.now) → IfErr result (PlansNothing words t r) }
+    ensures chosen { (words : List (List ℕ)) (t : Image) (r : ManifestReading) → AsksPosed words t r limit (posed_of problem.now) → IfOk result (λ packages. AreChosen words t r packages.items) }
+    ensures refused { (words : List (List ℕ)) (t : Image) (r : ManifestReading) → AsksPosed words t r limit (posed_of problem.now) → IfErr result (PlansNothing words t r) }
     ensures faults { IfErr result (λ why. IsEarly why × (why ≡ SourceFault → ⊥)) }
 {
     match solve(alloc, problem, limit) {
@@ -170,7 +170,7 @@ fn choose(alloc: Global, problem: &Problem, limit: u64) -> Result<Vec<Package>, 
 // What is answered where a refutation was found. The search isn't trusted: the refutation is checked.
 fn no_solution(alloc: Global, problem: &Problem, refutation: Refutation) -> Outcome
     requires { IsRefutation (meaning_of (posed_of problem.now)) refutation.nogoods.items }
-    ensures told { (words : List (List ℕ)) (t : Image) (r : Reading) (limit : ℕ) → AsksPosed words t r limit (posed_of problem.now) → PlansNothing words t r result }
+    ensures told { (words : List (List ℕ)) (t : Image) (r : ManifestReading) (limit : ℕ) → AsksPosed words t r limit (posed_of problem.now) → PlansNothing words t r result }
     ensures early { IsEarly result × (result ≡ SourceFault → ⊥) }
 {
     if !check(problem, &refutation) {

@@ -3,7 +3,7 @@
 ghost use Rattle.std.specs.Prelude.{◌≡◌, ◌⊎◌, ◌++◌, ℕ, IsTrue, IsFalse, map, take, string_bytes};
 ghost use Rattle.ips_outside.specs.State.{IsSettled};
 ghost use Rattle.ips_outside.specs.Outside.{HasCause};
-ghost use Rattle.ips_request.specs.Case.{Reading, IsReading};
+ghost use Rattle.ips_request.specs.Case.{ManifestReading, IsReading};
 ghost use Rattle.ips_top.specs.Plan.{nothing_set};
 ghost use Rattle.ips_top.specs.Answer.{SaysOfWords, SaysOfRepository, SaysOfLines, ChangesWanted, CouldInstall, IsDone, IsFolderFault, is_refusal};
 ghost use Rattle.ips_top.specs.Report.{report_text};
@@ -28,22 +28,22 @@ pub fn run<S: Source, F: Folder, O: Sink>(
     // Each outcome comes exactly under its cause, a fault and want of memory apart. What is said of manifests is said of every way to
     // read them by their grammar.
     ensures words { SaysOfWords (map string_bytes words.now) result.outcome }
-    ensures repository { IsTrue (S.outside.tells repo.old) → (r : Reading) → IsReading nothing_set r → SaysOfRepository (map string_bytes words.now) (S.outside.state repo.old).held r result.outcome }
-    ensures lines { IsTrue (S.outside.tells repo.old) → IsTrue (F.outside.tells image.old) → (r : Reading) → IsReading nothing_set r
+    ensures repository { IsTrue (S.outside.tells repo.old) → (r : ManifestReading) → IsReading nothing_set r → SaysOfRepository (map string_bytes words.now) (S.outside.state repo.old).held r result.outcome }
+    ensures lines { IsTrue (S.outside.tells repo.old) → IsTrue (F.outside.tells image.old) → (r : ManifestReading) → IsReading nothing_set r
         → SaysOfLines (map string_bytes words.now) (S.outside.state repo.old).held r (F.outside.state image.old).held result.outcome }
 
     // Done: the image is the old one with what the packages of the best selection mean, safe from a crash; the bytes of each file have
     // the digest that is its payload's name, and are those of the repository.
-    ensures done { IsTrue (S.outside.tells repo.old) → IsTrue (F.outside.tells image.old) → (r : Reading) → IsReading nothing_set r → result.outcome ≡ Done
+    ensures done { IsTrue (S.outside.tells repo.old) → IsTrue (F.outside.tells image.old) → (r : ManifestReading) → IsReading nothing_set r → result.outcome ≡ Done
         → IsDone (map string_bytes words.now) (S.outside.state repo.old).held r (F.outside.state image.old).held (F.outside.state image.new).held }
     ensures safe { IsTrue (F.outside.tells image.old) → result.outcome ≡ Done → IsSettled (F.outside.state image.new) }
 
     // A refusal changes nothing. Nothing is changed before every line, every wanted path and every payload was looked at, also where
     // the end is a fault. At any moment only wanted paths are changed, and of what stood at them nothing but modes.
     ensures refusals { IsTrue (is_refusal (S.outside.tells repo.old) result.outcome) → F.outside.state image.new ≡ F.outside.state image.old }
-    ensures looked { IsTrue (S.outside.tells repo.old) → IsTrue (F.outside.tells image.old) → (r : Reading) → IsReading nothing_set r
+    ensures looked { IsTrue (S.outside.tells repo.old) → IsTrue (F.outside.tells image.old) → (r : ManifestReading) → IsReading nothing_set r
         → (F.outside.state image.new ≡ F.outside.state image.old) ⊎ CouldInstall (map string_bytes words.now) (S.outside.state repo.old).held r (F.outside.state image.old).held }
-    ensures any_moment { IsTrue (S.outside.tells repo.old) → IsTrue (F.outside.tells image.old) → (r : Reading) → IsReading nothing_set r
+    ensures any_moment { IsTrue (S.outside.tells repo.old) → IsTrue (F.outside.tells image.old) → (r : ManifestReading) → IsReading nothing_set r
         → ChangesWanted F.outside (map string_bytes words.now) (S.outside.state repo.old).held r image.old image.new }
     ensures repository_kept { S.outside.state repo.new ≡ S.outside.state repo.old }
 

@@ -6,7 +6,7 @@ ghost use Rattle.ips_outside.specs.Outside.{Reads};
 ghost use Rattle.ips_meaning.specs.Want.{PackagesMean};
 ghost use Rattle.ips_meaning.specs.Together.{AreProper, HangTogether};
 ghost use Rattle.ips_resolve.specs.Lines.{IsUnbuilt};
-ghost use Rattle.ips_request.specs.Case.{Reading, IsReading};
+ghost use Rattle.ips_request.specs.Case.{ManifestReading, IsReading};
 ghost use Rattle.ips_top.specs.Request.{AsksFor};
 ghost use Rattle.ips_top.specs.Plan.{AreBuilt, AreChosen, IsFirstNamed, nothing_set};
 ghost use Rattle.ips_top.specs.Offer as offered;
@@ -36,9 +36,9 @@ pub struct Offer {
 
 /// What is to be laid for what is asked, by what the repository holds.
 pub fn offer_for<S: Source>(alloc: Global, asked: Asked, source: &mut S) -> Result<Offer, Outcome>
-    ensures offered { IsTrue (S.outside.tells source.old) → (r : Reading) → IsReading nothing_set r → (words : List (List ℕ)) → AsksFor words asked.limit asked.patterns.items
+    ensures offered { IsTrue (S.outside.tells source.old) → (r : ManifestReading) → IsReading nothing_set r → (words : List (List ℕ)) → AsksFor words asked.limit asked.patterns.items
         → IfOk result (IsOffer words (S.outside.state source.old).held r) }
-    ensures refused { IsTrue (S.outside.tells source.old) → (r : Reading) → IsReading nothing_set r → (words : List (List ℕ)) → AsksFor words asked.limit asked.patterns.items
+    ensures refused { IsTrue (S.outside.tells source.old) → (r : ManifestReading) → IsReading nothing_set r → (words : List (List ℕ)) → AsksFor words asked.limit asked.patterns.items
         → IfErr result (PlansNothing words (S.outside.state source.old).held r) }
     ensures proper { IfOk result (λ offer. AreProper offer.want) }
     ensures together { IfOk result (λ offer. HangTogether offer.want) }
@@ -51,8 +51,8 @@ pub fn offer_for<S: Source>(alloc: Global, asked: Asked, source: &mut S) -> Resu
 
 // What these packages mean, where all of it can be installed.
 fn offer_of(alloc: Global, packages: Vec<Package>) -> Result<Offer, Outcome>
-    ensures offered { (words : List (List ℕ)) (t : Image) (r : Reading) → AreChosen words t r packages.items → IfOk result (IsOffer words t r) }
-    ensures refused { (words : List (List ℕ)) (t : Image) (r : Reading) → AreChosen words t r packages.items → IfErr result (PlansNothing words t r) }
+    ensures offered { (words : List (List ℕ)) (t : Image) (r : ManifestReading) → AreChosen words t r packages.items → IfOk result (IsOffer words t r) }
+    ensures refused { (words : List (List ℕ)) (t : Image) (r : ManifestReading) → AreChosen words t r packages.items → IfErr result (PlansNothing words t r) }
     ensures proper { IfOk result (λ offer. AreProper offer.want) }
     ensures together { IfOk result (λ offer. HangTogether offer.want) }
     ensures faults { IfErr result (λ why. IsEarly why × (why ≡ SourceFault → ⊥)) }

@@ -1,7 +1,7 @@
 -- Members that go.
 use Rattle.std.proofs.Common.{◌≡◌, ℕ, Bool, true, false, cond, not, ◌&&◌, ◌||◌, List, [], ◌∷◌, map, filter, refl, sym, ap, ◌∙◌}
 use Rattle.std.specs.List.{list_any}
-use Rattle.ips_books.specs.Lines.{Line}
+use Rattle.ips_books.specs.Lines.{AccountLine}
 use Rattle.ips_books.specs.Accounts.{is_kept, members_of}
 use Rattle.ips_books.specs.Writing.{with_members}
 use Rattle.ips_turnover.specs.Turnover.{left_by}
@@ -20,7 +20,7 @@ pub seen_any : {A B : Type 0} (view : A → B) (test : B → Bool) (xs : List A)
 seen_any view test [] = refl
 seen_any view test (x ∷ xs) = ap (λ (t : Bool). test (view x) || t) (seen_any view test xs)
 
-module _ (gone : List ℕ → Bool) (line : Line) where
+module _ (gone : List ℕ → Bool) (line : AccountLine) where
   pub left_kept : is_kept line ≡ true → line ≡ left_by gone line
   left_kept e = sym (ap (λ (t : Bool). cond (not t && list_any gone (members_of line)) (with_members (filter (λ member. not (gone member)) (members_of line)) line) line) e)
 

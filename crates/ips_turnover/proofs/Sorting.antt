@@ -12,7 +12,7 @@ use Rattle.std.proofs.lemmas.List.Elements.{filter-append}
 use Rattle.std.proofs.lemmas.List.Sorted.{sorted_far, ranks_by}
 use Rattle.ips_text.proofs.Truths.{not_true}
 use Rattle.ips_action.specs.Action.{Fields, line_text}
-use Rattle.ips_turnover.specs.Turnover.{placed, ordered, ordered_with, name_cmp}
+use Rattle.ips_turnover.specs.Turnover.{by_place, ordered, ordered_with, name_cmp}
 
 -- None is less than one before it.
 abbrev Rises : {X : Type 0} → (X → X → Bool) → List X → Type 0
@@ -98,11 +98,11 @@ module _ {X : Type 0} (lt : X → X → Bool) (o : IsStrictWeakOrder lt) where
 
 -- ---- actions that are placed one after another
 
-pub all_placed : (P : Fields → Type 0) (cmp : Fields → Fields → Ordering) (a : Fields) (actions : List Fields) → P a → AllByRecursion P actions → AllByRecursion P (placed cmp a actions)
+pub all_placed : (P : Fields → Type 0) (cmp : Fields → Fields → Ordering) (a : Fields) (actions : List Fields) → P a → AllByRecursion P actions → AllByRecursion P (by_place cmp a actions)
 all_placed P cmp a [] p all = (p, all)
 all_placed P cmp a (b ∷ actions) p all = go (is_lt (cmp a b)) (all_placed P cmp a actions p all.1)
   where
-    go : (t : Bool) → AllByRecursion P (placed cmp a actions) → AllByRecursion P (cond t (a ∷ b ∷ actions) (b ∷ placed cmp a actions))
+    go : (t : Bool) → AllByRecursion P (by_place cmp a actions) → AllByRecursion P (cond t (a ∷ b ∷ actions) (b ∷ by_place cmp a actions))
     go true rest = (p, all)
     go false rest = (all.0, rest)
 
@@ -122,15 +122,15 @@ module _ (cmp : Fields → Fields → Ordering) (o : IsStrictWeakOrder (λ x y. 
   not_back a b [] e all = tt
   not_back a b (y ∷ ys) e all = (o.chain y b a all.0 (o.one_way a b e), not_back a b ys e all.1)
 
-  placed_rises : (a : Fields) (xs : List Fields) → Rises less xs → Rises less (placed cmp a xs)
+  placed_rises : (a : Fields) (xs : List Fields) → Rises less xs → Rises less (by_place cmp a xs)
   placed_rises a [] up = (tt, tt)
   placed_rises a (b ∷ xs) up = go (less a b) refl (placed_rises a xs up.1)
     where
-      go : (t : Bool) → less a b ≡ t → Rises less (placed cmp a xs) → Rises less (cond t (a ∷ b ∷ xs) (b ∷ placed cmp a xs))
+      go : (t : Bool) → less a b ≡ t → Rises less (by_place cmp a xs) → Rises less (cond t (a ∷ b ∷ xs) (b ∷ by_place cmp a xs))
       go true e rest = ((o.one_way a b e, not_back a b xs e up.0), up)
       go false e rest = (all_placed (λ y. less y b ≡ false) cmp a xs e up.0, rest)
 
-  placed_ties : (d a : Fields) (xs : List Fields) → Rises less xs → filter (ties less d) (placed cmp a xs) ≡ filter (ties less d) xs ++ filter (ties less d) (a ∷ [])
+  placed_ties : (d a : Fields) (xs : List Fields) → Rises less xs → filter (ties less d) (by_place cmp a xs) ≡ filter (ties less d) xs ++ filter (ties less d) (a ∷ [])
   placed_ties d a [] up = refl
   placed_ties d a (b ∷ xs) up = go (less a b) refl (placed_ties d a xs up.1)
     where
@@ -142,19 +142,19 @@ module _ (cmp : Fields → Fields → Ordering) (o : IsStrictWeakOrder (λ x y. 
       behind true one two more e = ap (λ (l : List Fields). b ∷ l) e
       behind false one two more e = e
 
-      go : (t : Bool) → less a b ≡ t → filter (ties less d) (placed cmp a xs) ≡ filter (ties less d) xs ++ filter (ties less d) (a ∷ [])
-          → filter (ties less d) (cond t (a ∷ b ∷ xs) (b ∷ placed cmp a xs)) ≡ filter (ties less d) (b ∷ xs) ++ filter (ties less d) (a ∷ [])
+      go : (t : Bool) → less a b ≡ t → filter (ties less d) (by_place cmp a xs) ≡ filter (ties less d) xs ++ filter (ties less d) (a ∷ [])
+          → filter (ties less d) (cond t (a ∷ b ∷ xs) (b ∷ by_place cmp a xs)) ≡ filter (ties less d) (b ∷ xs) ++ filter (ties less d) (a ∷ [])
       go true e rest = front (ties less d a) refl e
-      go false e rest = behind (ties less d b) (filter (ties less d) (placed cmp a xs)) (filter (ties less d) xs) (filter (ties less d) (a ∷ [])) rest
+      go false e rest = behind (ties less d b) (filter (ties less d) (by_place cmp a xs)) (filter (ties less d) xs) (filter (ties less d) (a ∷ [])) rest
 
   ordered_rises : (actions sorted : List Fields) → Rises less sorted → Rises less (ordered_with cmp actions sorted)
   ordered_rises [] sorted up = up
-  ordered_rises (a ∷ actions) sorted up = ordered_rises actions (placed cmp a sorted) (placed_rises a sorted up)
+  ordered_rises (a ∷ actions) sorted up = ordered_rises actions (by_place cmp a sorted) (placed_rises a sorted up)
 
   ordered_ties : (d : Fields) (actions sorted : List Fields) → Rises less sorted → filter (ties less d) (ordered_with cmp actions sorted) ≡ filter (ties less d) sorted ++ filter (ties less d) actions
   ordered_ties d [] sorted up = sym (append-nil (filter (ties less d) sorted))
   ordered_ties d (a ∷ actions) sorted up =
-      ordered_ties d actions (placed cmp a sorted) (placed_rises a sorted up)
+      ordered_ties d actions (by_place cmp a sorted) (placed_rises a sorted up)
       ∙ ap (λ (l : List Fields). l ++ filter (ties less d) actions) (placed_ties d a sorted up)
       ∙ append_assoc (filter (ties less d) sorted) (filter (ties less d) (a ∷ [])) (filter (ties less d) actions)
       ∙ ap (λ (l : List Fields). filter (ties less d) sorted ++ l) (sym (filter-append (ties less d) (a ∷ []) actions))

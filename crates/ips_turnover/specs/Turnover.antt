@@ -9,7 +9,7 @@ use Rattle.ips_action.specs.Kind.{kind_name}
 use Rattle.ips_action.specs.Attrs.{is_same}
 use Rattle.ips_action.specs.Action.{Fields, line_text}
 use Rattle.ips_conflict.specs.Key.{first_value, value_of}
-use Rattle.ips_books.specs.Lines.{Line}
+use Rattle.ips_books.specs.Lines.{AccountLine}
 use Rattle.ips_books.specs.Accounts.{is_kept, field, number_in, members_of, Accounts}
 use Rattle.ips_books.specs.Writing.{with_members}
 
@@ -58,14 +58,14 @@ is_fresh old a = not (list_any (λ o. is_same (line_text a) (line_text o)) old)
 -- ---- the order of actions
 
 -- The actions, with one more at its place in order, behind those that tie with it.
-abbrev pub placed : (Fields → Fields → Ordering) → Fields → List Fields → List Fields
-placed cmp a [] = a ∷ []
-placed cmp a (b ∷ actions) = if is_lt (cmp a b) then a ∷ b ∷ actions else b ∷ placed cmp a actions
+abbrev pub by_place : (Fields → Fields → Ordering) → Fields → List Fields → List Fields
+by_place cmp a [] = a ∷ []
+by_place cmp a (b ∷ actions) = if is_lt (cmp a b) then a ∷ b ∷ actions else b ∷ by_place cmp a actions
 
 -- The actions in order, with these more.
 abbrev pub ordered_with : (Fields → Fields → Ordering) → List Fields → List Fields → List Fields
 ordered_with cmp [] sorted = sorted
-ordered_with cmp (a ∷ actions) sorted = ordered_with cmp actions (placed cmp a sorted)
+ordered_with cmp (a ∷ actions) sorted = ordered_with cmp actions (by_place cmp a sorted)
 
 -- The actions in order.
 abbrev pub ordered : (Fields → Fields → Ordering) → List Fields → List Fields
@@ -86,15 +86,15 @@ fresh_users old new = ordered (name_cmp user_name) (filter (is_fresh (users_in o
 -- ---- gone names
 
 -- The line is kept as it is, or its name isn't gone.
-abbrev pub stays : (List ℕ → Bool) → Line → Bool
+abbrev pub stays : (List ℕ → Bool) → AccountLine → Bool
 stays gone line = is_kept line || not (gone (field 0 line))
 
 -- The lines without those of gone names.
-abbrev pub without : (List ℕ → Bool) → List Line → List Line
+abbrev pub without : (List ℕ → Bool) → List AccountLine → List AccountLine
 without gone lines = filter (stays gone) lines
 
 -- The line of a group without the members that are gone.
-abbrev pub left_by : (List ℕ → Bool) → Line → Line
+abbrev pub left_by : (List ℕ → Bool) → AccountLine → AccountLine
 left_by gone line = if not (is_kept line) && list_any gone (members_of line) then with_members (filter (λ member. not (gone member)) (members_of line)) line else line
 
 -- The files without gone names: their lines go, and gone users leave all member lists.

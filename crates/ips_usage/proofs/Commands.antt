@@ -9,7 +9,7 @@ use Rattle.ips_syntax.specs.declared.values.Value.{Value}
 use Rattle.ips_syntax.specs.declared.values.Given.{Given}
 use Rattle.ips_syntax.specs.Table.{operands_of, required_of, value_form}
 use Rattle.ips_syntax.specs.Values.{value_at}
-use Rattle.ips_syntax.specs.Reading.{stop, plain, valued, is_dashed, is_operand, role_of, takes, again, lacks, operands_at}
+use Rattle.ips_syntax.specs.Reading.{stop, plain, valued, is_dashed, is_operand, role_of, takes_value, again, lacks, operands_at}
 use Rattle.ips_usage.proofs.Fault.{Words, Judged, refused_at, lacking_at, goes_on, reads_as, no_fault}
 use Rattle.ips_usage.proofs.Values.{IsSound, bad_value}
 use Rattle.ips_usage.proofs.Operands.{operands_judged, operands_none}
@@ -68,11 +68,11 @@ operand_judged v given word words fine operand = go (is_dashed word) (lacks (req
 -- the first word is an option
 option_judged : (v : Verb) (given : List Given) (word : List ℕ) (words : Words) → IsFine v given → is_operand (role_of v word) ≡ false
     → ((more : List Given) → IsFine v more → Judged (rest v more) words)
-    → (again (role_of v word) given ≡ false → takes (role_of v word) ≡ true → Judged (option_behind v given (role_of v word)) words)
+    → (again (role_of v word) given ≡ false → takes_value (role_of v word) ≡ true → Judged (option_behind v given (role_of v word)) words)
     → Judged (rest v given) (word ∷ words)
-option_judged v given word words fine option behind value = go (again (role_of v word) given) (takes (role_of v word)) refl refl
+option_judged v given word words fine option behind value = go (again (role_of v word) given) (takes_value (role_of v word)) refl refl
   where
-    go : (a t : Bool) → again (role_of v word) given ≡ a → takes (role_of v word) ≡ t → Judged (rest v given) (word ∷ words)
+    go : (a t : Bool) → again (role_of v word) given ≡ a → takes_value (role_of v word) ≡ t → Judged (rest v given) (word ∷ words)
     go true t e f = refused_at (rest v given) word words Repeated (λ h. cc) (λ us. rest_option v given word us option ∙ repeated v given (role_of v word) us e) (complete v given fine)
     go false false e f =
         goes_on (rest v given) (rest v (given ++ plain (role_of v word) ∷ [])) word words (λ us. rest_option v given word us option ∙ plain_read v given (role_of v word) us e f)
@@ -80,7 +80,7 @@ option_judged v given word words fine option behind value = go (again (role_of v
     go false true e f = goes_on (rest v given) (option_behind v given (role_of v word)) word words (λ us. rest_option v given word us option) (value e f)
 
 -- the value of an option
-value_judged : (v : Verb) (given : List Given) (word next : List ℕ) (words : Words) → IsFine v given → again (role_of v word) given ≡ false → takes (role_of v word) ≡ true
+value_judged : (v : Verb) (given : List Given) (word next : List ℕ) (words : Words) → IsFine v given → again (role_of v word) given ≡ false → takes_value (role_of v word) ≡ true
     → ((more : List Given) → IsFine v more → Judged (rest v more) words) → Judged (option_behind v given (role_of v word)) (next ∷ words)
 value_judged v given word next words fine once some behind = go (value_at (value_form (role_of v word)) next) refl (bad_value (value_form (role_of v word)) next)
   where

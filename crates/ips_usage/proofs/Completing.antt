@@ -20,7 +20,7 @@ use Rattle.ips_syntax.specs.declared.values.Value.{Value}
 use Rattle.ips_syntax.specs.declared.values.Given.{Given}
 use Rattle.ips_syntax.specs.Table.{options_of, operands_of, required_of, role_name, value_form}
 use Rattle.ips_syntax.specs.Values.{same, value_at}
-use Rattle.ips_syntax.specs.Reading.{stop, plain, valued, is_dashed, is_operand, is_set_by, role_in, role_of, takes, again, lacks, stands, operands_at}
+use Rattle.ips_syntax.specs.Reading.{stop, plain, valued, is_dashed, is_operand, is_set_by, role_in, role_of, takes_value, again, lacks, is_given, operands_at}
 use Rattle.ips_usage.proofs.Fault.{Words, Completes}
 use Rattle.ips_usage.proofs.Values.{IsSound, Unnamed, any_behind, not_named, unnamed_value, still_unnamed, has_names, has_name}
 use Rattle.ips_usage.proofs.Operands.{enough, first_read}
@@ -170,7 +170,7 @@ completed v given fine = go (nat_le (operands_of v).least 0) refl
 record Required (v : Verb) (given : List Given) : Type 0 where
   word : List ℕ
   option : is_operand (role_of v word) ≡ false
-  valued_too : takes (role_of v word) ≡ true
+  valued_too : takes_value (role_of v word) ≡ true
   has : has_words (value_form (role_of v word)) ≡ true
   once : again (role_of v word) given ≡ false
   stand : (x : Value) → lacks (required_of v) (given ++ valued (role_of v word) x ∷ []) ≡ false
@@ -180,8 +180,8 @@ or_true true b e = refl
 or_true false b e = e
 
 -- with an option of the set it stands
-stands_then : (r : Role) (given : List Given) (g : Given) → is_set_by r g ≡ true → stands r (given ++ g ∷ []) ≡ true
-stands_then r given g e = any_behind (is_set_by r) given g ∙ or_true (stands r given) (is_set_by r g) e
+stands_then : (r : Role) (given : List Given) (g : Given) → is_set_by r g ≡ true → is_given r (given ++ g ∷ []) ≡ true
+stands_then r given g e = any_behind (is_set_by r) given g ∙ or_true (is_given r given) (is_set_by r g) e
 
 required : (v : Verb) (given : List Given) → lacks (required_of v) given ≡ true → Required v given
 required verb.ImageCreate given e = record {
@@ -189,7 +189,7 @@ required verb.ImageCreate given e = record {
   option = refl;
   valued_too = refl;
   has = refl;
-  once = go (stands role.Publisher given) e;
+  once = go (is_given role.Publisher given) e;
   stand = λ x. ap (λ (b : Bool). not (b || false)) (stands_then role.Publisher given (valued role.Publisher x) refl);
 }
   where
@@ -201,8 +201,8 @@ required verb.SetMediator given e = record {
   option = refl;
   valued_too = refl;
   has = refl;
-  once = go (stands role.Version given) (stands role.Implementation given) e;
-  stand = λ x. ap (λ (b : Bool). not (b || (stands role.Implementation (given ++ valued role.Version x ∷ []) || false))) (stands_then role.Version given (valued role.Version x) refl);
+  once = go (is_given role.Version given) (is_given role.Implementation given) e;
+  stand = λ x. ap (λ (b : Bool). not (b || (is_given role.Implementation (given ++ valued role.Version x ∷ []) || false))) (stands_then role.Version given (valued role.Version x) refl);
 }
   where
     go : (a b : Bool) → not (a || (b || false)) ≡ true → a ≡ false
@@ -228,7 +228,7 @@ complete v given fine = go (lacks (required_of v) given) refl
               ∙ done.line (need.stand x.0),
         )
 
-takes_words : (r : Role) → takes r ≡ true → has_words (value_form r) ≡ true
+takes_words : (r : Role) → takes_value r ≡ true → has_words (value_form r) ≡ true
 takes_words role.Actuator e = refl
 takes_words role.Facet e = refl
 takes_words role.Implementation e = refl
@@ -240,7 +240,7 @@ takes_words role.Version e = refl
 takes_words r e = absurd cc
 
 -- behind an option that wants a value
-pub complete_value : (v : Verb) (given : List Given) (word : List ℕ) → IsFine v given → again (role_of v word) given ≡ false → takes (role_of v word) ≡ true → Completes (option_behind v given (role_of v word))
+pub complete_value : (v : Verb) (given : List Given) (word : List ℕ) → IsFine v given → again (role_of v word) given ≡ false → takes_value (role_of v word) ≡ true → Completes (option_behind v given (role_of v word))
 complete_value v given word fine once some =
     let r = role_of v word in
     let x = sampled (value_form r) (takes_words r some) in

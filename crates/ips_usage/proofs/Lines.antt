@@ -13,7 +13,7 @@ use Rattle.ips_syntax.specs.declared.lines.Line.{Line}
 use Rattle.ips_syntax.specs.declared.lines.Line.TheVariants.{Help, HelpOf, Version, Does}
 use Rattle.ips_syntax.specs.Table.{all_verbs}
 use Rattle.ips_syntax.specs.Values.{same}
-use Rattle.ips_syntax.specs.Reading.{stop, verb_in, alone, help_of, help_at, command_at, repository_at, image_at, line_at}
+use Rattle.ips_syntax.specs.Reading.{stop, verb_in, alone, help_of, help_at, command_at, repository_at, image_at, line_of_words}
 use Rattle.ips_words.specs.declared.what.Usage.{Usage}
 use Rattle.ips_words.specs.Command.{IsUsage}
 use Rattle.ips_usage.specs.FirstWrong.{StopsLine, IsFirstWrong}
@@ -108,47 +108,47 @@ abbrev by_word : Bool → Bool → Bool → Option Verb → Words → Result Sai
 by_word image help version found words =
     if image then image_at words else (if help then alone Help words else (if version then alone Version words else help_at (suc (length words)) found words))
 
-help_line : Completes line_at
+help_line : Completes line_of_words
 help_line = (codes "--help" ∷ [], (Help, []), refl)
 
 -- a line is at fault at the first word that nothing continues
-pub line_judged : (words : Words) → Judged line_at words
-line_judged [] = lacking_at line_at refl help_line
+pub line_judged : (words : Words) → Judged line_of_words words
+line_judged [] = lacking_at line_of_words refl help_line
 line_judged (word ∷ words) = go (same word (codes "-R")) (same word (codes "--help")) (same word (codes "--version")) (verb_in all_verbs word) refl refl refl refl
   where
     is : (r h v : Bool) (o : Option Verb) → same word (codes "-R") ≡ r → same word (codes "--help") ≡ h → same word (codes "--version") ≡ v → verb_in all_verbs word ≡ o
-        → (us : Words) → line_at (word ∷ us) ≡ by_word r h v o us
+        → (us : Words) → line_of_words (word ∷ us) ≡ by_word r h v o us
     is r h v o er eh ev eo us =
         ap (λ (b : Bool). by_word b (same word (codes "--help")) (same word (codes "--version")) (verb_in all_verbs word) us) er
         ∙ ap (λ (b : Bool). by_word r b (same word (codes "--version")) (verb_in all_verbs word) us) eh
         ∙ ap (λ (b : Bool). by_word r h b (verb_in all_verbs word) us) ev
         ∙ ap (λ (o : Option Verb). by_word r h v o us) eo
 
-    go : (r h v : Bool) (o : Option Verb) → same word (codes "-R") ≡ r → same word (codes "--help") ≡ h → same word (codes "--version") ≡ v → verb_in all_verbs word ≡ o → Judged line_at (word ∷ words)
-    go true h v o er eh ev eo = goes_on line_at image_at word words (is true h v o er eh ev eo) (image_judged words)
-    go false true v o er eh ev eo = goes_on line_at (alone Help) word words (is false true v o er eh ev eo) (alone_judged Help words)
-    go false false true o er eh ev eo = goes_on line_at (alone Version) word words (is false false true o er eh ev eo) (alone_judged Version words)
-    go false false false None er eh ev eo = refused_at line_at word words Unknown (λ h. cc) (is false false false None er eh ev eo) help_line
-    go false false false (Some x) er eh ev eo = goes_on line_at (help_of x) word words (is false false false (Some x) er eh ev eo) (help_judged x words)
+    go : (r h v : Bool) (o : Option Verb) → same word (codes "-R") ≡ r → same word (codes "--help") ≡ h → same word (codes "--version") ≡ v → verb_in all_verbs word ≡ o → Judged line_of_words (word ∷ words)
+    go true h v o er eh ev eo = goes_on line_of_words image_at word words (is true h v o er eh ev eo) (image_judged words)
+    go false true v o er eh ev eo = goes_on line_of_words (alone Help) word words (is false true v o er eh ev eo) (alone_judged Help words)
+    go false false true o er eh ev eo = goes_on line_of_words (alone Version) word words (is false false true o er eh ev eo) (alone_judged Version words)
+    go false false false None er eh ev eo = refused_at line_of_words word words Unknown (λ h. cc) (is false false false None er eh ev eo) help_line
+    go false false false (Some x) er eh ev eo = goes_on line_of_words (help_of x) word words (is false false false (Some x) er eh ev eo) (help_judged x words)
 
 -- the fault of a line, in the words of the law
 pub first_wrong : (words : Words) (usage : Usage) → IsUsage words usage → IsFirstWrong words usage
-first_wrong words usage u = of_fault (subst (λ (r : Result Said (Stop Why)). IfFault r (IsFault line_at words)) u.read (line_judged words))
+first_wrong words usage u = of_fault (subst (λ (r : Result Said (Stop Why)). IfFault r (IsFault line_of_words words)) u.read (line_judged words))
   where
     why : usage.why ≡ u.stop.kind
     why = ap (λ (x : Usage). x.why) u.is
 
-    go : (h : IsFault line_at words u.stop) (rest : Words) → words ≡ h.front ++ rest → StopsAt line_at h.front rest u.stop.kind → StopsLine h.front rest usage
+    go : (h : IsFault line_of_words words u.stop) (rest : Words) → words ≡ h.front ++ rest → StopsAt line_of_words h.front rest u.stop.kind → StopsLine h.front rest usage
     go h [] cut stops = (
-      λ read e. let clash : Err u.stop ≡ Ok read = sym u.read ∙ ap line_at (cut ∙ append-nil h.front) ∙ e in absurd cc,
+      λ read e. let clash : Err u.stop ≡ Ok read = sym u.read ∙ ap line_of_words (cut ∙ append-nil h.front) ∙ e in absurd cc,
       why ∙ stops,
     )
     go h (word ∷ behind) cut stops = (
-      λ begins. stops.0 begins.0 begins.1 (ap line_at (sym (append_assoc h.front (word ∷ []) begins.0)) ∙ begins.2),
+      λ begins. stops.0 begins.0 begins.1 (ap line_of_words (sym (append_assoc h.front (word ∷ []) begins.0)) ∙ begins.2),
       λ e. stops.1 (sym why ∙ e),
     )
 
-    of_fault : IsFault line_at words u.stop → IsFirstWrong words usage
+    of_fault : IsFault line_of_words words u.stop → IsFirstWrong words usage
     of_fault h = record {
       front = h.front;
       rest = h.rest;

@@ -10,7 +10,7 @@ use Rattle.ips_syntax.specs.declared.table.Operands.{Operands}
 use Rattle.ips_syntax.specs.declared.values.Value.{Value}
 use Rattle.ips_syntax.specs.declared.values.Given.{Given}
 use Rattle.ips_syntax.specs.Values.{value_at}
-use Rattle.ips_syntax.specs.Reading.{stop, stopping, valued, is_dashed, is_named, operand_at, operands_at}
+use Rattle.ips_syntax.specs.Reading.{stop, stopping, valued, is_dashed, is_name_given, operand_at, operands_at}
 use Rattle.std.proofs.lemmas.Bool.{le-leb}
 use Rattle.ips_usage.proofs.Fault.{Words, Completes, Judged, refused_at, lacking_at, goes_on, no_fault}
 use Rattle.ips_usage.proofs.Values.{IsSound, bad_value}
@@ -25,7 +25,7 @@ by_name named left given v next = (if named then Err (stop Repeated left) else O
 
 -- an operand by its value
 abbrev by_value : Result Value Why → ℕ → List Given → (List Given → Out) → Out
-by_value r left given next = (stopping left r >>= λ v. if is_named v given then Err (stop Repeated left) else Ok (given ++ valued Operand v ∷ [])) >>= next
+by_value r left given next = (stopping left r >>= λ v. if is_name_given v given then Err (stop Repeated left) else Ok (given ++ valued Operand v ∷ [])) >>= next
 
 -- operands by what is known of the first
 abbrev by_first : Bool → Bool → Operands → ℕ → List Given → List ℕ → Words → Out
@@ -47,7 +47,7 @@ pub enough : (o : Operands) (count : ℕ) (given : List Given) → nat_le o.leas
 enough o count given e = operands_none o count given ∙ ap (λ (b : Bool). if b then Ok given else Err (stop Missing 0)) e
 
 -- the first operand is read
-pub first_read : (o : Operands) (count : ℕ) (given : List Given) (word : List ℕ) (us : Words) (v : Value) → nat_le o.most count ≡ false → is_dashed word ≡ false → value_at o.form word ≡ Ok v → is_named v given ≡ false
+pub first_read : (o : Operands) (count : ℕ) (given : List Given) (word : List ℕ) (us : Words) (v : Value) → nat_le o.most count ≡ false → is_dashed word ≡ false → value_at o.form word ≡ Ok v → is_name_given v given ≡ false
     → operands_at o count given (word ∷ us) ≡ operands_at o (count + 1) (given ++ valued Operand v ∷ []) us
 first_read o count given word us v most dashed value named =
     let next : List Given → Out = λ more. operands_at o (count + 1) more us in
@@ -60,7 +60,7 @@ first_read o count given word us v most dashed value named =
 operand_step : (o : Operands) (count : ℕ) (given : List Given) (word : List ℕ) (words : Words) → Completes (operands_at o count given)
     → ((v : Value) → Judged (operands_at o (count + 1) (given ++ valued Operand v ∷ [])) words)
     → (most dashed : Bool) → nat_le o.most count ≡ most → is_dashed word ≡ dashed → (r : Result Value Why) → value_at o.form word ≡ r → IsSound (λ v. Unit {0}) r
-    → (named : (v : Value) → (b : Bool) × (is_named v given ≡ b)) → Judged (operands_at o count given) (word ∷ words)
+    → (named : (v : Value) → (b : Bool) × (is_name_given v given ≡ b)) → Judged (operands_at o count given) (word ∷ words)
 operand_step o count given word words complete behind true dashed em ed r er sound named =
     refused_at (operands_at o count given) word words Extra (λ h. cc) (λ us. operands_more o count given word us ∙ ap (λ (m : Bool). by_first m (is_dashed word) o count given word us) em) complete
 operand_step o count given word words complete behind false true em ed r er sound named =
@@ -71,7 +71,7 @@ operand_step o count given word words complete behind false false em ed (Err why
     ∙ ap (λ (r : Result Value Why). by_value r (suc (length us)) given (λ more. operands_at o (count + 1) more us)) er) complete
 operand_step o count given word words complete behind false false em ed (Ok v) er sound named = go (named v).0 (named v).1
   where
-    go : (b : Bool) → is_named v given ≡ b → Judged (operands_at o count given) (word ∷ words)
+    go : (b : Bool) → is_name_given v given ≡ b → Judged (operands_at o count given) (word ∷ words)
     go true e =
         refused_at (operands_at o count given) word words Repeated (λ h. cc)
         (λ us. operands_more o count given word us ∙ ap₂ (λ (m d : Bool). by_first m d o count given word us) em ed
@@ -89,4 +89,4 @@ operands_judged o count given [] small complete = go (nat_le o.least count) refl
 operands_judged o count given (word ∷ words) small complete =
     operand_step o count given word words complete
     (λ v. operands_judged o (count + 1) (given ++ valued Operand v ∷ []) words small ([], given ++ valued Operand v ∷ [], enough o (count + 1) (given ++ valued Operand v ∷ []) (le-leb o.least (count + 1) (omega (arith, small)))))
-    (nat_le o.most count) (is_dashed word) refl refl (value_at o.form word) refl (bad_value o.form word) (λ v. (is_named v given, refl))
+    (nat_le o.most count) (is_dashed word) refl refl (value_at o.form word) refl (bad_value o.form word) (λ v. (is_name_given v given, refl))

@@ -11,7 +11,7 @@ use Rattle.ips_syntax.specs.declared.values.Value.{Value}
 use Rattle.ips_syntax.specs.declared.values.Given.{Given}
 use Rattle.ips_syntax.specs.Table.{value_form}
 use Rattle.ips_syntax.specs.Values.{value_at}
-use Rattle.ips_syntax.specs.Reading.{stop, stopping, plain, valued, is_operand, role_of, takes, again, option_at, options_at, behind_options}
+use Rattle.ips_syntax.specs.Reading.{stop, stopping, plain, valued, is_operand, role_of, takes_value, again, option_at, options_at, behind_options}
 use Rattle.ips_syntax.proofs.Steps.{options_more, options_none}
 use Rattle.ips_usage.proofs.Fault.{Words, Reads}
 
@@ -59,33 +59,33 @@ by_word twice valued_too v given r (word ∷ words) =
     else (if valued_too then (stopping (suc (length words)) (value_at (value_form r) word) >>= λ x. Ok (given ++ valued r x ∷ [], words)) else Ok (given ++ plain r ∷ [], word ∷ words)) in
     read >>= λ x. rest v x.0 x.1
 
-behind_is : (v : Verb) (given : List Given) (r : Role) (us : Words) → option_behind v given r us ≡ by_word (again r given) (takes r) v given r us
+behind_is : (v : Verb) (given : List Given) (r : Role) (us : Words) → option_behind v given r us ≡ by_word (again r given) (takes_value r) v given r us
 behind_is v given r [] = refl
 behind_is v given r (word ∷ us) = refl
 
 -- the option may not stand again
 pub repeated : (v : Verb) (given : List Given) (r : Role) (us : Words) → again r given ≡ true → option_behind v given r us ≡ Err (stop Repeated (suc (length us)))
-repeated v given r [] e = behind_is v given r [] ∙ ap (λ (b : Bool). by_word b (takes r) v given r []) e
-repeated v given r (word ∷ us) e = behind_is v given r (word ∷ us) ∙ ap (λ (b : Bool). by_word b (takes r) v given r (word ∷ us)) e
+repeated v given r [] e = behind_is v given r [] ∙ ap (λ (b : Bool). by_word b (takes_value r) v given r []) e
+repeated v given r (word ∷ us) e = behind_is v given r (word ∷ us) ∙ ap (λ (b : Bool). by_word b (takes_value r) v given r (word ∷ us)) e
 
 -- the option stands alone
-pub plain_read : (v : Verb) (given : List Given) (r : Role) (us : Words) → again r given ≡ false → takes r ≡ false → option_behind v given r us ≡ rest v (given ++ plain r ∷ []) us
+pub plain_read : (v : Verb) (given : List Given) (r : Role) (us : Words) → again r given ≡ false → takes_value r ≡ false → option_behind v given r us ≡ rest v (given ++ plain r ∷ []) us
 plain_read v given r [] once none = behind_is v given r [] ∙ ap₂ (λ (a t : Bool). by_word a t v given r []) once none
 plain_read v given r (word ∷ us) once none = behind_is v given r (word ∷ us) ∙ ap₂ (λ (a t : Bool). by_word a t v given r (word ∷ us)) once none
 
 -- its value is missing
-pub value_missing : (v : Verb) (given : List Given) (r : Role) → again r given ≡ false → takes r ≡ true → option_behind v given r [] ≡ Err (stop Missing 0)
+pub value_missing : (v : Verb) (given : List Given) (r : Role) → again r given ≡ false → takes_value r ≡ true → option_behind v given r [] ≡ Err (stop Missing 0)
 value_missing v given r once some = behind_is v given r [] ∙ ap₂ (λ (a t : Bool). by_word a t v given r []) once some
 
 -- its value is bad
-pub value_bad : (v : Verb) (given : List Given) (r : Role) (word : List ℕ) (us : Words) (why : Why) → again r given ≡ false → takes r ≡ true → value_at (value_form r) word ≡ Err why
+pub value_bad : (v : Verb) (given : List Given) (r : Role) (word : List ℕ) (us : Words) (why : Why) → again r given ≡ false → takes_value r ≡ true → value_at (value_form r) word ≡ Err why
     → option_behind v given r (word ∷ us) ≡ Err (stop why (suc (length us)))
 value_bad v given r word us why once some e =
     behind_is v given r (word ∷ us) ∙ ap₂ (λ (a t : Bool). by_word a t v given r (word ∷ us)) once some
     ∙ ap (λ (x : Result Value Why). let read : After = stopping (suc (length us)) x >>= λ y. Ok (given ++ valued r y ∷ [], us) in read >>= λ y. rest v y.0 y.1) e
 
 -- its value is read
-pub value_read : (v : Verb) (given : List Given) (r : Role) (word : List ℕ) (us : Words) (x : Value) → again r given ≡ false → takes r ≡ true → value_at (value_form r) word ≡ Ok x
+pub value_read : (v : Verb) (given : List Given) (r : Role) (word : List ℕ) (us : Words) (x : Value) → again r given ≡ false → takes_value r ≡ true → value_at (value_form r) word ≡ Ok x
     → option_behind v given r (word ∷ us) ≡ rest v (given ++ valued r x ∷ []) us
 value_read v given r word us x once some e =
     behind_is v given r (word ∷ us) ∙ ap₂ (λ (a t : Bool). by_word a t v given r (word ∷ us)) once some

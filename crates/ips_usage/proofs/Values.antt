@@ -10,8 +10,8 @@ use Rattle.ips_syntax.specs.declared.table.Form.TheVariants as form
 use Rattle.ips_syntax.specs.declared.values.Value.{Value}
 use Rattle.ips_syntax.specs.declared.values.Value.TheVariants as value
 use Rattle.ips_syntax.specs.declared.values.Given.{Given}
-use Rattle.ips_syntax.specs.Values.{value_at, checked, made, made_of, within, cut, switch_of, as_fmri, as_pattern, as_version, variant_of, facet_of, facet_named}
-use Rattle.ips_syntax.specs.Reading.{is_same_name, is_named}
+use Rattle.ips_syntax.specs.Values.{value_at, checked, value_made, value_made_of, within, cut, switch_of, as_fmri, as_pattern, as_version, variant_of, facet_of, facet_named}
+use Rattle.ips_syntax.specs.Reading.{is_same_name, is_name_given}
 
 -- the value sets a name that may be set once
 abbrev pub has_name : Value → Bool
@@ -28,11 +28,11 @@ checked_sound : (P : Value → Type 0) (holds : Bool) (v : Value) → P v → Is
 checked_sound P true v p = p
 checked_sound P false v p = refl
 
-made_sound : {X E : Type 0} (P : Value → Type 0) (f : X → Result Value Why) (r : Result X E) → ((x : X) → IsSound P (f x)) → IsSound P (made f r)
+made_sound : {X E : Type 0} (P : Value → Type 0) (f : X → Result Value Why) (r : Result X E) → ((x : X) → IsSound P (f x)) → IsSound P (value_made f r)
 made_sound P f (Ok x) each = each x
 made_sound P f (Err e) each = refl
 
-made_of_sound : {X : Type 0} (P : Value → Type 0) (f : X → Result Value Why) (o : Option X) → ((x : X) → IsSound P (f x)) → IsSound P (made_of f o)
+made_of_sound : {X : Type 0} (P : Value → Type 0) (f : X → Result Value Why) (o : Option X) → ((x : X) → IsSound P (f x)) → IsSound P (value_made_of f o)
 made_of_sound P f (Some x) each = each x
 made_of_sound P f None each = refl
 
@@ -96,10 +96,10 @@ both_false true b one two = absurd cc
 both_false false b one two = two
 
 -- then no value names what was named
-pub not_named : (v : Value) (given : List Given) → Unnamed given → is_named v given ≡ false
+pub not_named : (v : Value) (given : List Given) → Unnamed given → is_name_given v given ≡ false
 not_named v [] none = refl
 not_named v (g ∷ given) none =
-    both_false (is_same_name v g.value) (is_named v given) (apart v g.value (left_false (has_name g.value) _ none))
+    both_false (is_same_name v g.value) (is_name_given v given) (apart v g.value (left_false (has_name g.value) _ none))
     (not_named v given (right_false (has_name g.value) _ none))
 
 -- a test of what was given, and of one more

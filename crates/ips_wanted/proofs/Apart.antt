@@ -23,7 +23,7 @@ use Rattle.ips_meaning.specs.declared.entry.Entry.{Entry}
 use Rattle.ips_meaning.specs.declared.entry.Entry.TheVariants.{Dir, File, Link, Hard}
 use Rattle.ips_meaning.specs.Reserved.{is_reserved}
 use Rattle.ips_meaning.specs.Taken.{Leaves}
-use Rattle.ips_meaning.specs.Want.{IsGiven, IsWanted, Means, PackagesMean}
+use Rattle.ips_meaning.specs.Want.{IsGiven, IsWanted, MeansEntry, PackagesMean}
 use Rattle.ips_meaning.proofs.Together.{entry_there}
 use Rattle.ips_after.specs.Request.{Wanted, is_dir_wanted}
 use Rattle.ips_after.proofs.Fits.{apart, below_trans}
@@ -157,7 +157,7 @@ module _ (settings : Set) (mediators : List SetMediator) (packages : List Packag
       other : (k : ActionKind) → gives.p.action.kind ≡ k → is_dir k ≡ false → ⊥
       other k is off = clash (is_dir k) (ap is_dir (sym is) ∙ dir) off
 
-      go : (x : Entry) → Means gives.p.action x → is_dir_wanted (Some (wanted_of x)) ≡ true
+      go : (x : Entry) → MeansEntry gives.p.action x → is_dir_wanted (Some (wanted_of x)) ≡ true
       go (Dir m) h = refl
       go (File payload m preserve) h = absurd (other kind.File h.0 refl)
       go (Link g) h = absurd (other kind.Link h.0 refl)

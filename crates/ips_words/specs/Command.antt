@@ -7,7 +7,7 @@ use Rattle.ips_syntax.specs.declared.lines.Line.{Line}
 use Rattle.ips_words.specs.declared.what.Usage.{Usage}
 use Rattle.ips_words.specs.declared.command.Command as declared
 use Rattle.ips_syntax.specs.Values.{same}
-use Rattle.ips_syntax.specs.Reading.{line_at}
+use Rattle.ips_syntax.specs.Reading.{line_of_words}
 use Rattle.ips_words.specs.Meaning.{Means}
 use Rattle.ips_words.specs.History.{from_command, history_of}
 
@@ -15,7 +15,7 @@ use Rattle.ips_words.specs.History.{from_command, history_of}
 pub record IsCommand (words : List (List ℕ)) (c : declared.Command) : Type 0 where
   pub line : Line
   pub given : List Given
-  pub read : line_at words ≡ Ok (line, given)
+  pub read : line_of_words words ≡ Ok (line, given)
   pub means : Means line given c.what
   pub history : c.history ≡ history_of (from_command words)
 
@@ -26,7 +26,7 @@ usage_of words s = record { place = length words - s.left; why = s.kind }
 -- The words are no line: this is the first word at fault, and what is wrong there.
 pub record IsUsage (words : List (List ℕ)) (usage : Usage) : Type 0 where
   pub stop : Stop Why
-  pub read : line_at words ≡ Err stop
+  pub read : line_of_words words ≡ Err stop
   pub is : usage ≡ usage_of words stop
 
 -- The words begin with a word, `-s` and a word.

@@ -17,7 +17,7 @@ use Rattle.ips_syntax.specs.declared.lines.Line.{Line}
 use Rattle.ips_syntax.specs.declared.lines.Line.TheVariants as line
 use Rattle.ips_words.specs.declared.what.What.{What}
 use Rattle.ips_words.specs.declared.what.What.TheVariants as what
-use Rattle.ips_syntax.specs.Reading.{is_set_by, stands}
+use Rattle.ips_syntax.specs.Reading.{is_set_by, is_given}
 
 -- ---- lists, in the order of the words
 
@@ -165,21 +165,21 @@ abbrev pub IsGiven : List Given → What → Type 0
 IsGiven given (what.ImageCreate publisher variants facets actuator) = (publisher ≡ or_empty (word_of (value_of Publisher given))) × (variants.items ≡ all_of variant_in Variant given)
     × (facets.items ≡ all_of facet_in Facet given) × (actuator ≡ word_of (value_of Actuator given))
 IsGiven given (what.Install patterns reject accept limit) = (patterns.items ≡ all_of pattern_in Operand given) × (reject.items ≡ all_of pattern_in Reject given)
-    × (accept ≡ stands Accept given) × (limit ≡ limit_of given)
+    × (accept ≡ is_given Accept given) × (limit ≡ limit_of given)
 IsGiven given (what.Update patterns reject accept limit) = (patterns.items ≡ all_of pattern_in Operand given) × (reject.items ≡ all_of pattern_in Reject given)
-    × (accept ≡ stands Accept given) × (limit ≡ limit_of given)
+    × (accept ≡ is_given Accept given) × (limit ≡ limit_of given)
 IsGiven given (what.Uninstall patterns limit) = (patterns.items ≡ all_of pattern_in Operand given) × (limit ≡ limit_of given)
-IsGiven given (what.ChangeFacet facets accept) = (facets.items ≡ all_of facet_in Operand given) × (accept ≡ stands Accept given)
-IsGiven given (what.ChangeVariant name value accept) = (name ≡ (variant_or_empty (value_of Operand given)).name) × (value ≡ (variant_or_empty (value_of Operand given)).value) × (accept ≡ stands Accept given)
+IsGiven given (what.ChangeFacet facets accept) = (facets.items ≡ all_of facet_in Operand given) × (accept ≡ is_given Accept given)
+IsGiven given (what.ChangeVariant name value accept) = (name ≡ (variant_or_empty (value_of Operand given)).name) × (value ≡ (variant_or_empty (value_of Operand given)).value) × (accept ≡ is_given Accept given)
 IsGiven given (what.SetMediator name version implementation) = (name ≡ name_of given) × (version ≡ version_of (value_of Version given)) × (implementation ≡ word_of (value_of Implementation given))
 IsGiven given (what.UnsetMediator name) = name ≡ name_of given
 IsGiven given (what.Avoid stems) = stems.items ≡ all_of word_in Operand given
 IsGiven given (what.Unavoid stems) = stems.items ≡ all_of word_in Operand given
 IsGiven given (what.Freeze freezes) = freezes.items ≡ all_of freeze_in Operand given
 IsGiven given (what.Unfreeze stems) = stems.items ≡ all_of word_in Operand given
-IsGiven given (what.SetPublisher name first sticky) = (name ≡ name_of given) × (first ≡ stands SearchFirst given) × (sticky ≡ sticky_of given)
+IsGiven given (what.SetPublisher name first sticky) = (name ≡ name_of given) × (first ≡ is_given SearchFirst given) × (sticky ≡ sticky_of given)
 IsGiven given (what.UnsetPublisher name) = name ≡ name_of given
-IsGiven given (what.Contents pattern manifest) = (pattern ≡ pattern_of (value_of Operand given)) × (manifest ≡ stands Manifest given)
+IsGiven given (what.Contents pattern manifest) = (pattern ≡ pattern_of (value_of Operand given)) × (manifest ≡ is_given Manifest given)
 IsGiven given (what.Search pattern) = pattern ≡ name_of given
 IsGiven given (what.Gen number) = number ≡ number_or 0 (value_of Operand given)
 IsGiven given w = Unit {0}

@@ -3,7 +3,7 @@
 ghost use Rattle.std.specs.Prelude.{◌≡◌, cond, ℕ, List, [], Some, None, IfOk, OnOk, IsTrue, MatchOption, is_some, true};
 ghost use Rattle.ips_text.specs.Path.{IsPath};
 ghost use Rattle.ips_outside.specs.Image.{File, is_dir, has_parent};
-ghost use Rattle.ips_outside.specs.Change.{placed};
+ghost use Rattle.ips_outside.specs.Change.{with_entry_at};
 ghost use Rattle.ips_outside.specs.Tree.{tree_image};
 ghost use Rattle.ips_outside.specs.Tearing.{in_set};
 ghost use Rattle.ips_folder.specs.Crash.{junk_in};
@@ -102,7 +102,7 @@ fn junk_path(alloc: Global, name: &[u8]) -> Result<Option<RelPath>, AllocError>
 // Puts an empty file at the path, where nothing stands there.
 fn put(alloc: Global, tree: &mut Tree, path: &RelPath) -> Result<(), AllocError>
     requires { has_parent (tree_image tree.old) path.now.bytes ≡ true }
-    ensures { OnOk result (tree_image tree.new ≡ cond (is_some ((tree_image tree.old).look path.now.bytes)) (tree_image tree.old) (placed path.now.bytes (Some (File 384 [])) (tree_image tree.old))) }
+    ensures { OnOk result (tree_image tree.new ≡ cond (is_some ((tree_image tree.old).look path.now.bytes)) (tree_image tree.old) (with_entry_at path.now.bytes (Some (File 384 [])) (tree_image tree.old))) }
 {
     match tree.file(alloc, path, 0o600, &[]) {
         Ok(()) | Err(Or::Bad(_)) => Ok(()),

@@ -1,5 +1,5 @@
 use Rattle.std.proofs.Common.{sym, ◌∙◌}
-use Rattle.ips_books.specs.Writing.{put}
+use Rattle.ips_books.specs.Writing.{with_line}
 use Rattle.ips_accounts.specs.Editing.{number_for, group_text, standing_members}
 use Rattle.ips_accounts.specs.Seen.{tables_seen}
 use Rattle.ips_accounts.proofs.Steps.{group_added}
@@ -15,4 +15,4 @@ returns c =
     let text = c.in_ok-text.ensures ∙ (λ i. group_text (name i) c.in_ok-gid.gid (standing_members (lines i) (name i))) in
     group_added c.args.group.now (tables_seen c.args.tables.now) c.in_ok-gid.gid c.put.new.self
     (sym (λ i. number_for c.args.tables.now.group (for_number i) (c.number_given.ensures i)) ∙ c.in_ok-gid.ensures.number)
-    (c.in_ok-put.ensures ∙ (λ i. put (for_line i) (text i) (same i)))
+    (c.in_ok-put.ensures ∙ (λ i. with_line (for_line i) (text i) (same i)))

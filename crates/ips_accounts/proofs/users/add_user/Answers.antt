@@ -3,7 +3,7 @@ use lib.Chars.{codes}
 use Rattle.ips_action.specs.Attrs.{values_of}
 use Rattle.ips_action.specs.Action.{Fields}
 use Rattle.ips_books.specs.Accounts.{gid_at}
-use Rattle.ips_books.specs.Writing.{put}
+use Rattle.ips_books.specs.Writing.{with_line}
 use Rattle.ips_accounts.specs.Editing.{number_for, passwd_text, in_groups}
 use Rattle.ips_accounts.specs.Seen.{tables_seen}
 use Rattle.ips_accounts.proofs.Steps.{user_added}
@@ -22,6 +22,6 @@ returns c =
     let asked = c.values.ensures ∙ ap (λ (x : Fields). values_of (codes "group-list") x.attrs) c.user.view_is in
     user_added a (tables_seen c.args.tables.now) c.in_ok-uid.uid c.put.new.self c.add_password.new.lines c.join_groups.new.lines
     (sym (λ i. number_for c.args.tables.now.passwd (for_number i) (c.number_given.ensures i)) ∙ c.in_ok-uid.ensures.number)
-    (c.in_ok-put.ensures ∙ (λ i. put (for_line i) (text i) (same i)))
+    (c.in_ok-put.ensures ∙ (λ i. with_line (for_line i) (text i) (same i)))
     c.in_ok-add_password.ensures
     (c.in_ok-join_groups.ensures ∙ (λ i. in_groups (name i) (asked i) c.args.tables.now.group))

@@ -1,7 +1,7 @@
 use Rattle.std.proofs.Common.{◌∙◌, ◌&&◌, sym, rules}
 use Rattle.std.proofs.lemmas.Iterator.{YieldsList-from_slice}
 use Rattle.std.proofs.lemmas.Iterator.Search.{any_from_yields_List}
-use Rattle.ips_action.specs.Table.{Row, row_seen}
+use Rattle.ips_action.specs.Table.{AttributeRow, row_seen}
 use Rattle.ips_action.specs.declared.table.Row as declared
 use Rattle.ips_action.specs.Attrs.{is_same}
 use Rattle.ips_action.specs.Meaning.{is_path}
@@ -11,4 +11,4 @@ use Rattle.ips_action.proofs.holding.has_path_row.Goals as goal
 pub returns : goal.returns
 returns c =
     any_from_yields_List (λ (r : declared.Row). is_path r.check && is_same r.name.now c.args.key.now) _ _ c.any.result c.any.ensures.ran (YieldsList-from_slice c.args.rows.now cc) (λ x b q h. search rules)
-    ∙ sym (any_mapped row_seen (λ (r : Row). is_path r.check && is_same r.name c.args.key.now) c.args.rows.now)
+    ∙ sym (any_mapped row_seen (λ (r : AttributeRow). is_path r.check && is_same r.name c.args.key.now) c.args.rows.now)

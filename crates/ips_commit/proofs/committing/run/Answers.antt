@@ -1,6 +1,6 @@
 use Rattle.std.proofs.Common.{inr, [], sym, ◌∙◌, subst, arith}
 use Rattle.ips_outside.specs.Image.{Image}
-use Rattle.ips_commit.specs.Pending.{IsDone}
+use Rattle.ips_commit.specs.Pending.{HasCommitted}
 use Rattle.ips_commit.proofs.Committed.{opened_way, opening, is_open, none_laid_yet, laid_since, owed_since, due_since, is_journalled}
 use Rattle.ips_commit.proofs.Owing.{gate_left}
 use Rattle.ips_commit.proofs.committing.run.Goals as goal
@@ -84,7 +84,7 @@ returns-in-Ok-roll-clause-done g c = λ told steps a staged.
     let clean = c.in-Ok.ensures.safe told in
     let here = is_open o sane steps a old told staged mid kind run opens clean in
     let done = c.in-Ok-roll.ensures.done (kind ∙ told) steps (is_journalled o sane steps a old told staged mid kind run opens clean) (c.rewind.ensures.start _) in
-    (done.0, subst (λ (x : Image). IsDone x (o.state c.roll.new.folder)) here.ready.means done.2)
+    (done.0, subst (λ (x : Image). HasCommitted x (o.state c.roll.new.folder)) here.ready.means done.2)
 
 pub returns-in-Ok-roll-clause-counted : goal.returns-in-Ok-roll-clause-counted
 returns-in-Ok-roll-clause-counted g c = λ told steps a staged.

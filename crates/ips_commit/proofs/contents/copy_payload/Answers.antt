@@ -2,7 +2,7 @@ use Rattle.std.proofs.Common.{List, ℕ, take, IsErr, sym, ◌∙◌, ap, subst,
 use Rattle.ips_text.specs.Ancestry.{covers}
 use Rattle.ips_outside.specs.Image.{Image}
 use Rattle.ips_outside.specs.State.{State}
-use Rattle.ips_repo.specs.Payload.{Reading, IsFrontOf}
+use Rattle.ips_repo.specs.Payload.{PayloadReading, IsFrontOf}
 use Rattle.ips_outside.proofs.Reading.{answered, reads_then}
 use Rattle.ips_commit.specs.Contents.{HoldsAlone}
 use Rattle.ips_commit.proofs.Swept.{wrote_then}
@@ -15,9 +15,9 @@ loop-count-preserved g c =
     let p = c.args.path.now.bytes in
     let part = take c.in-Ok.count c.next.new.buf in
     record {
-      named = ap (λ (r : Reading). r.name) c.in-Ok.ensures.given ∙ inv.named;
-      placed = ap (λ (r : Reading). r.place) c.in-Ok.ensures.given ∙ inv.placed;
-      sized = ap (λ (r : Reading). r.size) c.in-Ok.ensures.given ∙ inv.sized;
+      named = ap (λ (r : PayloadReading). r.name) c.in-Ok.ensures.given ∙ inv.named;
+      placed = ap (λ (r : PayloadReading). r.place) c.in-Ok.ensures.given ∙ inv.placed;
+      sized = ap (λ (r : PayloadReading). r.size) c.in-Ok.ensures.given ∙ inv.sized;
       reads = reads_then g.S.Source.outside c.args.source.now c.loop-count.source c.next.new.source (IsErr c.next.result) ⊥ inv.reads c.next.ensures.reads (answered c.next.result _ c.in-Ok.is) (λ f. absurd f);
       front = λ told was.
           let same = ap (λ (s : State). s.held) inv.reads.kept in
@@ -26,7 +26,7 @@ loop-count-preserved g c =
       kind = c.append.ensures.call.same_kind ∙ inv.kind;
       changes = omega (arith, inv.changes, c.append.ensures.one_made.later);
       faults = c.append.ensures.call.cause.steady (answered c.append.result _ c.in-Ok-append.is) ∙ inv.faults;
-      holds = λ told. subst (λ (bytes : List ℕ). HoldsAlone p bytes (g.F.Source.outside.state c.append.new.self).held) (sym (ap (λ (r : Reading). r.bytes) c.in-Ok.ensures.given))
+      holds = λ told. subst (λ (bytes : List ℕ). HoldsAlone p bytes (g.F.Source.outside.state c.append.new.self).held) (sym (ap (λ (r : PayloadReading). r.bytes) c.in-Ok.ensures.given))
           (alone_appended p c.loop-count.payload.bytes part (g.F.Source.outside.state c.loop-count.folder).held (g.F.Source.outside.state c.append.new.self).held (inv.holds told)
           (ap (λ (s : State). s.held) (c.in-Ok-append.ensures.done (inv.kind ∙ told))));
       moments = λ told. wrote_then g.F.Source.outside g.met.F.Source.sane (covers p) p (λ q off. off) c.args.folder.now c.loop-count.folder c.append.new.self _ c.append.result

@@ -2,7 +2,7 @@ use Rattle.std.proofs.Common.{◌≡◌, ◌≤◌, ◌-◌, IsTrue, length}
 use Rattle.ips_text.specs.Ancestry.{covers}
 use Rattle.ips_outside.specs.State.{nowhere}
 use Rattle.ips_outside.specs.Outside.{Reads}
-use Rattle.ips_folder.specs.Calls.{Keeps}
+use Rattle.ips_folder.specs.Calls.{ChangesOnly}
 use Rattle.ips_repo.specs.Payload.{IsFrontOf}
 use Rattle.ips_commit.specs.Contents.{HoldsAlone}
 use Rattle.ips_commit.proofs.contents.copy_payload.Given as goal
@@ -18,7 +18,7 @@ invariant-loop-count g l = record {
   faults : g.F.Source.outside.faults l.folder ≡ g.F.Source.outside.faults l.fn.folder;
   changes : g.F.Source.outside.changes l.fn.folder ≤ g.F.Source.outside.changes l.folder;
   holds : IsTrue (g.F.Source.outside.tells l.fn.folder) → HoldsAlone l.path.bytes l.payload.bytes (g.F.Source.outside.state l.folder).held;
-  moments : IsTrue (g.F.Source.outside.tells l.fn.folder) → Keeps g.F.Source.outside (covers l.path.bytes) nowhere l.fn.folder l.folder;
+  moments : IsTrue (g.F.Source.outside.tells l.fn.folder) → ChangesOnly g.F.Source.outside (covers l.path.bytes) nowhere l.fn.folder l.folder;
 }
 
 abbrev pub decreases-loop-count : goal.decreases-loop-count

@@ -3,7 +3,7 @@ use Rattle.ips_text.specs.Ancestry.{covers}
 use Rattle.ips_outside.specs.Image.{is_dir}
 use Rattle.ips_outside.specs.State.{nowhere}
 use Rattle.ips_outside.specs.Outside.{Reads}
-use Rattle.ips_folder.specs.Calls.{Keeps}
+use Rattle.ips_folder.specs.Calls.{ChangesOnly}
 use Rattle.ips_steps.specs.Steps.{stage_name, stage_path}
 use Rattle.ips_journal.specs.declared.staged.Staged.{Staged}
 use Rattle.ips_commit.specs.Contents.{IsIntactContent}
@@ -24,5 +24,5 @@ invariant-loop-number g l = record {
   written : IsTrue (g.F.Source.outside.tells l.fn.folder) → (n : ℕ) (s : Staged) → n < l.number → slice_get l.staged n ≡ Some s
       → IsWritten (g.S.Source.outside.tells l.fn.source) (g.S.Source.outside.state l.fn.source).held l.publisher (g.F.Source.outside.state l.fn.folder).held (g.F.Source.outside.state l.folder).held n s;
   intact : IsTrue (g.S.Source.outside.tells l.fn.source) → (n : ℕ) (s : Staged) → n < l.number → slice_get l.staged n ≡ Some s → IsIntactContent (g.S.Source.outside.state l.fn.source).held l.publisher s;
-  moments : IsTrue (g.F.Source.outside.tells l.fn.folder) → Keeps g.F.Source.outside (covers stage_name) nowhere l.fn.folder l.folder;
+  moments : IsTrue (g.F.Source.outside.tells l.fn.folder) → ChangesOnly g.F.Source.outside (covers stage_name) nowhere l.fn.folder l.folder;
 }

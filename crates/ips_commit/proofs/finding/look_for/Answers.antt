@@ -1,6 +1,6 @@
 use Rattle.std.proofs.Common.{◌≡◌, true, List, ℕ, [], length, is_some, sym, ◌∙◌, ap, subst, rules}
 use Rattle.ips_outside.specs.Image.{Image}
-use Rattle.ips_outside.specs.Children.{bytes_of}
+use Rattle.ips_outside.specs.Children.{path_bytes}
 use Rattle.ips_outside.specs.State.{State}
 use Rattle.ips_steps.specs.Private.{gate_name}
 use Rattle.ips_commit.specs.Pending.{AreMarkNames}
@@ -29,7 +29,7 @@ returns-then-is_empty-clause-found g c = λ told.
     let here : (g.F.Source.outside.state c.stands_behind.new.folder).held ≡ t = ap (λ (s : State). s.held) c.stands_behind.ensures.reads.kept ∙ same in
     let empty : length c.in_ok-marks.marks.items ≡ 0 = search rules in
     let none : AreMarkNames t [] = subst (AreMarkNames t) (none_listed c.in_ok-marks.marks.items empty)
-    (subst (λ (u : Image). AreMarkNames u (bytes_of c.in_ok-marks.marks.items)) here (c.in_ok-marks.ensures.found (c.stands_behind.ensures.reads.call.same_kind ∙ told_1))) in
+    (subst (λ (u : Image). AreMarkNames u (path_bytes c.in_ok-marks.marks.items)) here (c.in_ok-marks.ensures.found (c.stands_behind.ensures.reads.call.same_kind ∙ told_1))) in
     nothing_of t (g.met.F.Source.sane.formed c.args.folder.now told) (sym gate ∙ c.if-is_open.false) (sym behind ∙ c.if-is_left.false) none
 
 pub returns-clause-found : goal.returns-clause-found
@@ -41,6 +41,6 @@ returns-clause-found g c = λ told.
     let told_1 = c.stands.ensures.reads.call.same_kind ∙ told in
     let here : (g.F.Source.outside.state c.stands_behind.new.folder).held ≡ t = ap (λ (s : State). s.held) c.stands_behind.ensures.reads.kept ∙ same in
     let some : length c.in_ok-marks.marks.items ≡ 0 → ⊥ = λ none. let bad : c.is_empty.result ≡ true = search rules in let is_no = c.if-is_empty.false in cc in
-    let are : AreMarkNames t (bytes_of c.in_ok-marks.marks.items) =
-    subst (λ (u : Image). AreMarkNames u (bytes_of c.in_ok-marks.marks.items)) here (c.in_ok-marks.ensures.found (c.stands_behind.ensures.reads.call.same_kind ∙ told_1)) in
-    (gate_shut t c.in-Ok.is_open gate c.if-is_open.false, left_mark t (bytes_of c.in_ok-marks.marks.items) c.in_ok-marks.ensures.own are (some_listed c.in_ok-marks.marks.items some))
+    let are : AreMarkNames t (path_bytes c.in_ok-marks.marks.items) =
+    subst (λ (u : Image). AreMarkNames u (path_bytes c.in_ok-marks.marks.items)) here (c.in_ok-marks.ensures.found (c.stands_behind.ensures.reads.call.same_kind ∙ told_1)) in
+    (gate_shut t c.in-Ok.is_open gate c.if-is_open.false, left_mark t (path_bytes c.in_ok-marks.marks.items) c.in_ok-marks.ensures.own are (some_listed c.in_ok-marks.marks.items some))

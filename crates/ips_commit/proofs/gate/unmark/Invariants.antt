@@ -2,7 +2,7 @@ use Rattle.std.proofs.Common.{◌≡◌, ◌≤◌, ℕ, List, None, IsTrue}
 use Rattle.std.specs.List.{list_any}
 use Rattle.ips_text.specs.Ancestry.{covers}
 use Rattle.ips_outside.specs.State.{nowhere}
-use Rattle.ips_folder.specs.Calls.{Keeps}
+use Rattle.ips_folder.specs.Calls.{ChangesOnly}
 use Rattle.ips_steps.specs.Private.{mark_front, begins}
 use Rattle.ips_commit.specs.Pending.{mark_names}
 use Rattle.ips_commit.proofs.gate.unmark.Given as goal
@@ -15,5 +15,5 @@ invariant-loop-before g l = record {
   changes : g.F.Source.outside.changes l.fn.folder ≤ g.F.Source.outside.changes l.folder;
   gone : IsTrue (g.F.Source.outside.tells l.fn.folder) → (q : List ℕ) → IsTrue (list_any (λ m. covers m q) (mark_names l.before)) → (g.F.Source.outside.state l.folder).held.look q ≡ None;
   nothing_new : IsTrue (g.F.Source.outside.tells l.fn.folder) → (q : List ℕ) → (g.F.Source.outside.state l.fn.folder).held.look q ≡ None → (g.F.Source.outside.state l.folder).held.look q ≡ None;
-  moments : IsTrue (g.F.Source.outside.tells l.fn.folder) → Keeps g.F.Source.outside (begins mark_front) nowhere l.fn.folder l.folder;
+  moments : IsTrue (g.F.Source.outside.tells l.fn.folder) → ChangesOnly g.F.Source.outside (begins mark_front) nowhere l.fn.folder l.folder;
 }

@@ -4,14 +4,14 @@ use Rattle.ips_text.specs.declared.refusal.Or.TheVariants.{Bad}
 use Rattle.ips_outside.specs.State.{State, nowhere}
 use Rattle.ips_folder.proofs.Runs.{joins, one_read}
 use Rattle.ips_outside.proofs.Reading.{answered}
-use Rattle.ips_outside.specs.Children.{bytes_of}
+use Rattle.ips_outside.specs.Children.{path_bytes}
 use Rattle.ips_steps.specs.Owed.{IsOpen, FolderOwes, steps_left}
 use Rattle.ips_steps.specs.Steps.{after}
 use Rattle.ips_steps.specs.Private.{gate_name, visible}
 use Rattle.ips_journal.specs.Text.{journal_text}
 use Rattle.ips_kinds.specs.Tallies.{seen_by}
 use Rattle.ips_commit.specs.declared.fault.CommitFault.TheVariants as fault
-use Rattle.ips_commit.specs.Pending.{AreMarkNames, IsDone, IsSwept, is_swept}
+use Rattle.ips_commit.specs.Pending.{AreMarkNames, HasCommitted, IsSwept, is_swept}
 use Rattle.ips_commit.specs.Recovering.{IsPlaced, IsJournalled, IsUnfinished, CanRollForward, SaysOfFinding, SaysOfRecovery, SaysOfLaying}
 use Rattle.ips_commit.proofs.AllWritten.{as_bad}
 use Rattle.ips_commit.proofs.Rolled.{still_owed, still_clean, swept_keeps, swept_owed, swept_done, found_open, found_shut, says_rolled, never_refused, says_only_read, if_starved, read_cause, roll_cause, never_found, calm_cause, no_answer}
@@ -113,8 +113,8 @@ returns-clause-cleared g c = λ told shut.
     let o = g.F.Source.outside in
     let told_1 = c.find_left.ensures.reads.call.same_kind ∙ told in
     swept_done o g.met.F.Source.sane c.args.folder.now c.find_left.new.folder _ c.find_left.ensures.reads c.clear.new.folder shut (c.clear.ensures.any_moment told_1) (c.clear.ensures.same_kind ∙ told_1)
-    (bytes_of c.in-Ok.left.marks.items) (c.in-Ok.ensures.marks told).others
-    (subst (λ (l : List Kept). IsSwept (bytes_of l) (o.state c.find_left.new.folder).held (o.state c.clear.new.folder).held) c.deref-2.ensures.value (c.in-Ok-clear.ensures.swept told_1)) (c.in-Ok-clear.ensures.safe told_1)
+    (path_bytes c.in-Ok.left.marks.items) (c.in-Ok.ensures.marks told).others
+    (subst (λ (l : List Kept). IsSwept (path_bytes l) (o.state c.find_left.new.folder).held (o.state c.clear.new.folder).held) c.deref-2.ensures.value (c.in-Ok-clear.ensures.swept told_1)) (c.in-Ok-clear.ensures.safe told_1)
 
 pub returns-clause-done : goal.returns-clause-done
 returns-clause-done g c = λ told gate.
@@ -156,8 +156,8 @@ roll_forward-requires-clause-gate g c = λ told_now.
 pub roll_forward-requires-clause-marks : goal.roll_forward-requires-clause-marks
 roll_forward-requires-clause-marks g c = λ told_now.
     let told = sym c.find_left.ensures.reads.call.same_kind ∙ told_now in
-    subst (λ (l : List Kept). AreMarkNames (g.F.Source.outside.state c.find_left.new.folder).held (bytes_of l)) (sym c.deref.ensures.value)
-    (subst (λ (s : State). AreMarkNames s.held (bytes_of c.in-Ok.left.marks.items)) (sym c.find_left.ensures.reads.kept) (c.in-Ok.ensures.marks told))
+    subst (λ (l : List Kept). AreMarkNames (g.F.Source.outside.state c.find_left.new.folder).held (path_bytes l)) (sym c.deref.ensures.value)
+    (subst (λ (s : State). AreMarkNames s.held (path_bytes c.in-Ok.left.marks.items)) (sym c.find_left.ensures.reads.kept) (c.in-Ok.ensures.marks told))
 
 pub roll_forward-requires-clause-placed : goal.roll_forward-requires-clause-placed
 roll_forward-requires-clause-placed g c = λ told_now.
@@ -183,7 +183,7 @@ returns-in-Ok-roll_forward-clause-done g c = λ told gate.
       all.0,
       all.1,
       subst (λ (s : State). CanRollForward s.held all.0 all.1) kept all.2,
-      subst (λ (s : State). IsDone (visible (after (steps_left all.1 all.0) s.held)) (g.F.Source.outside.state c.roll_forward.new.folder)) kept all.3,
+      subst (λ (s : State). HasCommitted (visible (after (steps_left all.1 all.0) s.held)) (g.F.Source.outside.state c.roll_forward.new.folder)) kept all.3,
       all.4,
     )
 

@@ -1,7 +1,7 @@
 use Rattle.std.proofs.Common.{map, refl, ap, ◌∙◌, sym}
 use Rattle.ips_text.specs.Ancestry.{covers}
 use Rattle.ips_outside.specs.State.{State, nowhere}
-use Rattle.ips_folder.specs.Calls.{Keeps}
+use Rattle.ips_folder.specs.Calls.{ChangesOnly}
 use Rattle.ips_folder.proofs.Runs.{keeps_then}
 use Rattle.ips_steps.specs.Steps.{stage_name}
 use Rattle.ips_steps.specs.Private.{journal_name}
@@ -51,7 +51,7 @@ pub write_journal-requires-clause-can : goal.write_journal-requires-clause-can
 write_journal-requires-clause-can g c = λ told_now.
     let o = g.F.Source.outside in
     let told = sym c.make_dir.ensures.call.same_kind ∙ sym c.write_contents.ensures.same_kind ∙ told_now in
-    let run : Keeps o (covers stage_name) nowhere c.args.folder.now c.write_contents.new.folder =
+    let run : ChangesOnly o (covers stage_name) nowhere c.args.folder.now c.write_contents.new.folder =
     keeps_then o (covers stage_name) nowhere c.args.folder.now c.make_dir.new.self c.write_contents.new.folder
     (stage_made o g.met.F.Source.sane c.args.names.now.stage.bytes c.args.names.now.stage_is c.args.folder.now c.make_dir.new.self _ c.make_dir.result told c.make_dir.ensures)
     (c.write_contents.ensures.any_moment (c.make_dir.ensures.call.same_kind ∙ told)) in
@@ -60,7 +60,7 @@ write_journal-requires-clause-can g c = λ told_now.
 pub returns-in-Err-OutOfMemory-clause-any_moment : goal.returns-in-Err-OutOfMemory-clause-any_moment
 returns-in-Err-OutOfMemory-clause-any_moment g c = λ told.
     let o = g.F.Source.outside in
-    let run : Keeps o (covers stage_name) nowhere c.args.folder.now c.write_contents.new.folder =
+    let run : ChangesOnly o (covers stage_name) nowhere c.args.folder.now c.write_contents.new.folder =
     keeps_then o (covers stage_name) nowhere c.args.folder.now c.make_dir.new.self c.write_contents.new.folder
     (stage_made o g.met.F.Source.sane c.args.names.now.stage.bytes c.args.names.now.stage_is c.args.folder.now c.make_dir.new.self _ c.make_dir.result told c.make_dir.ensures)
     (c.write_contents.ensures.any_moment (c.make_dir.ensures.call.same_kind ∙ told)) in
@@ -70,7 +70,7 @@ returns-in-Err-OutOfMemory-clause-any_moment g c = λ told.
 pub returns-in-Err-Bad-clause-any_moment : goal.returns-in-Err-Bad-clause-any_moment
 returns-in-Err-Bad-clause-any_moment g c = λ told.
     let o = g.F.Source.outside in
-    let run : Keeps o (covers stage_name) nowhere c.args.folder.now c.write_contents.new.folder =
+    let run : ChangesOnly o (covers stage_name) nowhere c.args.folder.now c.write_contents.new.folder =
     keeps_then o (covers stage_name) nowhere c.args.folder.now c.make_dir.new.self c.write_contents.new.folder
     (stage_made o g.met.F.Source.sane c.args.names.now.stage.bytes c.args.names.now.stage_is c.args.folder.now c.make_dir.new.self _ c.make_dir.result told c.make_dir.ensures)
     (c.write_contents.ensures.any_moment (c.make_dir.ensures.call.same_kind ∙ told)) in
@@ -80,7 +80,7 @@ returns-in-Err-Bad-clause-any_moment g c = λ told.
 pub returns-in-Ok-write_journal-clause-any_moment : goal.returns-in-Ok-write_journal-clause-any_moment
 returns-in-Ok-write_journal-clause-any_moment g c = λ told.
     let o = g.F.Source.outside in
-    let run : Keeps o (covers stage_name) nowhere c.args.folder.now c.write_contents.new.folder =
+    let run : ChangesOnly o (covers stage_name) nowhere c.args.folder.now c.write_contents.new.folder =
     keeps_then o (covers stage_name) nowhere c.args.folder.now c.make_dir.new.self c.write_contents.new.folder
     (stage_made o g.met.F.Source.sane c.args.names.now.stage.bytes c.args.names.now.stage_is c.args.folder.now c.make_dir.new.self _ c.make_dir.result told c.make_dir.ensures)
     (c.write_contents.ensures.any_moment (c.make_dir.ensures.call.same_kind ∙ told)) in
@@ -92,9 +92,9 @@ returns-in-Ok-write_journal-clause-filled g c = λ told.
     let o = g.F.Source.outside in
     let told_1 = c.make_dir.ensures.call.same_kind ∙ told in
     let told_2 = c.write_contents.ensures.same_kind ∙ told_1 in
-    let made : Keeps o (covers stage_name) nowhere c.args.folder.now c.make_dir.new.self =
+    let made : ChangesOnly o (covers stage_name) nowhere c.args.folder.now c.make_dir.new.self =
     stage_made o g.met.F.Source.sane c.args.names.now.stage.bytes c.args.names.now.stage_is c.args.folder.now c.make_dir.new.self _ c.make_dir.result told c.make_dir.ensures in
-    let run : Keeps o (covers stage_name) nowhere c.args.folder.now c.write_contents.new.folder =
+    let run : ChangesOnly o (covers stage_name) nowhere c.args.folder.now c.write_contents.new.folder =
     keeps_then o (covers stage_name) nowhere c.args.folder.now c.make_dir.new.self c.write_contents.new.folder made (c.write_contents.ensures.any_moment told_1) in
     all_filled (g.S.Source.outside.tells c.args.source.now) (g.S.Source.outside.state c.args.source.now).held c.args.publisher.now (journal_text (map step_of c.args.steps.now)) c.args.staged.now journal_name
     (o.state c.args.folder.now).held (o.state c.make_dir.new.self).held (o.state c.write_contents.new.folder).held (o.state c.write_journal.new.folder) refl

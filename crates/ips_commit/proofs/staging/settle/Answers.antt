@@ -2,7 +2,7 @@ use Rattle.std.proofs.Common.{◌≡◌, List, sym, ◌∙◌, ap, subst}
 use Rattle.ips_text.specs.Kept.{Kept}
 use Rattle.ips_outside.specs.Image.{Image}
 use Rattle.ips_outside.specs.State.{State}
-use Rattle.ips_outside.specs.Children.{bytes_of}
+use Rattle.ips_outside.specs.Children.{path_bytes}
 use Rattle.ips_commit.specs.Pending.{HasNoOtherMark, IsSwept}
 use Rattle.ips_commit.proofs.Staged.{synced_swept, swept_now, cleared_by}
 use Rattle.ips_commit.proofs.staging.settle.Goals as goal
@@ -27,7 +27,7 @@ returns-clause-cleared g c = λ told.
     let told_1 = c.sync.ensures.call.same_kind ∙ told in
     let t = (o.state c.marks.new.folder).held in
     let same : (o.state c.sync.new.self).held ≡ t = ap (λ (s : State). s.held) (sym c.marks.ensures.reads.kept) in
-    let others : HasNoOtherMark t (bytes_of c.in_ok-marks.marks.items) = subst (λ (u : Image). HasNoOtherMark u (bytes_of c.in_ok-marks.marks.items)) same (c.in_ok-marks.ensures.found told_1).others in
-    let swept : IsSwept (bytes_of c.in_ok-marks.marks.items) t (o.state c.sweep.new.folder).held = subst (λ (l : List Kept). IsSwept (bytes_of l) t (o.state c.sweep.new.folder).held) c.deref.ensures.value
+    let others : HasNoOtherMark t (path_bytes c.in_ok-marks.marks.items) = subst (λ (u : Image). HasNoOtherMark u (path_bytes c.in_ok-marks.marks.items)) same (c.in_ok-marks.ensures.found told_1).others in
+    let swept : IsSwept (path_bytes c.in_ok-marks.marks.items) t (o.state c.sweep.new.folder).held = subst (λ (l : List Kept). IsSwept (path_bytes l) t (o.state c.sweep.new.folder).held) c.deref.ensures.value
     (c.in-Ok-sweep.ensures.swept (c.marks.ensures.reads.call.same_kind ∙ told_1)) in
-    cleared_by (bytes_of c.in_ok-marks.marks.items) t (o.state c.sweep.new.folder).held others swept
+    cleared_by (path_bytes c.in_ok-marks.marks.items) t (o.state c.sweep.new.folder).held others swept

@@ -1,7 +1,7 @@
 use Rattle.std.proofs.Common.{◌≡◌, false, List, ℕ, [], Some, sym, ◌∙◌, ap, subst}
 use Rattle.ips_text.specs.Ancestry.{covers}
 use Rattle.ips_outside.specs.Image.{Image, File, file_bytes}
-use Rattle.ips_outside.specs.Change.{placed}
+use Rattle.ips_outside.specs.Change.{with_entry_at}
 use Rattle.ips_outside.specs.State.{State, nowhere}
 use Rattle.ips_outside.proofs.Placed.{look_placed}
 use Rattle.ips_folder.specs.Calls.{CanMake, IsSole}
@@ -21,8 +21,8 @@ pub write_steps-requires : goal.write_steps-requires
 write_steps-requires g c = λ told_now.
     let o = g.F.Source.outside in
     let told = sym c.make_file.ensures.call.same_kind ∙ told_now in
-    let made : (o.state c.make_file.new.self).held ≡ placed journal_name (Some (File 384 [])) (o.state c.args.folder.now).held =
-    ap (λ (s : State). s.held) (c.in_ok-make_file.ensures.done told) ∙ ap (λ (p : List ℕ). placed p (Some (File 384 [])) (o.state c.args.folder.now).held) c.args.names.now.journal_is in
+    let made : (o.state c.make_file.new.self).held ≡ with_entry_at journal_name (Some (File 384 [])) (o.state c.args.folder.now).held =
+    ap (λ (s : State). s.held) (c.in_ok-make_file.ensures.done told) ∙ ap (λ (p : List ℕ). with_entry_at p (Some (File 384 [])) (o.state c.args.folder.now).held) c.args.names.now.journal_is in
     c.requires.start (o.state c.make_file.new.self).held
     (subst (λ (t : Image). IsSole t journal_name) (sym made) (sole_placed journal_name 384 [] (o.state c.args.folder.now).held))
     (ap (λ (t : Image). file_bytes (t.look journal_name)) made ∙ ap file_bytes (look_placed journal_name (Some (File 384 [])) (o.state c.args.folder.now).held))

@@ -2,9 +2,9 @@ use Rattle.std.proofs.Common.{◌≡◌, ◌≤◌, ◌&&◌, ℕ, List, None, I
 use Rattle.std.specs.List.{list_any}
 use Rattle.ips_text.specs.Ancestry.{covers}
 use Rattle.ips_text.specs.Kept.{Kept}
-use Rattle.ips_outside.specs.Children.{bytes_of}
+use Rattle.ips_outside.specs.Children.{path_bytes}
 use Rattle.ips_outside.specs.State.{nowhere}
-use Rattle.ips_folder.specs.Calls.{Keeps}
+use Rattle.ips_folder.specs.Calls.{ChangesOnly}
 use Rattle.ips_commit.specs.Pending.{is_other, mark_names}
 use Rattle.ips_commit.proofs.Numbered.{is_spare}
 use Rattle.ips_commit.proofs.sweeping.keep_first.Given as goal
@@ -16,5 +16,5 @@ invariant-loop-mark g l = record {
   changes : g.F.Source.outside.changes l.fn.folder ≤ g.F.Source.outside.changes l.folder;
   gone : IsTrue (g.F.Source.outside.tells l.fn.folder) → (q : List ℕ) → IsTrue (list_any (λ (k : Kept). is_spare (mark_names l.count) k.bytes && covers k.bytes q) (take l.mark-index l.marks)) → (g.F.Source.outside.state l.folder).held.look q ≡ None;
   nothing_new : IsTrue (g.F.Source.outside.tells l.fn.folder) → (q : List ℕ) → (g.F.Source.outside.state l.fn.folder).held.look q ≡ None → (g.F.Source.outside.state l.folder).held.look q ≡ None;
-  moments : IsTrue (g.F.Source.outside.tells l.fn.folder) → Keeps g.F.Source.outside (is_other (mark_names l.count) (bytes_of l.marks)) nowhere l.fn.folder l.folder;
+  moments : IsTrue (g.F.Source.outside.tells l.fn.folder) → ChangesOnly g.F.Source.outside (is_other (mark_names l.count) (path_bytes l.marks)) nowhere l.fn.folder l.folder;
 }

@@ -1,6 +1,6 @@
 use Rattle.std.proofs.Common.{◌≡◌, false, List, ℕ, None, ◌∙◌, ap}
 use Rattle.ips_text.specs.Ancestry.{covers}
-use Rattle.ips_outside.specs.Change.{placed}
+use Rattle.ips_outside.specs.Change.{with_entry_at}
 use Rattle.ips_outside.specs.State.{State, nowhere}
 use Rattle.ips_steps.specs.Steps.{stage_name}
 use Rattle.ips_steps.specs.Private.{journal_name, mark_front, begins}
@@ -47,6 +47,6 @@ returns-clause-swept g c = λ told.
     let told_1 = c.remove.ensures.call.same_kind ∙ told in
     let told_2 = c.remove-2.ensures.call.same_kind ∙ told_1 in
     swept_all _ (o.state c.args.folder.now).held (o.state c.remove.new.self).held (o.state c.remove-2.new.self).held (o.state c.remove_all.new.folder).held
-    (ap (λ (s : State). s.held) (c.in_ok-remove.ensures.done told) ∙ ap (λ (p : List ℕ). placed p None (o.state c.args.folder.now).held) c.args.names.now.journal_is)
-    (ap (λ (s : State). s.held) (c.in_ok-remove-2.ensures.done told_1) ∙ ap (λ (p : List ℕ). placed p None (o.state c.remove.new.self).held) c.args.names.now.stage_is)
+    (ap (λ (s : State). s.held) (c.in_ok-remove.ensures.done told) ∙ ap (λ (p : List ℕ). with_entry_at p None (o.state c.args.folder.now).held) c.args.names.now.journal_is)
+    (ap (λ (s : State). s.held) (c.in_ok-remove-2.ensures.done told_1) ∙ ap (λ (p : List ℕ). with_entry_at p None (o.state c.remove.new.self).held) c.args.names.now.stage_is)
     (c.in_ok-remove_all.ensures.gone told_2) (c.in_ok-remove_all.ensures.nothing_new told_2)

@@ -2,20 +2,20 @@ use Rattle.std.proofs.Common.{◌∙◌, ◌<◌, ◌+◌, ℕ, Option, Some, ap
 use Rattle.std.specs.Option.{ForSome}
 use Rattle.std.proofs.lemmas.Bool.{true≢false}
 use Rattle.std.proofs.lemmas.Option.{none-some}
-use Rattle.ips_conflict.specs.Search.{Meets}
+use Rattle.ips_conflict.specs.Search.{MeetsTest}
 use Rattle.ips_conflict.proofs.Found.{FoundIn, found_none, found_more, found_same, found_done, within_more}
 use Rattle.ips_conflict.proofs.earliest.earliest.Goals as goal
 use Rattle.ips_conflict.proofs.earliest.earliest.Goals.{then-branch, else-branch}
 
 pub loop-j-init : goal.loop-j-init
-loop-j-init c = record { so_far = found_none c.args.placed.now (Meets c.args.placed.now c.args.sort c.args.test); within = λ x e. absurd (none-some x e) }
+loop-j-init c = record { so_far = found_none c.args.placed.now (MeetsTest c.args.placed.now c.args.sort c.args.test); within = λ x e. absurd (none-some x e) }
 
 pub meets-requires : goal.meets-requires
 meets-requires c = record { index = c.requires.index; within = c.requires.members c.loop-j.j-index 0 c.loop-j-test.true; test = c.requires.test }
 
 pub loop-j-preserved : goal.loop-j-preserved
 loop-j-preserved c =
-    let M : ℕ → Type 0 = Meets c.args.placed.now c.args.sort c.args.test in
+    let M : ℕ → Type 0 = MeetsTest c.args.placed.now c.args.sort c.args.test in
     let P : Option ℕ → Type 0 = λ o. FoundIn c.args.placed.now M (take (c.loop-j.j-index + 1) c.args.members.now) o in
     let W : Option ℕ → Type 0 = λ o. ForSome o (λ i. i < length c.args.placed.now) in
     let inside = c.requires.members c.loop-j.j-index 0 c.loop-j-test.true in
@@ -32,4 +32,4 @@ loop-j-preserved c =
     ]
 
 pub returns : goal.returns
-returns c = found_done c.args.placed.now (Meets c.args.placed.now c.args.sort c.args.test) c.args.members.now c.loop-j.found c.loop-j.j-index c.loop-j-test.false c.loop-j.invariant.so_far
+returns c = found_done c.args.placed.now (MeetsTest c.args.placed.now c.args.sort c.args.test) c.args.members.now c.loop-j.found c.loop-j.j-index c.loop-j-test.false c.loop-j.invariant.so_far

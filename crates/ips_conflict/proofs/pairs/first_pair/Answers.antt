@@ -10,7 +10,7 @@ use Rattle.ips_conflict.specs.declared.earliest.Test.{Test}
 use Rattle.ips_conflict.specs.declared.earliest.Test.TheVariants.{After, Against}
 use Rattle.ips_conflict.specs.Key.{Key}
 use Rattle.ips_conflict.specs.Index.{IsGroup}
-use Rattle.ips_conflict.specs.Search.{IsEarliest, IsTest, Meets, domain_of}
+use Rattle.ips_conflict.specs.Search.{IsEarliest, IsTest, MeetsTest, domain_of}
 use Rattle.ips_conflict.proofs.Grouped.{Keyed, keyed_earliest, keyed_place, members_within}
 use Rattle.ips_conflict.proofs.FirstPair.{none_in_domain, found_first, none_after, found_next, none_left}
 use Rattle.ips_conflict.proofs.pairs.first_pair.Goals as goal
@@ -29,9 +29,9 @@ key sort text = record { sort = sort; text = text }
 
 -- what was found in the group, for the key
 found : (placed : List Placed) (sort : Sort) (text members : List ℕ) → IsGroup placed text members → (t u : Test) → t ≡ u → (o p : Option ℕ) → o ≡ p
-    → IsEarliest placed (λ j. Contains members j × Meets placed sort t j) o → IsEarliest placed (Keyed placed (key sort text) u) p
+    → IsEarliest placed (λ j. Contains members j × MeetsTest placed sort t j) o → IsEarliest placed (Keyed placed (key sort text) u) p
 found placed sort text members group t u e o p f h =
-    let at : IsEarliest placed (λ j. Contains members j × Meets placed sort t j) p = subst (IsEarliest placed (λ j. Contains members j × Meets placed sort t j)) f h in
+    let at : IsEarliest placed (λ j. Contains members j × MeetsTest placed sort t j) p = subst (IsEarliest placed (λ j. Contains members j × MeetsTest placed sort t j)) f h in
     subst (λ (v : Test). IsEarliest placed (Keyed placed (key sort text) v) p) e (keyed_earliest placed sort text members group t p at)
 
 pub earliest-requires : goal.earliest-requires

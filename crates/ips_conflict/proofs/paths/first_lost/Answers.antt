@@ -5,14 +5,14 @@ use Rattle.ips_conflict.specs.declared.placed.Sort.TheVariants.{Path}
 use Rattle.ips_conflict.specs.declared.earliest.Test.TheVariants.{Lost}
 use Rattle.ips_conflict.specs.Clash.{path_key}
 use Rattle.ips_conflict.specs.Index.{IsGroup}
-use Rattle.ips_conflict.specs.Search.{IsEarliest, Meets}
+use Rattle.ips_conflict.specs.Search.{IsEarliest, MeetsTest}
 use Rattle.ips_conflict.proofs.Grouped.{Keyed, keyed_earliest, members_within}
 use Rattle.ips_conflict.proofs.OfPaths.{none_lost, found_lost}
 use Rattle.ips_conflict.proofs.paths.first_lost.Goals as goal
 
 -- what was found in the group, for the path
-found : (placed : List Placed) (text members : List ℕ) → IsGroup placed text members → (o p : Option ℕ) → o ≡ p → IsEarliest placed (λ j. Contains members j × Meets placed Path Lost j) o → IsEarliest placed (Keyed placed (path_key text) Lost) p
-found placed text members group o p e h = keyed_earliest placed Path text members group Lost p (subst (IsEarliest placed (λ j. Contains members j × Meets placed Path Lost j)) e h)
+found : (placed : List Placed) (text members : List ℕ) → IsGroup placed text members → (o p : Option ℕ) → o ≡ p → IsEarliest placed (λ j. Contains members j × MeetsTest placed Path Lost j) o → IsEarliest placed (Keyed placed (path_key text) Lost) p
+found placed text members group o p e h = keyed_earliest placed Path text members group Lost p (subst (IsEarliest placed (λ j. Contains members j × MeetsTest placed Path Lost j)) e h)
 
 pub earliest-requires : goal.earliest-requires
 earliest-requires c = record { index = c.requires.index; members = members_within c.args.placed.now Path c.args.text.now c.args.members.now c.requires.group; test = tt }

@@ -8,14 +8,14 @@ use Rattle.ips_conflict.specs.declared.placed.Sort.TheVariants.{Path}
 use Rattle.ips_conflict.specs.declared.earliest.Test.TheVariants.{Obstacle}
 use Rattle.ips_conflict.specs.Clash.{path_key, has_legacy, is_held, is_held_by}
 use Rattle.ips_conflict.specs.Index.{IsGroup}
-use Rattle.ips_conflict.specs.Search.{IsEarliest, Meets}
+use Rattle.ips_conflict.specs.Search.{IsEarliest, MeetsTest}
 use Rattle.ips_conflict.proofs.Grouped.{Keyed, keyed_earliest, members_within}
 use Rattle.ips_conflict.proofs.OfPaths.{none_obstacle, found_held, nothing_below, none_below, found_below, below_found}
 use Rattle.ips_conflict.proofs.paths.first_obstacle.Goals as goal
 
 -- what was found in the group, for the path
-found : (placed : List Placed) (text members : List ℕ) → IsGroup placed text members → (o p : Option ℕ) → o ≡ p → IsEarliest placed (λ j. Contains members j × Meets placed Path Obstacle j) o → IsEarliest placed (Keyed placed (path_key text) Obstacle) p
-found placed text members group o p e h = keyed_earliest placed Path text members group Obstacle p (subst (IsEarliest placed (λ j. Contains members j × Meets placed Path Obstacle j)) e h)
+found : (placed : List Placed) (text members : List ℕ) → IsGroup placed text members → (o p : Option ℕ) → o ≡ p → IsEarliest placed (λ j. Contains members j × MeetsTest placed Path Obstacle j) o → IsEarliest placed (Keyed placed (path_key text) Obstacle) p
+found placed text members group o p e h = keyed_earliest placed Path text members group Obstacle p (subst (IsEarliest placed (λ j. Contains members j × MeetsTest placed Path Obstacle j)) e h)
 
 all_within : (places : List ℕ) (n : ℕ) → ((i : ℕ) → Contains places i ↔ (i < n)) → All (λ j. j < n) places
 all_within places n all k d lt = (all (get_or places k d)).0 (Contains-get_or places k d lt)

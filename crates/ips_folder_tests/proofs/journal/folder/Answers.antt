@@ -1,6 +1,6 @@
 use Rattle.std.proofs.Common.{◌≡◌, ℕ, List, Some, sym, ◌∙◌, ap, subst}
 use Rattle.ips_outside.specs.Image.{File, Image, is_file, file_bytes}
-use Rattle.ips_outside.specs.Change.{placed}
+use Rattle.ips_outside.specs.Change.{with_entry_at}
 use Rattle.ips_outside.proofs.Placed.{look_placed, placed_sole}
 use Rattle.ips_folder.specs.Calls.{IsSole}
 use Rattle.ips_folder.specs.History.{Moment}
@@ -8,9 +8,9 @@ use Rattle.ips_steps.specs.Private.{journal_name}
 use Rattle.ips_folder_tests.proofs.journal.folder.Goals as goal
 
 -- a file that was made has one name, and these bytes
-module _ (p at bytes : List ℕ) (mode : ℕ) (t u : Image) (named : p ≡ at) (is : u ≡ placed p (Some (File mode bytes)) t) where
-  here : u ≡ placed at (Some (File mode bytes)) t
-  here = is ∙ ap (λ (q : List ℕ). placed q (Some (File mode bytes)) t) named
+module _ (p at bytes : List ℕ) (mode : ℕ) (t u : Image) (named : p ≡ at) (is : u ≡ with_entry_at p (Some (File mode bytes)) t) where
+  here : u ≡ with_entry_at at (Some (File mode bytes)) t
+  here = is ∙ ap (λ (q : List ℕ). with_entry_at q (Some (File mode bytes)) t) named
 
   sole_there : IsSole u at
   sole_there = subst (λ (v : Image). IsSole v at) (sym here) (record {

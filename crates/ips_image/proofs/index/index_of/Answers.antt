@@ -1,5 +1,5 @@
 use Rattle.std.proofs.Common.{◌≡◌, ℕ, List, Option, true, false, is_some, IsErr, sym, ◌∙◌, ap}
-use Rattle.ips_index.specs.Rows.{Row, index_text}
+use Rattle.ips_index.specs.Rows.{IndexedValue, index_text}
 use Rattle.ips_index.specs.Text.{IsIndexFile}
 use Rattle.ips_state.specs.Records.{index_path}
 use Rattle.ips_load.specs.Fault.{IsBadText}
@@ -25,7 +25,7 @@ returns-in-Ok-true-clause-fault g c = λ told.
     let u = (o.state c.is_there.new.folder).held in
     let same = still_held o c.args.folder.now c.is_there.new.folder (IsErr c.is_there.result) c.is_there.ensures.reads in
     let there : true ≡ is_some (t.look index_path) = sym c.in-Ok-true.field-0-test ∙ c.in-Ok-true.ensures.found told ∙ ap (λ (p : List ℕ). is_some (t.look p)) c.in_ok-path.ensures in
-    err_weaker (List Row) (Option (List Row)) c.in-Err-index_at.fault _ _ (λ f h. index_fault t f (something_there (t.look index_path) there) (moved_fault (IsBadText IsIndexFile) u t c.in_ok-path.path.bytes index_path f same c.in_ok-path.ensures h))
+    err_weaker (List IndexedValue) (Option (List IndexedValue)) c.in-Err-index_at.fault _ _ (λ f h. index_fault t f (something_there (t.look index_path) there) (moved_fault (IsBadText IsIndexFile) u t c.in_ok-path.path.bytes index_path f same c.in_ok-path.ensures h))
     (c.in-Err-index_at.ensures.fault (still_told o c.args.folder.now c.is_there.new.folder (IsErr c.is_there.result) c.is_there.ensures.reads told))
 
 pub returns-in-Ok-false-clause-found : goal.returns-in-Ok-false-clause-found

@@ -2,7 +2,7 @@ use Rattle.std.proofs.Common.{◌<◌, ◌^◌, length, subst, List, inl, inr, a
 use Rattle.std.specs.Prelude.{Contains}
 use Rattle.ips_records.specs.Lines.{lines_in}
 use Rattle.ips_records.specs.Listed.{IsListed}
-use Rattle.ips_index.specs.Rows.{Row, row_line}
+use Rattle.ips_index.specs.Rows.{IndexedValue, row_line}
 use Rattle.ips_index.specs.Text.{IsRow, StandsBefore}
 use Rattle.ips_index.proofs.Growing.{none_there}
 use Rattle.ips_index.proofs.IndexFiles.{bad_head, bad_rows, low_number, read_rows}
@@ -21,7 +21,7 @@ pub returns-in_ok-insert_all-in-Ok-clause-rows : goal.returns-in_ok-insert_all-i
 returns-in_ok-insert_all-in-Ok-clause-rows c =
     read_rows c.args.bytes.now c.in-Some.rest.now c.in-Ok.list.items c.insert_all.new.set c.in-Some.ensures.some c.in-Ok.ensures.sole c.in-Ok.ensures.chain c.in-Ok.ensures.lines (c.insert_all.ensures.order c.new-rows.ensures.ordered)
     (λ row. (
-      λ h. elim (c.insert_all.ensures.only row h) [ inl had ↦ absurd (none_there row (subst (λ (l : List Row). Contains l row) c.new-rows.ensures.empty had)) | inr one ↦ one ],
+      λ h. elim (c.insert_all.ensures.only row h) [ inl had ↦ absurd (none_there row (subst (λ (l : List IndexedValue). Contains l row) c.new-rows.ensures.empty had)) | inr one ↦ one ],
       λ h. c.in_ok-insert_all-in-Ok.ensures.all row h,
     ))
 

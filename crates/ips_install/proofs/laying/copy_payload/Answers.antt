@@ -4,7 +4,7 @@ use Rattle.ips_outside.specs.Image.{Image}
 use Rattle.ips_outside.specs.State.{State}
 use Rattle.ips_outside.specs.Change.{appended}
 use Rattle.ips_folder.proofs.Runs.{keeps_then}
-use Rattle.ips_repo.specs.Payload.{Reading, IsFrontOf}
+use Rattle.ips_repo.specs.Payload.{PayloadReading, IsFrontOf}
 use Rattle.ips_outside.proofs.Reading.{answered, reads_then}
 use Rattle.ips_install.proofs.Keeping.{path_written}
 use Rattle.ips_install.proofs.laying.copy_payload.Goals as goal
@@ -18,13 +18,13 @@ pieces-preserved g c = record {
   copied = λ told.
       let old = (g.F.Source.outside.state c.args.image.now).held in
       let part = take c.in-Ok.count c.next.new.buf in
-      let given : c.next.new.self.bytes ≡ c.pieces.payload.bytes ++ part = ap (λ (r : Reading). r.bytes) c.in-Ok.ensures.given in
+      let given : c.next.new.self.bytes ≡ c.pieces.payload.bytes ++ part = ap (λ (r : PayloadReading). r.bytes) c.in-Ok.ensures.given in
       ap (λ (s : State). s.held) (c.in-Ok-append.ensures.done (c.pieces.invariant.kind ∙ told))
       ∙ ap (appended c.args.path.now.bytes part) (c.pieces.invariant.copied told)
       ∙ appended_twice c.args.path.now.bytes c.pieces.payload.bytes part old
       ∙ ap (λ (b : List ℕ). appended c.args.path.now.bytes b old) (sym given);
-  name = ap (λ (r : Reading). r.name) c.in-Ok.ensures.given ∙ c.pieces.invariant.name;
-  place = ap (λ (r : Reading). r.place) c.in-Ok.ensures.given ∙ c.pieces.invariant.place;
+  name = ap (λ (r : PayloadReading). r.name) c.in-Ok.ensures.given ∙ c.pieces.invariant.name;
+  place = ap (λ (r : PayloadReading). r.place) c.in-Ok.ensures.given ∙ c.pieces.invariant.place;
   front = λ told front.
       let same = ap (λ (s : State). s.held) c.pieces.invariant.reads.kept in
       subst (λ (t : Image). IsFrontOf t c.next.new.self) same

@@ -2,7 +2,7 @@ use Rattle.std.proofs.Common.{◌≡◌, ◌-◌, IsTrue, length}
 use Rattle.ips_text.specs.Ancestry.{same_path, covers}
 use Rattle.ips_outside.specs.Change.{appended}
 use Rattle.ips_outside.specs.Outside.{Reads}
-use Rattle.ips_folder.specs.Calls.{Keeps}
+use Rattle.ips_folder.specs.Calls.{ChangesOnly}
 use Rattle.ips_repo.specs.Payload.{IsFrontOf}
 use Rattle.ips_install.proofs.laying.copy_payload.Given as goal
 
@@ -15,7 +15,7 @@ invariant-pieces g l = record {
   name : l.payload.name ≡ l.fn.payload.name;
   place : l.payload.place ≡ l.fn.payload.place;
   front : IsTrue (g.S.Source.outside.tells l.fn.repo) → IsFrontOf (g.S.Source.outside.state l.fn.repo).held l.fn.payload → IsFrontOf (g.S.Source.outside.state l.fn.repo).held l.payload;
-  moments : IsTrue (g.F.Source.outside.tells l.fn.image) → Keeps g.F.Source.outside (covers l.path.bytes) (same_path l.path.bytes) l.fn.image l.image;
+  moments : IsTrue (g.F.Source.outside.tells l.fn.image) → ChangesOnly g.F.Source.outside (covers l.path.bytes) (same_path l.path.bytes) l.fn.image l.image;
 }
 
 abbrev pub decreases-pieces : goal.decreases-pieces

@@ -1,7 +1,7 @@
 use Rattle.std.proofs.Common.{◌≡◌, ℕ, IsTrue, List, length, map, take, drop}
 use Rattle.std.specs.List.{AllByRecursion}
 use Rattle.ips_outside.specs.Outside.{Reads}
-use Rattle.ips_folder.specs.Calls.{Keeps}
+use Rattle.ips_folder.specs.Calls.{ChangesOnly}
 use Rattle.ips_steps.specs.Steps.{freed, named}
 use Rattle.ips_steps.specs.View.{step_of}
 use Rattle.ips_repo.specs.Payload.{IsPayload}
@@ -20,5 +20,5 @@ invariant-loop-step g l = record {
       → AreLaid (IsPayload (g.S.Source.outside.tells l.fn.repo) publisher (g.S.Source.outside.state l.fn.repo).held) (names_of l.fn.payloads.items) (take l.step-index (map step_of l.steps))
       (g.F.Source.outside.state l.fn.image).held (g.F.Source.outside.state l.image).held;
   idle : length l.steps ≡ 0 → g.F.Source.outside.state l.image ≡ g.F.Source.outside.state l.fn.image;
-  moments : IsTrue (g.F.Source.outside.tells l.fn.image) → Keeps g.F.Source.outside (freed (map step_of l.steps)) (named (map step_of l.steps)) l.fn.image l.image;
+  moments : IsTrue (g.F.Source.outside.tells l.fn.image) → ChangesOnly g.F.Source.outside (freed (map step_of l.steps)) (named (map step_of l.steps)) l.fn.image l.image;
 }

@@ -3,7 +3,7 @@ use Rattle.std.specs.List.{list_any}
 use Rattle.std.specs.Option.{option_map_or}
 use Rattle.std.proofs.lemmas.Iterator.{YieldsList-from_slice}
 use Rattle.std.proofs.lemmas.Iterator.Search.{any_from_yields_List}
-use Rattle.ips_books.specs.Lines.{Line}
+use Rattle.ips_books.specs.Lines.{AccountLine}
 use Rattle.ips_books.specs.Writing.{has_number}
 use Rattle.ips_passwd.specs.Entries.{places_with}
 use Rattle.ips_passwd.proofs.Firsts.{any_led}
@@ -13,7 +13,7 @@ pub returns : goal.returns
 returns c =
     let lines = c.args.lines.now in
     let id = c.args.id in
-    let none : Line = record { text = []; ended = true } in
+    let none : AccountLine = record { text = []; ended = true } in
     any_from_yields_List (λ (place : ℕ). option_map_or (has_number id) (slice_get lines place) false) _ _ c.any.result c.any.ensures.ran (YieldsList-from_slice c.led.result.now cc) (λ x b q k. search (rules, tests))
     ∙ ap (list_any (λ place. option_map_or (has_number id) (slice_get lines place) false)) c.led.ensures
     ∙ any_led (has_number id) lines (places_with c.args.numbers.now id) none (λ i lt e. c.requires i none lt id e)

@@ -1,6 +1,6 @@
 use Rattle.std.proofs.Common.{◌≤◌, IsTrue, take}
 use Rattle.ips_outside.specs.Outside.{Reads}
-use Rattle.ips_request.specs.Case.{IsReading, Reading}
+use Rattle.ips_request.specs.Case.{IsReading, ManifestReading}
 use Rattle.ips_request.specs.Manifests.{all_manifests_limit}
 use Rattle.ips_request.specs.Subject.{case_in}
 use Rattle.ips_problem.specs.Gathered.{AreReadBehind}
@@ -10,6 +10,6 @@ abbrev pub invariant-loop-version : goal.invariant-loop-version
 invariant-loop-version g l = record {
   few : l.total ≤ all_manifests_limit;
   calls : Reads g.S.Source.outside l.fn.source l.source ⊥;
-  read : IsTrue (g.S.Source.outside.tells l.fn.source) → (r : Reading) → IsReading l.subject.state.now.settings r
+  read : IsTrue (g.S.Source.outside.tells l.fn.source) → (r : ManifestReading) → IsReading l.subject.state.now.settings r
       → AreReadBehind (case_in l.subject (g.S.Source.outside.state l.fn.source).held r) l.fn.total l.total l.stem (take l.version-index l.versions) l.reads.items;
 }

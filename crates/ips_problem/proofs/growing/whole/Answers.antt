@@ -2,7 +2,7 @@ use Rattle.std.proofs.Common.{◌∙◌, ℕ, List, Option, map, length, string_
 use Rattle.std.proofs.lemmas.List.{length-map}
 use Rattle.std.proofs.lemmas.Result.{IfOk-weaker}
 use Rattle.ips_fmri.specs.Version.{Parts}
-use Rattle.ips_request.specs.Case.{Reading}
+use Rattle.ips_request.specs.Case.{ManifestReading}
 use Rattle.ips_request.specs.Stems.{stems_of}
 use Rattle.ips_request.specs.Subject.{case_of}
 use Rattle.ips_problem.specs.declared.problem.Problem.{Problem}
@@ -21,7 +21,7 @@ returns c =
     let tests = map seen_test gathered.tests.items in
     let avoid = c.in_ok-avoid.avoid.items in
     let all = c.requires ∙ sym (length-map keys (λ (k : String Global). string_bytes k)) in
-    IfOk-weaker c.new.result _ (λ (p : Problem). (file : List ℕ → Parts → Option (List ℕ)) (r : Reading) → IsGathered (case_of s file r) gathered → IsPosedBy (case_of s file r) (posed_of p))
+    IfOk-weaker c.new.result _ (λ (p : Problem). (file : List ℕ → Parts → Option (List ℕ)) (r : ManifestReading) → IsGathered (case_of s file r) gathered → IsPosedBy (case_of s file r) (posed_of p))
     (λ p e file r gone. subst (IsPosedBy (case_of s file r)) (sym e)
     (gone_all (case_of s file r) (stems_of keys) (length gathered.rows.items) rows tests gathered.total avoid all (c.in_ok-avoid.ensures file r) gone))
     c.new.ensures

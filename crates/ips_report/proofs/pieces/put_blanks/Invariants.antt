@@ -1,5 +1,5 @@
 use Rattle.std.proofs.Common.{◌≡◌, ◌++◌, take}
-use Rattle.ips_report.specs.Report.{behind_blanks, lines_of}
+use Rattle.ips_report.specs.Report.{behind_blanks, prefixed_lines}
 use Rattle.ips_report.proofs.pieces.put_blanks.Given as goal
 
 abbrev pub invariant-loop-word : goal.invariant-loop-word

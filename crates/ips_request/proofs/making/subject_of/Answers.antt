@@ -3,7 +3,7 @@ use Rattle.std.specs.List.{flat_map}
 use Rattle.ips_fmri.specs.declared.pattern.Pattern.{Pattern}
 use Rattle.ips_state.specs.State.{installed}
 use Rattle.ips_request.specs.Request.{kind_of, matched_against}
-use Rattle.ips_request.specs.Named.{limited}
+use Rattle.ips_request.specs.Named.{with_limits}
 use Rattle.ips_request.specs.Stems.{stems_of, firsts}
 use Rattle.ips_request.specs.declared.asking.Naming as declared
 use Rattle.ips_request.specs.declared.asking.Subject.{Subject}
@@ -55,7 +55,7 @@ returns-clause-subject c =
     let made = c.in_ok-made.ensures in
     subject_made c.args.request.now c.args.state.now _ c.in_ok-known.known.items c.in_ok-all.all.items c.in-Ok.named.items rejects c.in_ok-made.field-0 of_known of_all
     (named_as _ _ _ _ _ _ named c.as_str-publisher.ensures c.as_slice.ensures.value c.patterns.ensures c.in-Ok.ensures.named)
-    (c.in-Ok.ensures.limited ∙ ap (λ (ps : List Pattern). limited ps named) c.patterns.ensures)
+    (c.in-Ok.ensures.limited ∙ ap (λ (ps : List Pattern). with_limits ps named) c.patterns.ensures)
     (named_as _ _ _ _ _ _ rejects c.as_str-publisher.ensures c.as_slice-2.ensures.value c.rejects.ensures c.in-Ok-named_by.ensures.named)
     (record {
       kind = made.kind ∙ c.kind.ensures;

@@ -1,6 +1,6 @@
 use Rattle.std.proofs.Common.{refl, ap, ◌∙◌, sym}
 use Rattle.ips_refute.specs.declared.nogoods.Pair.{Pair}
-use Rattle.ips_refute.specs.Meaning.{Ascends, Within}
+use Rattle.ips_refute.specs.Meaning.{Ascends, IsSubset}
 use Rattle.ips_refute.proofs.Lines.{ascends_up}
 use Rattle.ips_search.specs.Searching.{next_pair}
 use Rattle.ips_search.proofs.Walks.{judged_core, core_of}
@@ -23,7 +23,7 @@ returns g c = λ t.
     let s = c.args.state.now in
     let core = c.as_slice-core.result.now in
     let chosen = c.as_slice-chosen.result.now in
-    let within : Within core chosen = c.are_chosen.ensures c.if-not-are_chosen.false in
+    let within : IsSubset core chosen = c.are_chosen.ensures c.if-not-are_chosen.false in
     let up : Ascends core = ascends_up core (sym c.ascend.ensures ∙ c.if-not-ascend.false) in
     core_of m s.nogoods.items s.pairs.items s.pairs.items (next_pair s) c.args.failure.now.reason core c.args.failure.now.core.items refl c.as_slice-core.ensures.value
     (judged_core m s c.args.more c.as_slice-nogoods.result.now chosen c.args.failure.now.reason core c.as_slice-nogoods.ensures.value c.as_slice-chosen.ensures.value c.requires.next

@@ -2,7 +2,7 @@ use Rattle.std.proofs.Common.{◌≡◌, ◌+◌, ◌≤◌, ◌&&◌, false, �
 use Rattle.std.proofs.lemmas.Bool.{false_from_ne_true, lt-ltb, ltb-true}
 use Rattle.ips_text.specs.Ancestry.{covers, same_path}
 use Rattle.ips_text.specs.Kept.{Kept}
-use Rattle.ips_outside.specs.Children.{AreChildren, bytes_of}
+use Rattle.ips_outside.specs.Children.{AreChildren, path_bytes}
 use Rattle.ips_outside.specs.Image.{Image}
 use Rattle.ips_outside.specs.Outside.{Reads}
 use Rattle.ips_outside.specs.State.{State}
@@ -93,7 +93,7 @@ gather_dir-returns-clause-found g t c = λ told.
     let u = (g.F.Source.outside.state c.args.folder.now).held in
     let dir = c.args.dir.now.bytes in
     let paths = c.as_slice-children.result.now in
-    let all = ap (λ (l : List Kept). bytes_of l) (take_all c.loop-child.child-index paths (omega arith)) in
+    let all = ap (λ (l : List Kept). path_bytes l) (take_all c.loop-child.child-index paths (omega arith)) in
     let are = subst (AreChildren u dir) (sym c.as_slice-children.ensures) (c.requires.listing told).children in
-    adds_children u dir (bytes_of paths) c.args.strays.now.items c.loop-child.strays.items (g.met.F.Source.sane.formed c.args.folder.now told) are
+    adds_children u dir (path_bytes paths) c.args.strays.now.items c.loop-child.strays.items (g.met.F.Source.sane.formed c.args.folder.now told) are
     (subst (λ (l : List (List ℕ)). Adds u (self_or_among dir l) c.args.strays.now.items c.loop-child.strays.items) all (c.loop-child.invariant.so_far told))

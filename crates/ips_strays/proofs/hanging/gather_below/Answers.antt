@@ -1,7 +1,7 @@
 use Rattle.std.proofs.Common.{◌≡◌, List, ℕ, not, ◌&&◌, sym, ◌∙◌, ap, subst}
 use Rattle.std.specs.List.{list_any}
 use Rattle.ips_text.specs.Ancestry.{covers}
-use Rattle.ips_outside.specs.Children.{AreChildren, bytes_of}
+use Rattle.ips_outside.specs.Children.{AreChildren, path_bytes}
 use Rattle.ips_outside.specs.Image.{Image}
 use Rattle.ips_outside.specs.State.{State}
 use Rattle.ips_outside.proofs.Trees.{on_ok_to}
@@ -17,7 +17,7 @@ returns-in-Ok-clause-found g c = λ told.
     let u = (o.state c.args.folder.now).held in
     let rows = row_paths c.args.rows.now in
     let dir = c.args.row.now.path.now.bytes in
-    let paths = bytes_of c.as_slice.result.now in
+    let paths = path_bytes c.as_slice.result.now in
     let old = c.args.strays.now.items in
     let new = c.gather_bare.new.strays.items in
     let looked : (o.state c.is_dir_at.new.source).held ≡ u = ap (λ (s : State). s.held) c.is_dir_at.ensures.reads.kept in

@@ -2,7 +2,7 @@ use Rattle.std.proofs.Common.{◌∙◌, sym, ap, List, Ok, IfOk, rules}
 use Rattle.ips_text.specs.Reading.{IfBad}
 use Rattle.ips_records.specs.Lines.{lines_in, IsFirstBadLine}
 use Rattle.ips_index.specs.Text.{IsIndexText, IsIndexFile}
-use Rattle.ips_index.specs.Rows.{Row}
+use Rattle.ips_index.specs.Rows.{IndexedValue}
 use Rattle.ips_index.proofs.Listed.{kept_listed}
 use Rattle.ips_index.proofs.IndexFiles.{read_back, rows_one}
 use Rattle.ips_index.proofs.index.Index.read.Goals as goal
@@ -17,4 +17,4 @@ pub invariant_of-result : goal.invariant_of-result
 invariant_of-result c = kept_listed c.in_ok-rows.rows c.in_ok-stems.stems c.in_ok-rows.ensures.rows.0 c.in_ok-stems.ensures
 
 pub returns-clause-back : goal.returns-clause-back
-returns-clause-back c = λ rows is. ap (λ (l : List Row). Ok l) (rows_one rows c.in_ok-rows.rows.keys is.0 c.in_ok-rows.ensures.rows.0 (sym is.1 ∙ c.in_ok-rows.ensures.rows.1))
+returns-clause-back c = λ rows is. ap (λ (l : List IndexedValue). Ok l) (rows_one rows c.in_ok-rows.rows.keys is.0 c.in_ok-rows.ensures.rows.0 (sym is.1 ∙ c.in_ok-rows.ensures.rows.1))

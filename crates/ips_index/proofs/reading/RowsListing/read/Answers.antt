@@ -3,7 +3,7 @@ use Rattle.ips_text.specs.Quote.{quoted}
 use Rattle.ips_action.specs.Kind.{kind_name}
 use Rattle.ips_records.specs.Listed.{Sole}
 use Rattle.ips_records.proofs.Found.{found_some, found_none}
-use Rattle.ips_index.specs.Rows.{Row, row_line}
+use Rattle.ips_index.specs.Rows.{IndexedValue, row_line}
 use Rattle.ips_index.specs.Text.{IsRow, AreWords, Spell}
 use Rattle.ips_index.proofs.RowLines.{row_sole, row_words, spelled_by}
 use Rattle.ips_index.proofs.reading.RowsListing.read.Goals as goal
@@ -14,7 +14,7 @@ returns-in-Some-clause-sole c = found_some c.read_row.result IsRow (Sole row_lin
 pub returns-in-Some-clause-none : goal.returns-in-Some-clause-none
 returns-in-Some-clause-none c =
     let w = c.in-Some.words in
-    found_none c.read_row.result ((row : Row) → IsRow row → Spell w.token.now w.index.now w.kind.now w.value.now w.stem.now row → ⊥) ((item : Row) → IsRow item → row_line item ≡ c.args.bytes.now → ⊥)
+    found_none c.read_row.result ((row : IndexedValue) → IsRow row → Spell w.token.now w.index.now w.kind.now w.value.now w.stem.now row → ⊥) ((item : IndexedValue) → IsRow item → row_line item ≡ c.args.bytes.now → ⊥)
     (λ never item fits e. never item fits (spelled_by c.args.bytes.now w.token.now w.index.now w.kind.now w.value.now w.stem.now c.in-Some.ensures.some item fits e)) c.read_row.ensures.none
 
 pub returns-in-None-clause-none : goal.returns-in-None-clause-none

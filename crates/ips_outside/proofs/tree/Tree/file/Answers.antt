@@ -1,7 +1,7 @@
 use Rattle.std.proofs.Common.{◌≡◌, ◌∙◌, [], ◌∷◌, ◌++◌, ℕ, List, length, cond, Some, None, sym, ap, subst, arith}
 use Rattle.ips_text.specs.Ancestry.{same_path}
 use Rattle.ips_outside.specs.Image.{File, IsImage}
-use Rattle.ips_outside.specs.Change.{placed}
+use Rattle.ips_outside.specs.Change.{with_entry_at}
 use Rattle.ips_outside.specs.Table.{kind_at, image_of}
 use Rattle.ips_outside.specs.Making.{fault_at}
 use Rattle.ips_outside.specs.Tree.{tree_image}
@@ -42,5 +42,5 @@ returns-clause-made c =
     λ q. c.in_ok-put.ensures.put q ∙ ap (λ (n : ℕ). cond (same_path key q) (Some (kind.File n)) (kind_at t.paths.entries q)) number in
     ap (image_of c.put.new.paths.entries) pushed
     ∙ image_file t.paths.entries c.put.new.paths.entries t.nodes.items key node t.formed can put
-    ∙ ap (λ (p : List ℕ). placed p (Some (File c.args.mode c.in_ok-bytes.bytes.items)) (tree_image t)) same
-    ∙ ap (λ (bytes : List ℕ). placed c.args.path.now.bytes (Some (File c.args.mode bytes)) (tree_image t)) c.in_ok-bytes.ensures.items
+    ∙ ap (λ (p : List ℕ). with_entry_at p (Some (File c.args.mode c.in_ok-bytes.bytes.items)) (tree_image t)) same
+    ∙ ap (λ (bytes : List ℕ). with_entry_at c.args.path.now.bytes (Some (File c.args.mode bytes)) (tree_image t)) c.in_ok-bytes.ensures.items

@@ -1,5 +1,5 @@
 use Rattle.std.proofs.Common.{◌≡◌, ◌∙◌, [], ℕ, List, Some, None, ap}
-use Rattle.ips_outside.specs.Change.{placed}
+use Rattle.ips_outside.specs.Change.{with_entry_at}
 use Rattle.ips_outside.specs.Table.{entry_of}
 use Rattle.ips_outside.specs.Making.{fault_at}
 use Rattle.ips_outside.specs.Tree.{tree_image}
@@ -27,4 +27,4 @@ returns-clause-made c =
     let same : key ≡ c.args.path.now.bytes = c.in_ok-key.ensures.key in
     let can : fault_at (tree_image t) key ≡ None = ap (fault_at (tree_image t)) same ∙ c.requires.free in
     on_ok_to c.put.result _ (λ put. image_plain t.paths.entries c.put.new.paths.entries t.nodes.items key c.args.kind t.formed can c.requires.plain put
-    ∙ ap (λ (p : List ℕ). placed p (entry_of [] (Some c.args.kind)) (tree_image t)) same) c.put.ensures.put
+    ∙ ap (λ (p : List ℕ). with_entry_at p (entry_of [] (Some c.args.kind)) (tree_image t)) same) c.put.ensures.put

@@ -1,5 +1,5 @@
 use Rattle.std.proofs.Common.{◌≡◌, ◌∙◌, true, false, ℕ, List, None, is_some, ap, sym, arith}
-use Rattle.ips_outside.specs.Change.{placed}
+use Rattle.ips_outside.specs.Change.{with_entry_at}
 use Rattle.ips_outside.specs.Table.{kind_at}
 use Rattle.ips_outside.specs.Tree.{tree_image}
 use Rattle.ips_outside.proofs.Trees.{image_taken, formed_taken, none_taken, look_none}
@@ -33,7 +33,7 @@ unfolding tree_image
 returns-then-is_some c =
     let t = c.args.self.now in
     image_taken t.paths.entries c.take_away.new.paths.entries t.nodes.items c.bytes-name.result.now t.formed c.take_away.ensures.taken
-    ∙ ap (λ (p : List ℕ). placed p None (tree_image t)) c.bytes-name.ensures.value
+    ∙ ap (λ (p : List ℕ). with_entry_at p None (tree_image t)) c.bytes-name.ensures.value
 
 pub returns-else-is_some : goal.returns-else-is_some
 unfolding tree_image
@@ -42,4 +42,4 @@ returns-else-is_some c =
     let name = c.bytes-name.result.now in
     let none : is_some (kind_at t.paths.entries name) ≡ false = ap is_some (sym c.find.ensures) ∙ some_copied c.find.result ∙ sym c.is_some.ensures ∙ c.if-is_some.false in
     none_taken name (tree_image t) t.formed (look_none t.nodes.items (kind_at t.paths.entries name) none)
-    ∙ ap (λ (p : List ℕ). placed p None (tree_image t)) c.bytes-name.ensures.value
+    ∙ ap (λ (p : List ℕ). with_entry_at p None (tree_image t)) c.bytes-name.ensures.value

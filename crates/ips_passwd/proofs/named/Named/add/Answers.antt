@@ -1,5 +1,5 @@
 use Rattle.std.proofs.Common.{◌≡◌, List, ℕ, true, length, sym, subst, ap, arith, ◌∙◌}
-use Rattle.ips_books.specs.Lines.{Line}
+use Rattle.ips_books.specs.Lines.{AccountLine}
 use Rattle.ips_books.specs.Accounts.{is_of}
 use Rattle.ips_books.specs.Seen.{as_line}
 use Rattle.ips_passwd.specs.Entries.{leads_up_to}
@@ -16,4 +16,4 @@ invariant_of-self-2 c =
     either_way c.add.result c.add.ensures.added c.add.ensures.same
     (λ is. led_added test old new lines c.add.new.lines.items c.args.text.items is c.note.ensures.stays
     (λ name e. subst (λ (n : ℕ). leads_up_to c.note.new.places name n ≡ true) place (c.in_ok-note.ensures.noted name (ap (test name) c.deref.ensures.value ∙ e))) c.self.invariant)
-    (λ same. subst (λ (l : List Line). Led test new (length l) l) (sym same) (led_stays test old new (length lines) lines c.note.ensures.stays c.self.invariant))
+    (λ same. subst (λ (l : List AccountLine). Led test new (length l) l) (sym same) (led_stays test old new (length lines) lines c.note.ensures.stays c.self.invariant))
