@@ -15,9 +15,9 @@ ghost use Rattle.ips_survey.specs.Rows.{HasLooked};
 ghost use Rattle.ips_survey.specs.Marks.{row_paths};
 ghost use Rattle.ips_survey.specs.Tables.{IsTable};
 
+use crate::making::made;
 use crate::taking::taken;
 use ips_change::Change;
-use crate::making::made;
 use ips_outside::{Failed, Source};
 use ips_survey::{Row, Said, Table, is_dir_at, marked_below};
 use ips_text::Or;

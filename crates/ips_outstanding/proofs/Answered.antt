@@ -22,7 +22,7 @@ use Rattle.ips_after.specs.Request.{Over}
 use Rattle.ips_due.specs.Due.{Due, IsOverOf, said}
 use Rattle.ips_survey.specs.declared.said.Spoken.{Spoken}
 use Rattle.ips_survey.specs.Said.{said_as}
-use Rattle.ips_survey.specs.Tables.{AreNamed, spoken_paths}
+use Rattle.ips_survey.specs.Tables.{AreSpoken, spoken_paths}
 use Rattle.ips_outstanding.specs.declared.notes.Notes.{Notes}
 use Rattle.ips_outstanding.specs.declared.verdict.Named.{Named}
 use Rattle.ips_outstanding.specs.declared.verdict.Verdict.{Verdict}
@@ -161,7 +161,7 @@ module _ (due : Due) (t : Image) (o : Over) (named : List Named) (out : AreOutst
   same_keys : named_paths named ≡ o.keys
   same_keys = one_order (named_paths named) o.keys out.order is.by_bytes to_keys from_keys
 
-  pub named_from : (spoken : List Spoken) → spoken_paths spoken ≡ named_paths named → map (λ s. s.said) spoken ≡ map (λ n. option_map said_of n.verdict) named → AreNamed o spoken
+  pub named_from : (spoken : List Spoken) → spoken_paths spoken ≡ named_paths named → map (λ s. s.said) spoken ≡ map (λ n. option_map said_of n.verdict) named → AreSpoken o spoken
   named_from spoken paths says = record {
     paths = paths ∙ same_keys;
     said = says ∙ said_each due (said due t) named (named_paths named) out.each ∙ ap (map (λ p. said_as (said due t p))) same_keys

@@ -16,6 +16,7 @@ use Rattle.ips_outstanding.specs.declared.verdict.Verdict.{Verdict}
 use Rattle.ips_outstanding.specs.Noted.{Adds, either, noted, shown}
 use Rattle.ips_outstanding.specs.Verdicts.{meant}
 use Rattle.ips_outstanding.proofs.Gone.{one_path}
+use Rattle.ips_after.proofs.Order.{listed_last}
 
 -- what is said of a path
 abbrev pub Says : Type 0
@@ -27,19 +28,6 @@ none_more None = refl
 
 pub adds_none : (due : Due) (notes : Notes) (says : List ℕ → Says) → Adds due notes notes [] says
 adds_none due notes says q = none_more (shown due notes q)
-
--- one path more of those in a list
-pub listed_next : (paths : List (List ℕ)) (p q : List ℕ) → listed (paths ++ p ∷ []) q ≡ (listed paths q || same_path p q)
-listed_next [] p q = go (same_path p q)
-  where
-    go : (b : Bool) → (b || false) ≡ b
-    go true = refl
-    go false = refl
-listed_next (x ∷ paths) p q = ap (λ (b : Bool). same_path x q || b) (listed_next paths p q) ∙ go (same_path x q)
-  where
-    go : (a : Bool) → (a || (listed paths q || same_path p q)) ≡ ((a || listed paths q) || same_path p q)
-    go true = refl
-    go false = refl
 
 step : (old mid new : Option Says) (there same : Bool) (says own : Says) → mid ≡ either old (cond there (Some says) None) → new ≡ either mid (cond (same || false) (Some own) None)
     → (same ≡ true → there ≡ false → own ≡ says) → new ≡ either old (cond (there || same) (Some says) None)
@@ -54,7 +42,7 @@ pub adds_more : (due : Due) (first mid new : Notes) (paths : List (List ℕ)) (p
 adds_more due first mid new paths p says own so_far more one q =
     step (shown due first q) (shown due mid q) (shown due new q) (listed paths q) (same_path p q) (says q) own (so_far q) (more q)
     (λ same apart. let is = same_path-true p q same in one (ap (listed paths) is ∙ apart) ∙ ap says is)
-    ∙ ap (λ (b : Bool). either (shown due first q) (cond b (Some (says q)) None)) (sym (listed_next paths p q))
+    ∙ ap (λ (b : Bool). either (shown due first q) (cond b (Some (says q)) None)) (sym (listed_last paths p q))
 
 -- nothing new is noted where something was
 pub adds_had : (due : Due) (notes : Notes) (p : List ℕ) (says : List ℕ → Says) → is_some (shown due notes p) ≡ true → Adds due notes notes (p ∷ []) says

@@ -5,7 +5,7 @@ ghost use Rattle.std.specs.Option.{option_map};
 ghost use Rattle.ips_outside.specs.Image.{Image};
 ghost use Rattle.ips_after.specs.Request.{Over};
 ghost use Rattle.ips_due.specs.Due.{Due, IsOverOf};
-ghost use Rattle.ips_survey.specs.Tables.{AreNamed, spoken_paths};
+ghost use Rattle.ips_survey.specs.Tables.{AreSpoken, spoken_paths};
 ghost use Rattle.ips_outstanding.specs.Outstanding.{AreOutstanding};
 ghost use Rattle.ips_outstanding.specs.Verdicts.{named_paths};
 ghost use Rattle.ips_outstanding.specs.Verdicts as spec;
@@ -26,7 +26,7 @@ impl Outstanding {
     pub fn spoken<'a>(&'a self, alloc: Global) -> Result<Vec<Spoken<'a>>, AllocError>
         ensures paths { IfOk result (λ spoken. spoken_paths spoken.items ≡ named_paths self.now.named.items) }
         ensures said { IfOk result (λ spoken. map (λ s. s.said) spoken.items ≡ map (λ n. option_map spec.said_of n.verdict) self.now.named.items) }
-        ensures named { IfOk result (λ spoken. (due : Due) (t : Image) (o : Over) → AreOutstanding due t self.now.named.items → IsOverOf due t o → AreNamed o spoken.items) }
+        ensures named { IfOk result (λ spoken. (due : Due) (t : Image) (o : Over) → AreOutstanding due t self.now.named.items → IsOverOf due t o → AreSpoken o spoken.items) }
     {
         let mut spoken = Vec::with_capacity(alloc, self.named.len())?;
         for named in &self.named {

@@ -16,6 +16,7 @@ use Rattle.ips_outside.specs.declared.outside.Look.{Look}
 use Rattle.ips_outside.specs.declared.outside.Look.TheVariants as look
 use Rattle.ips_after.specs.Lists.{listed}
 use Rattle.ips_after.proofs.Fits.{below_of}
+use Rattle.ips_after.proofs.Order.{listed_last}
 use Rattle.ips_steps.proofs.Lists.{clash}
 use Rattle.ips_strays.specs.declared.stray.Found.{Found}
 use Rattle.ips_strays.specs.declared.stray.Found.TheVariants as found
@@ -64,10 +65,6 @@ adds_then t f g old mid new first last = record {
 
 -- ---- one path
 
-listed_more : (paths : List (List ℕ)) (p q : List ℕ) → listed (paths ++ p ∷ []) q ≡ (listed paths q || same_path p q)
-listed_more [] p q = sym (or_false (same_path p q))
-listed_more (x ∷ paths) p q = ap (λ (b : Bool). same_path x q || b) (listed_more paths p q) ∙ sym (or_assoc (same_path x q) (listed paths q) (same_path p q))
-
 abbrev path_of : List ℕ × Found → List ℕ
 path_of x = x.0
 
@@ -97,7 +94,7 @@ found_there None f h = cc
 pub adds_one : (t : Image) (p : List ℕ) (f : Found) (old new : List Stray) → map seen new ≡ map seen old ++ (p, f) ∷ [] → Some f ≡ found_of (t.look p) → Adds t (same_path p) old new
 adds_one t p f old new is there = record {
   paths = λ q. ap (λ (l : List (List ℕ)). listed l q) (sym (paths_seen new) ∙ ap (map path_of) is ∙ map_on (map seen old) (p, f) ∙ ap (λ (l : List (List ℕ)). l ++ p ∷ []) (paths_seen old))
-      ∙ listed_more (stray_paths old) p q ∙ ap (λ (b : Bool). listed (stray_paths old) q || b) (sym (go q (same_path p q) refl));
+      ∙ listed_last (stray_paths old) p q ∙ ap (λ (b : Bool). listed (stray_paths old) q || b) (sym (go q (same_path p q) refl));
   things = λ all. from_seen t new (subst (AllByRecursion (IsSeen t)) (sym is) (all_append (IsSeen t) (map seen old) ((p, f) ∷ []) (to_seen t old all) (there, tt)));
 }
   where

@@ -22,8 +22,8 @@ use crate::hanging::gather_below;
 use crate::stray::Stray;
 use ips_folder::Folder;
 use ips_outside::Failed;
-use ips_survey::{Row, Table, is_reached};
 use ips_salvage::{going, taken_away};
+use ips_survey::{Row, Table, is_reached};
 use ips_text::Or;
 use std::alloc::{AllocError, Global};
 

@@ -26,9 +26,9 @@ use Rattle.ips_survey.specs.Marks.{row_paths}
 use Rattle.ips_survey.specs.declared.next.Line.{Line}
 use Rattle.ips_survey.specs.declared.said.Said.{Said}
 use Rattle.ips_survey.specs.declared.said.Spoken.{Spoken}
-use Rattle.ips_survey.specs.Lines.{bare, first, lesser, ranked, rows_taken, spoken_taken, unsaid}
+use Rattle.ips_survey.specs.Lines.{bare, first_line, lesser_line, ranked_line, rows_taken, spoken_taken, unsaid}
 use Rattle.ips_survey.specs.Said.{said_as}
-use Rattle.ips_survey.specs.Tables.{AreNamed, AreRowsOf, IsTable, spoken_paths}
+use Rattle.ips_survey.specs.Tables.{AreSpoken, AreRowsOf, IsTable, spoken_paths}
 
 abbrev Paths : Type 0
 Paths = List (List ℕ)
@@ -128,7 +128,7 @@ pub record SoFar (rows : List Row) (spoken : List Spoken) (done left : List Row)
   rows_behind : Behind (row_paths front) (row_paths left)
   spoken_behind : Behind (row_paths front) (spoken_paths more)
   covers : (q : List ℕ) → listed (row_paths front) q ≡ (listed (row_paths done) q || listed (spoken_paths told) q)
-  lines : (r : Request) → AreRowsOf r rows → AreNamed r.over spoken → HasLines r left more front said
+  lines : (r : Request) → AreRowsOf r rows → AreSpoken r.over spoken → HasLines r left more front said
   looked : (t : Image) → AllByRecursion (HasLooked t) rows → AllByRecursion (HasLooked t) front × AllByRecursion (HasLooked t) left
 
 -- ---- at first
@@ -208,7 +208,7 @@ no_entry (Some w) h = cc
 
 -- of the next row's path nothing is said, where it comes before the next path that is spoken of
 unspoken : (r : Request) (rows : List Row) (spoken : List Spoken) (done left : List Row) (told more : List Spoken) (front : List Row) (said : List (Option Said)) (p : List ℕ)
-    → SoFar rows spoken done left told more front said → AreNamed r.over spoken → Past (row_paths front) p → Leads p (spoken_paths more) → None ≡ said_at r.over p
+    → SoFar rows spoken done left told more front said → AreSpoken r.over spoken → Past (row_paths front) p → Leads p (spoken_paths more) → None ≡ said_at r.over p
 unspoken r rows spoken done left told more front said p h named past leads =
     let old = or_none (listed (row_paths done) p) (listed (spoken_paths told) p) (sym (h.covers p) ∙ not_before p (row_paths front) past) in
     let apart : listed r.over.keys p ≡ false =
@@ -389,7 +389,7 @@ Steps rows spoken i j front said line = Filled rows spoken (i + rows_taken line.
 
 -- one line more
 pub line_added : (rows : List Row) (spoken : List Spoken) (i j : ℕ) (front : List Row) (said : List (Option Said)) (row : Option Row) (one : Option Spoken) (line : Line)
-    → Next rows i row → Next spoken j one → first row one ≡ Some line → Filled rows spoken i j front said → Steps rows spoken i j front said line
+    → Next rows i row → Next spoken j one → first_line row one ≡ Some line → Filled rows spoken i j front said → Steps rows spoken i j front said line
 line_added rows spoken i j front said row one line at_row at_one is h = go row one at_row at_one is
   where
     old : (x : Row) → slice_get rows i ≡ Some x → Leads x.path.now.bytes (spoken_paths (drop j spoken)) → Steps rows spoken i j front said (unsaid x)
@@ -398,13 +398,13 @@ line_added rows spoken i j front said row one line at_row at_one is h = go row o
     new : (y : Spoken) → slice_get spoken j ≡ Some y → Leads y.path.now.bytes (row_paths (drop i rows)) → Steps rows spoken i j front said (bare y)
     new y at leads = subst (λ (k : ℕ). Filled rows spoken k (j + 1) (front ++ bare_row y ∷ []) (said ++ y.said ∷ [])) (none_left i) (step_spoken rows spoken i j front said y h at leads)
 
-    least : (x : Row) (y : Spoken) → slice_get rows i ≡ Some x → slice_get spoken j ≡ Some y → (o : Ordering) → slice_cmp nat_cmp x.path.now.bytes y.path.now.bytes ≡ o → Steps rows spoken i j front said (ranked o x y)
+    least : (x : Row) (y : Spoken) → slice_get rows i ≡ Some x → slice_get spoken j ≡ Some y → (o : Ordering) → slice_cmp nat_cmp x.path.now.bytes y.path.now.bytes ≡ o → Steps rows spoken i j front said (ranked_line o x y)
     least x y at there Less e = old x at (leads_spoken rows spoken i j front said x.path.now.bytes y h there e)
     least x y at there Equal e = step_both rows spoken i j front said x y h at there (one_path x.path.now.bytes y.path.now.bytes e)
     least x y at there Greater e = new y there (leads_rows rows spoken i j front said y.path.now.bytes x h at (nat_list_cmp_total.antisymm y.path.now.bytes x.path.now.bytes ∙ ap ordering_reverse e))
 
-    go : (o : Option Row) (n : Option Spoken) → Next rows i o → Next spoken j n → first o n ≡ Some line → Steps rows spoken i j front said line
-    go (Some x) (Some y) at there e = subst (Steps rows spoken i j front said) (same_Some (lesser x y) line e) (least x y at there (slice_cmp nat_cmp x.path.now.bytes y.path.now.bytes) refl)
+    go : (o : Option Row) (n : Option Spoken) → Next rows i o → Next spoken j n → first_line o n ≡ Some line → Steps rows spoken i j front said line
+    go (Some x) (Some y) at there e = subst (Steps rows spoken i j front said) (same_Some (lesser_line x y) line e) (least x y at there (slice_cmp nat_cmp x.path.now.bytes y.path.now.bytes) refl)
     go (Some x) None at there e = subst (Steps rows spoken i j front said) (same_Some (unsaid x) line e) (old x at (subst (λ (l : List Spoken). Leads x.path.now.bytes (spoken_paths l)) (sym there) tt))
     go None (Some y) at there e = subst (Steps rows spoken i j front said) (same_Some (bare y) line e) (new y there (subst (λ (l : List Row). Leads y.path.now.bytes (row_paths l)) (sym at) tt))
     go None None at there e = cc
@@ -414,7 +414,7 @@ pub record Moves (rows : List Row) (spoken : List Spoken) (i j : ℕ) (line : Li
   pub rows_within : i + rows_taken line.origin ≤ length rows
   pub spoken_within : j + spoken_taken line.origin ≤ length spoken
 
-pub moves : (rows : List Row) (spoken : List Spoken) (i j : ℕ) (row : Option Row) (one : Option Spoken) (line : Line) → Next rows i row → Next spoken j one → first row one ≡ Some line → i ≤ length rows → j ≤ length spoken → Moves rows spoken i j line
+pub moves : (rows : List Row) (spoken : List Spoken) (i j : ℕ) (row : Option Row) (one : Option Spoken) (line : Line) → Next rows i row → Next spoken j one → first_line row one ≡ Some line → i ≤ length rows → j ≤ length spoken → Moves rows spoken i j line
 moves rows spoken i j row one line at_row at_one is within spoken_within = go row one at_row at_one is
   where
     old : (x : Row) → slice_get rows i ≡ Some x → Moves rows spoken i j (unsaid x)
@@ -423,7 +423,7 @@ moves rows spoken i j row one line at_row at_one is within spoken_within = go ro
     new : (y : Spoken) → slice_get spoken j ≡ Some y → Moves rows spoken i j (bare y)
     new y at = let lt = slice_get_within spoken j y at in record { rows_within = omega (arith, within); spoken_within = omega (arith, lt) }
 
-    least : (x : Row) (y : Spoken) → slice_get rows i ≡ Some x → slice_get spoken j ≡ Some y → (o : Ordering) → Moves rows spoken i j (ranked o x y)
+    least : (x : Row) (y : Spoken) → slice_get rows i ≡ Some x → slice_get spoken j ≡ Some y → (o : Ordering) → Moves rows spoken i j (ranked_line o x y)
     least x y at there Less = old x at
     least x y at there Equal =
         let lt = slice_get_within rows i x at in
@@ -431,8 +431,8 @@ moves rows spoken i j row one line at_row at_one is within spoken_within = go ro
         record { rows_within = omega (arith, lt); spoken_within = omega (arith, less) }
     least x y at there Greater = new y there
 
-    go : (o : Option Row) (n : Option Spoken) → Next rows i o → Next spoken j n → first o n ≡ Some line → Moves rows spoken i j line
-    go (Some x) (Some y) at there e = subst (Moves rows spoken i j) (same_Some (lesser x y) line e) (least x y at there (slice_cmp nat_cmp x.path.now.bytes y.path.now.bytes))
+    go : (o : Option Row) (n : Option Spoken) → Next rows i o → Next spoken j n → first_line o n ≡ Some line → Moves rows spoken i j line
+    go (Some x) (Some y) at there e = subst (Moves rows spoken i j) (same_Some (lesser_line x y) line e) (least x y at there (slice_cmp nat_cmp x.path.now.bytes y.path.now.bytes))
     go (Some x) None at there e = subst (Moves rows spoken i j) (same_Some (unsaid x) line e) (old x at)
     go None (Some y) at there e = subst (Moves rows spoken i j) (same_Some (bare y) line e) (new y there)
     go None None at there e = cc
@@ -444,14 +444,14 @@ third false false c h = h
 third false true c h = cc
 third true b c h = cc
 
-pub none_next : (rows : List Row) (spoken : List Spoken) (i j : ℕ) (row : Option Row) (one : Option Spoken) → Next rows i row → Next spoken j one → first row one ≡ None → (drop i rows ≡ []) × (drop j spoken ≡ [])
+pub none_next : (rows : List Row) (spoken : List Spoken) (i j : ℕ) (row : Option Row) (one : Option Spoken) → Next rows i row → Next spoken j one → first_line row one ≡ None → (drop i rows ≡ []) × (drop j spoken ≡ [])
 none_next rows spoken i j (Some x) (Some y) at there e = cc
 none_next rows spoken i j (Some x) None at there e = cc
 none_next rows spoken i j None (Some y) at there e = cc
 none_next rows spoken i j None None at there e = (at, there)
 
 pub is_table : (r : Request) (rows : List Row) (spoken : List Spoken) (i j : ℕ) (front : List Row) (said : List (Option Said)) → Filled rows spoken i j front said → drop i rows ≡ [] → drop j spoken ≡ []
-    → AreRowsOf r rows → AreNamed r.over spoken → IsTable r front said
+    → AreRowsOf r rows → AreSpoken r.over spoken → IsTable r front said
 is_table r rows spoken i j front said h no_rows none_spoken of named =
     let lines = h.lines r of named in
     let all_rows : take i rows ≡ rows = sym (append-nil (take i rows)) ∙ ap (λ (l : List Row). take i rows ++ l) (sym no_rows) ∙ h.rows_are in

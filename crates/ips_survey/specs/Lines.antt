@@ -22,21 +22,21 @@ abbrev pub both : Row → Spoken → Line
 both row spoken = record { row = row; said = spoken.said; origin = Equal }
 
 -- the line of the first of both, by how their paths compare
-abbrev pub ranked : Ordering → Row → Spoken → Line
-ranked Less row spoken = unsaid row
-ranked Equal row spoken = both row spoken
-ranked Greater row spoken = bare spoken
+abbrev pub ranked_line : Ordering → Row → Spoken → Line
+ranked_line Less row spoken = unsaid row
+ranked_line Equal row spoken = both row spoken
+ranked_line Greater row spoken = bare spoken
 
 -- the line of the first of both paths
-abbrev pub lesser : Row → Spoken → Line
-lesser row spoken = ranked (slice_cmp nat_cmp row.path.now.bytes spoken.path.now.bytes) row spoken
+abbrev pub lesser_line : Row → Spoken → Line
+lesser_line row spoken = ranked_line (slice_cmp nat_cmp row.path.now.bytes spoken.path.now.bytes) row spoken
 
 -- the line of the first of the next row and the next path that is spoken of, where there are such
-abbrev pub first : Option Row → Option Spoken → Option Line
-first (Some row) (Some spoken) = Some (lesser row spoken)
-first (Some row) None = Some (unsaid row)
-first None (Some spoken) = Some (bare spoken)
-first None None = None
+abbrev pub first_line : Option Row → Option Spoken → Option Line
+first_line (Some row) (Some spoken) = Some (lesser_line row spoken)
+first_line (Some row) None = Some (unsaid row)
+first_line None (Some spoken) = Some (bare spoken)
+first_line None None = None
 
 -- how many rows a line takes
 abbrev pub rows_taken : Ordering → ℕ

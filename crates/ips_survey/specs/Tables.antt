@@ -23,7 +23,7 @@ pub record AreRowsOf (r : Request) (rows : List Row) : Type 0 where
   pub entries : AllByRecursion (IsRowOf r) rows
 
 -- These are the paths that account files and records name, in that order, with what they say of each; they speak of no other.
-pub record AreNamed (o : Over) (spoken : List Spoken) : Type 0 where
+pub record AreSpoken (o : Over) (spoken : List Spoken) : Type 0 where
   pub paths : spoken_paths spoken ≡ o.keys
   pub said : map (λ s. s.said) spoken ≡ map (λ p. said_as (o.at p)) o.keys
   pub none_else : (q : List ℕ) → listed o.keys q ≡ false → o.at q ≡ None

@@ -7,10 +7,10 @@ ghost use Rattle.ips_content.specs.Failing.{HasFailed};
 ghost use Rattle.ips_survey.specs.Rows.{HasLooked};
 ghost use Rattle.ips_survey.specs.Kinds.{is_dir_looked, is_file_looked, is_unlooked};
 
+use crate::row::Row;
 use ips_change::Stands;
 use ips_content::look_at;
 use ips_outside::{Failed, Look, Source};
-use crate::row::Row;
 use ips_text::Or;
 
 /// Whether a directory stands at the row's path. It looks there only where the row doesn't know.

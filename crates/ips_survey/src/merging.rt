@@ -9,12 +9,12 @@ ghost use Rattle.ips_outside.specs.Image.{Image};
 ghost use Rattle.ips_after.specs.Request.{Request};
 ghost use Rattle.ips_survey.specs.Rows.{HasLooked};
 ghost use Rattle.ips_survey.specs.Marks.{row_paths};
-ghost use Rattle.ips_survey.specs.Tables.{AreNamed, AreRowsOf, IsTable, spoken_paths};
+ghost use Rattle.ips_survey.specs.Tables.{AreSpoken, AreRowsOf, IsTable, spoken_paths};
 
 use crate::next::{Line, first, rows_taken, spoken_taken};
+use crate::row::Row;
 use crate::said::Spoken;
 use crate::table::Table;
-use crate::row::Row;
 use std::alloc::{AllocError, Global};
 
 /// Just the paths of the rows and those that are spoken of, each once, with what is said of each. A path that neither was nor is wanted
@@ -28,7 +28,7 @@ pub fn merge<'a>(
     requires spoken { IsStrictlySortedBy (slice_cmp nat_cmp) (spoken_paths spoken.now) }
     ensures order { IfOk result (λ table. IsStrictlySortedBy (slice_cmp nat_cmp) (row_paths table.rows.items)) }
     ensures long { IfOk result (λ table. length table.said.items ≡ length table.rows.items) }
-    ensures table { IfOk result (λ table. (r : Request) → AreRowsOf r rows.now → AreNamed r.over spoken.now → IsTable r table.rows.items table.said.items) }
+    ensures table { IfOk result (λ table. (r : Request) → AreRowsOf r rows.now → AreSpoken r.over spoken.now → IsTable r table.rows.items table.said.items) }
     ensures looked { IfOk result (λ table. (t : Image) → AllByRecursion (HasLooked t) rows.now → AllByRecursion (HasLooked t) table.rows.items) }
 {
     let mut table = Table {
@@ -53,7 +53,7 @@ fn fill<'a>(
     requires none_said { table.old.said.items ≡ [] }
     ensures order { OnOk result (IsStrictlySortedBy (slice_cmp nat_cmp) (row_paths table.new.rows.items)) }
     ensures long { OnOk result (length table.new.said.items ≡ length table.new.rows.items) }
-    ensures table { OnOk result ((r : Request) → AreRowsOf r rows.now → AreNamed r.over spoken.now → IsTable r table.new.rows.items table.new.said.items) }
+    ensures table { OnOk result ((r : Request) → AreRowsOf r rows.now → AreSpoken r.over spoken.now → IsTable r table.new.rows.items table.new.said.items) }
     ensures looked { OnOk result ((t : Image) → AllByRecursion (HasLooked t) rows.now → AllByRecursion (HasLooked t) table.new.rows.items) }
 {
     let mut i = 0;

@@ -4,9 +4,9 @@ ghost use Rattle.std.specs.Prelude.{◌≡◌};
 ghost use Rattle.std.specs.Option.{option_map};
 ghost use Rattle.ips_survey.specs.Lines as spec;
 
+use crate::row::Row;
 use crate::said::{Said, Spoken};
 use ips_change::Stands;
-use crate::row::Row;
 use std::cmp::Ordering;
 
 /// A row with what is said of its path.
@@ -20,7 +20,7 @@ pub struct Line<'a> {
 
 /// The line of the first of both paths; one line where they are one.
 pub fn first<'a>(row: Option<&Row<'a>>, spoken: Option<&Spoken<'a>>) -> Option<Line<'a>>
-    ensures { result ≡ spec.first (option_map (λ x. x.now) row.entry) (option_map (λ x. x.now) spoken.entry) }
+    ensures { result ≡ spec.first_line (option_map (λ x. x.now) row.entry) (option_map (λ x. x.now) spoken.entry) }
 {
     match (row, spoken) {
         (Some(row), Some(spoken)) => Some(lesser(row, spoken)),
@@ -32,7 +32,7 @@ pub fn first<'a>(row: Option<&Row<'a>>, spoken: Option<&Spoken<'a>>) -> Option<L
 
 // The line of the first of both paths; one line where they are one.
 fn lesser<'a>(row: &Row<'a>, spoken: &Spoken<'a>) -> Line<'a>
-    ensures { result ≡ spec.lesser row.now spoken.now }
+    ensures { result ≡ spec.lesser_line row.now spoken.now }
 {
     match row.path.cmp(spoken.path) {
         Ordering::Less => unsaid(row),

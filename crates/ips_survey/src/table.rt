@@ -1,7 +1,7 @@
 //! All paths that a request is about.
 
-use crate::said::Said;
 use crate::row::Row;
+use crate::said::Said;
 
 /// All paths that a request is about, in the order of their bytes, and what account files and records say of each.
 #[derive(Drop)]

@@ -11,9 +11,9 @@ ghost use Rattle.ips_change.specs.Stands.{is_dir_seen};
 ghost use Rattle.ips_survey.specs.Rows.{HasLooked, IsRowOf};
 ghost use Rattle.ips_survey.specs.Marks.{row_paths};
 
+use crate::row::Row;
 use ips_change::Stands;
 use ips_meaning::Entry;
-use crate::row::Row;
 use std::alloc::{AllocError, Global};
 
 /// The marks of the rows at which a directory with a stated mode is no longer wanted and stands.

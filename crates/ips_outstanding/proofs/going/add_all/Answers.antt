@@ -5,7 +5,7 @@ use Rattle.ips_action.specs.Attrs.{is_same}
 use Rattle.ips_conflict.specs.Index.{has_path}
 use Rattle.ips_text.specs.Kept.{Kept}
 use Rattle.ips_outstanding.proofs.Gone.{set_more}
-use Rattle.ips_outstanding.proofs.Noting.{listed_next}
+use Rattle.ips_after.proofs.Order.{listed_last}
 use Rattle.ips_outstanding.proofs.going.add_all.Goals as goal
 
 pub loop-i-preserved : goal.loop-i-preserved
@@ -16,7 +16,7 @@ loop-i-preserved c =
     let before = map (λ (p : Kept). p.bytes) (take i paths) in λ q.
     set_more (has_path c.add.new.keys) (has_path c.loop-i.going) (has_path c.args.going.now) before row.bytes
     (λ x. c.in_ok-add.ensures.paths x ∙ ap (λ (p : List ℕ). is_same x p || has_path c.loop-i.going x) c.bytes.ensures.value) c.loop-i.invariant q
-    ∙ ap (λ (b : Bool). has_path c.args.going.now q || b) (sym (listed_next before row.bytes q) ∙ ap (λ (l : List (List ℕ)). listed l q) (sym (map_item (λ (p : Kept). p.bytes) paths i row c.loop-i-test.true c.index-paths-i.is)))
+    ∙ ap (λ (b : Bool). has_path c.args.going.now q || b) (sym (listed_last before row.bytes q) ∙ ap (λ (l : List (List ℕ)). listed l q) (sym (map_item (λ (p : Kept). p.bytes) paths i row c.loop-i-test.true c.index-paths-i.is)))
 
 pub returns : goal.returns
 returns c = λ q.

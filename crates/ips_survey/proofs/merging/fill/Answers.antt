@@ -3,7 +3,7 @@ use Rattle.std.specs.Option.{option_map}
 use Rattle.ips_survey.specs.declared.row.Row.{Row}
 use Rattle.ips_survey.specs.declared.said.Said.{Said}
 use Rattle.ips_survey.specs.declared.said.Spoken.{Spoken}
-use Rattle.ips_survey.specs.Lines.{first, rows_taken, spoken_taken}
+use Rattle.ips_survey.specs.Lines.{first_line, rows_taken, spoken_taken}
 use Rattle.ips_survey.proofs.Filling.{Filled, SoFar, all_looked, is_table, line_added, moves, next_found, none_next, none_yet}
 use Rattle.ips_survey.proofs.merging.fill.Goals as goal
 
@@ -33,7 +33,7 @@ loop-line-preserved c =
     let one = option_map (λ (x : Bor Spoken). x.now) c.get-in-loop-line.result in
     let at = next_found rows i c.get.result c.get.ensures.lookup in
     let there = next_found spoken j c.get-in-loop-line.result c.get-in-loop-line.ensures.lookup in
-    let is : first row one ≡ Some line = sym c.first.ensures ∙ c.in-Some.is in
+    let is : first_line row one ≡ Some line = sym c.first.ensures ∙ c.in-Some.is in
     let go = moves rows spoken i j row one line at there is c.loop-line.invariant.rows_within c.loop-line.invariant.spoken_within in
     let step = line_added rows spoken i j front said row one line at there is c.loop-line.invariant.filled in
     record {
