@@ -12,11 +12,11 @@ use Rattle.ips_state.specs.Records.{common_records, index_path, index_records, i
 use Rattle.ips_packages.proofs.Sorting.{to_all}
 use Rattle.ips_entries.specs.declared.part.Part.TheVariants as part
 use Rattle.ips_entries.specs.declared.part.Place.{Place}
-use Rattle.ips_entries.specs.Part.{HasPart, Owned, common_parts, entry_at, index_parts, numbered, owned, owned_package, package_parts, part_text, parts_of, text_of_index, text_of_package}
+use Rattle.ips_entries.specs.Part.{HasPart, Owned, common_parts, entry_at, index_parts, numbered, owned, owned_package, package_parts, record_text, parts_of, text_of_index, text_of_package}
 
 -- the record of a part that stands at its path
 abbrev pub entry_in : Recorded → Owned → List ℕ × List ℕ
-entry_in r s = (s.0, part_text r s.1)
+entry_in r s = (s.0, record_text r s.1)
 
 entries_shown : (r : Recorded) (places : List Place) → map (entry_at r) places ≡ map (entry_in r) (map owned places)
 entries_shown r places = sym (map-map (entry_in r) owned places)

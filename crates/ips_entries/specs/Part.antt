@@ -28,19 +28,19 @@ text_of_package true (Some p) = manifest_text p.lines
 text_of_package false (Some p) = package_text p.version p.lines
 
 -- What the record of a part holds.
-abbrev pub part_text : Recorded → Part → List ℕ
-part_text r part.Image = lines_text (head_lines (head_of r))
-part_text r part.Installed = lines_text (name_lines (map versioned_stem r.installed))
-part_text r part.Avoid = lines_text r.avoid
-part_text r part.Freeze = lines_text (name_lines r.freeze)
-part_text r part.Mediators = lines_text (map mediator_line r.mediators)
-part_text r part.History = lines_text r.history
-part_text r part.Index = text_of_index r.index
-part_text r (part.Package n) = text_of_package (r.format == 1) (slice_get r.installed n)
+abbrev pub record_text : Recorded → Part → List ℕ
+record_text r part.Image = lines_text (head_lines (head_of r))
+record_text r part.Installed = lines_text (name_lines (map versioned_stem r.installed))
+record_text r part.Avoid = lines_text r.avoid
+record_text r part.Freeze = lines_text (name_lines r.freeze)
+record_text r part.Mediators = lines_text (map mediator_line r.mediators)
+record_text r part.History = lines_text r.history
+record_text r part.Index = text_of_index r.index
+record_text r (part.Package n) = text_of_package (r.format == 1) (slice_get r.installed n)
 
 -- The record of a part that stands at a place.
 abbrev pub entry_at : Recorded → Place → List ℕ × List ℕ
-entry_at r place = (place.path.bytes, part_text r place.part)
+entry_at r place = (place.path.bytes, record_text r place.part)
 
 -- ---- where the records of a state stand
 

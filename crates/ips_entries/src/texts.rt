@@ -7,7 +7,7 @@ ghost use Rattle.ips_manifest.specs.Manifest.{manifest_text};
 ghost use Rattle.ips_records.specs.Lines.{ended};
 ghost use Rattle.ips_state.specs.State.{recorded, installed};
 ghost use Rattle.ips_state.specs.Text.{versioned_stem};
-ghost use Rattle.ips_entries.specs.Part.{HasPart, part_text, text_of_index, text_of_package};
+ghost use Rattle.ips_entries.specs.Part.{HasPart, record_text, text_of_index, text_of_package};
 
 use crate::part::Part;
 use ips_index::Index;
@@ -19,7 +19,7 @@ use std::alloc::{AllocError, Global};
 pub fn text_of(alloc: Global, state: &State, part: Part) -> Result<Vec<u8>, AllocError>
     requires format { (state.now.format ≡ 1) ⊎ (state.now.format ≡ 2) }
     requires part { HasPart (recorded state.now) part }
-    ensures { IfOk result (λ bytes. bytes.items ≡ part_text (recorded state.now) part) }
+    ensures { IfOk result (λ bytes. bytes.items ≡ record_text (recorded state.now) part) }
 {
     match part {
         Part::Image => head_text(alloc, state),

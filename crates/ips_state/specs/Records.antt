@@ -60,42 +60,42 @@ package_path stem = packages_path ++ 47 ∷ quoted stem
 -- ---- what they hold
 
 -- A record: the path of its file, and the file's bytes.
-abbrev pub Entry : Type 0
-Entry = List ℕ × List ℕ
+abbrev pub RecordFile : Type 0
+RecordFile = List ℕ × List ℕ
 
 -- A record in memory.
-abbrev pub entry_of : Record → Entry
+abbrev pub entry_of : Record → RecordFile
 entry_of r = (r.path.bytes, r.bytes.items)
 
 -- The record of the index, where there is one.
-abbrev pub index_records : Option (List IndexedValue) → List Entry
+abbrev pub index_records : Option (List IndexedValue) → List RecordFile
 index_records None = []
 index_records (Some rows) = (index_path, index_text rows) ∷ []
 
 -- The records that both formats have.
-abbrev pub common_records : Recorded → List Entry
+abbrev pub common_records : Recorded → List RecordFile
 common_records r = (image_path, lines_text (head_lines (head_of r))) ∷ (avoid_path, lines_text r.avoid) ∷ (freeze_path, lines_text (name_lines r.freeze))
     ∷ (mediators_path, lines_text (map mediator_line r.mediators)) ∷ (history_path, lines_text r.history) ∷ index_records r.index
 
 -- The installed packages in format 1: a list of them, and a manifest each.
-abbrev pub listed_records : List Installed → List Entry
+abbrev pub listed_records : List Installed → List RecordFile
 listed_records packages = (installed_path, lines_text (name_lines (map versioned_stem packages))) ∷ map (λ p. (manifest_path p.stem, manifest_text p.lines)) packages
 
 -- The installed packages in format 2: a record each.
-abbrev pub package_records : List Installed → List Entry
+abbrev pub package_records : List Installed → List RecordFile
 package_records packages = map (λ p. (package_path p.stem, package_text p.version p.lines)) packages
 
 -- The installed packages in the format that the flag tells: the first, or the second.
-abbrev pub records_by : Bool → List Installed → List Entry
+abbrev pub records_by : Bool → List Installed → List RecordFile
 records_by true packages = listed_records packages
 records_by false packages = package_records packages
 
 -- The records of a state, in no order.
-abbrev pub records_of : Recorded → List Entry
+abbrev pub records_of : Recorded → List RecordFile
 records_of r = common_records r ++ records_by (r.format == 1) r.installed
 
 -- These are the records of the state, by the bytes of their paths.
-pub record AreRecords (r : Recorded) (entries : List Entry) : Type 0 where
+pub record AreRecords (r : Recorded) (entries : List RecordFile) : Type 0 where
   pub due : IsPermutation (records_of r) entries
   pub order : Ascend (map (λ e. e.0) entries)
 

@@ -21,11 +21,11 @@ pub struct StateRecords<'a> {
 
 impl<'a> Model for StateRecords<'a> {
     ghost use Rattle.std.specs.Prelude.{List};
-    ghost use Rattle.ips_state.specs.Records.{Entry};
+    ghost use Rattle.ips_state.specs.Records.{RecordFile};
     ghost use Rattle.ips_state.specs.State.{recorded};
     ghost use Rattle.ips_state_due.specs.Parts.{HasPlaces, records_by};
 
-    ghost Value = { List Entry };
+    ghost Value = { List RecordFile };
 
     ghost view = { λ s. records_by (recorded s.state.now) s.places.now s.others.now };
 

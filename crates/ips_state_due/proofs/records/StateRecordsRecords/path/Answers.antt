@@ -2,7 +2,7 @@ use Rattle.std.proofs.Common.{◌≡◌, ◌+◌, List, Some, length, map, sym, 
 use Rattle.std.specs.Prelude.{option_map, slice_get}
 use Rattle.std.proofs.lemmas.Option.{slice_get-get_or, slice_get-map}
 use Rattle.ips_entries.specs.Part.{entry_at}
-use Rattle.ips_state.specs.Records.{Entry, entry_of}
+use Rattle.ips_state.specs.Records.{RecordFile, entry_of}
 use Rattle.ips_state.specs.State.{recorded}
 use Rattle.ips_entries.specs.declared.part.Place.{Place}
 use Rattle.ips_state_due.specs.Parts.{records_by}
@@ -14,14 +14,14 @@ returns-in-Some c =
     let r = recorded c.self.inside.state.now in
     let places = c.self.inside.places.now in
     let others = c.self.inside.others.now in
-    ap (λ (l : List Entry). slice_get (map (λ (e : Entry). e.0) l) c.args.number) (sym c.self.view_is) ∙ slice_get-map (λ (e : Entry). e.0) (records_by r places others) c.args.number
-    ∙ ap (option_map (λ (e : Entry). e.0)) (in_front (entry_at r) entry_of places others c.args.number c.in-Some.place.now (slice_get-get_or places c.args.number c.in-Some.place.now c.in-Some.ensures.lookup.3.0 ∙ ap (λ (x : Place). Some x) (sym c.in-Some.ensures.lookup.1)))
+    ap (λ (l : List RecordFile). slice_get (map (λ (e : RecordFile). e.0) l) c.args.number) (sym c.self.view_is) ∙ slice_get-map (λ (e : RecordFile). e.0) (records_by r places others) c.args.number
+    ∙ ap (option_map (λ (e : RecordFile). e.0)) (in_front (entry_at r) entry_of places others c.args.number c.in-Some.place.now (slice_get-get_or places c.args.number c.in-Some.place.now c.in-Some.ensures.lookup.3.0 ∙ ap (λ (x : Place). Some x) (sym c.in-Some.ensures.lookup.1)))
 
 pub returns-in-None : goal.returns-in-None
 returns-in-None c =
     let r = recorded c.self.inside.state.now in
     let places = c.self.inside.places.now in
     let others = c.self.inside.others.now in
-    let all : length c.args.self.now ≡ length places + length others = ap (λ (l : List Entry). length l) (sym c.self.view_is) ∙ lengths (entry_at r) entry_of places others in
-    ap (λ (l : List Entry). slice_get (map (λ (e : Entry). e.0) l) c.args.number) (sym c.self.view_is) ∙ slice_get-map (λ (e : Entry). e.0) (records_by r places others) c.args.number
-    ∙ ap (option_map (λ (e : Entry). e.0)) (behind (entry_at r) entry_of places others c.args.number c.index-self-number.result c.in-None.ensures.lookup.3 (omega (arith, c.requires, all)))
+    let all : length c.args.self.now ≡ length places + length others = ap (λ (l : List RecordFile). length l) (sym c.self.view_is) ∙ lengths (entry_at r) entry_of places others in
+    ap (λ (l : List RecordFile). slice_get (map (λ (e : RecordFile). e.0) l) c.args.number) (sym c.self.view_is) ∙ slice_get-map (λ (e : RecordFile). e.0) (records_by r places others) c.args.number
+    ∙ ap (option_map (λ (e : RecordFile). e.0)) (behind (entry_at r) entry_of places others c.args.number c.index-self-number.result c.in-None.ensures.lookup.3 (omega (arith, c.requires, all)))
