@@ -108,7 +108,7 @@ fn write_marked(rt: &impl Abort, out: &mut String, word: &str, table: &Table<'_>
     }
 }
 
-// What becomes of each path, in the order of a plan, and what is salvaged.
+// What becomes of each path and is put beside it, in the order of a plan, and behind that what is salvaged.
 fn told(rt: &impl Abort, alloc: Global, old: &str, new: &str, stands: &str) -> String {
     let old = wanted(rt, alloc, old);
     let new = wanted(rt, alloc, new);
@@ -153,13 +153,13 @@ fn write_plan(
 }
 
 // Each row: what was wanted, what is, what stands, and what becomes of it.
-const ROWS: [(&str, &str, &str, &str); 26] = [
-    // nothing changes
+const ROWS: [(&str, &str, &str, &str); 47] = [
+    // an equal entry is as before, whatever stands there
     (
         "d:usr:0755 f:usr/a:abc",
-        "d:usr:0755 f:usr/a:abc",
-        "usr=d0755 usr/a=f0644:mine",
-        "",
+        "d:usr:0755 f:usr/a:abc f:usr/z:abc",
+        "usr=d0755 usr/a=f0600:mine",
+        "abc 644 usr/z;",
     ),
     // a first installation: directories, then files, then hard links
     (
@@ -175,12 +175,26 @@ const ROWS: [(&str, &str, &str, &str); 26] = [
         "var=d0755 var/pkg=d0755",
         "dir 755 usr;dir 755 usr/a;abc 644 usr/a/b;",
     ),
-    // a directory that stands gets its mode
+    // a directory that stands gets its mode, one that is missing is made with it
     (
         "",
         "d:usr:0700 f:usr/a:abc",
         "usr=d0755",
         "mode 700 usr;abc 644 usr/a;",
+    ),
+    (
+        "d:usr:0755 f:usr/a:abc",
+        "d:usr:0700 f:usr/a:abc",
+        "usr=d0750 usr/a=f0644:abc",
+        "mode 700 usr;",
+    ),
+    ("d:usr:0755", "d:usr:0700", "", "dir 700 usr;"),
+    // one whose mode is no longer stated keeps it
+    (
+        "d:usr:0755 f:usr/a:abc",
+        "f:usr/a:abc l:usr/l:a",
+        "usr=d0700 usr/a=f0644:abc",
+        "link a usr/l;",
     ),
     // an update of a file with another name
     (
@@ -193,15 +207,21 @@ const ROWS: [(&str, &str, &str, &str); 26] = [
     (
         "f:usr/a:abc:0644",
         "f:usr/a:abc:0600",
-        "usr=d0755 usr/a=f0644:mine",
+        "usr=d0755 usr/a=f0640:mine",
         "mode 600 usr/a;",
     ),
-    // a hard link whose file doesn't stand
+    // a hard link whose file doesn't stand, or has a directory in its place
     (
         "f:usr/a:abc",
         "f:usr/a:abc h:usr/b:a",
         "usr=d0755",
         "abc 644 usr/a;hard usr/a usr/b;",
+    ),
+    (
+        "f:a:abc",
+        "f:a:abc h:b:a",
+        "a=d0755",
+        "abc 644 a;hard a b;salvage a;",
     ),
     // a link that says this already, and one that says something else
     (
@@ -210,62 +230,128 @@ const ROWS: [(&str, &str, &str, &str); 26] = [
         "usr=d0755 usr/l=l:b usr/m=l:a",
         "link b usr/m;",
     ),
-    // an edited file without a preserve, and one with each
-    ("f:e:old", "f:e:new", "e=f0644:mine", "new 644 e;"),
+    // an edited file that is updated, without a preserve and with each
+    ("f:e:old:0600", "f:e:new:0644", "e=f0640:mine", "new 644 e;"),
     (
-        "f:e:old:0644:true",
+        "f:e:old:0600:true",
         "f:e:new:0644:true",
-        "e=f0644:mine",
+        "e=f0640:mine",
         "mode 644 e;",
     ),
     (
-        "f:e:old:0644:renameold",
+        "f:e:old:0600:renameold",
         "f:e:new:0644:renameold",
-        "e=f0644:mine",
+        "e=f0640:mine",
         "e.old;new 644 e;",
     ),
     (
-        "f:e:old:0644:renamenew",
+        "f:e:old:0600:renamenew",
         "f:e:new:0644:renamenew",
-        "e=f0644:mine",
+        "e=f0640:mine",
         "e.new;mode 644 e;",
     ),
     (
-        "f:e:old:0644:legacy",
+        "f:e:old:0600:legacy",
         "f:e:new:0644:legacy",
-        "e=f0644:mine",
+        "e=f0640:mine",
         "e.legacy;new 644 e;",
     ),
     (
-        "f:e:old:0644:abandon",
+        "f:e:old:0600:abandon",
         "f:e:new:0644:abandon",
-        "e=f0644:mine",
+        "e=f0640:mine",
         "mode 644 e;",
     ),
     (
-        "f:e:old:0644:install-only",
+        "f:e:old:0600:install-only",
         "f:e:new:0644:install-only",
-        "e=f0644:mine",
+        "e=f0640:mine",
         "mode 644 e;",
     ),
-    // what isn't edited is laid
+    // one that isn't edited
     (
         "f:e:old:0644:true",
         "f:e:new:0644:true",
         "e=f0644:old",
         "new 644 e;",
     ),
+    (
+        "f:e:old:0644:legacy",
+        "f:e:new:0644:legacy",
+        "e=f0644:old",
+        "e.legacy;new 644 e;",
+    ),
+    // a directory in its place
+    (
+        "f:e:old:0644:true",
+        "f:e:new:0644:true",
+        "e=d0755",
+        "new 644 e;salvage e;",
+    ),
+    // an edit that an older preserve protected
+    (
+        "f:e:old:0644:true",
+        "f:e:new",
+        "e=f0644:mine",
+        "new 644 e;salvage e;",
+    ),
+    // a file in the place of one more name of a file, which is ours
+    (
+        "f:a:abc h:e:a",
+        "f:a:abc f:e:new",
+        "a=f0644:abc e=h:a",
+        "new 644 e;",
+    ),
     // a file that goes: as it was, edited, edited with a preserve
     ("f:e:old", "", "e=f0644:old", "gone e;"),
     ("f:e:old", "", "e=f0644:mine", "gone e;"),
     ("f:e:old:0644:true", "", "e=f0644:mine", "gone e;salvage e;"),
-    ("f:e:old:0644:abandon", "", "e=f0644:mine", ""),
-    // a directory with a stated mode goes with what is wanted below it, from the last path on
+    (
+        "f:e:old:0644:renamenew",
+        "",
+        "e=f0644:mine",
+        "gone e;salvage e;",
+    ),
+    (
+        "d:usr:0755 f:e:old:0644:abandon",
+        "",
+        "usr=d0755 e=f0644:mine",
+        "gone usr;",
+    ),
+    // links that go; what isn't ours stays
+    ("l:l:a", "", "l=l:x", "gone l;"),
+    ("f:a:abc h:b:a", "f:a:abc", "a=f0644:abc b=h:a", "gone b;"),
+    (
+        "l:l:a f:e:old d:usr:0755",
+        "f:z:abc",
+        "l=f0644:x e=d0755 usr=f0644:x",
+        "abc 644 z;",
+    ),
+    // a directory with a stated mode goes with what is wanted below it, from the last path on, and with an abandoned file
     (
         "d:usr:0755 f:usr/a:abc",
         "",
         "usr=d0755 usr/a=f0644:abc",
         "gone usr/a;gone usr;",
+    ),
+    (
+        "d:usr:0755 f:usr/e:old:0644:abandon",
+        "",
+        "usr=d0755 usr/e=f0644:old",
+        "gone usr;salvage usr/e;",
+    ),
+    // a directory that was wanted before and is missing, or has a link in its place, is made for what is laid below
+    (
+        "d:usr:0755",
+        "d:usr:0755 f:usr/b:abc",
+        "",
+        "dir 755 usr;abc 644 usr/b;",
+    ),
+    (
+        "d:usr:0755",
+        "d:usr:0755 f:usr/b:abc",
+        "usr=l:tmp",
+        "dir 755 usr;abc 644 usr/b;salvage usr;",
     ),
     // a link in the way of a directory, and a directory in the way of a file
     (
@@ -275,11 +361,33 @@ const ROWS: [(&str, &str, &str, &str); 26] = [
         "dir 755 usr;abc 644 usr/a;salvage usr;",
     ),
     ("", "f:usr:abc", "usr=d0755", "abc 644 usr;salvage usr;"),
-    // a named pipe in the way
+    // a named pipe in the way is to be salvaged too, which can't be done: a later layer tells so
     ("", "f:usr:abc", "usr=o", "abc 644 usr;salvage usr;"),
-    // a file that stands where one is wanted first
+    // a file that stands where one is wanted first, without a preserve and with some
     ("", "f:e:abc", "e=f0644:mine", "abc 644 e;salvage e;"),
     ("", "f:e:abc", "e=f0600:abc", "abc 644 e;"),
+    ("", "f:e:new:0644:true", "e=f0640:mine", "mode 644 e;"),
+    (
+        "",
+        "f:e:new:0644:renameold",
+        "e=f0640:mine",
+        "e.old;new 644 e;",
+    ),
+    (
+        "",
+        "f:e:new:0644:renamenew",
+        "e=f0640:mine",
+        "e.new;mode 644 e;",
+    ),
+    (
+        "",
+        "f:e:new:0644:install-only",
+        "e=f0640:mine",
+        "mode 644 e;",
+    ),
+    // and where nothing does
+    ("", "f:e:new:0644:legacy f:z:abc", "", "abc 644 z;"),
+    ("", "f:e:new:0644:install-only", "", "new 644 e;"),
 ];
 
 #[test]

@@ -45,9 +45,10 @@ fn add_line(rt: &impl Abort, manifest: &mut String, action: &str) {
         "f" => write_file(manifest, at, rest),
         "l" => write!(manifest, "link path={at} target={rest}\n"),
         "h" => write!(manifest, "hardlink path={at} target={rest}\n"),
-        _ => Ok(()),
+        "" => Ok(()),
+        _ => Err(AllocError),
     };
-    written.expect(rt, "memory");
+    written.expect(rt, "an action, and memory");
 }
 
 // Writes the line of a file.

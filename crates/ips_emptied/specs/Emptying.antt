@@ -18,14 +18,14 @@ marked_in [] marks q = false
 marked_in (p ∷ paths) [] q = false
 marked_in (p ∷ paths) (b ∷ marks) q = cond (same_path p q) b (marked_in paths marks q)
 
--- The directory is emptied or not: one in which nothing is left but such directories is.
+-- The answer is right for this directory: yes just where it may be emptied and nothing is left in it but such directories.
 pub record IsEmptiedAt (r : Request) (t : Image) (q : List ℕ) (gone : Bool) : Type 0 where
   pub only : IsTrue gone → IsTrue (may_empty r t q)
   pub empty : (x : List ℕ) → IsTrue gone → IsTrue (is_below q x) → IsFalse (stays_in r t x)
   pub full : IsTrue (may_empty r t q) → IsFalse gone → IsFilled r t q
 
--- a directory was wanted without a stated mode and no longer is, nothing is said of it, and neither is it made for what is
--- below nor is anything made there
+-- a directory was wanted without a stated mode and no longer is, nothing is said of it, it isn't made for what is below, and
+-- nothing is made below it
 abbrev pub is_candidate : Request → Image → List (List ℕ) → List ℕ → Bool
 is_candidate r t paths p = unstated (r.old.at p) && (is_none (r.new.at p) && (is_none (r.over.at p)
     && (not (is_support r t p) && not (holds_below (λ q. makes (change_settled r t q)) paths p))))

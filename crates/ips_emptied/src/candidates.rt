@@ -22,7 +22,7 @@ use ips_survey::{Row, Said, Table, marked_below};
 use std::alloc::{AllocError, Global};
 
 /// At each row whether its directory may be emptied, as far as rows know: nothing is made there or below, by what becomes of each path with the
-/// directories that are made for what is below, and it is wanted no longer, and never was with a stated mode.
+/// directories that are made for what is below, and it was wanted without a stated mode and is no longer.
 pub(crate) fn candidates(
     alloc: Global,
     table: &Table<'_>,

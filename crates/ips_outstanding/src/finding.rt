@@ -24,8 +24,8 @@ use ips_outside::{Failed, Source};
 use ips_text::{Or, RelPath};
 use std::alloc::{AllocError, Global};
 
-/// The account files and records that aren't as they are due. An account file that is due is laid, whatever stands there. It looks once at each
-/// other due path, but for records that go with a folder that is made anew or taken away, which are laid too, and for such folders.
+/// The account files and records that aren't as they are due. An account file that is due is laid, whatever stands there; so are folders that are made
+/// anew, and records that go with one of these or with what is taken away. Of the other due paths it asks what stands there.
 pub fn outstanding<S: Source, R: Records>(
     alloc: Global,
     source: &mut S,

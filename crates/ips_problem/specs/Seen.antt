@@ -33,7 +33,7 @@ seen_test n = record { stem = n.stem; candidate = n.candidate; dependency = n.te
 abbrev pub seen_numbers : Numbers → List (Option ℕ)
 seen_numbers m = m.mentioned.items
 
--- the same, by the puzzle
+-- the number of the stem of each thing that a dependency mentions, where it is in reach
 abbrev pub numbers_mentioned : Posed → Numbered → List (Option ℕ)
 numbers_mentioned p n = map (λ (f : Fmri). number_of p f.stem) (mentions n.dependency)
 

@@ -11,7 +11,7 @@ use ips_text::RelPath;
 use std::alloc::{AllocError, Global};
 use std::marker::Model;
 
-/// The records of a state at its places, and others behind them, as those of what packages deliver. Contracts see their paths and bytes.
+/// The records of a state at its places, and others behind them, such as those of what packages deliver. Contracts see their paths and bytes.
 #[derive(Drop)]
 pub struct StateRecords<'a> {
     state: &'a State,

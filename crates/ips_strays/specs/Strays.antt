@@ -32,11 +32,11 @@ stray_paths strays = map (λ s. s.path.bytes) strays
 abbrev pub IsFound : Image → Stray → Type 0
 IsFound t s = Some s.found ≡ found_of (t.look s.path.bytes)
 
--- So it is at each path.
+-- Of each stray just that was found which stands at its path.
 abbrev pub AreFound : Image → List Stray → Type 0
 AreFound t strays = AllByRecursion (IsFound t) strays
 
--- There is just in addition what stands at the paths of this test, with what stands there.
+-- The new strays are the old ones and just what stands at the paths of this test.
 pub record Adds (t : Image) (test : List ℕ → Bool) (old new : List Stray) : Type 0 where
   pub paths : (q : List ℕ) → listed (stray_paths new) q ≡ (listed (stray_paths old) q || (is_some (t.look q) && test q))
   pub things : AreFound t old → AreFound t new
@@ -57,7 +57,7 @@ branch (a ∷ p) (b ∷ q) = b ∷ branch p q
 abbrev pub hangs : List (List ℕ) → List ℕ → List ℕ → Bool
 hangs paths p q = is_below p q && not (listed paths (branch p q))
 
--- so it is with one of the paths at which a test holds
+-- the path hangs so below one of these at which a test holds
 abbrev pub hangs_among : (List ℕ → Bool) → List (List ℕ) → List (List ℕ) → List ℕ → Bool
 hangs_among test paths among q = list_any (λ p. test p && hangs paths p q) among
 

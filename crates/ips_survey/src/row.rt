@@ -11,7 +11,7 @@ use ips_change::{Change, Stands, itself};
 use ips_meaning::Entry;
 use ips_text::RelPath;
 
-/// A path that is or was wanted, with what was and what is, and with what stands there. Path and entries are lent.
+/// A path that a request is about, with what was and what is wanted there, and with what stands. Path and entries are lent.
 #[derive(Clone, Copy, Drop)]
 pub struct Row<'a> {
     /// The path.
