@@ -185,7 +185,7 @@ fn count(
     item: &Placed<'_>,
 ) -> Result<(), AllocError>
     requires there { slice_get placed.now i ≡ Some item.now }
-    requires winner_after { (path : List ℕ) → IfSome (place_of files.old path) (λ j. j < length placed.now) }
+    requires counted { (path : List ℕ) → IfSome (place_of files.old path) (λ j. j < length placed.now) }
     ensures { OnOk result ((path : List ℕ) → place_of files.new path ≡ winner_after placed.now (place_of files.old path) path item.now i) }
 {
     let path = value(item.action(), "path").as_bytes();

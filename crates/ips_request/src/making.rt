@@ -139,7 +139,7 @@ fn namings(
     patterns: &[Pattern],
 ) -> Result<Vec<Naming>, Or<ProblemFault>>
     ensures named { IfOk result (λ namings. AreNamed publisher.now known.now patterns.now (map (λ (n : naming.Naming). n.stems.items) namings.items)) }
-    ensures with_limits { IfOk result (λ namings. map seen_naming namings.items ≡ with_limits patterns.now (map (λ (n : naming.Naming). n.stems.items) namings.items)) }
+    ensures limited { IfOk result (λ namings. map seen_naming namings.items ≡ with_limits patterns.now (map (λ (n : naming.Naming). n.stems.items) namings.items)) }
     ensures unnamed { IfBad result (λ why. IsFirstUnnamed publisher.now known.now patterns.now why) }
 {
     let mut namings = Vec::new(alloc);
