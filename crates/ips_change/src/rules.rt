@@ -6,10 +6,12 @@ ghost use Rattle.ips_outside.specs.Image as image;
 ghost use Rattle.ips_digest.specs.Name.{spelling};
 ghost use Rattle.ips_after.specs.After as after;
 ghost use Rattle.ips_after.specs.Change as changes;
-ghost use Rattle.ips_after.specs.Request.{Request, WantLink, Wanted};
+ghost use Rattle.ips_after.specs.Request.{Request, WantDir, WantFile, WantLink, Wanted};
 ghost use Rattle.ips_after.specs.Salvage as salvage;
 ghost use Rattle.ips_wanted.specs.Named.{is_payload_of};
 ghost use Rattle.ips_wanted.specs.Wanted.{wanted_of};
+ghost use Rattle.ips_action.specs.declared.action.Preserve as preserves;
+ghost use Rattle.ips_change.specs.Fitting.{Fits};
 ghost use Rattle.ips_change.specs.Stands as spec;
 ghost use Rattle.ips_change.specs.Stands.{has_fresh, is_dir_seen, is_file_seen, is_link_seen, is_spent_seen, is_unasked, seen_of, stands_of};
 ghost use Rattle.ips_change.specs.Told.{beside_for, change_told, naming, side_told};
@@ -26,8 +28,9 @@ use ips_text::Text;
 
 /// What becomes of a path by what was and what is wanted there, and by what stands.
 pub fn itself<'a>(old: Option<&Entry>, new: Option<&'a Entry>, stands: Stands) -> Change<'a>
-    ensures { (r : Request) (e : Option image.Entry) → stands ≡ stands_of is_payload_of (option_map (λ x. wanted_of x.now) old.entry) (option_map (λ x. wanted_of x.now) new.entry) e
+    ensures told { (r : Request) (e : Option image.Entry) → stands ≡ stands_of is_payload_of (option_map (λ x. wanted_of x.now) old.entry) (option_map (λ x. wanted_of x.now) new.entry) e
         → change_told r.bytes result ≡ after.by_itself (naming r) (option_map (λ x. wanted_of x.now) old.entry) (option_map (λ x. wanted_of x.now) new.entry) e }
+    ensures fits { Fits (option_map (λ x. wanted_of x.now) new.entry) result }
 {
     if let Stands::Unasked = stands {
         return Change::Kept;
@@ -40,8 +43,9 @@ pub fn itself<'a>(old: Option<&Entry>, new: Option<&'a Entry>, stands: Stands) -
 
 // What becomes of a wanted path whose entry isn't equal.
 fn new_change<'a>(old: Option<&Entry>, new: &'a Entry, stands: Stands) -> Change<'a>
-    ensures { (r : Request) (e : Option image.Entry) → stands ≡ seen_of is_payload_of (option_map (λ x. wanted_of x.now) old.entry) (Some (wanted_of new.now)) e
+    ensures told { (r : Request) (e : Option image.Entry) → stands ≡ seen_of is_payload_of (option_map (λ x. wanted_of x.now) old.entry) (Some (wanted_of new.now)) e
         → change_told r.bytes result ≡ after.new_change (naming r) (option_map (λ x. wanted_of x.now) old.entry) (wanted_of new.now) e }
+    ensures fits { Fits (Some (wanted_of new.now)) result }
 {
     match new {
         Entry::Dir { mode } => dir_change(*mode, stands),
@@ -62,7 +66,8 @@ fn new_change<'a>(old: Option<&Entry>, new: &'a Entry, stands: Stands) -> Change
 
 // What becomes of the path of a directory, which is made with mode 0755 where none is stated.
 fn dir_change<'a>(mode: Option<u16>, stands: Stands) -> Change<'a>
-    ensures { (bytes : List ℕ → List ℕ) → change_told bytes result ≡ cond (is_dir_seen stands) (after.mode_given mode) (changes.Laid (image.Dir (after.stated mode) false)) }
+    ensures told { (bytes : List ℕ → List ℕ) → change_told bytes result ≡ cond (is_dir_seen stands) (after.mode_given mode) (changes.Laid (image.Dir (after.stated mode) false)) }
+    ensures fits { Fits (Some (WantDir mode)) result }
 {
     if is_dir(stands) {
         return match mode {
@@ -77,8 +82,9 @@ fn dir_change<'a>(mode: Option<u16>, stands: Stands) -> Change<'a>
 
 // What becomes of the path of a file by the table's answer.
 fn file_change<'a>(answer: Keep, payload: &'a PayloadName, mode: u16, stands: Stands) -> Change<'a>
-    ensures { (bytes : List ℕ → List ℕ) (e : Option image.Entry) → is_file_seen stands ≡ image.is_file e
+    ensures told { (bytes : List ℕ → List ℕ) (e : Option image.Entry) → is_file_seen stands ≡ image.is_file e
         → change_told bytes result ≡ after.file_change answer (image.File mode (bytes (spelling payload.now))) mode e }
+    ensures fits { (preserve : preserves.Preserve) → Fits (Some (WantFile (spelling payload.now) mode preserve)) result }
 {
     match answer {
         Keep::Lay | Keep::SalvageLay | Keep::SaveOld | Keep::SaveLegacy => {
@@ -91,8 +97,9 @@ fn file_change<'a>(answer: Keep, payload: &'a PayloadName, mode: u16, stands: St
 
 // What becomes of the path of a symbolic link.
 fn link_change(target: &Text, stands: Stands) -> Change<'_>
-    ensures { (bytes : List ℕ → List ℕ) (holds : List ℕ → List ℕ → Bool) (was : Option Wanted) (e : Option image.Entry) → stands ≡ seen_of holds was (Some (WantLink target.now)) e
+    ensures told { (bytes : List ℕ → List ℕ) (holds : List ℕ → List ℕ → Bool) (was : Option Wanted) (e : Option image.Entry) → stands ≡ seen_of holds was (Some (WantLink target.now)) e
         → change_told bytes result ≡ cond (after.links_to target.now e) changes.Kept (changes.Laid (image.Link target.now)) }
+    ensures fits { Fits (Some (WantLink target.now)) result }
 {
     if says_wanted(stands) {
         return Change::Kept;
@@ -102,8 +109,9 @@ fn link_change(target: &Text, stands: Stands) -> Change<'_>
 
 // What becomes of a path that is no longer wanted.
 fn old_change<'a>(old: Option<&Entry>, stands: Stands) -> Change<'a>
-    ensures { (r : Request) (e : Option image.Entry) → stands ≡ seen_of is_payload_of (option_map (λ x. wanted_of x.now) old.entry) None e
+    ensures told { (r : Request) (e : Option image.Entry) → stands ≡ seen_of is_payload_of (option_map (λ x. wanted_of x.now) old.entry) None e
         → change_told r.bytes result ≡ after.by_itself (naming r) (option_map (λ x. wanted_of x.now) old.entry) None e }
+    ensures fits { Fits None result }
 {
     if goes(old, stands) {
         return Change::Removed;

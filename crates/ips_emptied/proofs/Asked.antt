@@ -25,7 +25,7 @@ use Rattle.ips_links.proofs.Linked.{is_bare}
 use Rattle.ips_emptied.specs.Emptying.{IsEmptiedAt, goes_by, is_candidate, marked_in}
 use Rattle.ips_emptied.proofs.Leaving.{Known, all_taken, by_children, each_emptied, holds_made, may_parts, may_whole, not_may}
 use Rattle.ips_emptied.proofs.Placed.{mark_at, mark_is, place_of, unmarked}
-use Rattle.ips_emptied.proofs.Settled.{settled_bare}
+use Rattle.ips_emptied.proofs.Remaining.{settled_bare}
 
 -- ---- what is seen
 

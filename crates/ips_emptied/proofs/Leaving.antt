@@ -16,7 +16,7 @@ use Rattle.ips_after.proofs.Fits.{any_from, any_of, below_covers, below_of, belo
 use Rattle.ips_after.proofs.Ordered.{above_parent}
 use Rattle.ips_survey.specs.Marks.{holds_below}
 use Rattle.ips_emptied.specs.Emptying.{IsEmptiedAt, is_candidate}
-use Rattle.ips_emptied.proofs.Settled.{settled_there}
+use Rattle.ips_emptied.proofs.Remaining.{settled_there}
 use Rattle.ips_emptied.proofs.Placed.{all_at, child_of, fails_at}
 
 unstated_kept : (r : Request) (o : Option Wanted) (e : Option Entry) → unstated o ≡ true → by_itself r o None e ≡ Kept

@@ -1,4 +1,4 @@
-pub mod Settled
+pub mod Remaining
 pub mod Placed
 pub mod Leaving
 pub mod Asked

@@ -1,3 +1,4 @@
 pub mod Led
 pub mod Linked
-pub mod Supported
+pub mod Directories
+pub mod Fitted

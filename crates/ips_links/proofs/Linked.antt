@@ -11,6 +11,7 @@ use Rattle.ips_after.specs.After as after
 use Rattle.ips_after.specs.Change.{Change, makes}
 use Rattle.ips_after.specs.Lists.{listed}
 use Rattle.ips_after.specs.Request.{IsRequest, Request, WantDir, WantFile, WantHard, WantLink, Wanted, is_file_wanted, lays}
+use Rattle.ips_after.proofs.Unseen.{and_second}
 use Rattle.ips_after.proofs.Fits.{any_of}
 use Rattle.ips_change.specs.Told.{naming}
 use Rattle.ips_survey.specs.declared.row.Row.{Row}
@@ -133,11 +134,6 @@ bare_unled r t q good bare = false_from_ne_true _ (λ led.
   where
     none_both : (b : Bool) → b ≡ true → b ≡ false → ⊥
     none_both b h k = let bad : true ≡ false = sym h ∙ k in cc
-
-pub and_second : (a b c : Bool) → c ≡ false → (a && (b && c)) ≡ false
-and_second true true c h = h
-and_second true false c h = refl
-and_second false b c h = refl
 
 -- ---- where a file is laid
 

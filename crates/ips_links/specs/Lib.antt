@@ -1,3 +1,4 @@
 pub mod Leading
 pub mod Made
 pub mod Supporting
+pub mod Fitting

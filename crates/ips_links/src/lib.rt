@@ -14,7 +14,7 @@ mod supporting;
 mod taking;
 
 pub use asking::makes;
-pub use changing::supported_at;
+pub use changing::{supported, supported_at};
 pub use linking::links;
 pub use making::made;
 pub use needing::needs;

@@ -11,11 +11,13 @@ ghost use Rattle.ips_after.specs.After as after;
 ghost use Rattle.ips_after.specs.Change as changes;
 ghost use Rattle.ips_after.specs.Request.{IsRequest, Request};
 ghost use Rattle.ips_wanted.specs.Wanted.{wanted_of};
+ghost use Rattle.ips_change.specs.Fitting.{Fits};
 ghost use Rattle.ips_change.specs.Told.{change_told, naming};
-ghost use Rattle.ips_survey.specs.Rows.{HasLooked, IsRowOf};
+ghost use Rattle.ips_survey.specs.Rows.{HasLooked, IsRowOf, row_pair};
 ghost use Rattle.ips_survey.specs.Marks.{IsMarkOf, row_paths};
 ghost use Rattle.ips_survey.specs.Said.{says_laid};
 ghost use Rattle.ips_survey.specs.Tables.{IsTable};
+ghost use Rattle.ips_links.specs.Fitting.{AllFit};
 ghost use Rattle.ips_links.specs.Leading.{linked_by};
 
 use crate::asking::{lays, lead, makes};
@@ -37,6 +39,7 @@ pub fn links<'a>(
     ensures told { IfOk result (λ changes. (r : Request) (t : Image) → IsRequest r → IsTable r table.now.rows.items table.now.said.items → AllByRecursion (HasLooked t) table.now.rows.items
         → needs.now ≡ map (after.needs_file (naming r) t) (row_paths table.now.rows.items)
         → map (change_told r.bytes) changes.items ≡ map (after.linked (naming r) t) (row_paths table.now.rows.items)) }
+    ensures fits { IfOk result (λ changes. AllFit Fits table.now.rows.items changes.items) }
 {
     let laid = laid(alloc, table, needs)?;
     let mut changes = Vec::with_capacity(alloc, table.rows.len())?;
@@ -73,8 +76,9 @@ fn is_laid(said: Option<Said>, needed: bool, own: Change<'_>) -> bool
 fn linked_at<'a>(row: &Row<'a>, needed: bool, rows: &[Row<'_>], laid: &[bool]) -> Change<'a>
     requires order { IsStrictlySortedBy (slice_cmp nat_cmp) (row_paths rows.now) }
     requires laid { length laid.now ≡ length rows.now }
-    ensures { (r : Request) (t : Image) → IsRowOf r row.now → HasLooked t row.now → needed ≡ after.needs_file (naming r) t row.now.path.now.bytes → IsMarkOf (after.has_laid (naming r) t) (row_paths rows.now) laid.now
+    ensures told { (r : Request) (t : Image) → IsRowOf r row.now → HasLooked t row.now → needed ≡ after.needs_file (naming r) t row.now.path.now.bytes → IsMarkOf (after.has_laid (naming r) t) (row_paths rows.now) laid.now
         → change_told r.bytes result ≡ after.linked (naming r) t row.now.path.now.bytes }
+    ensures fits { Fits (row_pair row.now).wanted result }
 {
     let led = match lead(row.new) {
         Some(to) => is_marked(rows, laid, to.bytes()),
@@ -86,7 +90,8 @@ fn linked_at<'a>(row: &Row<'a>, needed: bool, rows: &[Row<'_>], laid: &[bool]) -
 // What becomes of a path, where this does by itself, where a hard link needs a file there or not, and where the file that its own hard
 // link leads to is laid or not.
 fn linked<'a>(new: Option<&'a Entry>, own: Change<'a>, needed: bool, laid: bool) -> Change<'a>
-    ensures { (bytes : List ℕ → List ℕ) → change_told bytes result ≡ linked_by bytes (option_map (λ x. wanted_of x.now) new.entry) (change_told bytes own.entry) needed laid }
+    ensures told { (bytes : List ℕ → List ℕ) → change_told bytes result ≡ linked_by bytes (option_map (λ x. wanted_of x.now) new.entry) (change_told bytes own.entry) needed laid }
+    ensures fits { Fits (option_map (λ x. wanted_of x.now) new.entry) own.entry → Fits (option_map (λ x. wanted_of x.now) new.entry) result }
 {
     match new {
         Some(Entry::File { payload, mode, .. }) if needed => Change::File {

@@ -28,7 +28,8 @@ use Rattle.ips_survey.specs.Marks.{row_paths}
 use Rattle.ips_survey.specs.declared.said.Said.{Said}
 use Rattle.ips_survey.specs.Tables.{IsTable}
 use Rattle.ips_survey.proofs.Filling.{or_none}
-use Rattle.ips_links.proofs.Linked.{and_second, is_bare, unwanted_makes}
+use Rattle.ips_after.proofs.Unseen.{and_second}
+use Rattle.ips_links.proofs.Linked.{is_bare, unwanted_makes}
 use Rattle.ips_salvage.specs.Destroying.{destroys_else, gives_file, needs_no_salvage}
 
 -- nothing stands there, or something that is no file

@@ -1,4 +1,3 @@
 pub mod Taking
 pub mod Destruction
 pub mod Salvageable
-pub mod Surveyed

@@ -16,7 +16,8 @@ use Rattle.ips_survey.specs.declared.row.Row.{Row}
 use Rattle.ips_survey.specs.Marks.{row_paths}
 use Rattle.ips_survey.specs.declared.said.Said.{Said}
 use Rattle.ips_survey.specs.Tables.{IsTable}
-use Rattle.ips_links.proofs.Linked.{and_second, is_bare}
+use Rattle.ips_after.proofs.Unseen.{and_second}
+use Rattle.ips_links.proofs.Linked.{is_bare}
 use Rattle.ips_salvage.specs.Destroying.{destroys_else, gives_file, goes_else}
 use Rattle.ips_salvage.proofs.Destruction.{none_both}
 

@@ -1,5 +1,6 @@
 mod Paired
 pub mod Placed
+mod Surveyed
 mod Reached
 mod Topping
 pub mod Marking

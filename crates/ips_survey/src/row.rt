@@ -4,8 +4,9 @@ ghost use Rattle.std.specs.Prelude.{◌≡◌};
 ghost use Rattle.ips_outside.specs.Image.{Image};
 ghost use Rattle.ips_after.specs.After as after;
 ghost use Rattle.ips_after.specs.Request.{Request};
+ghost use Rattle.ips_change.specs.Fitting.{Fits};
 ghost use Rattle.ips_change.specs.Told.{change_told, naming};
-ghost use Rattle.ips_survey.specs.Rows.{HasLooked, IsRowOf};
+ghost use Rattle.ips_survey.specs.Rows.{HasLooked, IsRowOf, row_pair};
 
 use ips_change::{Change, Stands, itself};
 use ips_meaning::Entry;
@@ -27,7 +28,8 @@ pub struct Row<'a> {
 impl<'a> Row<'a> {
     /// What becomes of the path by itself.
     pub fn itself(&self) -> Change<'a>
-        ensures { (r : Request) (t : Image) → IsRowOf r self.now → HasLooked t self.now → change_told r.bytes result ≡ after.itself (naming r) t self.now.path.now.bytes }
+        ensures told { (r : Request) (t : Image) → IsRowOf r self.now → HasLooked t self.now → change_told r.bytes result ≡ after.itself (naming r) t self.now.path.now.bytes }
+        ensures fits { Fits (row_pair self.now).wanted result }
     {
         itself(self.old, self.new, self.stands)
     }

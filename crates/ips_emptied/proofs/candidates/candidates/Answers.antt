@@ -8,7 +8,7 @@ use Rattle.ips_survey.specs.Marks.{holds_below, row_paths}
 use Rattle.ips_survey.proofs.Filling.{said_at}
 use Rattle.ips_links.proofs.Linked.{all_here, at_path, at_row, by_rows, one_more, row_more}
 use Rattle.ips_emptied.specs.Emptying.{is_candidate}
-use Rattle.ips_emptied.proofs.Settled.{candidate_here, mapped_none}
+use Rattle.ips_emptied.proofs.Remaining.{candidate_here, mapped_none}
 use Rattle.ips_emptied.proofs.candidates.candidates.Goals as goal
 
 pub loop-i-preserved : goal.loop-i-preserved

@@ -8,7 +8,7 @@ use Rattle.ips_survey.specs.declared.row.Row.{Row}
 use Rattle.ips_survey.proofs.Filling.{said_at}
 use Rattle.ips_links.proofs.Linked.{at_path, at_row, by_rows, one_more, row_more, told_here}
 use Rattle.ips_emptied.specs.Settling.{makes_by}
-use Rattle.ips_emptied.proofs.Settled.{makes_same, settled_bare, settled_here}
+use Rattle.ips_emptied.proofs.Remaining.{makes_same, settled_bare, settled_here}
 use Rattle.ips_emptied.proofs.settling.made.Goals as goal
 
 pub loop-i-preserved : goal.loop-i-preserved

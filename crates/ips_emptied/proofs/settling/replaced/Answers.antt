@@ -8,7 +8,7 @@ use Rattle.ips_survey.specs.declared.row.Row.{Row}
 use Rattle.ips_survey.proofs.Filling.{said_at}
 use Rattle.ips_links.proofs.Linked.{at_path, at_row, by_rows, one_more, row_more, told_here}
 use Rattle.ips_emptied.specs.Settling.{replaces_by}
-use Rattle.ips_emptied.proofs.Settled.{replaces_same, settled_bare, settled_here}
+use Rattle.ips_emptied.proofs.Remaining.{replaces_same, settled_bare, settled_here}
 use Rattle.ips_emptied.proofs.settling.replaced.Goals as goal
 
 pub loop-i-preserved : goal.loop-i-preserved

@@ -20,7 +20,7 @@ loop-i-preserved c =
     record {
       long = one_more c.loop-i.laid.items c.push.new.self.items c.is_laid.result i c.in_ok-push.ensures.items c.loop-i.invariant.long;
       so_far = λ r t table looked are.
-          let own = c.itself.ensures r t (all_here (IsRowOf r) rows i row lt there table.entries) (all_here (HasLooked t) rows i row lt there looked) in
+          let own = c.itself.ensures.told r t (all_here (IsRowOf r) rows i row lt there table.entries) (all_here (HasLooked t) rows i row lt there looked) in
           let here = laid_here r t row.path.now.bytes said needed (makes (change_told r.bytes c.itself.result))
           (c.index.ensures ∙ at_row (said_at r.over) c.args.table.now.said.items rows i row said table.said lt there)
           (at_row (needs_file (naming r) t) c.args.needs.now rows i row false are lt there) (ap makes own) in

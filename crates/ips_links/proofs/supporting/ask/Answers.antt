@@ -9,7 +9,7 @@ use Rattle.ips_survey.specs.declared.row.Row.{Row}
 use Rattle.ips_survey.specs.Rows.{HasLooked}
 use Rattle.ips_survey.proofs.Filling.{said_at}
 use Rattle.ips_links.proofs.Linked.{all_here, at_path, at_row, by_rows, one_more, row_more}
-use Rattle.ips_links.proofs.Supported.{support_here}
+use Rattle.ips_links.proofs.Directories.{support_here}
 use Rattle.ips_links.proofs.supporting.ask.Goals as goal
 
 pub loop-i-preserved : goal.loop-i-preserved

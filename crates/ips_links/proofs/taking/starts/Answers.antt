@@ -6,7 +6,7 @@ use Rattle.ips_survey.specs.Rows.{HasLooked, IsRowOf}
 use Rattle.ips_survey.proofs.Filling.{said_at}
 use Rattle.ips_links.proofs.Linked.{all_here, at_path, at_row, by_rows, one_more, row_more}
 use Rattle.ips_links.specs.Supporting.{begins_taken}
-use Rattle.ips_links.proofs.Supported.{begins_here, begins_none}
+use Rattle.ips_links.proofs.Directories.{begins_here, begins_none}
 use Rattle.ips_links.proofs.taking.starts.Goals as goal
 
 pub loop-i-preserved : goal.loop-i-preserved

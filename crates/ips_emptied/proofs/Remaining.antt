@@ -20,7 +20,8 @@ use Rattle.ips_survey.specs.declared.said.Said.{Said}
 use Rattle.ips_survey.specs.Said.{said_as}
 use Rattle.ips_survey.specs.Tables.{IsTable}
 use Rattle.ips_survey.proofs.Filling.{or_none}
-use Rattle.ips_links.proofs.Linked.{IsBare, and_second, is_bare, is_silent}
+use Rattle.ips_after.proofs.Unseen.{and_second}
+use Rattle.ips_links.proofs.Linked.{IsBare, is_bare, is_silent}
 use Rattle.ips_emptied.specs.Emptying.{is_candidate}
 use Rattle.ips_emptied.specs.Settling.{makes_by, replaces_by}
 

@@ -13,7 +13,8 @@ use Rattle.ips_survey.specs.declared.said.Said.{Said}
 use Rattle.ips_survey.specs.Said.{said_as}
 use Rattle.ips_survey.specs.Tables.{IsTable}
 use Rattle.ips_survey.proofs.Marked.{is_spoken}
-use Rattle.ips_links.proofs.Linked.{and_second, is_bare, is_silent}
+use Rattle.ips_after.proofs.Unseen.{and_second}
+use Rattle.ips_links.proofs.Linked.{is_bare, is_silent}
 use Rattle.ips_links.specs.Supporting.{begins_taken, supported_by}
 
 -- at a path without a row nothing begins to go

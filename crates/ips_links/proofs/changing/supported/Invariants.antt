@@ -1,0 +1,20 @@
+use Rattle.std.proofs.Common.{◌≡◌, length, map, take}
+use Rattle.std.specs.List.{AllByRecursion}
+use Rattle.ips_outside.specs.Image.{Image}
+use Rattle.ips_after.specs.After as after
+use Rattle.ips_after.specs.Request.{Request}
+use Rattle.ips_change.specs.Fitting.{Fits}
+use Rattle.ips_change.specs.Told.{change_told, naming}
+use Rattle.ips_survey.specs.Rows.{IsRowOf}
+use Rattle.ips_survey.specs.Marks.{row_paths}
+use Rattle.ips_links.specs.Fitting.{AllFit, FitsSupported}
+use Rattle.ips_links.proofs.Linked.{at_path}
+use Rattle.ips_links.proofs.changing.supported.Given as goal
+
+abbrev pub invariant-loop-i : goal.invariant-loop-i
+invariant-loop-i l = record {
+  long : length l.changes.items ≡ l.i;
+  so_far : (r : Request) (t : Image) → AllByRecursion (IsRowOf r) l.table.rows.items → map (change_told r.bytes) l.linked ≡ map (after.linked (naming r) t) (row_paths l.table.rows.items)
+      → l.supports ≡ map (after.is_support (naming r) t) (row_paths l.table.rows.items) → map (change_told r.bytes) l.changes.items ≡ map (at_path (after.supported (naming r) t)) (take l.i l.table.rows.items);
+  fit : AllFit Fits l.table.rows.items l.linked → AllFit FitsSupported l.table.rows.items l.changes.items;
+}
