@@ -23,7 +23,7 @@ use Rattle.ips_due.specs.Due.{Due, FitsAccounts, HasProperDue, IsDue, IsOverOf, 
 use Rattle.ips_due.proofs.Fitting.{Account, Folder, Gone, Record, Said, Silent, due_of_account, due_of_folder, due_of_record, over_fits, over_named, said_is}
 
 module _ (so sn : Set) (mo mn : List SetMediator) (po pn : List Package) (old new : List (List ℕ × meaning.Entry)) (was : AreMeant so mo po old) (is : AreMeant sn mn pn new)
-    (due : Due) (t : Image) (o : Over) (fit : IsDue due) (of : IsOverOf due t o) (bytes : List ℕ → List ℕ) (holds : List ℕ → List ℕ → Bool) where
+    (bytes : List ℕ → List ℕ) (holds : List ℕ → List ℕ → Bool) (due : Due) (t : Image) (o : Over) (fit : IsDue due) (of : IsOverOf bytes holds due t o) where
   abbrev r : Request
   r = request_between old new bytes holds o
 
@@ -41,7 +41,7 @@ module _ (so sn : Set) (mo mn : List SetMediator) (po pn : List Package) (old ne
   is_asked accounts left = record {
     old_want = is_want old was.mean.want.in_order was.together;
     new_want = is_want new is.mean.want.in_order is.together;
-    over_fits = over_fits due t o (want_of new) fit of (is_want new is.mean.want.in_order is.together) accounts left;
+    over_fits = over_fits bytes holds due t o (want_of new) fit of (is_want new is.mean.want.in_order is.together) accounts left;
     hards = λ h to at. led_to_file new h to (sorted_once (map (λ (e : List ℕ × meaning.Entry). e.0) new) is.mean.want.in_order) is.together at;
   }
 
@@ -51,7 +51,7 @@ module _ (so sn : Set) (mo mn : List SetMediator) (po pn : List Package) (old ne
     wanted = own_wanted sn mn pn new is.mean;
     news = λ q there. wanted_named sn mn pn new is.mean q there;
     olds = λ q there. wanted_named so mo po old was.mean q there;
-    overs = λ q there. over_named due t o q fit of there;
+    overs = λ q there. over_named bytes holds due t o q fit of there;
   }
 
   path_of_said : HasProperDue due → (q : List ℕ) (x : Option (Option Entry)) → Said due q x → is_some x ≡ true → IsPath q
@@ -69,7 +69,7 @@ module _ (so sn : Set) (mo mn : List SetMediator) (po pn : List Package) (old ne
   parts_of_said proper q e _ Silent h = cc
 
   of_said : (q : List ℕ) → Said due q (o.at q)
-  of_said q = subst (Said due q) (sym (of.at q)) (said_is due t q)
+  of_said q = subst (Said due q) (sym (of.at q)) (said_is bytes holds due t q)
 
   pub is_proper : HasProperDue due → IsProperRequest r
   is_proper proper = record {

@@ -15,7 +15,7 @@ use Rattle.ips_after.specs.Request.{IsWant, Over, OverFits, Want, is_dir_wanted,
 use Rattle.ips_after.proofs.Fits.{below_of, below_trans, dir_of_wanted}
 use Rattle.ips_after.proofs.Places.{below_off, may_of}
 use Rattle.ips_after.proofs.Saved.{comparable}
-use Rattle.ips_due.specs.Due.{Due, DueFile, FitsAccounts, IsDue, IsOverOf, LeavesOwn, account_at, goes_with, is_due, is_own, record_at, said, said_by, said_gone, said_rest}
+use Rattle.ips_due.specs.Due.{Content, Due, DueFile, FitsAccounts, IsDue, IsOverOf, LeavesOwn, account_at, bytes_of_content, goes_with, is_due, is_own, record_at, said, said_by, said_gone, said_rest}
 
 -- what is said of a path, by cases: an account file, a record, a folder or nothing but what goes
 pub data Said (due : Due) (q : List ℕ) : Option (Option Entry) → Type 0 where
@@ -33,8 +33,8 @@ account_file (f ∷ files) q e h = go (same_path f.path q) (account_file files q
     go true rest h = (f.mode, f.bytes, cc)
     go false rest h = rest h
 
-pub said_is : (due : Due) (t : Image) (q : List ℕ) → Said due q (said due t q)
-said_is due t q = go (account_at due.accounts q) refl (record_at due.records q) refl
+pub said_is : (bytes : List ℕ → List ℕ) (holds : List ℕ → List ℕ → Bool) (due : Due) (t : Image) (q : List ℕ) → Said due q (said bytes holds due t q)
+said_is bytes holds due t q = go (account_at due.accounts q) refl (record_at due.records q) refl
   where
     bottom : (g : Bool) → listed due.gone q ≡ g → (s : Bool) → Said due q (cond g (cond s (Some None) None) None)
     bottom true is true = Gone is
@@ -50,15 +50,15 @@ said_is due t q = go (account_at due.accounts q) refl (record_at due.records q) 
     rest true is = Folder (or_left _ (listed due.folders q) is)
     rest false is = folder (listed due.folders q) refl (is_dir (t.look q))
 
-    record_due : (b : List ℕ) → record_at due.records q ≡ Some b → (c : Bool) → Said due q (cond c None (Some (Some (File 420 b))))
-    record_due b is true = Silent
-    record_due b is false = Record b (ap is_some is)
+    record_due : (x : Content) → record_at due.records q ≡ Some x → (c : Bool) → Said due q (cond c None (Some (Some (File 420 (bytes_of_content bytes x)))))
+    record_due x is true = Silent
+    record_due x is false = Record (bytes_of_content bytes x) (ap is_some is)
 
-    go : (a : Option Entry) → account_at due.accounts q ≡ a → (b : Option (List ℕ)) → record_at due.records q ≡ b
-        → Said due q (said_by a b (goes_with due q) (said_rest (listed due.renewed q) (listed due.folders q) (listed due.gone q) (t.look q)) (t.look q))
+    go : (a : Option Entry) → account_at due.accounts q ≡ a → (b : Option Content) → record_at due.records q ≡ b
+        → Said due q (said_by bytes holds a b (goes_with due q) (said_rest (listed due.renewed q) (listed due.folders q) (listed due.gone q) (t.look q)) (t.look q))
     go (Some e) is b at =
-        let (m, bytes, one) = account_file due.accounts q e is in
-        subst (λ (x : Entry). Said due q (Some (Some x))) (sym one) (Account m bytes (is ∙ ap (λ (x : Entry). Some x) one))
+        let (m, file, one) = account_file due.accounts q e is in
+        subst (λ (x : Entry). Said due q (Some (Some x))) (sym one) (Account m file (is ∙ ap (λ (x : Entry). Some x) one))
     go None is (Some b) at = record_due b at _
     go None is None at = rest (listed due.renewed q) refl
 
@@ -111,9 +111,9 @@ own_down p q up own =
       | inr h ↦ or_right (is_below records_name q) _ (below_trans (codes "var/sadm/pkg") p q h up)
     ]
 
-module _ (due : Due) (t : Image) (o : Over) (new : Want) (is : IsDue due) (of : IsOverOf due t o) (want : IsWant new) (accounts : FitsAccounts due new) (left : LeavesOwn due new) where
+module _ (bytes : List ℕ → List ℕ) (holds : List ℕ → List ℕ → Bool) (due : Due) (t : Image) (o : Over) (new : Want) (is : IsDue due) (of : IsOverOf bytes holds due t o) (want : IsWant new) (accounts : FitsAccounts due new) (left : LeavesOwn due new) where
   of_said : (q : List ℕ) → Said due q (o.at q)
-  of_said q = subst (Said due q) (sym (of.at q)) (said_is due t q)
+  of_said q = subst (Said due q) (sym (of.at q)) (said_is bytes holds due t q)
 
   entry_plain : (q : List ℕ) (e : Entry) → (x : Option (Option Entry)) → Said due q x → x ≡ Some (Some e) → plain_entry e ≡ true
   entry_plain q e _ (Account m b at) h = let one : File m b ≡ e = cc in ap plain_entry (sym one)
@@ -209,8 +209,8 @@ account_named q acc = elim (or_cases (same_path (codes "etc/passwd") q) _ acc) [
 ]
 
 -- a journal can name what is spoken of
-pub over_named : (due : Due) (t : Image) (o : Over) (q : List ℕ) → IsDue due → IsOverOf due t o → is_some (o.at q) ≡ true → may_name q ≡ true
-over_named due t o q is of h = go (o.at q) (subst (Said due q) (sym (of.at q)) (said_is due t q)) h
+pub over_named : (bytes : List ℕ → List ℕ) (holds : List ℕ → List ℕ → Bool) (due : Due) (t : Image) (o : Over) (q : List ℕ) → IsDue due → IsOverOf bytes holds due t o → is_some (o.at q) ≡ true → may_name q ≡ true
+over_named bytes holds due t o q is of h = go (o.at q) (subst (Said due q) (sym (of.at q)) (said_is bytes holds due t q)) h
   where
     own : (is_some (record_at due.records q) || (listed due.renewed q || (listed due.folders q || listed due.gone q))) ≡ true → may_name q ≡ true
     own h = let o = is.own q h in may_of q o.1 (own_beside q o.0)

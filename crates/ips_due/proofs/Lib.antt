@@ -5,3 +5,6 @@ pub mod RequestDue
 pub mod RequestPaths
 pub mod Examples
 pub mod Standing
+pub mod Lying
+pub mod Same
+pub mod Leaving

@@ -18,10 +18,11 @@ use Rattle.ips_state.specs.Records.{avoid_path, common_records, freeze_path, gon
 use Rattle.ips_metafiles.specs.Records.{license_path}
 use Rattle.ips_after.specs.Findings.{is_account_path}
 use Rattle.ips_after.specs.Lists.{listed}
-use Rattle.ips_due.specs.Due.{account_at, DueFile, IsDue, is_own, record_at}
+use Rattle.ips_due.specs.Due.{account_at, Content, DueFile, IsDue, is_own, own_records, record_at}
 use Rattle.ips_due.specs.State.{renewed_by}
-use Rattle.ips_due.specs.Delivered.{AreNamedByBytes, Delivered, Legacy, License, creation_due, delivered_gone, delivered_records, drivers_path, first_folders, gone_license, has_legacy_package, has_license, has_stem, info_path, legacy_folder, legacy_path, license_folder, licenses_path, owners_path, request_due}
-use Rattle.ips_due.proofs.StateDue.{all_append, at_listed, at_record, home, no_slash, own_folder, packages_seen, parent_of, renewed_is}
+use Rattle.ips_due.specs.Delivered.{AreNamedByBytes, Delivered, Legacy, License, creation_due, delivered_gone, delivered_records, drivers_path, first_folders, gone_license, has_legacy_package, has_license, has_stem, info_path, legacy_folder, legacy_path, legacy_record, license_folder, license_record, licenses_path, owners_path, request_due}
+use Rattle.ips_after.proofs.Fits.{at_listed}
+use Rattle.ips_due.proofs.StateDue.{all_append, at_record, home, no_slash, own_all, own_folder, packages_seen, parent_of, renewed_is}
 
 -- ---- folders above what is due
 
@@ -286,23 +287,23 @@ module _ (f : Bool) (d : Delivered) where
   ])
 
   licenses_all : (ls : List License) → ((p : List ℕ) → list_any (λ (l : License). same_path (license_folder l.stem) p) ls ≡ true → license_home d p ≡ true)
-      → AllByRecursion (λ (e : List ℕ × List ℕ). AtRecord f d e.0) (map (λ (l : License). (license_path l.stem l.name, l.bytes)) ls)
+      → AllByRecursion (λ (e : List ℕ × Content). AtRecord f d e.0) (map license_record ls)
   licenses_all [] there = cc
   licenses_all (l ∷ ls) there =
       ((file_out f d l.stem l.name, in_license l.stem l.name (λ p same. there p (or_left _ _ same))), licenses_all ls (λ p rest. there p (or_right _ _ rest)))
 
   legacy_all : (gs : List Legacy) → ((p : List ℕ) → list_any (λ (g : Legacy). same_path (legacy_folder g.pkg) p) gs ≡ true → legacy_home d p ≡ true)
-      → AllByRecursion (λ (e : List ℕ × List ℕ). AtRecord f d e.0) (map (λ (g : Legacy). (info_path g.pkg, g.text)) gs)
+      → AllByRecursion (λ (e : List ℕ × Content). AtRecord f d e.0) (map legacy_record gs)
   legacy_all [] there = cc
   legacy_all (g ∷ gs) there =
       ((info_out f d g.pkg, in_info g.pkg (λ p same. there p (or_left _ _ same))), legacy_all gs (λ p rest. there p (or_right _ _ rest)))
 
-  delivered_all : AllByRecursion (λ (e : List ℕ × List ℕ). AtRecord f d e.0) (delivered_records d)
+  delivered_all : AllByRecursion (λ (e : List ℕ × Content). AtRecord f d e.0) (delivered_records d)
   delivered_all = (
     (owners_out f d, in_own f d owners_path refl),
     (
       (drivers_out f d, in_own f d drivers_path refl),
-      all_append (AtRecord f d) (map (λ (l : License). (license_path l.stem l.name, l.bytes)) d.licenses) (map (λ (g : Legacy). (info_path g.pkg, g.text)) d.legacy) (licenses_all d.licenses (λ p h. h)) (legacy_all d.legacy (λ p h. h)),
+      all_append (AtRecord f d) (map license_record d.licenses) (map legacy_record d.legacy) (licenses_all d.licenses (λ p h. h)) (legacy_all d.legacy (λ p h. h)),
     ),
   )
 
@@ -403,14 +404,14 @@ module _ (accounts : List DueFile) (old new : Recorded) (was is : Delivered) (fi
   abbrev older : Bool
   older = old.format == 1
 
-  abbrev all_records : List (List ℕ × List ℕ)
-  all_records = records_of new ++ delivered_records is
+  abbrev all_records : List (List ℕ × Content)
+  all_records = own_records (records_of new) ++ delivered_records is
 
   abbrev all_gone : List (List ℕ)
   all_gone = taken_away old new ++ delivered_gone was is
 
   record_at_home : (q : List ℕ) → is_some (record_at all_records q) ≡ true → AtRecord form is q
-  record_at_home q h = at_record (AtRecord form is) all_records q (all_append (AtRecord form is) (records_of new) (delivered_records is) (state_all form is new) (delivered_all form is)) h
+  record_at_home q h = at_record (AtRecord form is) all_records q (all_append (AtRecord form is) (own_records (records_of new)) (delivered_records is) (own_all (AtRecord form is) (records_of new) (state_all form is new)) (delivered_all form is)) h
 
   gone_at : (q : List ℕ) → listed all_gone q ≡ true → IsOut form is q
   gone_at q h = at_listed (IsOut form is) all_gone q
@@ -476,11 +477,11 @@ module _ (new : Recorded) where
   abbrev made : Bool
   made = new.format == 1
 
-  abbrev first_records : List (List ℕ × List ℕ)
-  first_records = records_of new ++ delivered_records nothing
+  abbrev first_records : List (List ℕ × Content)
+  first_records = own_records (records_of new) ++ delivered_records nothing
 
   first_at : (q : List ℕ) → is_some (record_at first_records q) ≡ true → AtRecord made nothing q
-  first_at q h = at_record (AtRecord made nothing) first_records q (all_append (AtRecord made nothing) (records_of new) (delivered_records nothing) (state_all made nothing new) (delivered_all made nothing)) h
+  first_at q h = at_record (AtRecord made nothing) first_records q (all_append (AtRecord made nothing) (own_records (records_of new)) (delivered_records nothing) (own_all (AtRecord made nothing) (records_of new) (state_all made nothing new)) (delivered_all made nothing)) h
 
   first_in : AllByRecursion (IsIn made nothing) first_folders
   first_in = (in_own made nothing licenses_path refl, (in_own made nothing lost_path refl, tt))

@@ -23,10 +23,11 @@ use Rattle.ips_state.proofs.Places.{manifest_is_path, package_is_path}
 use Rattle.ips_outside.specs.Image.{File}
 use Rattle.ips_after.specs.Findings.{is_account_path}
 use Rattle.ips_after.specs.Lists.{listed}
-use Rattle.ips_due.specs.Due.{account_at, DueFile, HasProperDue, is_due, record_at}
+use Rattle.ips_due.specs.Due.{account_at, Content, DueFile, HasProperDue, is_due, own_records, record_at}
 use Rattle.ips_due.specs.State.{renewed_by}
-use Rattle.ips_due.specs.Delivered.{CanBeNamed, CanName, Delivered, Legacy, License, creation_due, delivered_gone, delivered_records, first_folders, gone_license, has_legacy_package, has_license, has_stem, info_path, legacy_folder, license_folder, request_due}
-use Rattle.ips_due.proofs.StateDue.{all_append, at_listed, at_record, renewed_is}
+use Rattle.ips_due.specs.Delivered.{CanBeNamed, CanName, Delivered, Legacy, License, creation_due, delivered_gone, delivered_records, first_folders, gone_license, has_legacy_package, has_license, has_stem, info_path, legacy_folder, legacy_record, license_folder, license_record, request_due}
+use Rattle.ips_after.proofs.Fits.{at_listed}
+use Rattle.ips_due.proofs.StateDue.{all_append, at_record, own_all, renewed_is}
 
 -- ---- paths by their parts
 
@@ -119,16 +120,20 @@ NamesLicense l = CanName l.stem × CanName l.name
 abbrev NamesLegacy : Legacy → Type 0
 NamesLegacy g = CanName g.pkg
 
-license_paths : (ls : List License) → AllByRecursion NamesLicense ls → ArePaths (map (λ (l : License). (license_path l.stem l.name, l.bytes)) ls)
+-- the paths of records are paths
+abbrev AreDuePaths : List (List ℕ × Content) → Type 0
+AreDuePaths records = AllByRecursion (λ (e : List ℕ × Content). IsPath e.0) records
+
+license_paths : (ls : List License) → AllByRecursion NamesLicense ls → AreDuePaths (map license_record ls)
 license_paths [] all = cc
 license_paths (l ∷ ls) all = (license_is_path l.stem l.name all.0.0.0 all.0.1.0 all.0.0.1 all.0.1.1, license_paths ls all.1)
 
-legacy_paths : (gs : List Legacy) → AllByRecursion NamesLegacy gs → ArePaths (map (λ (g : Legacy). (info_path g.pkg, g.text)) gs)
+legacy_paths : (gs : List Legacy) → AllByRecursion NamesLegacy gs → AreDuePaths (map legacy_record gs)
 legacy_paths [] all = cc
 legacy_paths (g ∷ gs) all = (info_is_path g.pkg all.0, legacy_paths gs all.1)
 
-delivered_paths : (d : Delivered) → CanBeNamed d → ArePaths (delivered_records d)
-delivered_paths d h = (in_pkg (codes "owners") (record { bytes = refl; some = omega arith; few = omega arith; no_dots = refl }), (in_pkg (codes "drivers") (record { bytes = refl; some = omega arith; few = omega arith; no_dots = refl }), all_append IsPath (map (λ (l : License). (license_path l.stem l.name, l.bytes)) d.licenses) (map (λ (g : Legacy). (info_path g.pkg, g.text)) d.legacy) (license_paths d.licenses h.licenses) (legacy_paths d.legacy h.packages)))
+delivered_paths : (d : Delivered) → CanBeNamed d → AreDuePaths (delivered_records d)
+delivered_paths d h = (in_pkg (codes "owners") (record { bytes = refl; some = omega arith; few = omega arith; no_dots = refl }), (in_pkg (codes "drivers") (record { bytes = refl; some = omega arith; few = omega arith; no_dots = refl }), all_append IsPath (map license_record d.licenses) (map legacy_record d.legacy) (license_paths d.licenses h.licenses) (legacy_paths d.legacy h.packages)))
 
 gone_license_path : (new : List License) (l : License) → NamesLicense l → IsPath (gone_license new l)
 gone_license_path new l h = go (has_stem new l.stem)
@@ -153,8 +158,8 @@ module _ (accounts : List DueFile) (old new : Recorded) (was is : Delivered) (fi
   due_path : (q : List ℕ) → is_due (request_due accounts old new was is) q ≡ true → IsPath q
   due_path q h = elim (or_cases (is_some (account_at accounts q)) _ h) [
     | inl account ↦ account_is q (files q account)
-    | inr rest ↦ elim (or_cases (is_some (record_at (records_of new ++ delivered_records is) q)) _ rest) [
-      | inl record_due ↦ at_record IsPath (records_of new ++ delivered_records is) q (all_append IsPath (records_of new) (delivered_records is) (state_paths (new.format == 1) new lawful.installed.each) (delivered_paths is named)) record_due
+    | inr rest ↦ elim (or_cases (is_some (record_at (own_records (records_of new) ++ delivered_records is) q)) _ rest) [
+      | inl record_due ↦ at_record IsPath (own_records (records_of new) ++ delivered_records is) q (all_append IsPath (own_records (records_of new)) (delivered_records is) (own_all IsPath (records_of new) (state_paths (new.format == 1) new lawful.installed.each)) (delivered_paths is named)) record_due
       | inr more ↦ elim (or_cases (listed (renewed_by (old.format == 1) (new.format == 1)) q) false more) [
         | inl renewed ↦ subst IsPath (sym (renewed_is (old.format == 1) (new.format == 1) q renewed).0) (in_pkg (codes "packages") (record { bytes = refl; some = omega arith; few = omega arith; no_dots = refl }))
         | inr none ↦ cc
@@ -180,8 +185,8 @@ nothing_named = record { owners = []; drivers = []; licenses = []; legacy = [] }
 module _ (new : Recorded) (lawful : IsLawful new) where
   made_path : (q : List ℕ) → (is_due (creation_due new) q || false) ≡ true → IsPath q
   made_path q h = elim (or_cases (is_due (creation_due new) q) false h) [
-    | inl due ↦ elim (or_cases (is_some (record_at (records_of new ++ delivered_records nothing_named) q)) (listed (packages_path ∷ []) q || listed first_folders q) due) [
-      | inl record_due ↦ at_record IsPath (records_of new ++ delivered_records nothing_named) q (all_append IsPath (records_of new) (delivered_records nothing_named) (state_paths (new.format == 1) new lawful.installed.each) (delivered_paths nothing_named (record { licenses = cc; packages = cc }))) record_due
+    | inl due ↦ elim (or_cases (is_some (record_at (own_records (records_of new) ++ delivered_records nothing_named) q)) (listed (packages_path ∷ []) q || listed first_folders q) due) [
+      | inl record_due ↦ at_record IsPath (own_records (records_of new) ++ delivered_records nothing_named) q (all_append IsPath (own_records (records_of new)) (delivered_records nothing_named) (own_all IsPath (records_of new) (state_paths (new.format == 1) new lawful.installed.each)) (delivered_paths nothing_named (record { licenses = cc; packages = cc }))) record_due
       | inr more ↦ elim (or_cases (listed (packages_path ∷ []) q) (listed first_folders q) more) [
         | inl packages ↦ at_listed IsPath (packages_path ∷ []) q (in_pkg (codes "packages") (record { bytes = refl; some = omega arith; few = omega arith; no_dots = refl }), tt) packages
         | inr folder ↦ at_listed IsPath first_folders q (in_pkg (codes "license") (record { bytes = refl; some = omega arith; few = omega arith; no_dots = refl }), (in_pkg (codes "lost+found") (record { bytes = refl; some = omega arith; few = omega arith; no_dots = refl }), tt)) folder

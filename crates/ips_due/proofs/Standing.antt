@@ -15,24 +15,24 @@ use Rattle.ips_after.specs.Request.{IsRequest, Request, WantDir, Wanted, is_dir_
 use Rattle.ips_after.proofs.Changed.{reach_of}
 use Rattle.ips_after.proofs.Fits.{any_from, any_of, below_covers, below_of, dir_of_wanted, given_but}
 use Rattle.ips_after.proofs.Saved.{comparable}
-use Rattle.ips_due.specs.Due.{Due, IsDue, IsOverOf, LeavesOwn, account_at, goes_with, holds_bytes, is_due, is_own, record_at, said, said_folder}
+use Rattle.ips_due.specs.Due.{Content, Due, IsDue, IsOverOf, LeavesOwn, account_at, goes_with, holds_content, is_content, is_due, is_file_of, is_own, record_at, said, said_folder}
 use Rattle.ips_due.proofs.Fitting.{Said, due_of_account, due_of_folder, due_of_record, own_down, said_is}
 
--- what has bytes stands, and is no directory
-there : (bytes : List ℕ) (e : Option Entry) → holds_bytes bytes e ≡ true → (is_none e ≡ false) × (is_dir e ≡ false)
-there bytes (Some (Dir m f)) h = cc
-there bytes (Some (File m b)) h = (refl, refl)
-there bytes (Some (Link g)) h = cc
-there bytes (Some Other) h = cc
-there bytes None h = cc
+-- a file stands, and is no directory
+there : (test : List ℕ → Bool) (e : Option Entry) → is_file_of test e ≡ true → (is_none e ≡ false) × (is_dir e ≡ false)
+there test (Some (Dir m f)) h = cc
+there test (Some (File m b)) h = (refl, refl)
+there test (Some (Link g)) h = cc
+there test (Some Other) h = cc
+there test None h = cc
 
 -- a mode is no matter of bytes
-any_mode : (bytes : List ℕ) (e : Option Entry) → holds_bytes bytes (with_mode 0 e) ≡ holds_bytes bytes e
-any_mode bytes (Some (Dir m f)) = refl
-any_mode bytes (Some (File m b)) = refl
-any_mode bytes (Some (Link g)) = refl
-any_mode bytes (Some Other) = refl
-any_mode bytes None = refl
+any_mode : (test : List ℕ → Bool) (e : Option Entry) → is_file_of test (with_mode 0 e) ≡ is_file_of test e
+any_mode test (Some (Dir m f)) = refl
+any_mode test (Some (File m b)) = refl
+any_mode test (Some (Link g)) = refl
+any_mode test (Some Other) = refl
+any_mode test None = refl
 
 dir_wanted : (w : Option Wanted) → is_dir_wanted w ≡ true → (m : Option ℕ) × (w ≡ Some (WantDir m))
 dir_wanted (Some (WantDir m)) h = (m, refl)
@@ -44,7 +44,7 @@ dir_stays true m e dir = refl
 dir_stays false (Some m) e dir = ap (λ (b : Bool). replaces (cond b (mode_given (Some m)) (Laid (Dir m false)))) dir
 dir_stays false None e dir = ap (λ (b : Bool). replaces (cond b (mode_given None) (Laid (Dir 493 false)))) dir
 
-neither : (a : Option Entry) (b : Option (List ℕ)) → is_some a ≡ false → is_some b ≡ false → (a ≡ None) × (b ≡ None)
+neither : (a : Option Entry) (b : Option Content) → is_some a ≡ false → is_some b ≡ false → (a ≡ None) × (b ≡ None)
 neither None None g h = (refl, refl)
 neither None (Some y) g h = absurd cc
 neither (Some x) b g h = absurd cc
@@ -66,8 +66,8 @@ lays_due due y _ (Said.Gone at) h = cc
 lays_due due y _ Said.Silent h = cc
 
 module _ (due : Due) (t : Image) (r : Request) (emptied : List ℕ → Bool) (good : IsRequest r) (formed : IsImage t) (gone : IsEmptied r t emptied)
-    (is : IsDue due) (of : IsOverOf due t r.over) (left : LeavesOwn due r.new) (bare : (x : List ℕ) → is_own x ≡ true → r.old.at x ≡ None)
-    (q bytes : List ℕ) (none : account_at due.accounts q ≡ None) (at : record_at due.records q ≡ Some bytes) (stands : holds_bytes bytes (t.look q) ≡ true) (keeps : goes_with due q ≡ false) where
+    (is : IsDue due) (of : IsOverOf r.bytes r.holds due t r.over) (left : LeavesOwn due r.new) (bare : (x : List ℕ) → is_own x ≡ true → r.old.at x ≡ None)
+    (q : List ℕ) (content : Content) (none : account_at due.accounts q ≡ None) (at : record_at due.records q ≡ Some content) (stands : holds_content r.holds content (t.look q) ≡ true) (keeps : goes_with due q ≡ false) where
   q_due : is_due due q ≡ true
   q_due = due_of_record due q (ap is_some at)
 
@@ -78,7 +78,7 @@ module _ (due : Due) (t : Image) (r : Request) (emptied : List ℕ → Bool) (go
   dir_above x up =
       let parts = and_parts (covers x q) _ up in
       elim (or_cases (is_none (t.look q)) (is_dir (t.look x)) (formed.below_dirs x q parts.0 (not_true (same_path x q) parts.1))) [
-        | inl h ↦ clash (is_none (t.look q)) h (there bytes (t.look q) stands).0
+        | inl h ↦ clash (is_none (t.look q)) h (there (is_content r.holds content) (t.look q) stands).0
         | inr h ↦ h
       ]
     where
@@ -162,7 +162,7 @@ module _ (due : Due) (t : Image) (r : Request) (emptied : List ℕ → Bool) (go
       by_over = false_from_ne_true _ (λ h.
           let some = any_of (λ y. is_below q y && lays (r.over.at y)) r.over.keys h in
           let parts = and_parts (is_below q some.path) _ some.holds in
-          let wanted = lays_due due some.path (r.over.at some.path) (subst (Said due some.path) (sym (of.at some.path)) (said_is due t some.path)) parts.1 in
+          let wanted = lays_due due some.path (r.over.at some.path) (subst (Said due some.path) (sym (of.at some.path)) (said_is r.bytes r.holds due t some.path)) parts.1 in
           let flat = or_parts (is_some (account_at due.accounts q)) _ (is.flat q some.path parts.0 wanted) in
           clash (is_some (record_at due.records q)) (ap is_some at) (or_parts (is_some (record_at due.records q)) _ flat.1).0)
 
@@ -203,8 +203,8 @@ module _ (due : Due) (t : Image) (r : Request) (emptied : List ℕ → Bool) (go
       let up = reach_of (λ p. replaces (change_after r t emptied p)) q h in
       clash _ up.holds (still up.at up.over))
 
-  pub record_stays : holds_bytes bytes ((image_after r t emptied).look q) ≡ true
+  pub record_stays : holds_content r.holds content ((image_after r t emptied).look q) ≡ true
   record_stays =
       let kept = kept_own q (covers-self q) q_own no_support_here in
       rw (kept, not_cleared)
-      (sym (any_mode bytes (with_given (change_after r t emptied) (ranks r) t q (t.look q))) ∙ ap (holds_bytes bytes) (given_but (change_after r t emptied) (ranks r) t q (t.look q)) ∙ any_mode bytes (t.look q) ∙ stands)
+      (sym (any_mode (is_content r.holds content) (with_given (change_after r t emptied) (ranks r) t q (t.look q))) ∙ ap (is_file_of (is_content r.holds content)) (given_but (change_after r t emptied) (ranks r) t q (t.look q)) ∙ any_mode (is_content r.holds content) (t.look q) ∙ stands)

@@ -16,7 +16,8 @@ use Rattle.ips_index.specs.Rows.{IndexedValue}
 use Rattle.ips_state.specs.State.{Installed, Recorded}
 use Rattle.ips_state.specs.Records.{avoid_path, common_records, freeze_path, gone_stems, history_path, image_path, index_path, index_records, installed_path, listed_records, manifest_path, manifests_path, mediators_path, package_path, package_records, packages_path, records_by, records_of, taken_away, taken_by}
 use Rattle.ips_after.specs.Lists.{listed}
-use Rattle.ips_due.specs.Due.{IsDue, is_own, record_at}
+use Rattle.ips_after.proofs.Fits.{at_listed}
+use Rattle.ips_due.specs.Due.{Content, IsDue, is_own, own_records, record_at}
 use Rattle.ips_due.specs.State.{renewed_by, state_due}
 
 -- ---- quoted names
@@ -138,24 +139,22 @@ packages_seen = refl
 abbrev Files : Type 0
 Files = List (List ℕ × List ℕ)
 
-pub all_append : (Q : List ℕ → Type 0) (xs ys : Files) → AllByRecursion (λ e. Q e.0) xs → AllByRecursion (λ e. Q e.0) ys → AllByRecursion (λ (e : List ℕ × List ℕ). Q e.0) (xs ++ ys)
+pub all_append : {V : Type 0} (Q : List ℕ → Type 0) (xs ys : List (List ℕ × V)) → AllByRecursion (λ e. Q e.0) xs → AllByRecursion (λ e. Q e.0) ys → AllByRecursion (λ (e : List ℕ × V). Q e.0) (xs ++ ys)
 all_append Q [] ys a b = b
 all_append Q (x ∷ xs) ys a b = (a.0, all_append Q xs ys a.1 b)
 
-pub at_record : (Q : List ℕ → Type 0) (files : Files) (q : List ℕ) → AllByRecursion (λ (e : List ℕ × List ℕ). Q e.0) files → is_some (record_at files q) ≡ true → Q q
+-- what holds of the paths of files holds of them as records
+pub own_all : (Q : List ℕ → Type 0) (files : Files) → AllByRecursion (λ (e : List ℕ × List ℕ). Q e.0) files → AllByRecursion (λ (e : List ℕ × Content). Q e.0) (own_records files)
+own_all Q [] all = tt
+own_all Q (e ∷ files) all = (all.0, own_all Q files all.1)
+
+pub at_record : (Q : List ℕ → Type 0) (files : List (List ℕ × Content)) (q : List ℕ) → AllByRecursion (λ (e : List ℕ × Content). Q e.0) files → is_some (record_at files q) ≡ true → Q q
 at_record Q [] q all h = cc
 at_record Q (e ∷ files) q all h = go (same_path e.0 q) refl (at_record Q files q all.1) h
   where
     go : (c : Bool) → same_path e.0 q ≡ c → (is_some (record_at files q) ≡ true → Q q) → is_some (cond c (Some e.1) (record_at files q)) ≡ true → Q q
     go true same rest h = subst Q (same_path-true e.0 q same) all.0
     go false same rest h = rest h
-
-pub at_listed : (Q : List ℕ → Type 0) (paths : List (List ℕ)) (q : List ℕ) → AllByRecursion Q paths → listed paths q ≡ true → Q q
-at_listed Q [] q all h = cc
-at_listed Q (p ∷ paths) q all h = elim (or_cases (same_path p q) (listed paths q) h) [
-  | inl same ↦ subst Q (same_path-true p q same) all.0
-  | inr more ↦ at_listed Q paths q all.1 more
-]
 
 module _ (f : Bool) where
   -- a record is off the folder, and what is above it is at or above that
@@ -209,8 +208,8 @@ module _ (old new : Recorded) where
   abbrev is : Bool
   is = new.format == 1
 
-  record_home : (q : List ℕ) → is_some (record_at (records_of new) q) ≡ true → AtHome is q
-  record_home q h = at_record (AtHome is) (records_of new) q (records_all is new) h
+  record_home : (q : List ℕ) → is_some (record_at (own_records (records_of new)) q) ≡ true → AtHome is q
+  record_home q h = at_record (AtHome is) (own_records (records_of new)) q (own_all (AtHome is) (records_of new) (records_all is new)) h
 
   gone_off : (q : List ℕ) → listed (taken_away old new) q ≡ true → IsOff (home is) q
   gone_off q h = at_listed (IsOff (home is)) (taken_away old new) q (taken_all was is old.installed new.installed) h
@@ -218,8 +217,8 @@ module _ (old new : Recorded) where
   own_as : (q : List ℕ) → is_below records_name q ≡ true → is_private q ≡ false → (is_own q ≡ true) × (is_private q ≡ false)
   own_as q own seen = (or_left _ _ own, seen)
 
-  own_at : (q : List ℕ) → (is_some (record_at (records_of new) q) || (listed (renewed_by was is) q || (false || listed (taken_away old new) q))) ≡ true → (is_own q ≡ true) × (is_private q ≡ false)
-  own_at q h = elim (or_cases (is_some (record_at (records_of new) q)) _ h) [
+  own_at : (q : List ℕ) → (is_some (record_at (own_records (records_of new)) q) || (listed (renewed_by was is) q || (false || listed (taken_away old new) q))) ≡ true → (is_own q ≡ true) × (is_private q ≡ false)
+  own_at q h = elim (or_cases (is_some (record_at (own_records (records_of new)) q)) _ h) [
     | inl record_due ↦ let at = (record_home q record_due).0 in own_as q at.own at.seen
     | inr more ↦ elim (or_cases (listed (renewed_by was is) q) _ more) [
       | inl renewed ↦ let at = (renewed_is was is q renewed).0 in own_as q (ap (is_below records_name) at ∙ packages_own) (ap is_private at ∙ packages_seen)
@@ -228,8 +227,8 @@ module _ (old new : Recorded) where
   ]
 
   -- what is above what is due is at or above the folder of the packages' records
-  up_home : (p q : List ℕ) → is_below p q ≡ true → (false || (is_some (record_at (records_of new) q) || (listed (renewed_by was is) q || false))) ≡ true → covers p (home is) ≡ true
-  up_home p q up h = elim (or_cases (is_some (record_at (records_of new) q)) _ h) [
+  up_home : (p q : List ℕ) → is_below p q ≡ true → (false || (is_some (record_at (own_records (records_of new)) q) || (listed (renewed_by was is) q || false))) ≡ true → covers p (home is) ≡ true
+  up_home p q up h = elim (or_cases (is_some (record_at (own_records (records_of new)) q)) _ h) [
     | inl record_due ↦ (record_home q record_due).1 p up
     | inr more ↦ elim (or_cases (listed (renewed_by was is) q) false more) [
       | inl renewed ↦
@@ -243,7 +242,7 @@ module _ (old new : Recorded) where
   state_is_due = record {
     accounts = λ q h. cc;
     own = own_at;
-    flat = λ p q up h. false_from_ne_true _ (λ bad. elim (or_cases (is_some (record_at (records_of new) p)) (listed (taken_away old new) p) bad) [
+    flat = λ p q up h. false_from_ne_true _ (λ bad. elim (or_cases (is_some (record_at (own_records (records_of new)) p)) (listed (taken_away old new) p) bad) [
       | inl record_due ↦ clash (covers p (home is)) (up_home p q up h) (record_home p record_due).0.off
       | inr gone ↦ clash (covers p (home is)) (up_home p q up h) (gone_off p gone).off
     ]);

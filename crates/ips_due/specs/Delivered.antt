@@ -6,14 +6,14 @@ use Rattle.ips_text.specs.Quote.{quoted, AreBytes}
 use Rattle.ips_metafiles.specs.Records.{IsQuotedName, license_path}
 use Rattle.ips_state.specs.State.{Recorded}
 use Rattle.ips_state.specs.Records.{packages_path, records_of, taken_away}
-use Rattle.ips_due.specs.Due.{Due, DueFile}
+use Rattle.ips_due.specs.Due.{Content, Due, DueFile, OfPayload, Own, own_records}
 use Rattle.ips_due.specs.State.{renewed_by}
 
--- A license of an installed package: the package's stem, the license's name, and the bytes of its payload.
+-- A license of an installed package: the package's stem, the license's name, and its payload, by the spelling of that name.
 pub record License : Type 0 where
   pub stem : List ℕ
   pub name : List ℕ
-  pub bytes : List ℕ
+  pub payload : List ℕ
 
 -- A legacy package of an installed one: its name, and the text of its record.
 pub record Legacy : Type 0 where
@@ -57,9 +57,17 @@ legacy_folder pkg = legacy_path ++ 47 ∷ quoted pkg
 abbrev pub info_path : List ℕ → List ℕ
 info_path pkg = legacy_folder pkg ++ 47 ∷ codes "pkginfo"
 
+-- The record of a license: its payload.
+abbrev pub license_record : License → List ℕ × Content
+license_record l = (license_path l.stem l.name, OfPayload l.payload)
+
+-- The record of a legacy package: its text.
+abbrev pub legacy_record : Legacy → List ℕ × Content
+legacy_record g = (info_path g.pkg, Own g.text)
+
 -- The records of what is delivered, in no order.
-abbrev pub delivered_records : Delivered → List (List ℕ × List ℕ)
-delivered_records d = (owners_path, d.owners) ∷ (drivers_path, d.drivers) ∷ (map (λ (l : License). (license_path l.stem l.name, l.bytes)) d.licenses ++ map (λ (g : Legacy). (info_path g.pkg, g.text)) d.legacy)
+abbrev pub delivered_records : Delivered → List (List ℕ × Content)
+delivered_records d = (owners_path, Own d.owners) ∷ (drivers_path, Own d.drivers) ∷ (map license_record d.licenses ++ map legacy_record d.legacy)
 
 -- ---- what goes
 
@@ -105,7 +113,7 @@ pub record AreNamedByBytes (d : Delivered) : Type 0 where
 abbrev pub request_due : List DueFile → Recorded → Recorded → Delivered → Delivered → Due
 request_due accounts old new was is = record {
   accounts = accounts;
-  records = records_of new ++ delivered_records is;
+  records = own_records (records_of new) ++ delivered_records is;
   renewed = renewed_by (old.format == 1) (new.format == 1);
   folders = [];
   gone = taken_away old new ++ delivered_gone was is;
@@ -120,7 +128,7 @@ first_folders = licenses_path ∷ codes "var/pkg/lost+found" ∷ []
 abbrev pub creation_due : Recorded → Due
 creation_due new = record {
   accounts = [];
-  records = records_of new ++ delivered_records (record { owners = []; drivers = []; licenses = []; legacy = [] });
+  records = own_records (records_of new) ++ delivered_records (record { owners = []; drivers = []; licenses = []; legacy = [] });
   renewed = packages_path ∷ [];
   folders = first_folders;
   gone = [];

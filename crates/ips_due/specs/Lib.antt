@@ -2,3 +2,4 @@ pub mod Due
 pub mod State
 pub mod Delivered
 pub mod Asked
+pub mod Apart

@@ -8,6 +8,7 @@ mod laws;
 
 pub use laws::{
     creations_hang_together, creations_have_proper_due, due_can_be_named, due_fits_the_want,
-    requests_are_lawful, requests_hang_together, requests_have_proper_due,
-    standing_is_not_spoken_of, standing_records_stay, state_hangs_together,
+    due_is_told_by_paths, requests_are_lawful, requests_hang_together, requests_have_proper_due,
+    requests_leave_salvage, salvage_lies_apart, standing_is_not_spoken_of, standing_records_stay,
+    state_hangs_together,
 };

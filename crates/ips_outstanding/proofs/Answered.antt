@@ -30,7 +30,9 @@ use Rattle.ips_outstanding.specs.declared.verdict.Verdict.TheVariants as verdict
 use Rattle.ips_outstanding.specs.Noted.{AreMarked, told}
 use Rattle.ips_outstanding.specs.Outstanding.{AreOutstanding, over_of}
 use Rattle.ips_outstanding.specs.Verdicts.{meant, named_paths, said_of}
-use Rattle.ips_outstanding.proofs.Gone.{alike, one_path}
+use Rattle.ips_due.proofs.Same.{alike}
+use Rattle.ips_outstanding.proofs.Gone.{one_path}
+use Rattle.ips_wanted.specs.Named.{is_payload_of}
 
 pub listed_keys : (ks : List (Vec ℕ Global)) (q : List ℕ) → listed (map (λ k. k.items) ks) q ≡ list_any (λ k. is_same q k.items) ks
 listed_keys [] q = refl
@@ -47,32 +49,32 @@ one_order xs ys up_x up_y to from =
     let y_set : BTreeSet (List ℕ) = record { keys = ys } in
     btree_set_from_contains nat_list_cmp_total x_set y_set up_x up_y (λ q. kept_in xs q ∙ alike (listed xs q) (listed ys q) (to q, from q) ∙ sym (kept_in ys q)) exact_bytes
 
-is_meant : (due : Due) (v : Option Verdict) → is_some (meant due v) ≡ is_some v
-is_meant due (Some v) = refl
-is_meant due None = refl
+is_meant : (bytes : List ℕ → List ℕ) (due : Due) (v : Option Verdict) → is_some (meant bytes due v) ≡ is_some v
+is_meant bytes due (Some v) = refl
+is_meant bytes due None = refl
 
 -- what the verdicts mean, by what is told of each path
-meant_each : (due : Due) (t : Image) (f : List ℕ → Option Verdict) (named : List Named) (paths : List (List ℕ)) → ((q : List ℕ) → meant due (f q) ≡ said due t q) → map (λ n. n.verdict) named ≡ map f paths
-    → map (λ n. meant due n.verdict) named ≡ map (said due t) paths
-meant_each due t f [] [] is are = refl
-meant_each due t f [] (p ∷ paths) is are = cc
-meant_each due t f (n ∷ named) [] is are = cc
-meant_each due t f (n ∷ named) (p ∷ paths) is are =
+meant_each : (bytes : List ℕ → List ℕ) (due : Due) (t : Image) (f : List ℕ → Option Verdict) (named : List Named) (paths : List (List ℕ)) → ((q : List ℕ) → meant bytes due (f q) ≡ said bytes is_payload_of due t q) → map (λ n. n.verdict) named ≡ map f paths
+    → map (λ n. meant bytes due n.verdict) named ≡ map (said bytes is_payload_of due t) paths
+meant_each bytes due t f [] [] is are = refl
+meant_each bytes due t f [] (p ∷ paths) is are = cc
+meant_each bytes due t f (n ∷ named) [] is are = cc
+meant_each bytes due t f (n ∷ named) (p ∷ paths) is are =
     let one : n.verdict ≡ f p = cc in
     let rest : map (λ (x : Named). x.verdict) named ≡ map f paths = cc in
-    (λ i. (ap (meant due) one ∙ is p) i ∷ meant_each due t f named paths is rest i)
+    (λ i. (ap (meant bytes due) one ∙ is p) i ∷ meant_each bytes due t f named paths is rest i)
 
-module _ (due : Due) (t : Image) (notes : Notes) (named : List Named) (marked : AreMarked notes) (is : (q : List ℕ) → meant due (told notes q) ≡ said due t q) (keys : named_paths named ≡ map (λ k. k.items) notes.keys.keys) where
+module _ (bytes : List ℕ → List ℕ) (due : Due) (t : Image) (notes : Notes) (named : List Named) (marked : AreMarked notes) (is : (q : List ℕ) → meant bytes due (told notes q) ≡ said bytes is_payload_of due t q) (keys : named_paths named ≡ map (λ k. k.items) notes.keys.keys) where
   marks : (q : List ℕ) → listed (named_paths named) q ≡ has_path notes.keys q
   marks q = ap (λ (l : List (List ℕ)). listed l q) keys ∙ listed_keys notes.keys.keys q
 
-  says : (q : List ℕ) → is_some (said due t q) ≡ is_some (told notes q)
-  says q = ap (λ (o : Option (Option Entry)). is_some o) (sym (is q)) ∙ is_meant due (told notes q)
+  says : (q : List ℕ) → is_some (said bytes is_payload_of due t q) ≡ is_some (told notes q)
+  says q = ap (λ (o : Option (Option Entry)). is_some o) (sym (is q)) ∙ is_meant bytes due (told notes q)
 
-  pub outstanding_from : IsStrictlySortedBy (slice_cmp nat_cmp) (named_paths named) → map (λ n. n.verdict) named ≡ map (told notes) (named_paths named) → AreOutstanding due t named
+  pub outstanding_from : IsStrictlySortedBy (slice_cmp nat_cmp) (named_paths named) → map (λ n. n.verdict) named ≡ map (told notes) (named_paths named) → AreOutstanding bytes due t named
   outstanding_from order each = record {
     order = order;
-    each = meant_each due t (told notes) named (named_paths named) is each;
+    each = meant_each bytes due t (told notes) named (named_paths named) is each;
     keyed = λ q some. marks q ∙ (marked.keys q).1 (q, sym (says q) ∙ some, covers-self q);
     closed = λ p q up there.
         let w = (marked.keys q).0 (sym (marks q) ∙ there) in
@@ -81,8 +83,8 @@ module _ (due : Due) (t : Image) (notes : Notes) (named : List Named) (marked : 
   }
 
 -- so they say, with these paths as those that they name
-pub over_from : (due : Due) (t : Image) (named : List Named) → AreOutstanding due t named → IsOverOf due t (over_of due t (named_paths named))
-over_from due t named out = record {
+pub over_from : (bytes : List ℕ → List ℕ) (due : Due) (t : Image) (named : List Named) → AreOutstanding bytes due t named → IsOverOf bytes is_payload_of due t (over_of bytes due t (named_paths named))
+over_from bytes due t named out = record {
   at = λ q. refl;
   accounts = λ q. refl;
   keyed = out.keyed;
@@ -115,21 +117,21 @@ seen_keys (k ∷ ks) = ap (λ (l : List (List ℕ)). k.now.items ∷ l) (seen_ke
 
 -- ---- what is lent of them
 
-said_meant : (due : Due) (v : Option Verdict) → option_map said_of v ≡ said_as (meant due v)
-said_meant due None = refl
-said_meant due (Some (verdict.Account n)) = refl
-said_meant due (Some (verdict.Record n)) = refl
-said_meant due (Some verdict.Folder) = refl
-said_meant due (Some verdict.Gone) = refl
+said_meant : (bytes : List ℕ → List ℕ) (due : Due) (v : Option Verdict) → option_map said_of v ≡ said_as (meant bytes due v)
+said_meant bytes due None = refl
+said_meant bytes due (Some (verdict.Account n)) = refl
+said_meant bytes due (Some (verdict.Record n)) = refl
+said_meant bytes due (Some verdict.Folder) = refl
+said_meant bytes due (Some verdict.Gone) = refl
 
-said_each : (due : Due) (says : List ℕ → Option (Option Entry)) (named : List Named) (paths : List (List ℕ)) → map (λ n. meant due n.verdict) named ≡ map says paths → map (λ n. option_map said_of n.verdict) named ≡ map (λ p. said_as (says p)) paths
-said_each due says [] [] are = refl
-said_each due says [] (p ∷ paths) are = cc
-said_each due says (n ∷ named) [] are = cc
-said_each due says (n ∷ named) (p ∷ paths) are =
-    let one : meant due n.verdict ≡ says p = cc in
-    let rest : map (λ (x : Named). meant due x.verdict) named ≡ map says paths = cc in
-    (λ i. (said_meant due n.verdict ∙ ap (λ (o : Option (Option Entry)). said_as o) one) i ∷ said_each due says named paths rest i)
+said_each : (bytes : List ℕ → List ℕ) (due : Due) (says : List ℕ → Option (Option Entry)) (named : List Named) (paths : List (List ℕ)) → map (λ n. meant bytes due n.verdict) named ≡ map says paths → map (λ n. option_map said_of n.verdict) named ≡ map (λ p. said_as (says p)) paths
+said_each bytes due says [] [] are = refl
+said_each bytes due says [] (p ∷ paths) are = cc
+said_each bytes due says (n ∷ named) [] are = cc
+said_each bytes due says (n ∷ named) (p ∷ paths) are =
+    let one : meant bytes due n.verdict ≡ says p = cc in
+    let rest : map (λ (x : Named). meant bytes due x.verdict) named ≡ map says paths = cc in
+    (λ i. (said_meant bytes due n.verdict ∙ ap (λ (o : Option (Option Entry)). said_as o) one) i ∷ said_each bytes due says named paths rest i)
 
 none_or : {X : Type 0} (o : Option X) → (is_some o ≡ true → ⊥) → o ≡ None
 none_or (Some x) never = absurd (never refl)
@@ -139,7 +141,7 @@ map_alike : {A B : Type 0} (f g : A → B) (xs : List A) → ((x : A) → f x �
 map_alike f g [] same = refl
 map_alike f g (x ∷ xs) same = (λ i. same x i ∷ map_alike f g xs same i)
 
-module _ (due : Due) (t : Image) (o : Over) (named : List Named) (out : AreOutstanding due t named) (is : IsOverOf due t o) where
+module _ (bytes : List ℕ → List ℕ) (due : Due) (t : Image) (o : Over) (named : List Named) (out : AreOutstanding bytes due t named) (is : IsOverOf bytes is_payload_of due t o) where
   to_keys : (q : List ℕ) → listed (named_paths named) q ≡ true → listed o.keys q ≡ true
   to_keys q there =
       let w = out.only q there in
@@ -164,7 +166,7 @@ module _ (due : Due) (t : Image) (o : Over) (named : List Named) (out : AreOutst
   pub named_from : (spoken : List Spoken) → spoken_paths spoken ≡ named_paths named → map (λ s. s.said) spoken ≡ map (λ n. option_map said_of n.verdict) named → AreSpoken o spoken
   named_from spoken paths says = record {
     paths = paths ∙ same_keys;
-    said = says ∙ said_each due (said due t) named (named_paths named) out.each ∙ ap (map (λ p. said_as (said due t p))) same_keys
-        ∙ map_alike (λ p. said_as (said due t p)) (λ p. said_as (o.at p)) o.keys (λ p. ap (λ (s : Option (Option Entry)). said_as s) (sym (is.at p)));
+    said = says ∙ said_each bytes due (said bytes is_payload_of due t) named (named_paths named) out.each ∙ ap (map (λ p. said_as (said bytes is_payload_of due t p))) same_keys
+        ∙ map_alike (λ p. said_as (said bytes is_payload_of due t p)) (λ p. said_as (o.at p)) o.keys (λ p. ap (λ (s : Option (Option Entry)). said_as s) (sym (is.at p)));
     none_else = λ q apart. none_or (o.at q) (λ some. true≢false (sym (is.keyed q some) ∙ apart));
   }

@@ -1,6 +1,5 @@
 -- What goes with paths at or above it.
 use Rattle.std.proofs.Common.{◌≡◌, ℕ, Bool, true, false, ◌||◌, List, [], ◌∷◌, refl, sym, ap, ◌∙◌, inl, inr}
-use Rattle.std.specs.Prelude.{◌↔◌}
 use Rattle.std.specs.List.{list_any}
 use Rattle.std.proofs.lemmas.Bool.{cases_Bool, false_from_ne_true, or_cases, or_left, or_right, true≢false}
 use Rattle.ips_text.specs.Ancestry.{covers, same_path}
@@ -11,6 +10,7 @@ use Rattle.ips_conflict.proofs.Kept.{is_same_self}
 use Rattle.ips_after.specs.Change.{reached}
 use Rattle.ips_after.specs.Lists.{listed}
 use Rattle.ips_after.proofs.Changed.{reach_of, reached_from}
+use Rattle.ips_due.proofs.Same.{alike}
 
 -- either way the paths are one
 pub one_path : (p q : List ℕ) → same_path p q ≡ is_same q p
@@ -32,13 +32,6 @@ listed_any (p ∷ paths) q any = elim (or_cases (covers p q) (list_any (λ x. co
   | inl over ↦ (p, or_left (same_path p p) (listed paths p) (same_path-self p), over)
   | inr rest ↦ let w = listed_any paths q rest in (w.0, or_right (same_path p w.0) (listed paths w.0) w.1, w.2)
 ]
-
--- what holds just where another does is the same
-pub alike : (a b : Bool) → (a ≡ true) ↔ (b ≡ true) → a ≡ b
-alike true true both = refl
-alike true false both = sym (both.0 refl)
-alike false true both = both.1 refl
-alike false false both = refl
 
 -- what is reached by paths of either list is covered by one of them
 pub reached_any : (test : List ℕ → Bool) (a b : List (List ℕ)) → ((x : List ℕ) → test x ≡ (listed a x || listed b x)) → (q : List ℕ) → reached test q ≡ (list_any (λ p. covers p q) a || list_any (λ p. covers p q) b)

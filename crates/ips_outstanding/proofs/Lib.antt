@@ -4,4 +4,3 @@ mod Gone
 mod Marks
 mod Meant
 mod Noting
-mod Searched

@@ -26,8 +26,8 @@ none_more : {X : Type 0} (o : Option X) → o ≡ either o None
 none_more (Some x) = refl
 none_more None = refl
 
-pub adds_none : (due : Due) (notes : Notes) (says : List ℕ → Says) → Adds due notes notes [] says
-adds_none due notes says q = none_more (shown due notes q)
+pub adds_none : (bytes : List ℕ → List ℕ) (due : Due) (notes : Notes) (says : List ℕ → Says) → Adds bytes due notes notes [] says
+adds_none bytes due notes says q = none_more (shown bytes due notes q)
 
 step : (old mid new : Option Says) (there same : Bool) (says own : Says) → mid ≡ either old (cond there (Some says) None) → new ≡ either mid (cond (same || false) (Some own) None)
     → (same ≡ true → there ≡ false → own ≡ says) → new ≡ either old (cond (there || same) (Some says) None)
@@ -37,18 +37,18 @@ step None mid new false true says own is more one = more ∙ ap (λ (o : Option 
 step None mid new false false says own is more one = more ∙ ap (λ (o : Option Says). either o None) is
 
 -- one path more is noted, of which the same is said if it wasn't among those before
-pub adds_more : (due : Due) (first mid new : Notes) (paths : List (List ℕ)) (p : List ℕ) (says : List ℕ → Says) (own : Says) → Adds due first mid paths says → Adds due mid new (p ∷ []) (λ q. own)
-    → (listed paths p ≡ false → own ≡ says p) → Adds due first new (paths ++ p ∷ []) says
-adds_more due first mid new paths p says own so_far more one q =
-    step (shown due first q) (shown due mid q) (shown due new q) (listed paths q) (same_path p q) (says q) own (so_far q) (more q)
+pub adds_more : (bytes : List ℕ → List ℕ) (due : Due) (first mid new : Notes) (paths : List (List ℕ)) (p : List ℕ) (says : List ℕ → Says) (own : Says) → Adds bytes due first mid paths says → Adds bytes due mid new (p ∷ []) (λ q. own)
+    → (listed paths p ≡ false → own ≡ says p) → Adds bytes due first new (paths ++ p ∷ []) says
+adds_more bytes due first mid new paths p says own so_far more one q =
+    step (shown bytes due first q) (shown bytes due mid q) (shown bytes due new q) (listed paths q) (same_path p q) (says q) own (so_far q) (more q)
     (λ same apart. let is = same_path-true p q same in one (ap (listed paths) is ∙ apart) ∙ ap says is)
-    ∙ ap (λ (b : Bool). either (shown due first q) (cond b (Some (says q)) None)) (sym (listed_last paths p q))
+    ∙ ap (λ (b : Bool). either (shown bytes due first q) (cond b (Some (says q)) None)) (sym (listed_last paths p q))
 
 -- nothing new is noted where something was
-pub adds_had : (due : Due) (notes : Notes) (p : List ℕ) (says : List ℕ → Says) → is_some (shown due notes p) ≡ true → Adds due notes notes (p ∷ []) says
-adds_had due notes p says had q = elim (cases_Bool (same_path p q)) [
-  | inl same ↦ go (shown due notes q) (same_path p q || false) (ap (λ (x : List ℕ). is_some (shown due notes x)) (sym (same_path-true p q same)) ∙ had)
-  | inr apart ↦ none_more (shown due notes q) ∙ ap (λ (b : Bool). either (shown due notes q) (cond (b || false) (Some (says q)) None)) (sym apart)
+pub adds_had : (bytes : List ℕ → List ℕ) (due : Due) (notes : Notes) (p : List ℕ) (says : List ℕ → Says) → is_some (shown bytes due notes p) ≡ true → Adds bytes due notes notes (p ∷ []) says
+adds_had bytes due notes p says had q = elim (cases_Bool (same_path p q)) [
+  | inl same ↦ go (shown bytes due notes q) (same_path p q || false) (ap (λ (x : List ℕ). is_some (shown bytes due notes x)) (sym (same_path-true p q same)) ∙ had)
+  | inr apart ↦ none_more (shown bytes due notes q) ∙ ap (λ (b : Bool). either (shown bytes due notes q) (cond (b || false) (Some (says q)) None)) (sym apart)
 ]
   where
     go : (o : Option Says) (b : Bool) → is_some o ≡ true → o ≡ either o (cond b (Some (says q)) None)
@@ -58,18 +58,18 @@ adds_had due notes p says had q = elim (cases_Bool (same_path p q)) [
 -- ---- one path
 
 -- what is noted of one path, of which nothing was, is noted with no other
-pub adds_noted : (due : Due) (old new : Notes) (p : List ℕ) (v : Option Verdict) → noted old p ≡ None → ((q : List ℕ) → noted new q ≡ cond (is_same q p) (Some v) (noted old q)) → Adds due old new (p ∷ []) (λ q. meant due v)
-adds_noted due old new p v fresh is q =
-    ap (option_map (meant due)) (is q) ∙ go (is_same q p) refl ∙ ap (λ (b : Bool). either (shown due old q) (cond (b || false) (Some (meant due v)) None)) (sym (one_path p q))
+pub adds_noted : (bytes : List ℕ → List ℕ) (due : Due) (old new : Notes) (p : List ℕ) (v : Option Verdict) → noted old p ≡ None → ((q : List ℕ) → noted new q ≡ cond (is_same q p) (Some v) (noted old q)) → Adds bytes due old new (p ∷ []) (λ q. meant bytes due v)
+adds_noted bytes due old new p v fresh is q =
+    ap (option_map (meant bytes due)) (is q) ∙ go (is_same q p) refl ∙ ap (λ (b : Bool). either (shown bytes due old q) (cond (b || false) (Some (meant bytes due v)) None)) (sym (one_path p q))
   where
-    go : (b : Bool) → is_same q p ≡ b → option_map (meant due) (cond b (Some v) (noted old q)) ≡ either (shown due old q) (cond (b || false) (Some (meant due v)) None)
-    go true same = sym (ap (λ (o : Option Says). either o (Some (meant due v))) (ap (shown due old) (same_true q p same) ∙ ap (option_map (meant due)) fresh))
-    go false apart = none_more (shown due old q)
+    go : (b : Bool) → is_same q p ≡ b → option_map (meant bytes due) (cond b (Some v) (noted old q)) ≡ either (shown bytes due old q) (cond (b || false) (Some (meant bytes due v)) None)
+    go true same = sym (ap (λ (o : Option Says). either o (Some (meant bytes due v))) (ap (shown bytes due old) (same_true q p same) ∙ ap (option_map (meant bytes due)) fresh))
+    go false apart = none_more (shown bytes due old q)
 
-pub is_shown : (due : Due) (notes : Notes) (p : List ℕ) → is_some (noted notes p) ≡ true → is_some (shown due notes p) ≡ true
-is_shown due notes p is = go (noted notes p) is
+pub is_shown : (bytes : List ℕ → List ℕ) (due : Due) (notes : Notes) (p : List ℕ) → is_some (noted notes p) ≡ true → is_some (shown bytes due notes p) ≡ true
+is_shown bytes due notes p is = go (noted notes p) is
   where
-    go : (o : Option (Option Verdict)) → is_some o ≡ true → is_some (option_map (meant due) o) ≡ true
+    go : (o : Option (Option Verdict)) → is_some o ≡ true → is_some (option_map (meant bytes due) o) ≡ true
     go (Some v) h = refl
     go None h = cc
 
@@ -77,8 +77,8 @@ pub not_noted : (o : Option (Option Verdict)) → is_some o ≡ false → o ≡ 
 not_noted (Some v) is = cc
 not_noted None is = refl
 
-pub adds_as : (due : Due) (old new : Notes) (paths : List (List ℕ)) (says other : List ℕ → Says) → Adds due old new paths says → ((q : List ℕ) → says q ≡ other q) → Adds due old new paths other
-adds_as due old new paths says other adds same q = adds q ∙ ap (λ (s : Says). either (shown due old q) (cond (listed paths q) (Some s) None)) (same q)
+pub adds_as : (bytes : List ℕ → List ℕ) (due : Due) (old new : Notes) (paths : List (List ℕ)) (says other : List ℕ → Says) → Adds bytes due old new paths says → ((q : List ℕ) → says q ≡ other q) → Adds bytes due old new paths other
+adds_as bytes due old new paths says other adds same q = adds q ∙ ap (λ (s : Says). either (shown bytes due old q) (cond (listed paths q) (Some s) None)) (same q)
 
 -- ---- the first of a list at a path
 

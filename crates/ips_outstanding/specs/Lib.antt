@@ -2,4 +2,3 @@ pub mod Parts
 pub mod Verdicts
 pub mod Noted
 pub mod Outstanding
-pub mod Laying

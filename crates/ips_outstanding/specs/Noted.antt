@@ -8,7 +8,8 @@ use Rattle.ips_outside.specs.Image.{Entry}
 use Rattle.ips_after.specs.Lists.{listed}
 use Rattle.ips_action.specs.Attrs.{is_same}
 use Rattle.ips_conflict.specs.Index.{has_path}
-use Rattle.ips_due.specs.Due.{Due, said_record}
+use Rattle.ips_wanted.specs.Named.{is_payload_of}
+use Rattle.ips_due.specs.Due.{Content, Due, said_record}
 use Rattle.ips_outstanding.specs.declared.notes.Notes.{Notes}
 use Rattle.ips_outstanding.specs.declared.verdict.Verdict.{Verdict}
 use Rattle.ips_outstanding.specs.Verdicts.{meant}
@@ -21,9 +22,9 @@ noted notes q = lookup (λ k. is_same q k.items) notes.verdicts.entries
 abbrev pub told : Notes → List ℕ → Option Verdict
 told notes q = unwrap_or (noted notes q) None
 
--- What the note of a path says.
-abbrev pub shown : Due → Notes → List ℕ → Option (Option (Option Entry))
-shown due notes q = option_map (meant due) (noted notes q)
+-- What the note of a path says, with the bytes of each payload.
+abbrev pub shown : (List ℕ → List ℕ) → Due → Notes → List ℕ → Option (Option (Option Entry))
+shown bytes due notes q = option_map (meant bytes due) (noted notes q)
 
 -- The marked paths are those of which something is said, and those above.
 pub record AreMarked (notes : Notes) : Type 0 where
@@ -36,8 +37,8 @@ either (Some x) other = Some x
 either None other = other
 
 -- Of these paths that is noted, where nothing was noted before.
-abbrev pub Adds : Due → Notes → Notes → List (List ℕ) → (List ℕ → Option (Option Entry)) → Type 0
-Adds due old new paths says = (q : List ℕ) → shown due new q ≡ either (shown due old q) (cond (listed paths q) (Some (says q)) None)
+abbrev pub Adds : (List ℕ → List ℕ) → Due → Notes → Notes → List (List ℕ) → (List ℕ → Option (Option Entry)) → Type 0
+Adds bytes due old new paths says = (q : List ℕ) → shown bytes due new q ≡ either (shown bytes due old q) (cond (listed paths q) (Some (says q)) None)
 
 -- What is said of a path by an account file that is due there, if one is.
 abbrev pub account_said : Option Entry → Option (Option Entry)
@@ -45,6 +46,6 @@ account_said (Some e) = Some (Some e)
 account_said None = None
 
 -- What is said of a path by a record that is due there, if one is.
-abbrev pub record_said : Option (List ℕ) → Bool → Option Entry → Option (Option Entry)
-record_said (Some bytes) goes e = said_record bytes goes e
-record_said None goes e = None
+abbrev pub record_said : (List ℕ → List ℕ) → Option Content → Bool → Option Entry → Option (Option Entry)
+record_said bytes (Some content) goes e = said_record bytes is_payload_of content goes e
+record_said bytes None goes e = None

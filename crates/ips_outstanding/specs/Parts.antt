@@ -1,15 +1,28 @@
 -- What is due, in the form in which it is lent.
 use Rattle.std.specs.Prelude.{ℕ, List, map}
-use Rattle.ips_due.specs.Due.{Due, DueFile}
+use Rattle.ips_digest.specs.Name.{spelling}
+use Rattle.ips_due.specs.Due.{Content, Due, DueFile, OfPayload, Own}
 use Rattle.ips_outstanding.specs.declared.due.AccountFile.{AccountFile}
+use Rattle.ips_outstanding.specs.declared.due.Content.{Content as Told}
+use Rattle.ips_outstanding.specs.declared.due.Content.TheVariants as told
 use Rattle.ips_outstanding.specs.declared.due.DueParts.{DueParts}
+use Rattle.ips_outstanding.specs.declared.due.DueRecord.{DueRecord}
 
 -- An account file that is due.
 abbrev pub due_file : AccountFile → DueFile
 due_file f = record { path = f.path.bytes; mode = f.mode; bytes = f.bytes.items }
 
+-- The content of a record, as it is told.
+abbrev pub content_told : Told → Content
+content_told (told.Own bytes) = Own bytes.items
+content_told (told.Payload name) = OfPayload (spelling name)
+
+-- A record that is due.
+abbrev pub due_record : DueRecord → List ℕ × Content
+due_record r = (r.path.bytes, content_told r.content)
+
 -- What is due by these parts, of whose records this is told.
-abbrev pub due_of : {R : Type 0} → (R → List (List ℕ × List ℕ)) → DueParts R → Due
+abbrev pub due_of : {R : Type 0} → (R → List (List ℕ × Content)) → DueParts R → Due
 due_of records parts = record {
   accounts = map due_file parts.accounts.now;
   records = records parts.records.now;

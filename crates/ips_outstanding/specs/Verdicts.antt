@@ -1,7 +1,7 @@
 -- What is said of a path, and by which part of what is due.
 use Rattle.std.specs.Prelude.{ℕ, false, List, map, Option, Some, None, slice_get}
-use Rattle.ips_outside.specs.Image.{Entry, Dir, File}
-use Rattle.ips_due.specs.Due.{Due, DueFile, said_folder, said_gone}
+use Rattle.ips_outside.specs.Image.{Entry, Dir, File, Other}
+use Rattle.ips_due.specs.Due.{Content, Due, DueFile, bytes_of_content, said_folder, said_gone}
 use Rattle.ips_survey.specs.declared.said.Said.{Said}
 use Rattle.ips_survey.specs.declared.said.Said.TheVariants.{Lays, Takes}
 use Rattle.ips_outstanding.specs.declared.asking.Role.{Role}
@@ -14,27 +14,27 @@ use Rattle.ips_outstanding.specs.declared.verdict.Named.{Named}
 abbrev pub folder : Entry
 folder = Dir 493 false
 
--- The entry of an account file; where there is none of that number, a folder.
+-- The entry of an account file; where there is none of that number, one that nothing lays.
 abbrev pub account_entry : Option DueFile → Entry
 account_entry (Some f) = File f.mode f.bytes
-account_entry None = folder
+account_entry None = Other
 
--- The entry of a record; where there is none of that number, a folder.
-abbrev pub record_entry : Option (List ℕ × List ℕ) → Entry
-record_entry (Some r) = File 420 r.1
-record_entry None = folder
+-- The entry of a record, with the bytes of each payload; where there is none of that number, one that nothing lays.
+abbrev pub record_entry : (List ℕ → List ℕ) → Option (List ℕ × Content) → Entry
+record_entry bytes (Some r) = File 420 (bytes_of_content bytes r.1)
+record_entry bytes None = Other
 
--- What is laid, or nothing where what stands is taken away.
-abbrev pub entry_by : Due → Verdict → Option Entry
-entry_by due (verdict.Account n) = Some (account_entry (slice_get due.accounts n))
-entry_by due (verdict.Record n) = Some (record_entry (slice_get due.records n))
-entry_by due verdict.Folder = Some folder
-entry_by due verdict.Gone = None
+-- What is laid, with the bytes of each payload, or nothing where what stands is taken away.
+abbrev pub entry_by : (List ℕ → List ℕ) → Due → Verdict → Option Entry
+entry_by bytes due (verdict.Account n) = Some (account_entry (slice_get due.accounts n))
+entry_by bytes due (verdict.Record n) = Some (record_entry bytes (slice_get due.records n))
+entry_by bytes due verdict.Folder = Some folder
+entry_by bytes due verdict.Gone = None
 
--- What is said of a path by this verdict, where there is one.
-abbrev pub meant : Due → Option Verdict → Option (Option Entry)
-meant due None = None
-meant due (Some v) = Some (entry_by due v)
+-- What is said of a path by this verdict, where there is one, with the bytes of each payload.
+abbrev pub meant : (List ℕ → List ℕ) → Due → Option Verdict → Option (Option Entry)
+meant bytes due None = None
+meant bytes due (Some v) = Some (entry_by bytes due v)
 
 -- The same without what is laid.
 abbrev pub said_of : Verdict → Said

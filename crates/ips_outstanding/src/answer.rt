@@ -1,9 +1,10 @@
 //! The answer: the paths that account files and records name, with what is said of each.
 
-ghost use Rattle.std.specs.Prelude.{◌≡◌, IfOk, map};
+ghost use Rattle.std.specs.Prelude.{◌≡◌, ℕ, IfOk, List, map};
 ghost use Rattle.std.specs.Option.{option_map};
 ghost use Rattle.ips_outside.specs.Image.{Image};
 ghost use Rattle.ips_after.specs.Request.{Over};
+ghost use Rattle.ips_wanted.specs.Named.{is_payload_of};
 ghost use Rattle.ips_due.specs.Due.{Due, IsOverOf};
 ghost use Rattle.ips_survey.specs.Tables.{AreSpoken, spoken_paths};
 ghost use Rattle.ips_outstanding.specs.Outstanding.{AreOutstanding};
@@ -26,7 +27,7 @@ impl Outstanding {
     pub fn spoken<'a>(&'a self, alloc: Global) -> Result<Vec<Spoken<'a>>, AllocError>
         ensures paths { IfOk result (λ spoken. spoken_paths spoken.items ≡ named_paths self.now.named.items) }
         ensures said { IfOk result (λ spoken. map (λ s. s.said) spoken.items ≡ map (λ n. option_map spec.said_of n.verdict) self.now.named.items) }
-        ensures named { IfOk result (λ spoken. (due : Due) (t : Image) (o : Over) → AreOutstanding due t self.now.named.items → IsOverOf due t o → AreSpoken o spoken.items) }
+        ensures named { IfOk result (λ spoken. (bytes : List ℕ → List ℕ) (due : Due) (t : Image) (o : Over) → AreOutstanding bytes due t self.now.named.items → IsOverOf bytes is_payload_of due t o → AreSpoken o spoken.items) }
     {
         let mut spoken = Vec::with_capacity(alloc, self.named.len())?;
         for named in &self.named {

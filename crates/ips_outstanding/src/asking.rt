@@ -1,16 +1,19 @@
 //! What a part of what is due says where it stands otherwise.
 
-ghost use Rattle.std.specs.Prelude.{◌≡◌, ◌<◌, true, IsTrue, IfOk, Some, length, List, ℕ, map, slice_get};
-ghost use Rattle.ips_outside.specs.Outside.{Reads};
+ghost use Rattle.std.specs.Prelude.{◌≡◌, ◌<◌, true, IsTrue, IfOk, IsErr, Some, length, List, ℕ, map, slice_get};
+ghost use Rattle.ips_outside.specs.Outside.{Reads, readable};
 ghost use Rattle.ips_files.specs.Files.{file_at, HasSize};
 ghost use Rattle.ips_content.specs.Failing.{HasFailed};
-ghost use Rattle.ips_due.specs.Due.{Due, holds_bytes, said_record};
+ghost use Rattle.ips_wanted.specs.Named.{is_payload_of};
+ghost use Rattle.ips_due.specs.Due as spec;
+ghost use Rattle.ips_due.specs.Due.{Due, holds_content, is_content, said_record};
+ghost use Rattle.ips_outstanding.specs.Parts.{content_told};
 ghost use Rattle.ips_outstanding.specs.Verdicts.{meant, role_said};
 
 use crate::bytes::has_bytes;
-use crate::due::Records;
+use crate::due::{Content, Records};
 use crate::verdict::Verdict;
-use ips_content::look_at;
+use ips_content::{has_content, look_at};
 use ips_outside::{Failed, Look, Source};
 use ips_text::{Or, RelPath};
 use std::alloc::Global;
@@ -32,7 +35,7 @@ pub fn of_path<S: Source>(
     path: &RelPath,
     role: Role,
 ) -> Result<Option<Verdict>, Or<Failed>>
-    ensures found { IsTrue (S.outside.tells source.old) → IfOk result (λ verdict. (due : Due) → meant due verdict ≡ role_said role ((S.outside.state source.old).held.look path.now.bytes)) }
+    ensures found { IsTrue (S.outside.tells source.old) → IfOk result (λ verdict. (bytes : List ℕ → List ℕ) (due : Due) → meant bytes due verdict ≡ role_said role ((S.outside.state source.old).held.look path.now.bytes)) }
     ensures untouched { role ≡ Role.Renewed → source.new ≡ source.old }
     ensures reads { Reads S.outside source.old source.new (HasFailed result) }
 {
@@ -45,7 +48,7 @@ pub fn of_path<S: Source>(
 
 // A folder is made where no directory stands.
 fn of_folder<S: Source>(source: &mut S, path: &RelPath) -> Result<Option<Verdict>, Or<Failed>>
-    ensures found { IsTrue (S.outside.tells source.old) → IfOk result (λ verdict. (due : Due) → meant due verdict ≡ role_said Role.Folder ((S.outside.state source.old).held.look path.now.bytes)) }
+    ensures found { IsTrue (S.outside.tells source.old) → IfOk result (λ verdict. (bytes : List ℕ → List ℕ) (due : Due) → meant bytes due verdict ≡ role_said Role.Folder ((S.outside.state source.old).held.look path.now.bytes)) }
     ensures reads { Reads S.outside source.old source.new (HasFailed result) }
 {
     match look_at(source, path)? {
@@ -56,7 +59,7 @@ fn of_folder<S: Source>(source: &mut S, path: &RelPath) -> Result<Option<Verdict
 
 // What stands there goes.
 fn of_gone<S: Source>(source: &mut S, path: &RelPath) -> Result<Option<Verdict>, Or<Failed>>
-    ensures found { IsTrue (S.outside.tells source.old) → IfOk result (λ verdict. (due : Due) → meant due verdict ≡ role_said Role.Gone ((S.outside.state source.old).held.look path.now.bytes)) }
+    ensures found { IsTrue (S.outside.tells source.old) → IfOk result (λ verdict. (bytes : List ℕ → List ℕ) (due : Due) → meant bytes due verdict ≡ role_said Role.Gone ((S.outside.state source.old).held.look path.now.bytes)) }
     ensures reads { Reads S.outside source.old source.new (HasFailed result) }
 {
     match look_at(source, path)? {
@@ -65,7 +68,7 @@ fn of_gone<S: Source>(source: &mut S, path: &RelPath) -> Result<Option<Verdict>,
     }
 }
 
-/// What is said of the path of a record: nothing where it stands with its bytes and stays. It looks only where it stays.
+/// What is said of the path of a record: nothing where it stands with its content and stays. It looks only where it stays.
 pub fn of_record<S: Source, R: Records>(
     alloc: Global,
     source: &mut S,
@@ -77,8 +80,8 @@ pub fn of_record<S: Source, R: Records>(
     requires number { number < length (R.records records.now) }
     requires room { 0 < length buffer.old }
     ensures kept { length buffer.new ≡ length buffer.old }
-    ensures found { IsTrue (S.outside.tells source.old) → IfOk result (λ verdict. (due : Due) (path bytes : List ℕ) → due.records ≡ R.records records.now → slice_get (R.records records.now) number ≡ Some (path, bytes)
-        → meant due verdict ≡ said_record bytes goes ((S.outside.state source.old).held.look path)) }
+    ensures found { IsTrue (S.outside.tells source.old) → IfOk result (λ verdict. (bytes : List ℕ → List ℕ) (due : Due) (path : List ℕ) (content : spec.Content) → due.records ≡ R.records records.now → slice_get (R.records records.now) number ≡ Some (path, content)
+        → meant bytes due verdict ≡ said_record bytes is_payload_of content goes ((S.outside.state source.old).held.look path)) }
     ensures untouched { goes ≡ true → source.new ≡ source.old }
     ensures reads { Reads S.outside source.old source.new (HasFailed result) }
 {
@@ -91,7 +94,7 @@ pub fn of_record<S: Source, R: Records>(
     Ok(Some(Verdict::Record(number)))
 }
 
-// Whether a file with the bytes of a record stands at its path. They are made only where a file stands.
+// Whether a file with the content of a record stands at its path. It is made only where a file stands.
 fn stands<S: Source, R: Records>(
     alloc: Global,
     source: &mut S,
@@ -102,8 +105,8 @@ fn stands<S: Source, R: Records>(
     requires number { number < length (R.records records.now) }
     requires room { 0 < length buffer.old }
     ensures kept { length buffer.new ≡ length buffer.old }
-    ensures found { IsTrue (S.outside.tells source.old) → IfOk result (λ stands. (path bytes : List ℕ) → slice_get (R.records records.now) number ≡ Some (path, bytes)
-        → stands ≡ holds_bytes bytes ((S.outside.state source.old).held.look path)) }
+    ensures found { IsTrue (S.outside.tells source.old) → IfOk result (λ stands. (path : List ℕ) (content : spec.Content) → slice_get (R.records records.now) number ≡ Some (path, content)
+        → stands ≡ holds_content is_payload_of content ((S.outside.state source.old).held.look path)) }
     ensures reads { Reads S.outside source.old source.new (HasFailed result) }
 {
     let path = records.path(number);
@@ -113,7 +116,7 @@ fn stands<S: Source, R: Records>(
     }
 }
 
-// Whether the file at the path of a record, which has so many bytes, has those of the record.
+// Whether the file at the path of a record, which has so many bytes, has the content of the record.
 fn compare<S: Source, R: Records>(
     alloc: Global,
     source: &mut S,
@@ -125,13 +128,33 @@ fn compare<S: Source, R: Records>(
     requires number { number < length (R.records records.now) }
     requires room { 0 < length buffer.old }
     ensures kept { length buffer.new ≡ length buffer.old }
-    ensures found { IsTrue (S.outside.tells source.old) → IfOk result (λ stands. (path bytes : List ℕ) → slice_get (R.records records.now) number ≡ Some (path, bytes)
-        → HasSize (file_at (S.outside.state source.old).held path) size → stands ≡ holds_bytes bytes ((S.outside.state source.old).held.look path)) }
+    ensures found { IsTrue (S.outside.tells source.old) → IfOk result (λ stands. (path : List ℕ) (content : spec.Content) → slice_get (R.records records.now) number ≡ Some (path, content)
+        → HasSize (file_at (S.outside.state source.old).held path) size → stands ≡ holds_content is_payload_of content ((S.outside.state source.old).held.look path)) }
     ensures reads { Reads S.outside source.old source.new (HasFailed result) }
 {
-    let text = records.text(alloc, number)?;
-    match has_bytes(source, records.path(number), size, &text, buffer) {
+    let content = records.content(alloc, number)?;
+    match is_in_file(source, records.path(number), size, &content, buffer) {
         Ok(same) => Ok(same),
         Err(Failed) => Err(Or::Bad(Failed)),
+    }
+}
+
+// Whether the file at a path, which has so many bytes, has this content: just the bytes, or such as the name of the payload tells.
+fn is_in_file<S: Source>(
+    source: &mut S,
+    path: &RelPath,
+    size: u64,
+    content: &Content,
+    buffer: &mut [u8],
+) -> Result<bool, Failed>
+    requires room { 0 < length buffer.old }
+    ensures kept { length buffer.new ≡ length buffer.old }
+    ensures found { IsTrue (S.outside.tells source.old) → HasSize (file_at (S.outside.state source.old).held path.now.bytes) size
+        → IfOk result (λ same. same ≡ is_content is_payload_of (content_told content.now) (readable ((S.outside.state source.old).held.look path.now.bytes))) }
+    ensures reads { Reads S.outside source.old source.new (IsErr result) }
+{
+    match content {
+        Content::Own(bytes) => has_bytes(source, path, size, bytes, buffer),
+        Content::Payload(name) => has_content(source, path, size, name, buffer),
     }
 }

@@ -1,7 +1,10 @@
 //! What is due, lent part by part.
 
 ghost use Rattle.std.specs.Prelude.{◌≡◌, ◌<◌, ℕ, List, Some, IfOk, length, map, slice_get};
+ghost use Rattle.ips_due.specs.Due as spec;
+ghost use Rattle.ips_outstanding.specs.Parts.{content_told};
 
+use ips_digest::PayloadName;
 use ips_text::RelPath;
 use std::alloc::{AllocError, Global};
 
@@ -11,15 +14,45 @@ pub struct AccountFile {
     /// Its path.
     pub path: RelPath,
     /// The mode that is left there.
-    pub mode: u32,
+    pub mode: u16,
     /// Its bytes.
     pub bytes: Vec<u8>,
 }
 
-/// The records that are due, by their numbers from 0 on. The bytes of each are made when they are asked for. Where a path is that of two,
+/// The content of a record that is due.
+#[derive(Drop)]
+pub enum Content {
+    /// Bytes of its own.
+    Own(Vec<u8>),
+    /// A payload of the repository, as that of a license.
+    Payload(PayloadName),
+}
+
+impl Content {
+    /// The same content.
+    pub fn copy(&self, alloc: Global) -> Result<Content, AllocError>
+        ensures { IfOk result (λ copied. content_told copied ≡ content_told self.now) }
+    {
+        match self {
+            Content::Own(bytes) => Ok(Content::Own(Vec::from_slice(alloc, bytes)?)),
+            Content::Payload(name) => Ok(Content::Payload(*name)),
+        }
+    }
+}
+
+/// A record that is due.
+#[derive(Drop)]
+pub struct DueRecord {
+    /// Its path.
+    pub path: RelPath,
+    /// Its content.
+    pub content: Content,
+}
+
+/// The records that are due, by their numbers from 0 on. The content of each is made when it is asked for. Where a path is that of two,
 /// the first counts.
 pub trait Records {
-    ghost records: { Self → List (List ℕ × List ℕ) };
+    ghost records: { Self → List (List ℕ × spec.Content) };
 
     /// How many there are.
     fn count(&self) -> usize
@@ -30,10 +63,10 @@ pub trait Records {
         requires { number < length (records self.now) }
         ensures { slice_get (map (λ r. r.0) (records self.now)) number ≡ Some result.now.bytes };
 
-    /// The bytes of a record.
-    fn text(&self, alloc: Global, number: usize) -> Result<Vec<u8>, AllocError>
+    /// The content of a record.
+    fn content(&self, alloc: Global, number: usize) -> Result<Content, AllocError>
         requires { number < length (records self.now) }
-        ensures { IfOk result (λ bytes. slice_get (map (λ r. r.1) (records self.now)) number ≡ Some bytes.items) };
+        ensures { IfOk result (λ content. slice_get (map (λ r. r.1) (records self.now)) number ≡ Some (content_told content)) };
 }
 
 /// What is due behind a request.

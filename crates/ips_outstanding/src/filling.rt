@@ -6,7 +6,8 @@ ghost use Rattle.ips_after.specs.Change.{reached};
 ghost use Rattle.ips_content.specs.Failing.{HasFailed};
 ghost use Rattle.ips_conflict.specs.Index.{has_path};
 ghost use Rattle.ips_due.specs.Due as spec;
-ghost use Rattle.ips_due.specs.Due.{Due, account_at, record_at, said, said_record};
+ghost use Rattle.ips_wanted.specs.Named.{is_payload_of};
+ghost use Rattle.ips_due.specs.Due.{Content, Due, account_at, record_at, said, said_record};
 ghost use Rattle.ips_outstanding.specs.Noted.{Adds, AreMarked, account_said, noted, record_said, told};
 ghost use Rattle.ips_outstanding.specs.Parts.{due_file, due_of};
 ghost use Rattle.ips_outstanding.specs.Verdicts.{meant, role_said};
@@ -32,7 +33,7 @@ pub fn fill<S: Source, R: Records>(
     requires marked { AreMarked notes.old }
     requires none { (q : List ℕ) → noted notes.old q ≡ None }
     ensures marked { OnOk result (AreMarked notes.new) }
-    ensures found { IsTrue (S.outside.tells source.old) → OnOk result ((q : List ℕ) → meant (due_of R.records due.now) (told notes.new q) ≡ said (due_of R.records due.now) (S.outside.state source.old).held q) }
+    ensures found { IsTrue (S.outside.tells source.old) → OnOk result ((bytes : List ℕ → List ℕ) (q : List ℕ) → meant bytes (due_of R.records due.now) (told notes.new q) ≡ said bytes is_payload_of (due_of R.records due.now) (S.outside.state source.old).held q) }
     ensures reads { Reads S.outside source.old source.new (HasFailed result) }
 {
     let mut going = BTreeSet::new(alloc);
@@ -55,7 +56,7 @@ fn ask<S: Source, R: Records>(
     requires marked { AreMarked notes.old }
     requires none { (q : List ℕ) → noted notes.old q ≡ None }
     ensures marked { OnOk result (AreMarked notes.new) }
-    ensures found { IsTrue (S.outside.tells source.old) → OnOk result ((q : List ℕ) → meant (due_of R.records due.now) (told notes.new q) ≡ said (due_of R.records due.now) (S.outside.state source.old).held q) }
+    ensures found { IsTrue (S.outside.tells source.old) → OnOk result ((bytes : List ℕ → List ℕ) (q : List ℕ) → meant bytes (due_of R.records due.now) (told notes.new q) ≡ said bytes is_payload_of (due_of R.records due.now) (S.outside.state source.old).held q) }
     ensures reads { Reads S.outside source.old source.new (HasFailed result) }
 {
     add_accounts(alloc, due.accounts, notes)?;
@@ -74,7 +75,7 @@ fn add_accounts(
 ) -> Result<(), AllocError>
     requires marked { AreMarked notes.old }
     ensures marked { OnOk result (AreMarked notes.new) }
-    ensures noted { OnOk result ((due : Due) → due.accounts ≡ map due_file accounts.now → Adds due notes.old notes.new (map (λ f. f.path.bytes) accounts.now) (λ q. account_said (account_at due.accounts q))) }
+    ensures noted { OnOk result ((bytes : List ℕ → List ℕ) (due : Due) → due.accounts ≡ map due_file accounts.now → Adds bytes due notes.old notes.new (map (λ f. f.path.bytes) accounts.now) (λ q. account_said (account_at due.accounts q))) }
 {
     for number in 0..accounts.len() {
         add(
@@ -99,8 +100,8 @@ fn add_records<S: Source, R: Records>(
     requires room { 0 < length buffer.old }
     requires marked { AreMarked notes.old }
     ensures marked { OnOk result (AreMarked notes.new) }
-    ensures found { IsTrue (S.outside.tells source.old) → OnOk result ((due : Due) → due.records ≡ R.records records.now
-        → Adds due notes.old notes.new (map (λ r. r.0) (R.records records.now)) (λ q. record_said (record_at due.records q) (reached (has_path going.now) q) ((S.outside.state source.old).held.look q))) }
+    ensures found { IsTrue (S.outside.tells source.old) → OnOk result ((bytes : List ℕ → List ℕ) (due : Due) → due.records ≡ R.records records.now
+        → Adds bytes due notes.old notes.new (map (λ r. r.0) (R.records records.now)) (λ q. record_said bytes (record_at due.records q) (reached (has_path going.now) q) ((S.outside.state source.old).held.look q))) }
     ensures reads { Reads S.outside source.old source.new (HasFailed result) }
 {
     for number in 0..records.count() {
@@ -124,8 +125,8 @@ fn add_record<S: Source, R: Records>(
     requires marked { AreMarked notes.old }
     ensures kept { length buffer.new ≡ length buffer.old }
     ensures marked { OnOk result (AreMarked notes.new) }
-    ensures found { IsTrue (S.outside.tells source.old) → OnOk result ((due : Due) (path bytes : List ℕ) → due.records ≡ R.records records.now → slice_get (R.records records.now) number ≡ Some (path, bytes)
-        → Adds due notes.old notes.new (path ∷ []) (λ q. said_record bytes (reached (has_path going.now) path) ((S.outside.state source.old).held.look path))) }
+    ensures found { IsTrue (S.outside.tells source.old) → OnOk result ((bytes : List ℕ → List ℕ) (due : Due) (path : List ℕ) (content : Content) → due.records ≡ R.records records.now → slice_get (R.records records.now) number ≡ Some (path, content)
+        → Adds bytes due notes.old notes.new (path ∷ []) (λ q. said_record bytes is_payload_of content (reached (has_path going.now) path) ((S.outside.state source.old).held.look path))) }
     ensures reads { Reads S.outside source.old source.new (HasFailed result) }
 {
     let path = records.path(number);
@@ -148,7 +149,7 @@ fn add_paths<S: Source>(
 ) -> Result<(), Or<Failed>>
     requires marked { AreMarked notes.old }
     ensures marked { OnOk result (AreMarked notes.new) }
-    ensures found { IsTrue (S.outside.tells source.old) → OnOk result ((due : Due) → Adds due notes.old notes.new (map (λ p. p.bytes) paths.now) (λ q. role_said role ((S.outside.state source.old).held.look q))) }
+    ensures found { IsTrue (S.outside.tells source.old) → OnOk result ((bytes : List ℕ → List ℕ) (due : Due) → Adds bytes due notes.old notes.new (map (λ p. p.bytes) paths.now) (λ q. role_said role ((S.outside.state source.old).held.look q))) }
     ensures reads { Reads S.outside source.old source.new (HasFailed result) }
 {
     for i in 0..paths.len() {
@@ -167,7 +168,7 @@ fn add_path<S: Source>(
 ) -> Result<(), Or<Failed>>
     requires marked { AreMarked notes.old }
     ensures marked { OnOk result (AreMarked notes.new) }
-    ensures found { IsTrue (S.outside.tells source.old) → OnOk result ((due : Due) → Adds due notes.old notes.new (path.now.bytes ∷ []) (λ q. role_said role ((S.outside.state source.old).held.look path.now.bytes))) }
+    ensures found { IsTrue (S.outside.tells source.old) → OnOk result ((bytes : List ℕ → List ℕ) (due : Due) → Adds bytes due notes.old notes.new (path.now.bytes ∷ []) (λ q. role_said role ((S.outside.state source.old).held.look path.now.bytes))) }
     ensures reads { Reads S.outside source.old source.new (HasFailed result) }
 {
     if notes.has(path) {
@@ -187,7 +188,7 @@ fn add(
 ) -> Result<(), AllocError>
     requires marked { AreMarked notes.old }
     ensures marked { OnOk result (AreMarked notes.new) }
-    ensures noted { OnOk result ((due : Due) → Adds due notes.old notes.new (path.now.bytes ∷ []) (λ q. meant due verdict)) }
+    ensures noted { OnOk result ((bytes : List ℕ → List ℕ) (due : Due) → Adds bytes due notes.old notes.new (path.now.bytes ∷ []) (λ q. meant bytes due verdict)) }
 {
     if notes.has(path) {
         return Ok(());

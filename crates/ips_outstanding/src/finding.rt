@@ -8,6 +8,7 @@ ghost use Rattle.ips_text.specs.Path.{IsPath};
 ghost use Rattle.ips_outside.specs.Image.{Image};
 ghost use Rattle.ips_outside.specs.Outside.{Reads};
 ghost use Rattle.ips_content.specs.Failing.{HasFailed};
+ghost use Rattle.ips_wanted.specs.Named.{is_payload_of};
 ghost use Rattle.ips_due.specs.Due.{Due, IsOverOf, said};
 ghost use Rattle.ips_outstanding.specs.Noted.{AreMarked, told};
 ghost use Rattle.ips_outstanding.specs.Outstanding.{AreOutstanding, over_of};
@@ -32,8 +33,8 @@ pub fn outstanding<S: Source, R: Records>(
     due: &DueParts<'_, R>,
 ) -> Result<Outstanding, Or<Failed>>
     ensures order { IfOk result (λ found. IsStrictlySortedBy (slice_cmp nat_cmp) (named_paths found.named.items)) }
-    ensures found { IsTrue (S.outside.tells source.old) → IfOk result (λ found. AreOutstanding (due_of R.records due.now) (S.outside.state source.old).held found.named.items) }
-    ensures over { IsTrue (S.outside.tells source.old) → IfOk result (λ found. IsOverOf (due_of R.records due.now) (S.outside.state source.old).held (over_of (due_of R.records due.now) (S.outside.state source.old).held (named_paths found.named.items))) }
+    ensures found { IsTrue (S.outside.tells source.old) → IfOk result (λ found. (bytes : List ℕ → List ℕ) → AreOutstanding bytes (due_of R.records due.now) (S.outside.state source.old).held found.named.items) }
+    ensures over { IsTrue (S.outside.tells source.old) → IfOk result (λ found. (bytes : List ℕ → List ℕ) → IsOverOf bytes is_payload_of (due_of R.records due.now) (S.outside.state source.old).held (over_of bytes (due_of R.records due.now) (S.outside.state source.old).held (named_paths found.named.items))) }
     ensures reads { Reads S.outside source.old source.new (HasFailed result) }
 {
     let mut notes = Notes::new(alloc);
@@ -47,8 +48,8 @@ pub fn outstanding<S: Source, R: Records>(
 fn collected(alloc: Global, notes: &Notes) -> Result<Outstanding, Or<Failed>>
     requires { AreMarked notes.now }
     ensures order { IfOk result (λ found. IsStrictlySortedBy (slice_cmp nat_cmp) (named_paths found.named.items)) }
-    ensures found { IfOk result (λ found. (due : Due) (t : Image) → ((q : List ℕ) → spec.meant due (told notes.now q) ≡ said due t q) → AreOutstanding due t found.named.items) }
-    ensures over { IfOk result (λ found. (due : Due) (t : Image) → ((q : List ℕ) → spec.meant due (told notes.now q) ≡ said due t q) → IsOverOf due t (over_of due t (named_paths found.named.items))) }
+    ensures found { IfOk result (λ found. (bytes : List ℕ → List ℕ) (due : Due) (t : Image) → ((q : List ℕ) → spec.meant bytes due (told notes.now q) ≡ said bytes is_payload_of due t q) → AreOutstanding bytes due t found.named.items) }
+    ensures over { IfOk result (λ found. (bytes : List ℕ → List ℕ) (due : Due) (t : Image) → ((q : List ℕ) → spec.meant bytes due (told notes.now q) ≡ said bytes is_payload_of due t q) → IsOverOf bytes is_payload_of due t (over_of bytes due t (named_paths found.named.items))) }
     ensures memory { HasFailed result → ⊥ }
 {
     Ok(Outstanding {

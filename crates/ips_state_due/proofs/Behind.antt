@@ -3,6 +3,11 @@ use Rattle.std.proofs.Common.{◌≡◌, ℕ, zero, suc, ◌+◌, ◌-◌, ◌<�
 use Rattle.std.specs.Prelude.{option_map, slice_get}
 use Rattle.std.proofs.lemmas.List.{length-append, length-map}
 use Rattle.std.proofs.lemmas.Option.{slice_get-get_or, slice_get-map}
+use Rattle.ips_due.specs.Due.{Content}
+
+-- a record's path, and its content
+abbrev pub DueEntry : Type 0
+DueEntry = List ℕ × Content
 
 module _ {A B C : Type 0} (f : A → C) (g : B → C) where
   pub lengths : (xs : List A) (ys : List B) → length (map f xs ++ map g ys) ≡ length xs + length ys

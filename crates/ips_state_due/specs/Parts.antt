@@ -1,15 +1,20 @@
--- The records of a state, and others behind them.
-use Rattle.std.specs.Prelude.{◌≡◌, ◌⊎◌, ◌++◌, List, map}
+-- The records of a state, and others behind them, as records that are due.
+use Rattle.std.specs.Prelude.{◌≡◌, ℕ, ◌⊎◌, ◌++◌, List, map}
 use Rattle.std.specs.List.{AllByRecursion}
-use Rattle.ips_state.specs.declared.state.Record.{Record}
 use Rattle.ips_state.specs.State.{Recorded}
-use Rattle.ips_state.specs.Records.{RecordFile, entry_of}
-use Rattle.ips_entries.specs.Part.{HasPart, entry_at}
+use Rattle.ips_entries.specs.Part.{HasPart, record_text}
 use Rattle.ips_entries.specs.declared.part.Place.{Place}
+use Rattle.ips_due.specs.Due.{Content, Own}
+use Rattle.ips_outstanding.specs.declared.due.DueRecord.{DueRecord}
+use Rattle.ips_outstanding.specs.Parts.{due_record}
+
+-- The record at a place of the state, as a record that is due.
+abbrev pub due_at : Recorded → Place → List ℕ × Content
+due_at r place = (place.path.bytes, Own (record_text r place.part))
 
 -- The records at these places of the state, and the others.
-abbrev pub records_by : Recorded → List Place → List Record → List RecordFile
-records_by r places others = map (entry_at r) places ++ map entry_of others
+abbrev pub records_by : Recorded → List Place → List DueRecord → List (List ℕ × Content)
+records_by r places others = map (due_at r) places ++ map due_record others
 
 -- The state is in one of both formats, and has the parts of these places.
 pub record HasPlaces (r : Recorded) (places : List Place) : Type 0 where

@@ -1,31 +1,34 @@
 //! The records of a state, and others behind them.
 
-ghost use Rattle.std.specs.Prelude.{◌≡◌, ◌<◌, Some, IfOk, length, map, slice_get};
+ghost use Rattle.std.specs.Prelude.{◌≡◌, ◌⊎◌, ◌<◌, Some, IfOk, length, map, slice_get};
 ghost use Rattle.ips_state.specs.State.{recorded};
+ghost use Rattle.ips_entries.specs.Part.{HasPart, record_text};
+ghost use Rattle.ips_due.specs.Due.{Own};
+ghost use Rattle.ips_outstanding.specs.Parts.{content_told};
 ghost use Rattle.ips_state_due.specs.Parts.{HasPlaces, records_by};
 
 use ips_entries::{Place, text_of};
-use ips_outstanding::Records;
-use ips_state::{Record, State};
+use ips_outstanding::{Content, DueRecord, Records};
+use ips_state::State;
 use ips_text::RelPath;
 use std::alloc::{AllocError, Global};
 use std::marker::Model;
 
-/// The records of a state at its places, and others behind them, such as those of what packages deliver. Contracts see their paths and bytes.
+/// The records of a state at its places, and others behind them, such as those of what packages deliver. Contracts see their paths and contents.
 #[derive(Drop)]
 pub struct StateRecords<'a> {
     state: &'a State,
     places: &'a [Place],
-    others: &'a [Record],
+    others: &'a [DueRecord],
 }
 
 impl<'a> Model for StateRecords<'a> {
-    ghost use Rattle.std.specs.Prelude.{List};
-    ghost use Rattle.ips_state.specs.Records.{RecordFile};
+    ghost use Rattle.std.specs.Prelude.{ℕ, List};
+    ghost use Rattle.ips_due.specs.Due.{Content};
     ghost use Rattle.ips_state.specs.State.{recorded};
     ghost use Rattle.ips_state_due.specs.Parts.{HasPlaces, records_by};
 
-    ghost Value = { List RecordFile };
+    ghost Value = { List (List ℕ × Content) };
 
     ghost view = { λ s. records_by (recorded s.state.now) s.places.now s.others.now };
 
@@ -34,7 +37,7 @@ impl<'a> Model for StateRecords<'a> {
 
 impl<'a> StateRecords<'a> {
     /// The records at these places of the state, and the others.
-    pub fn new(state: &'a State, places: &'a [Place], others: &'a [Record]) -> StateRecords<'a>
+    pub fn new(state: &'a State, places: &'a [Place], others: &'a [DueRecord]) -> StateRecords<'a>
         requires { HasPlaces (recorded state.now) places.now }
         ensures { result ≡ records_by (recorded state.now) places.now others.now }
     {
@@ -60,10 +63,20 @@ impl<'a> Records for StateRecords<'a> {
         }
     }
 
-    fn text(&self, alloc: Global, number: usize) -> Result<Vec<u8>, AllocError> {
+    fn content(&self, alloc: Global, number: usize) -> Result<Content, AllocError> {
         match self.places.get(number) {
-            Some(place) => text_of(alloc, self.state, place.part),
-            None => Vec::from_slice(alloc, &self.others[number - self.places.len()].bytes),
+            Some(place) => text_at(alloc, self.state, place),
+            None => self.others[number - self.places.len()].content.copy(alloc),
         }
     }
+}
+
+// What the record at a place of the state holds.
+fn text_at(alloc: Global, state: &State, place: &Place) -> Result<Content, AllocError>
+    requires format { (state.now.format ≡ 1) ⊎ (state.now.format ≡ 2) }
+    requires part { HasPart (recorded state.now) place.now.part }
+    ensures { IfOk result (λ content. content_told content ≡ Own (record_text (recorded state.now) place.now.part)) }
+{
+    let bytes = text_of(alloc, state, place.part)?;
+    Ok(Content::Own(bytes))
 }

@@ -6,7 +6,7 @@ use Rattle.ips_outstanding.proofs.Answered.{named_from}
 use Rattle.ips_outstanding.proofs.answer.Outstanding.spoken.Goals as goal
 
 pub returns-clause-named : goal.returns-clause-named
-returns-clause-named c = λ due t o out is.
+returns-clause-named c = λ bytes due t o out is.
     let named = c.args.self.now.named.items in
     let all : take c.loop-named.named-index named ≡ named = take_all c.loop-named.named-index named (omega (arith, c.loop-named-test.false, c.deref-named-items.ensures.len, c.args.self.now.named.ok.0)) in
-    named_from due t o named out is c.loop-named.spoken.items (c.loop-named.invariant.paths ∙ ap (λ (l : List Named). named_paths l) all) (c.loop-named.invariant.said ∙ ap (map (λ (n : Named). option_map said_of n.verdict)) all)
+    named_from bytes due t o named out is c.loop-named.spoken.items (c.loop-named.invariant.paths ∙ ap (λ (l : List Named). named_paths l) all) (c.loop-named.invariant.said ∙ ap (map (λ (n : Named). option_map said_of n.verdict)) all)

@@ -2,8 +2,8 @@ use Rattle.std.proofs.Common.{nat_cmp, sym, rules}
 use Rattle.std.specs.Cmp.Lexicographic.{slice_cmp}
 use Rattle.std.proofs.lemmas.Fn.{always_returns_same}
 use Rattle.ips_outstanding.specs.declared.verdict.Named.{Named}
-use Rattle.ips_outstanding.proofs.Searched.{found_at, not_found, searchable}
-use Rattle.ips_outstanding.proofs.laying.verdict_at.Goals as goal
+use Rattle.ips_due_laying.proofs.Searched.{found_at, not_found, searchable}
+use Rattle.ips_due_laying.proofs.laying.verdict_at.Goals as goal
 
 pub returns-in-Ok : goal.returns-in-Ok
 returns-in-Ok c =

@@ -14,14 +14,9 @@ use Rattle.std.proofs.lemmas.Map.Lookups.{exact_bytes}
 use Rattle.std.proofs.lemmas.Option.{same_Some}
 use Rattle.ips_text.specs.Ancestry.{same_path}
 use Rattle.ips_text.proofs.Ancestry.{same_path-self, same_path-true}
-use Rattle.ips_outside.specs.Image.{Entry, Image}
-use Rattle.ips_after.specs.Lists.{listed}
-use Rattle.ips_due.specs.Due.{Due, said}
 use Rattle.ips_outstanding.specs.declared.verdict.Named.{Named}
-use Rattle.ips_outstanding.specs.declared.verdict.Verdict.{Verdict}
-use Rattle.ips_outstanding.specs.Laying.{entry_at, entry_for, laid_entry, verdict_at}
-use Rattle.ips_outstanding.specs.Outstanding.{AreOutstanding}
-use Rattle.ips_outstanding.specs.Verdicts.{entry_by, meant, named_paths}
+use Rattle.ips_outstanding.specs.Verdicts.{named_paths}
+use Rattle.ips_due_laying.specs.Laying.{verdict_at}
 
 abbrev pub Ascends : List Named → Type 0
 Ascends named = IsStrictlySortedBy (slice_cmp nat_cmp) (named_paths named)
@@ -64,24 +59,3 @@ not_found named q i h = none_at named q (recursion_from_All (λ (n : Named). sam
     go : (k : ℕ) (d : Named) → k < length named → (k < i) ⊎ (i ≤ k) → same_path (get_or named k d).path.bytes q ≡ false
     go k d lt (inl low) = apart (get_or named k d).path.bytes q (λ tie. let bad : Less ≡ Equal = sym (h.0 k d (omega arith) low) ∙ tie in absurd cc)
     go k d lt (inr high) = apart (get_or named k d).path.bytes q (λ tie. let bad : Greater ≡ Equal = sym (h.1 k d high lt) ∙ tie in absurd cc)
-
--- ---- what is laid there
-
-meant_at : (due : Due) (says : List ℕ → Option (Option Entry)) (named : List Named) (q : List ℕ) → map (λ n. meant due n.verdict) named ≡ map says (named_paths named) → listed (named_paths named) q ≡ true → meant due (verdict_at named q) ≡ says q
-meant_at due says [] q are there = cc
-meant_at due says (n ∷ named) q are there =
-    let one : meant due n.verdict ≡ says n.path.bytes = cc in
-    let rest : map (λ (x : Named). meant due x.verdict) named ≡ map says (named_paths named) = cc in
-    elim (cases_Bool (same_path n.path.bytes q)) [
-      | inl same ↦ ap (λ (b : Bool). meant due (cond b n.verdict (verdict_at named q))) same ∙ one ∙ ap says (same_path-true n.path.bytes q same)
-      | inr other ↦ ap (λ (b : Bool). meant due (cond b n.verdict (verdict_at named q))) other ∙ meant_at due says named q rest (sym (ap (λ (b : Bool). b || listed (named_paths named) q) other) ∙ there)
-    ]
-
-entry_meant : (due : Due) (v : Option Verdict) (e : Entry) → meant due v ≡ Some (Some e) → entry_for due v ≡ e
-entry_meant due None e is = cc
-entry_meant due (Some v) e is = ap laid_entry (same_Some (entry_by due v) (Some e) is)
-
--- the entry of what is said
-pub entry_said : (due : Due) (t : Image) (named : List Named) (q : List ℕ) (e : Entry) → AreOutstanding due t named → said due t q ≡ Some (Some e) → entry_at due named q ≡ e
-entry_said due t named q e out is =
-    entry_meant due (verdict_at named q) e (meant_at due (said due t) named q out.each (out.keyed q (ap (λ (o : Option (Option Entry)). is_some o) is)) ∙ is)

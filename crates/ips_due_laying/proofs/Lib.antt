@@ -1,0 +1,2 @@
+mod LaidDue
+mod Searched
