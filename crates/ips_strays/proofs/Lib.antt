@@ -3,3 +3,4 @@ pub mod Gathered
 pub mod Rowed
 pub mod Sorting
 pub mod Salvaged
+pub mod Saving

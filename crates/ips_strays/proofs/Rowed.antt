@@ -12,7 +12,7 @@ use Rattle.ips_after.specs.Lists.{listed}
 use Rattle.ips_survey.specs.declared.row.Row.{Row}
 use Rattle.ips_survey.specs.Marks.{row_paths}
 use Rattle.ips_survey.proofs.Filling.{rows_more}
-use Rattle.ips_strays.specs.declared.stray.Stray.{Stray}
+use Rattle.ips_found.specs.declared.found.Thing.{Thing}
 use Rattle.ips_strays.specs.Strays.{Adds}
 use Rattle.ips_strays.proofs.Gathered.{Test, adds_as, adds_then}
 
@@ -34,7 +34,7 @@ found_listed paths path (Some i) is none = placed paths path i is
 found_listed paths path None is none = sym none
 
 -- what is added at one more row
-pub adds_row : (t : Image) (f : List ℕ → Test) (rows : List Row) (i : ℕ) (row : Row) (old mid new : List Stray) → i < length rows → row ≡ get_or rows i row
+pub adds_row : (t : Image) (f : List ℕ → Test) (rows : List Row) (i : ℕ) (row : Row) (old mid new : List Thing) → i < length rows → row ≡ get_or rows i row
     → Adds t (λ q. list_any (λ p. f p q) (row_paths (take i rows))) old mid → Adds t (f row.path.now.bytes) mid new → Adds t (λ q. list_any (λ p. f p q) (row_paths (take (i + 1) rows))) old new
 adds_row t f rows i row old mid new lt is before one =
     adds_as t (λ q. list_any (λ p. f p q) (row_paths (take i rows)) || f row.path.now.bytes q) (λ q. list_any (λ p. f p q) (row_paths (take (i + 1) rows))) old new

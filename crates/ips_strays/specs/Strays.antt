@@ -1,45 +1,27 @@
 -- What stands at paths without a row, where something goes.
-use Rattle.std.specs.Prelude.{◌≡◌, ℕ, Bool, cond, not, ◌&&◌, ◌||◌, ◌==◌, List, [], ◌∷◌, map, Option, Some, None, is_some}
-use Rattle.std.specs.List.{AllByRecursion, list_any}
+use Rattle.std.specs.Prelude.{◌≡◌, ℕ, Bool, true, false, cond, not, ◌&&◌, ◌||◌, ◌==◌, List, [], ◌∷◌, is_some}
+use Rattle.std.specs.List.{list_any}
 use Rattle.ips_text.specs.Ancestry.{is_below}
-use Rattle.ips_outside.specs.Image.{Dir, Entry, File, Image, Link, Other}
+use Rattle.ips_outside.specs.Image.{Image}
 use Rattle.ips_after.specs.Change.{reached}
 use Rattle.ips_after.specs.Lists.{listed}
 use Rattle.ips_after.specs.Request.{Request, takes}
+use Rattle.ips_after.specs.Salvage.{salvaged}
 use Rattle.ips_change.specs.Told.{naming}
 use Rattle.ips_salvage.specs.Destroying.{goes_else}
-use Rattle.ips_strays.specs.declared.stray.Found.{Found}
-use Rattle.ips_strays.specs.declared.stray.Found.TheVariants as found
-use Rattle.ips_strays.specs.declared.stray.Stray.{Stray}
-
--- what is found of an entry
-abbrev pub found_of : Option Entry → Option Found
-found_of (Some (Dir m f)) = Some (found.Dir m f)
-found_of (Some (File m b)) = Some (found.File m)
-found_of (Some (Link g)) = Some found.Link
-found_of (Some Other) = Some found.Other
-found_of None = None
+use Rattle.ips_change.specs.declared.stands.Stands.{Stands}
+use Rattle.ips_change.specs.declared.stands.Stands.TheVariants as stands
+use Rattle.ips_found.specs.Found.{AreThings, Found, found_told, thing_paths}
+use Rattle.ips_found.specs.declared.found.Thing.{Thing}
 
 -- a path with what was found there
-abbrev pub seen : Stray → List ℕ × Found
-seen s = (s.path.bytes, s.found)
+abbrev pub seen : Thing → List ℕ × Found
+seen x = (x.path.bytes, found_told x.found)
 
--- the paths of what was found
-abbrev pub stray_paths : List Stray → List (List ℕ)
-stray_paths strays = map (λ s. s.path.bytes) strays
-
--- Just that was found which stands at the path.
-abbrev pub IsFound : Image → Stray → Type 0
-IsFound t s = Some s.found ≡ found_of (t.look s.path.bytes)
-
--- Of each stray just that was found which stands at its path.
-abbrev pub AreFound : Image → List Stray → Type 0
-AreFound t strays = AllByRecursion (IsFound t) strays
-
--- The new strays are the old ones and just what stands at the paths of this test.
-pub record Adds (t : Image) (test : List ℕ → Bool) (old new : List Stray) : Type 0 where
-  pub paths : (q : List ℕ) → listed (stray_paths new) q ≡ (listed (stray_paths old) q || (is_some (t.look q) && test q))
-  pub things : AreFound t old → AreFound t new
+-- The new things are the old ones and just what stands at the paths of this test.
+pub record Adds (t : Image) (test : List ℕ → Bool) (old new : List Thing) : Type 0 where
+  pub paths : (q : List ℕ) → listed (thing_paths new) q ≡ (listed (thing_paths old) q || (is_some (t.look q) && test q))
+  pub things : AreThings t old → AreThings t new
 
 -- the first part of a path
 abbrev pub first_part : List ℕ → List ℕ
@@ -64,3 +46,16 @@ hangs_among test paths among q = list_any (λ p. test p && hangs paths p q) amon
 -- what stands at the path goes with something that is destroyed or with a directory with a stated mode, or is an edit that goes, and isn't taken away
 abbrev pub opens : Request → Image → List ℕ → Bool
 opens r t p = goes_else (naming r) t p && not (reached (λ q. takes (r.over.at q)) p)
+
+-- what stands is told in full: nothing, a file with its mode, or what is neither that nor a directory nor a symbolic link
+abbrev pub is_told : Stands → Bool
+is_told stands.Unasked = false
+is_told stands.Absent = true
+is_told (stands.Dir m) = false
+is_told (stands.File m known fresh) = true
+is_told (stands.Link wanted) = false
+is_told stands.Other = true
+
+-- what stands at the path is salvaged, and the path is one of these
+abbrev pub saved_at : Request → Image → List (List ℕ) → List ℕ → Bool
+saved_at r t paths q = salvaged r t q && listed paths q

@@ -8,20 +8,22 @@ ghost use Rattle.ips_folder.specs.Listing.{IsListing};
 ghost use Rattle.ips_content.specs.Failing.{HasFailed};
 ghost use Rattle.ips_strays.specs.Strays.{Adds};
 
-use crate::stray::{Found, Stray, add};
+use crate::adding::add;
+use crate::finding::link_at;
 use ips_content::look_at;
 use ips_folder::{Folder, ListFault, Listing};
+use ips_found::{Found, Thing};
 use ips_outside::{Failed, Look};
 use ips_text::{Or, RelPath};
 use std::alloc::Global;
 
-// Adds what stands at the path and all that stands below it.
+/// Adds what stands at the path and all that stands below it.
 #[cycle(walk)]
-pub(crate) fn gather<F: Folder>(
+pub fn gather<F: Folder>(
     alloc: Global,
     folder: &mut F,
     path: &RelPath,
-    strays: &mut Vec<Stray>,
+    strays: &mut Vec<Thing>,
 ) -> Result<(), Or<Failed>>
     ensures found { IsTrue (F.outside.tells folder.old) → OnOk result (Adds (F.outside.state folder.old).held (covers path.now.bytes) strays.old.items strays.new.items) }
     ensures reads { Reads F.outside folder.old folder.new (HasFailed result) }
@@ -36,7 +38,7 @@ pub(crate) fn gather<F: Folder>(
             };
         }
         Look::File { mode, .. } => Found::File { mode },
-        Look::Link => Found::Link,
+        Look::Link => link_at(alloc, folder, path)?,
         Look::Other => Found::Other,
     };
     add(alloc, path, found, strays)?;
@@ -51,7 +53,7 @@ fn gather_dir<F: Folder>(
     dir: &RelPath,
     mode: u16,
     listing: &Listing,
-    strays: &mut Vec<Stray>,
+    strays: &mut Vec<Thing>,
 ) -> Result<(), Or<Failed>>
     requires listing { IsTrue (F.outside.tells folder.old) → IsListing (F.outside.state folder.old).held dir.now.bytes listing.now }
     requires stands { IsTrue (F.outside.tells folder.old) → (F.outside.state folder.old).held.look dir.now.bytes ≡ Some (Dir mode listing.now.foreign) }

@@ -15,8 +15,8 @@ ghost use Rattle.ips_survey.specs.Marks.{row_paths};
 ghost use Rattle.ips_strays.specs.Strays.{Adds, hangs};
 
 use crate::gathering::gather;
-use crate::stray::Stray;
 use ips_folder::{Folder, ListFault};
+use ips_found::Thing;
 use ips_outside::Failed;
 use ips_survey::{Row, is_dir_at, place};
 use ips_text::{Or, RelPath};
@@ -28,7 +28,7 @@ pub(crate) fn gather_below<F: Folder>(
     folder: &mut F,
     rows: &[Row<'_>],
     row: &Row<'_>,
-    strays: &mut Vec<Stray>,
+    strays: &mut Vec<Thing>,
 ) -> Result<(), Or<Failed>>
     requires order { IsStrictlySortedBy (slice_cmp nat_cmp) (row_paths rows.now) }
     requires looked { IsTrue (F.outside.tells folder.old) → HasLooked (F.outside.state folder.old).held row.now }
@@ -51,7 +51,7 @@ fn gather_bare<F: Folder>(
     folder: &mut F,
     rows: &[Row<'_>],
     paths: &[RelPath],
-    strays: &mut Vec<Stray>,
+    strays: &mut Vec<Thing>,
 ) -> Result<(), Or<Failed>>
     requires order { IsStrictlySortedBy (slice_cmp nat_cmp) (row_paths rows.now) }
     ensures found { IsTrue (F.outside.tells folder.old)

@@ -1,13 +1,19 @@
-//! What stands at no path that a request is about, and is salvaged with something that goes.
+//! What is salvaged, with what stands there: at the paths that a request is about, and at others where something goes.
 //!
-//! In reading order: what was found at a path (`stray`), all that stands at or below one (`gathering`), what stands below a row without a row
-//! of its own (`hanging`), and all of it where something goes (`straying`).
+//! In reading order: what stands at a path (`finding`), a thing that is added (`adding`), all that stands at or below a path (`gathering`), what
+//! stands below a row without a row of its own (`hanging`), all of it where something goes (`straying`), what stands at rows (`marked`), and all
+//! that is salvaged as one list (`joining`).
 #![tactic(auto)]
 
+mod adding;
+mod finding;
 mod gathering;
 mod hanging;
-mod stray;
+mod joining;
+mod marked;
 mod straying;
 
-pub use stray::{Found, Stray};
-pub use straying::strays;
+pub use gathering::gather;
+pub use joining::things;
+pub use marked::add_row;
+pub use straying::{sort, strays};

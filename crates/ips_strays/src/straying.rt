@@ -16,11 +16,12 @@ ghost use Rattle.ips_survey.specs.Rows.{HasLooked};
 ghost use Rattle.ips_survey.specs.Marks.{IsMarkOf, row_paths};
 ghost use Rattle.ips_survey.specs.Tables.{IsTable};
 ghost use Rattle.ips_salvage.specs.Destroying.{destroys_else, goes_else};
-ghost use Rattle.ips_strays.specs.Strays.{Adds, AreFound, hangs_among, opens, stray_paths};
+ghost use Rattle.ips_found.specs.Found.{AreThings, thing_paths};
+ghost use Rattle.ips_strays.specs.Strays.{Adds, hangs_among, opens};
 
 use crate::hanging::gather_below;
-use crate::stray::Stray;
 use ips_folder::Folder;
+use ips_found::Thing;
 use ips_outside::Failed;
 use ips_salvage::{going, taken_away};
 use ips_survey::{Row, Table, is_reached};
@@ -34,16 +35,16 @@ pub fn strays<F: Folder>(
     folder: &mut F,
     table: &Table<'_>,
     destroyed: &[bool],
-) -> Result<Vec<Stray>, Or<Failed>>
+) -> Result<Vec<Thing>, Or<Failed>>
     requires order { IsStrictlySortedBy (slice_cmp nat_cmp) (row_paths table.now.rows.items) }
     requires said { length table.now.said.items ≡ length table.now.rows.items }
     requires destroyed { length destroyed.now ≡ length table.now.rows.items }
     requires looked { IsTrue (F.outside.tells folder.old) → AllByRecursion (HasLooked (F.outside.state folder.old).held) table.now.rows.items }
-    ensures order { IfOk result (λ strays. IsStrictlySortedBy (slice_cmp nat_cmp) (stray_paths strays.items)) }
+    ensures order { IfOk result (λ strays. IsStrictlySortedBy (slice_cmp nat_cmp) (thing_paths strays.items)) }
     ensures listed { IsTrue (F.outside.tells folder.old) → IfOk result (λ strays. (r : Request) → IsRequest r → IsTable r table.now.rows.items table.now.said.items
         → IsMarkOf (destroys_else (naming r) (F.outside.state folder.old).held) (row_paths table.now.rows.items) destroyed.now
-        → (q : List ℕ) → listed (stray_paths strays.items) q ≡ (salvage.salvaged (naming r) (F.outside.state folder.old).held q && not (listed (row_paths table.now.rows.items) q))) }
-    ensures found { IsTrue (F.outside.tells folder.old) → IfOk result (λ strays. AreFound (F.outside.state folder.old).held strays.items) }
+        → (q : List ℕ) → listed (thing_paths strays.items) q ≡ (salvage.salvaged (naming r) (F.outside.state folder.old).held q && not (listed (row_paths table.now.rows.items) q))) }
+    ensures found { IsTrue (F.outside.tells folder.old) → IfOk result (λ strays. AreThings (F.outside.state folder.old).held strays.items) }
     ensures reads { Reads F.outside folder.old folder.new (HasFailed result) }
 {
     let mut strays = Vec::new(alloc);
@@ -52,11 +53,11 @@ pub fn strays<F: Folder>(
     Ok(strays)
 }
 
-// Puts them by bytes, each path once.
-fn sort(strays: &mut Vec<Stray>) -> Result<(), AllocError>
-    ensures order { OnOk result (IsStrictlySortedBy (slice_cmp nat_cmp) (stray_paths strays.new.items)) }
-    ensures same { OnOk result ((q : List ℕ) → listed (stray_paths strays.new.items) q ≡ listed (stray_paths strays.old.items) q) }
-    ensures found { OnOk result ((t : Image) → AreFound t strays.old.items → AreFound t strays.new.items) }
+/// Puts them by bytes, each path once.
+pub fn sort(strays: &mut Vec<Thing>) -> Result<(), AllocError>
+    ensures order { OnOk result (IsStrictlySortedBy (slice_cmp nat_cmp) (thing_paths strays.new.items)) }
+    ensures same { OnOk result ((q : List ℕ) → listed (thing_paths strays.new.items) q ≡ listed (thing_paths strays.old.items) q) }
+    ensures found { OnOk result ((t : Image) → AreThings t strays.old.items → AreThings t strays.new.items) }
 {
     strays.sort_by(|a, b| a.path.cmp(&b.path))?;
     strays.dedup_by(|a, b| a.path == b.path);
@@ -69,7 +70,7 @@ fn gather_all<F: Folder>(
     folder: &mut F,
     table: &Table<'_>,
     destroyed: &[bool],
-    strays: &mut Vec<Stray>,
+    strays: &mut Vec<Thing>,
 ) -> Result<(), Or<Failed>>
     requires order { IsStrictlySortedBy (slice_cmp nat_cmp) (row_paths table.now.rows.items) }
     requires said { length table.now.said.items ≡ length table.now.rows.items }
@@ -78,7 +79,7 @@ fn gather_all<F: Folder>(
     ensures found { IsTrue (F.outside.tells folder.old) → OnOk result ((r : Request) → IsTable r table.now.rows.items table.now.said.items
         → IsMarkOf (destroys_else (naming r) (F.outside.state folder.old).held) (row_paths table.now.rows.items) destroyed.now
         → Adds (F.outside.state folder.old).held (hangs_among (opens r (F.outside.state folder.old).held) (row_paths table.now.rows.items) (row_paths table.now.rows.items)) strays.old.items strays.new.items) }
-    ensures things { IsTrue (F.outside.tells folder.old) → OnOk result (AreFound (F.outside.state folder.old).held strays.old.items → AreFound (F.outside.state folder.old).held strays.new.items) }
+    ensures things { IsTrue (F.outside.tells folder.old) → OnOk result (AreThings (F.outside.state folder.old).held strays.old.items → AreThings (F.outside.state folder.old).held strays.new.items) }
     ensures reads { Reads F.outside folder.old folder.new (HasFailed result) }
 {
     let going = going(alloc, table, destroyed)?;
@@ -93,7 +94,7 @@ fn gather_open<F: Folder>(
     rows: &[Row<'_>],
     going: &[bool],
     away: &[bool],
-    strays: &mut Vec<Stray>,
+    strays: &mut Vec<Thing>,
 ) -> Result<(), Or<Failed>>
     requires order { IsStrictlySortedBy (slice_cmp nat_cmp) (row_paths rows.now) }
     requires going { length going.now ≡ length rows.now }
@@ -103,7 +104,7 @@ fn gather_open<F: Folder>(
         → going.now ≡ map (goes_else (naming r) (F.outside.state folder.old).held) (row_paths rows.now)
         → IsMarkOf (λ q. takes (r.over.at q)) (row_paths rows.now) away.now
         → Adds (F.outside.state folder.old).held (hangs_among (opens r (F.outside.state folder.old).held) (row_paths rows.now) (row_paths rows.now)) strays.old.items strays.new.items) }
-    ensures things { IsTrue (F.outside.tells folder.old) → OnOk result (AreFound (F.outside.state folder.old).held strays.old.items → AreFound (F.outside.state folder.old).held strays.new.items) }
+    ensures things { IsTrue (F.outside.tells folder.old) → OnOk result (AreThings (F.outside.state folder.old).held strays.old.items → AreThings (F.outside.state folder.old).held strays.new.items) }
     ensures reads { Reads F.outside folder.old folder.new (HasFailed result) }
 {
     for i in 0..rows.len() {

@@ -9,11 +9,12 @@ use Rattle.ips_outside.specs.State.{State}
 use Rattle.ips_outside.proofs.Reading.{reads_none, reads_then}
 use Rattle.ips_outside.proofs.Rooms.{path_fits}
 use Rattle.ips_content.specs.Failing.{HasFailed}
-use Rattle.ips_strays.specs.declared.stray.Found.{Found}
-use Rattle.ips_strays.specs.declared.stray.Stray.{Stray}
-use Rattle.ips_strays.specs.Strays.{Adds, found_of, seen}
+use Rattle.ips_found.specs.declared.found.Thing.{Thing}
+use Rattle.ips_found.specs.Found.{found_of, found_told}
+use Rattle.ips_found.specs.declared.found.Found.{Found as Told}
+use Rattle.ips_strays.specs.Strays.{Adds, seen}
 use Rattle.ips_strays.proofs.Gathered.{absent_looked, adds_absent, adds_children, adds_flagged, adds_looked, adds_next, adds_one, adds_self, adds_unflagged, file_looked, first_of, link_looked, longer, other_looked, self_or_among}
-use Rattle.ips_strays.proofs.gathering.+walk.Goals.{gather-in-File, gather-in-Link, gather-in-Other, gather_dir-then-bytes+in_ok-gather, gather_dir-else-bytes}
+use Rattle.ips_strays.proofs.gathering.+walk.Goals.{gather-in-File, gather-in-Link+in_ok-found-in-Link, gather-in-Other, gather_dir-then-bytes+in_ok-gather, gather_dir-else-bytes}
 use Rattle.ips_strays.proofs.gathering.+walk.Goals as goal
 
 pub gather-returns-in-Absent-clause-found : goal.gather-returns-in-Absent-clause-found
@@ -27,13 +28,16 @@ gather-returns-clause-found g t c = λ told.
     let u = (g.F.Source.outside.state c.args.folder.now).held in
     let p = c.args.path.now.bytes in
     let old = c.args.strays.now.items in
-    let new = c.add.new.strays.items in
+    let new = c.add.new.things.items in
     let looked = c.in_ok-look_at.ensures.found told in
     let formed = g.met.F.Source.sane.formed c.args.folder.now told in
-    let added : (f : Found) → c.match-branch-2.found ≡ f → map seen new ≡ map seen old ++ (p, f) ∷ [] = λ f is. c.in_ok-add.ensures ∙ ap (λ (x : Found). map seen old ++ (p, x) ∷ []) is in
+    let added : (f : Told) → c.match-branch-2.found ≡ f → map seen new ≡ map seen old ++ (p, found_told f) ∷ [] = λ f is. c.in_ok-add.ensures ∙ ap (λ (x : Told). map seen old ++ (p, found_told x) ∷ []) is in
     elim c.match-branch-2.branch [
       | gather-in-File w ↦ adds_looked u p _ old new formed (file_looked (u.look p) _ _ (sym w.in-File.is ∙ looked)) (added _ w.found-is)
-      | gather-in-Link w ↦ adds_looked u p _ old new formed (link_looked (u.look p) (sym w.in-Link.is ∙ looked)) (added _ w.found-is)
+      | gather-in-Link+in_ok-found-in-Link w ↦
+          let reads = c.in_ok-look_at.ensures.reads in
+          let said = w.in_ok-found-in-Link.ensures.found (reads.call.same_kind ∙ told) ∙ ap (λ (s : State). found_of (s.held.look p)) reads.kept in
+          adds_looked u p _ old new formed (link_looked (u.look p) _ (sym w.in-Link.is ∙ looked) said) (added _ w.found-is)
       | gather-in-Other w ↦ adds_looked u p _ old new formed (other_looked (u.look p) (sym w.in-Other.is ∙ looked)) (added _ w.found-is)
     ]
 
@@ -42,7 +46,7 @@ gather_dir-loop-child-init g t c = record {
   reads = reads_none g.F.Source.outside c.args.folder.now ⊥ (λ f. f);
   so_far = λ told.
       let u = (g.F.Source.outside.state c.args.folder.now).held in
-      adds_self u c.args.dir.now.bytes c.args.strays.now.items c.add.new.strays.items (adds_one u c.args.dir.now.bytes _ c.args.strays.now.items c.add.new.strays.items c.in_ok-add.ensures (sym (ap found_of (c.requires.stands told))));
+      adds_self u c.args.dir.now.bytes c.args.strays.now.items c.add.new.things.items (adds_one u c.args.dir.now.bytes _ c.args.strays.now.items c.add.new.things.items c.in_ok-add.ensures (sym (ap found_of (c.requires.stands told))));
 }
 
 pub gather_dir-gather-requires : goal.gather_dir-gather-requires
@@ -74,7 +78,7 @@ gather_dir-loop-child-preserved g t c =
         so_far = λ told.
             let more = subst (λ (v : Image). Adds v (covers path.bytes) mid w.gather.new.strays.items) kept (w.in_ok-gather.ensures.found (inv.reads.call.same_kind ∙ told)) in
             let behind = lt-ltb (length dir) (length path.bytes) (omega (arith, one, all, w.if-bytes.true)) in
-            subst (λ (l : List Stray). Adds u (self_or_among dir (first_of paths (i + 1))) old l) (sym (ap (λ v. v.items) w.strays-is))
+            subst (λ (l : List Thing). Adds u (self_or_among dir (first_of paths (i + 1))) old l) (sym (ap (λ v. v.items) w.strays-is))
             (adds_next u (same_path dir) (λ c q. longer dir c && covers c q) paths i path old mid w.gather.new.strays.items c.loop-child-test.true c.child-item.is (inv.so_far told)
             (adds_flagged u (longer dir path.bytes) (covers path.bytes) mid w.gather.new.strays.items behind more));
       }
@@ -82,7 +86,7 @@ gather_dir-loop-child-preserved g t c =
         reads = subst (λ f. Reads o start f ⊥) (sym w.folder-is) inv.reads;
         so_far = λ told.
             let apart : longer dir path.bytes ≡ false = false_from_ne_true _ (λ h. omega (arith, one, all, ltb-true (length dir) (length path.bytes) h, w.if-bytes.false)) in
-            subst (λ (l : List Stray). Adds u (self_or_among dir (first_of paths (i + 1))) old l) (sym (ap (λ v. v.items) w.strays-is))
+            subst (λ (l : List Thing). Adds u (self_or_among dir (first_of paths (i + 1))) old l) (sym (ap (λ v. v.items) w.strays-is))
             (adds_next u (same_path dir) (λ c q. longer dir c && covers c q) paths i path old mid mid c.loop-child-test.true c.child-item.is (inv.so_far told)
             (adds_unflagged u (longer dir path.bytes) (covers path.bytes) mid apart));
       }

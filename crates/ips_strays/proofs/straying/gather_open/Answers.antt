@@ -9,8 +9,9 @@ use Rattle.ips_after.specs.Request.{Request, takes}
 use Rattle.ips_survey.specs.Marks.{IsMarkOf, row_paths}
 use Rattle.ips_links.proofs.Linked.{at_row}
 use Rattle.ips_salvage.specs.Destroying.{goes_else}
-use Rattle.ips_strays.specs.declared.stray.Stray.{Stray}
-use Rattle.ips_strays.specs.Strays.{Adds, AreFound, hangs, hangs_among, opens}
+use Rattle.ips_found.specs.declared.found.Thing.{Thing}
+use Rattle.ips_found.specs.Found.{AreThings}
+use Rattle.ips_strays.specs.Strays.{Adds, hangs, hangs_among, opens}
 use Rattle.ips_strays.proofs.Gathered.{adds_flagged, adds_unflagged}
 use Rattle.ips_strays.proofs.Rowed.{adds_row}
 use Rattle.ips_strays.proofs.straying.gather_open.Goals.{then-is_open+in_ok-gather_below, else-is_open}
@@ -41,18 +42,18 @@ loop-i-preserved g c =
           record {
             reads = subst (λ f. Reads o start f ⊥) (sym w.folder-is)
                 (reads_then o start c.loop-i.folder w.gather_below.new.folder (HasFailed w.gather_below.result) ⊥ inv.reads w.gather_below.ensures.reads (λ f. subst (λ (r : _). HasFailed r) w.in_ok-gather_below.was f) (λ f. absurd f));
-            so_far = λ told r going away. subst (λ (l : List Stray). Adds u (hangs_among (opens r u) paths (row_paths (take (i + 1) rows))) old l) (sym last)
+            so_far = λ told r going away. subst (λ (l : List Thing). Adds u (hangs_among (opens r u) paths (row_paths (take (i + 1) rows))) old l) (sym last)
                 (adds_row u (λ x q. opens r u x && hangs paths x q) rows i row old mid new c.loop-i-test.true c.index-rows-i.is (inv.so_far told r going away)
                 (adds_flagged u (opens r u p) (hangs paths p) mid new (sym (tells r going away) ∙ w.if-is_open.true) (more told)));
-            things = λ told all. subst (λ (l : List Stray). AreFound u l) (sym last) ((more told).things (inv.things told all));
+            things = λ told all. subst (λ (l : List Thing). AreThings u l) (sym last) ((more told).things (inv.things told all));
           }
       | else-is_open w ↦
           let last = ap (λ v. v.items) w.strays-is in
           record {
             reads = subst (λ f. Reads o start f ⊥) (sym w.folder-is) inv.reads;
-            so_far = λ told r going away. subst (λ (l : List Stray). Adds u (hangs_among (opens r u) paths (row_paths (take (i + 1) rows))) old l) (sym last)
+            so_far = λ told r going away. subst (λ (l : List Thing). Adds u (hangs_among (opens r u) paths (row_paths (take (i + 1) rows))) old l) (sym last)
                 (adds_row u (λ x q. opens r u x && hangs paths x q) rows i row old mid mid c.loop-i-test.true c.index-rows-i.is (inv.so_far told r going away)
                 (adds_unflagged u (opens r u p) (hangs paths p) mid (sym (tells r going away) ∙ w.if-is_open.false)));
-            things = λ told all. subst (λ (l : List Stray). AreFound u l) (sym last) (inv.things told all);
+            things = λ told all. subst (λ (l : List Thing). AreThings u l) (sym last) (inv.things told all);
           }
     ]

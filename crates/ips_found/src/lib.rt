@@ -1,0 +1,6 @@
+//! What was found at a path.
+#![tactic(auto)]
+
+mod found;
+
+pub use found::{Found, Thing};

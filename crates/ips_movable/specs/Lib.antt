@@ -1,0 +1,2 @@
+pub mod Movable
+pub mod First
