@@ -1,0 +1,4 @@
+pub mod Longer
+pub mod Beside
+pub mod Named
+pub mod Added
