@@ -4,6 +4,7 @@ use Rattle.std.specs.List.{AllByRecursion}
 use Rattle.std.proofs.lemmas.List.{append-nil, get_or_default, map-append}
 use Rattle.ips_text.proofs.Lists.{take_item}
 use Rattle.ips_outside.specs.Image.{Entry, Image}
+use Rattle.ips_laying.specs.Laying as laying
 use Rattle.ips_after.specs.After.{change_after, over_or, supported}
 use Rattle.ips_after.specs.Change.{Change, Laid, Removed}
 use Rattle.ips_after.specs.Request.{Request}
@@ -32,14 +33,14 @@ turns_more r t e paths order i place turns c lt is are =
     ∙ ap (λ (l : List (List ℕ)). turns ++ turns_of r t e l) (sym (map-append (path_in paths) (take i order) (place ∷ [])))
     ∙ ap (λ (l : List ℕ). turns ++ turns_of r t e (map (path_in paths) l)) (sym (take_item order i place lt is))
 
-in_append : (entries : List ℕ → Option Entry) (paths : List (List ℕ)) (said : List (Option Said)) (changes : List Told) (emptied : List Bool) (xs ys : List ℕ)
+in_append : (entries : List ℕ → Option laying.Laid) (paths : List (List ℕ)) (said : List (Option Said)) (changes : List Told) (emptied : List Bool) (xs ys : List ℕ)
     → provenances_in entries paths said changes emptied (xs ++ ys) ≡ provenances_in entries paths said changes emptied xs ++ provenances_in entries paths said changes emptied ys
 in_append entries paths said changes emptied [] ys = refl
 in_append entries paths said changes emptied (x ∷ xs) ys =
     ap (λ (l : List Provenance). provenances_of entries paths said changes emptied x ++ l) (in_append entries paths said changes emptied xs ys)
     ∙ sym (append_assoc (provenances_of entries paths said changes emptied x) (provenances_in entries paths said changes emptied xs) (provenances_in entries paths said changes emptied ys))
 
-pub provenances_more : (entries : List ℕ → Option Entry) (paths : List (List ℕ)) (said : List (Option Said)) (changes : List Told) (emptied : List Bool) (order : List ℕ) (i place : ℕ) (before more : List Provenance) → i < length order → place ≡ get_or order i place
+pub provenances_more : (entries : List ℕ → Option laying.Laid) (paths : List (List ℕ)) (said : List (Option Said)) (changes : List Told) (emptied : List Bool) (order : List ℕ) (i place : ℕ) (before more : List Provenance) → i < length order → place ≡ get_or order i place
     → more ≡ provenances_of entries paths said changes emptied place
     → (before ++ provenances_in entries paths said changes emptied (take i order)) ++ more ≡ before ++ provenances_in entries paths said changes emptied (take (i + 1) order)
 provenances_more entries paths said changes emptied order i place before more lt is are =
@@ -55,7 +56,7 @@ within_here [] n i d lt all = absurd (omega arith)
 within_here (x ∷ xs) n zero d lt all = all.0
 within_here (x ∷ xs) n (suc i) d lt all = within_here xs n i d (omega (arith, lt)) all.1
 
-pub from_here : (entries : List ℕ → Option Entry) (paths : List (List ℕ)) (said : List (Option Said)) (changes : List Told) (emptied : List Bool) (place : ℕ) (q : List ℕ) (one : Option Said) (change : Told) → place < length said → place < length changes
+pub from_here : (entries : List ℕ → Option laying.Laid) (paths : List (List ℕ)) (said : List (Option Said)) (changes : List Told) (emptied : List Bool) (place : ℕ) (q : List ℕ) (one : Option Said) (change : Told) → place < length said → place < length changes
     → path_in paths place ≡ q → one ≡ get_or said place one → change ≡ get_or changes place change → provenances_at (get_or emptied place false) one (entries q) change ≡ provenances_of entries paths said changes emptied place
 from_here entries paths said changes emptied place q one change lt less at is by =
     ap (λ (x : List ℕ). provenances_at (get_or emptied place false) one (entries x) change) (sym at)
@@ -65,20 +66,20 @@ from_here entries paths said changes emptied place q one change lt less at is by
 -- ---- one path
 
 -- a path's last turn is this change, and its contents come from there
-pub record Becomes (bytes : List ℕ → List ℕ) (gone : Bool) (said : Option Said) (o : Option (Option Entry)) (entry : Option Entry) (change : Told) (c : Change) (from : List Provenance) : Type 0 where
+pub record Becomes (bytes : List ℕ → List ℕ) (gone : Bool) (said : Option Said) (o : Option (Option Entry)) (entry : Option laying.Laid) (change : Told) (c : Change) (from : List Provenance) : Type 0 where
   pub change_is : c ≡ cond gone Removed (over_or o (change_told bytes change))
   pub from_is : from ≡ provenances_at gone said entry change
 
-pub gone_here : (bytes : List ℕ → List ℕ) (gone : Bool) (said : Option Said) (o : Option (Option Entry)) (entry : Option Entry) (change : Told) → gone ≡ true → Becomes bytes gone said o entry change Removed []
+pub gone_here : (bytes : List ℕ → List ℕ) (gone : Bool) (said : Option Said) (o : Option (Option Entry)) (entry : Option laying.Laid) (change : Told) → gone ≡ true → Becomes bytes gone said o entry change Removed []
 gone_here bytes true said o entry change is = record { change_is = refl; from_is = refl }
 gone_here bytes false said o entry change is = cc
 
-pub taken_here : (bytes : List ℕ → List ℕ) (gone : Bool) (said : Option Said) (o : Option (Option Entry)) (entry : Option Entry) (change : Told) → gone ≡ false → said ≡ Some Takes → said ≡ said_as o → Becomes bytes gone said o entry change Removed []
+pub taken_here : (bytes : List ℕ → List ℕ) (gone : Bool) (said : Option Said) (o : Option (Option Entry)) (entry : Option laying.Laid) (change : Told) → gone ≡ false → said ≡ Some Takes → said ≡ said_as o → Becomes bytes gone said o entry change Removed []
 taken_here bytes gone said (Some None) entry change kept is are = rw (kept, is) (record { change_is = refl; from_is = refl })
 taken_here bytes gone said None entry change kept is are = let bad : Some Takes ≡ None = sym is ∙ are in cc
 taken_here bytes gone said (Some (Some e)) entry change kept is are = let bad : Some Takes ≡ Some Lays = sym is ∙ are in cc
 
-pub own_here : (bytes : List ℕ → List ℕ) (gone : Bool) (said : Option Said) (o : Option (Option Entry)) (entry : Option Entry) (change : Told) → gone ≡ false → said ≡ None → said ≡ said_as o → Becomes bytes gone said o entry change (change_told bytes change) (provenances_told change)
+pub own_here : (bytes : List ℕ → List ℕ) (gone : Bool) (said : Option Said) (o : Option (Option Entry)) (entry : Option laying.Laid) (change : Told) → gone ≡ false → said ≡ None → said ≡ said_as o → Becomes bytes gone said o entry change (change_told bytes change) (provenances_told change)
 own_here bytes gone said None entry change kept is are = rw (kept, is) (record { change_is = refl; from_is = refl })
 own_here bytes gone said (Some None) entry change kept is are = let bad : None ≡ Some Takes = sym is ∙ are in cc
 own_here bytes gone said (Some (Some e)) entry change kept is are = let bad : None ≡ Some Lays = sym is ∙ are in cc
@@ -93,7 +94,7 @@ laid_one said (Some (Some e)) is are = record { entry = e; is = refl }
 laid_one said None is are = let bad : Some Lays ≡ None = sym is ∙ are in cc
 laid_one said (Some None) is are = let bad : Some Lays ≡ Some Takes = sym is ∙ are in cc
 
-pub laid_here : (bytes : List ℕ → List ℕ) (gone : Bool) (said : Option Said) (o : Option (Option Entry)) (entry : Option Entry) (change : Told) (e : Entry) → gone ≡ false → said ≡ Some Lays → o ≡ Some (Some e) → Becomes bytes gone said o entry change (Laid e) (provenances_laid entry)
+pub laid_here : (bytes : List ℕ → List ℕ) (gone : Bool) (said : Option Said) (o : Option (Option Entry)) (entry : Option laying.Laid) (change : Told) (e : Entry) → gone ≡ false → said ≡ Some Lays → o ≡ Some (Some e) → Becomes bytes gone said o entry change (Laid e) (provenances_laid entry)
 laid_here bytes gone said o entry change e kept is at = rw (kept, is, at) (record { change_is = refl; from_is = refl })
 
 pub emitted_as : (bytes : List ℕ → List ℕ) (t : Image) (turns : List Turn) (provenances : List Provenance) (p : List ℕ) (c d : Change) (from to : List Provenance) (e : Emitted) → c ≡ d → from ≡ to → IsEmitted bytes t (turns ++ (p, c) ∷ []) (provenances ++ from) e → IsEmitted bytes t (turns ++ (p, d) ∷ []) (provenances ++ to) e

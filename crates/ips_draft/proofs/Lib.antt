@@ -1,2 +1,3 @@
 pub mod Targets
 mod Drafted
+mod Saving

@@ -2,6 +2,7 @@
 
 ghost use Rattle.std.specs.Prelude.{◌≡◌, ◌++◌, ◌∷◌, [], ◌<◌, ℕ, Bool, cond, List, Option, Some, OnOk, length, map};
 ghost use Rattle.std.specs.List.{AllByRecursion};
+ghost use Rattle.std.specs.Option.{option_map};
 ghost use Rattle.ips_outside.specs.Image as image;
 ghost use Rattle.ips_after.specs.After as after;
 ghost use Rattle.ips_after.specs.Change as outcome;
@@ -10,14 +11,14 @@ ghost use Rattle.ips_change.specs.Told.{change_told, naming};
 ghost use Rattle.ips_survey.specs.Marks.{row_paths};
 ghost use Rattle.ips_survey.specs.Said.{said_as};
 ghost use Rattle.ips_survey.specs.Tables.{IsTable};
+ghost use Rattle.ips_laying.specs.Laying.{LaysFor, entry_laid};
 ghost use Rattle.ips_order.specs.Chosen.{path_in};
 ghost use Rattle.ips_emit.specs.Emitted.{HasTarget, IsEmitted, Provenance, Turn};
-ghost use Rattle.ips_draft.specs.Laying.{LaysFor};
 ghost use Rattle.ips_draft.specs.Drafting.{provenances_at, provenances_in, provenances_laid, turns_of};
 
-use crate::laying::{Laid, Laying};
 use ips_change::Change;
 use ips_emit::Emitted;
+use ips_laying::{Laid, Laying};
 use ips_survey::{Said, Table};
 use ips_text::RelPath;
 use std::alloc::{AllocError, Global};
@@ -39,12 +40,12 @@ pub fn draft<L: Laying>(
     requires emptied { length emptied.now ≡ length table.now.rows.items }
     requires places { AllByRecursion (λ i. i < length table.now.rows.items) order.now }
     ensures { OnOk result ((r : Request) (t : image.Image) (e : List ℕ → Bool) (turns : List Turn) (provenances : List Provenance)
-        → IsTable r table.now.rows.items table.now.said.items → LaysFor (L.entries laying.now) r.over
+        → IsTable r table.now.rows.items table.now.said.items → LaysFor r.bytes (L.laid laying.now) r.over
         → map (change_told r.bytes) changes.now ≡ map (after.supported (naming r) t) (row_paths table.now.rows.items)
         → emptied.now ≡ map e (row_paths table.now.rows.items)
         → IsEmitted r.bytes t turns provenances emitted.old
         → IsEmitted r.bytes t (turns ++ turns_of r t e (map (path_in (row_paths table.now.rows.items)) order.now))
-        (provenances ++ provenances_in (L.entries laying.now) (row_paths table.now.rows.items) table.now.said.items changes.now emptied.now order.now) emitted.new) }
+        (provenances ++ provenances_in (L.laid laying.now) (row_paths table.now.rows.items) table.now.said.items changes.now emptied.now order.now) emitted.new) }
 {
     for i in 0..order.len() {
         let place = order[i];
@@ -73,9 +74,9 @@ fn add<L: Laying>(
 ) -> Result<(), AllocError>
     requires { HasTarget change }
     ensures { OnOk result ((bytes : List ℕ → List ℕ) (t : image.Image) (turns : List Turn) (provenances : List Provenance) (o : Option (Option image.Entry))
-        → said ≡ said_as o → ((e : image.Entry) → o ≡ Some (Some e) → L.entries laying.now path.now.bytes ≡ Some e)
+        → said ≡ said_as o → ((e : image.Entry) → o ≡ Some (Some e) → option_map (entry_laid bytes) (L.laid laying.now path.now.bytes) ≡ Some e)
         → IsEmitted bytes t turns provenances emitted.old
-        → IsEmitted bytes t (turns ++ (path.now.bytes, cond gone outcome.Removed (after.over_or o (change_told bytes change.entry))) ∷ []) (provenances ++ provenances_at gone said (L.entries laying.now path.now.bytes) change.entry) emitted.new) }
+        → IsEmitted bytes t (turns ++ (path.now.bytes, cond gone outcome.Removed (after.over_or o (change_told bytes change.entry))) ∷ []) (provenances ++ provenances_at gone said (L.laid laying.now path.now.bytes) change.entry) emitted.new) }
 {
     if gone {
         return emitted.push(alloc, path, Change::Removed);
@@ -94,13 +95,17 @@ fn add_laid<L: Laying>(
     path: &RelPath,
     laying: &L,
 ) -> Result<(), AllocError>
-    ensures { OnOk result ((bytes : List ℕ → List ℕ) (t : image.Image) (turns : List Turn) (provenances : List Provenance) (e : image.Entry) → L.entries laying.now path.now.bytes ≡ Some e
+    ensures { OnOk result ((bytes : List ℕ → List ℕ) (t : image.Image) (turns : List Turn) (provenances : List Provenance) (e : image.Entry) → option_map (entry_laid bytes) (L.laid laying.now path.now.bytes) ≡ Some e
         → IsEmitted bytes t turns provenances emitted.old
-        → IsEmitted bytes t (turns ++ (path.now.bytes, outcome.Laid e) ∷ []) (provenances ++ provenances_laid (L.entries laying.now path.now.bytes)) emitted.new) }
+        → IsEmitted bytes t (turns ++ (path.now.bytes, outcome.Laid e) ∷ []) (provenances ++ provenances_laid (L.laid laying.now path.now.bytes)) emitted.new) }
 {
     match laying.entry(alloc, path)? {
         Some(Laid::Dir { mode }) => emitted.push(alloc, path, Change::Dir { mode }),
         Some(Laid::File { mode, bytes }) => emitted.push_text(alloc, path, mode, bytes),
+        Some(Laid::Payload { mode, payload }) => {
+            let payload = &payload;
+            emitted.push(alloc, path, Change::File { payload, mode })
+        }
         None => Ok(()),
     }
 }

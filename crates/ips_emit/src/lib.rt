@@ -2,11 +2,14 @@
 //!
 //! Each path of the plan's order adds the step of what becomes of it: of a change by what is wanted (`push`), of a file with bytes of its own,
 //! as records and account files are (`push_text`), of a copy of a file that stands (`push_standing`), or of a symbolic link that says any bytes
-//! (`push_link`).
+//! (`push_link`). `is_journal` tells whether a journal can list the steps.
 #![tactic(auto)]
 
 mod emitting;
 mod law;
+mod listing;
+mod names;
 
 pub use emitting::Emitted;
 pub use law::emitted_steps_are_a_plan;
+pub use listing::is_journal;

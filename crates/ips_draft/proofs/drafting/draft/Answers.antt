@@ -21,7 +21,7 @@ loop-i-preserved g c = λ r t e turns provenances table lays are marks before.
     let emptied = c.args.emptied.now in
     let order = c.args.order.now in
     let paths = row_paths rows in
-    let entries = g.L.Laying.entries c.args.laying.now in
+    let entries = g.L.Laying.laid c.args.laying.now in
     let i = c.loop-i.i in
     let lt : i < length order = c.loop-i-test.true in
     let place = get_or order i 0 in
@@ -52,7 +52,7 @@ pub returns : goal.returns
 returns g c = λ r t e turns provenances table lays are marks before.
     let rows = c.args.table.now.rows.items in
     let paths = row_paths rows in
-    let entries = g.L.Laying.entries c.args.laying.now in
+    let entries = g.L.Laying.laid c.args.laying.now in
     let whole = take_all c.loop-i.i c.args.order.now (omega (arith, c.loop-i-test.false)) in
     subst (λ (l : List ℕ). IsEmitted r.bytes t (turns ++ turns_of r t e (map (path_in paths) l)) (provenances ++ provenances_in entries paths c.args.table.now.said.items c.args.changes.now c.args.emptied.now l) c.loop-i.emitted) whole
     (c.loop-i.invariant r t e turns provenances table lays are marks before)
