@@ -1,0 +1,5 @@
+pub mod Left
+pub mod Texts
+pub mod Blocking
+pub mod Editing
+pub mod Base

@@ -1,0 +1,110 @@
+//! The base of an account file.
+
+ghost use Rattle.std.specs.Prelude.{◌≡◌, ◌≤◌, IsTrue, IfOk, Err, length};
+ghost use Rattle.std.specs.List.{AllByRecursion};
+ghost use Rattle.std.specs.List.Sorted.{IsStrictlySortedBy};
+ghost use Rattle.std.specs.Ordering.{nat_cmp};
+ghost use Rattle.std.specs.Cmp.Lexicographic.{slice_cmp};
+ghost use Rattle.ips_text.specs.Reading.{IfBad};
+ghost use Rattle.ips_text.specs.declared.refusal.Or.TheVariants.{Bad};
+ghost use Rattle.ips_outside.specs.Outside.{Reads};
+ghost use Rattle.ips_survey.specs.Rows.{HasLooked};
+ghost use Rattle.ips_survey.specs.Marks.{row_paths};
+ghost use Rattle.ips_emptied.specs.Joining.{HasAll};
+ghost use Rattle.ips_ledger.specs.declared.fault.LedgerFault.TheVariants as fault;
+ghost use Rattle.ips_ledger.specs.Base as spec;
+ghost use Rattle.ips_ledger.specs.Left.{IsLeft};
+ghost use Rattle.ips_ledger.specs.Texts.{account_limit};
+
+use crate::fault::LedgerFault;
+use crate::leaving::left_at;
+use crate::left::Left;
+use crate::reading::read_left;
+use ips_emptied::Settled;
+use ips_folder::Folder;
+use ips_outside::{Failed, Source};
+use ips_survey::Row;
+use ips_text::{Or, RelPath};
+use std::alloc::Global;
+
+/// What stands of an account file behind a request in which nothing is said of any path.
+#[derive(Drop)]
+pub struct BaseFile {
+    /// Its text; none where no file stands.
+    pub text: Vec<u8>,
+    /// Its mode; where no file stands, that of a new one.
+    pub mode: u16,
+}
+
+/// The base of the account file at the path: what a request leaves there where nothing is said of any path. `replaced` marks the rows at which what stands
+/// goes or is replaced, and `mode` is that of a new file.
+///
+/// # Errors
+///
+/// As those of `read_left`.
+pub fn base_at<'a, F: Folder, S: Source>(
+    alloc: Global,
+    folder: &mut F,
+    source: &mut S,
+    publisher: &str,
+    rows: &[Row<'a>],
+    settled: &Settled<'a>,
+    replaced: &[bool],
+    path: &RelPath,
+    mode: u16,
+) -> Result<BaseFile, Or<LedgerFault>>
+    requires order { IsStrictlySortedBy (slice_cmp nat_cmp) (row_paths rows.now) }
+    requires settled { HasAll rows.now settled.now }
+    requires replaced { length replaced.now ≡ length rows.now }
+    requires looked { IsTrue (F.outside.tells folder.old) → AllByRecursion (HasLooked (F.outside.state folder.old).held) rows.now }
+    ensures base { IsTrue (F.outside.tells folder.old) → IfOk result (λ base. spec.IsBase (F.outside.state folder.old).held rows.now settled.now replaced.now path.now.bytes mode (S.outside.tells source.old) publisher.now (S.outside.state source.old).held base.text.items base.mode) }
+    ensures within { IfOk result (λ base. length base.text.items ≤ account_limit) }
+    ensures refused { IfBad result (spec.IsBaseUnread (F.outside.tells folder.old) (F.outside.state folder.old).held rows.now settled.now replaced.now path.now.bytes (S.outside.tells source.old) publisher.now (S.outside.state source.old).held) }
+    ensures reads { Reads F.outside folder.old folder.new (result ≡ Err (Bad fault.FolderFault)) }
+    ensures reads_source { Reads S.outside source.old source.new (result ≡ Err (Bad fault.SourceFault)) }
+{
+    let left = match find_left(folder, rows, settled, replaced, path) {
+        Ok(left) => left,
+        Err(fault) => return Err(fault),
+    };
+    match read_left(alloc, folder, source, publisher, path, left) {
+        Ok(text) => Ok(BaseFile {
+            text,
+            mode: mode_of(left, mode),
+        }),
+        Err(fault) => Err(fault),
+    }
+}
+
+// What is left at the path.
+fn find_left<'a, F: Folder>(
+    folder: &mut F,
+    rows: &[Row<'a>],
+    settled: &Settled<'a>,
+    replaced: &[bool],
+    path: &RelPath,
+) -> Result<Left, Or<LedgerFault>>
+    requires order { IsStrictlySortedBy (slice_cmp nat_cmp) (row_paths rows.now) }
+    requires settled { HasAll rows.now settled.now }
+    requires replaced { length replaced.now ≡ length rows.now }
+    requires looked { IsTrue (F.outside.tells folder.old) → AllByRecursion (HasLooked (F.outside.state folder.old).held) rows.now }
+    ensures left { IsTrue (F.outside.tells folder.old) → IfOk result (IsLeft (F.outside.state folder.old).held rows.now settled.now replaced.now path.now.bytes) }
+    ensures faults { IfBad result (λ why. why ≡ fault.FolderFault) }
+    ensures reads { Reads F.outside folder.old folder.new (result ≡ Err (Bad fault.FolderFault)) }
+{
+    match left_at(folder, rows, settled, replaced, path) {
+        Ok(left) => Ok(left),
+        Err(Or::Bad(Failed)) => Err(Or::Bad(LedgerFault::FolderFault)),
+        Err(Or::OutOfMemory) => Err(Or::OutOfMemory),
+    }
+}
+
+// The mode of what is left, or this one where nothing is.
+fn mode_of(left: Left, mode: u16) -> u16
+    ensures { result ≡ spec.mode_left mode left }
+{
+    match left {
+        Left::Nothing => mode,
+        Left::Standing { mode } | Left::Laid { mode, .. } => mode,
+    }
+}
