@@ -1,0 +1,4 @@
+mod Merged
+mod Linking
+mod Ordered
+mod Drafted

@@ -1,0 +1,4 @@
+pub mod Merging
+pub mod Mending
+pub mod Ordering
+pub mod Drafting
