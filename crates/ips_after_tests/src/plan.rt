@@ -1,21 +1,21 @@
 //! What becomes of each path behind a request, and in which order.
 
-ghost use Rattle.std.specs.Prelude.{◌≡◌, length};
-ghost use Rattle.std.specs.List.Sorted.{IsStrictlySortedBy};
-ghost use Rattle.std.specs.Ordering.{nat_cmp};
-ghost use Rattle.std.specs.Cmp.Lexicographic.{slice_cmp};
-ghost use Rattle.ips_survey.specs.Marks.{row_paths};
-
 use crate::images::image_of;
 use crate::wants::wanted;
-use ips_change::{Beside, Change, side};
+use ips_change::Change;
 use ips_digest::PayloadName;
+use ips_emptied::{Settled, settle};
 use ips_folder::MemFolder;
-use ips_links::{links, needs, supported_at, supports};
-use ips_order::order;
-use ips_salvage::{destroyed, salvaged};
-use ips_survey::{Row, Table, merge, survey};
-use ips_text::RelPath;
+use ips_foreign::foreign;
+use ips_found::{Found, Thing};
+use ips_meaning::Want;
+use ips_order::{accounts, order};
+use ips_outside::Failed;
+use ips_salvage::destroyed;
+use ips_sides::{Side, SideName, sides};
+use ips_strays::things;
+use ips_survey::{Table, merge, survey};
+use ips_text::{Or, RelPath};
 use std::alloc::Global;
 use std::process::Abort;
 use std::rt::HostRuntime;
@@ -58,102 +58,99 @@ fn write_change(rt: &impl Abort, out: &mut String, path: &RelPath, change: Chang
     out.push_str(";").expect(rt, "memory");
 }
 
-// Adds what is put beside a row's path, if anything is.
-fn write_side(rt: &impl Abort, out: &mut String, row: &Row<'_>) {
-    let ending = match side(row.old, row.new, row.stands) {
-        Some(Beside::Old) => ".old;",
-        Some(Beside::Legacy) => ".legacy;",
-        Some(Beside::New) => ".new;",
-        None => return,
-    };
-    write_path(rt, out, row.path);
-    out.push_str(ending).expect(rt, "memory");
-}
-
-// Goes on from what becomes of each row with hard links, to what does with the directories that are made for what is below.
-fn support<'a>(table: &Table<'a>, supports: &[bool], changes: &mut [Change<'a>])
-    requires changes { length changes.old ≡ length table.now.rows.items }
-    requires supports { length supports.now ≡ length table.now.rows.items }
-    ensures { length changes.new ≡ length changes.old }
-{
-    for i in 0..table.rows.len() {
-        changes[i] = supported_at(&table.rows[i], changes[i], supports[i]);
+// Adds the files that are put beside paths, and what becomes of their names.
+fn write_sides(rt: &impl Abort, out: &mut String, sides: &[Side<'_>]) {
+    for side in sides {
+        write_path(rt, out, side.path);
+        let ending = str::from_utf8(side.put.ending()).ok().expect(rt, "a text");
+        out.push_str(ending).expect(rt, "memory");
+        let name = match side.name {
+            SideName::Free(_) => ";",
+            SideName::Lost => " lost;",
+            SideName::TooLong => " long;",
+        };
+        out.push_str(name).expect(rt, "memory");
     }
 }
 
-// Adds what becomes of the rows in this order, and what is put beside them.
+// Adds what is salvaged.
+fn write_things(rt: &impl Abort, out: &mut String, things: &[Thing]) {
+    for thing in things {
+        out.push_str("salvage ").expect(rt, "memory");
+        let kind = match thing.found {
+            Found::Dir { foreign: true, .. } => "foreign ",
+            Found::Other => "other ",
+            _ => "",
+        };
+        out.push_str(kind).expect(rt, "memory");
+        write_path(rt, out, &thing.path);
+        out.push_str(";").expect(rt, "memory");
+    }
+}
+
+// Adds what becomes of the rows in this order.
 fn write_rows(
     rt: &impl Abort,
     out: &mut String,
     table: &Table<'_>,
-    changes: &[Change<'_>],
+    settled: &Settled<'_>,
     order: &[usize],
 ) {
     for place in order {
         let row = table.rows.get(*place).expect(rt, "a row");
-        let change = changes.get(*place).expect(rt, "a change");
-        write_side(rt, out, row);
-        write_change(rt, out, row.path, *change);
+        let change = match settled.emptied.get(*place).expect(rt, "a mark") {
+            true => Change::Removed,
+            false => *settled.changes.get(*place).expect(rt, "a change"),
+        };
+        write_change(rt, out, row.path, change);
     }
 }
 
-// Adds the paths of rows that are marked.
-fn write_marked(rt: &impl Abort, out: &mut String, word: &str, table: &Table<'_>, marks: &[bool]) {
-    for (row, mark) in table.rows.iter().zip(marks) {
-        if *mark {
-            out.push_str(word).expect(rt, "memory");
-            write_path(rt, out, row.path);
-            out.push_str(";").expect(rt, "memory");
-        }
-    }
-}
-
-// What becomes of each path and is put beside it, in the order of a plan, and behind that what is salvaged.
+// What becomes of each path in the order of a plan, behind what is put beside paths; behind that what is salvaged, and the first directory that would lose
+// names that are no paths.
 fn told(rt: &impl Abort, alloc: Global, old: &str, new: &str, stands: &str) -> String {
     let old = wanted(rt, alloc, old);
     let new = wanted(rt, alloc, new);
     let tree = image_of(rt, alloc, stands);
     let mut folder = MemFolder::new(alloc, tree, Vec::new(alloc), None).expect(rt, "memory");
-    let rows = survey(alloc, &mut folder, &old, &new)
-        .ok()
-        .expect(rt, "a survey");
-    let table = merge(alloc, &rows, &[]).expect(rt, "memory");
     let mut out = String::new(alloc);
-    write_plan(rt, alloc, &mut out, &mut folder, &table);
+    write_plan(rt, alloc, &mut out, &mut folder, &old, &new)
+        .ok()
+        .expect(rt, "a plan");
     out
 }
 
-// Adds what becomes of each row.
-fn write_plan(
+// Adds what becomes of each path.
+fn write_plan<'a>(
     rt: &impl Abort,
     alloc: Global,
     out: &mut String,
     folder: &mut MemFolder,
-    table: &Table<'_>,
-)
-    requires order { IsStrictlySortedBy (slice_cmp nat_cmp) (row_paths table.now.rows.items) }
-    requires said { length table.now.said.items ≡ length table.now.rows.items }
-{
-    let needs = needs(alloc, folder, table)
-        .ok()
-        .expect(rt, "files that hard links need");
-    let mut changes = links(alloc, table, &needs).expect(rt, "memory");
-    let supports = supports(alloc, folder, table, &changes)
-        .ok()
-        .expect(rt, "supports");
-    support(table, &supports, &mut changes);
-    let destroyed = destroyed(alloc, table, &changes).expect(rt, "memory");
-    let salvaged = salvaged(alloc, folder, table, &destroyed)
-        .ok()
-        .expect(rt, "what is salvaged");
-    let accounts = vec![in alloc; false; table.rows.len()].expect(rt, "memory");
-    let order = order(alloc, table, &supports, &accounts).expect(rt, "memory");
-    write_rows(rt, out, table, &changes, &order);
-    write_marked(rt, out, "salvage ", table, &salvaged);
+    old: &'a Want,
+    new: &'a Want,
+) -> Result<(), Or<Failed>> {
+    let rows = survey(alloc, folder, old, new)?;
+    let table = merge(alloc, &rows, &[])?;
+    let settled = settle(alloc, folder, &table)?;
+    let destroyed = destroyed(alloc, &table, &settled.changes)?;
+    let things = things(alloc, folder, &table, &destroyed)?;
+    let foreign = foreign(alloc, folder, &table, &settled.changes, &settled.emptied)?;
+    let sides = sides(alloc, folder, &table.rows)?;
+    let accounts = accounts(alloc, &table.rows)?;
+    let order = order(alloc, &table, &settled.supports, &accounts)?;
+    write_sides(rt, out, &sides);
+    write_rows(rt, out, &table, &settled, &order);
+    write_things(rt, out, &things);
+    if let Some(path) = foreign {
+        out.push_str("foreign ").expect(rt, "memory");
+        write_path(rt, out, &path);
+        out.push_str(";").expect(rt, "memory");
+    }
+    Ok(())
 }
 
 // Each row: what was wanted, what is, what stands, and what becomes of it.
-const ROWS: [(&str, &str, &str, &str); 47] = [
+const ROWS: [(&str, &str, &str, &str); 60] = [
     // an equal entry is as before, whatever stands there
     (
         "d:usr:0755 f:usr/a:abc",
@@ -362,7 +359,7 @@ const ROWS: [(&str, &str, &str, &str); 47] = [
     ),
     ("", "f:usr:abc", "usr=d0755", "abc 644 usr;salvage usr;"),
     // a named pipe in the way is to be salvaged too, which can't be done: a later layer tells so
-    ("", "f:usr:abc", "usr=o", "abc 644 usr;salvage usr;"),
+    ("", "f:usr:abc", "usr=o", "abc 644 usr;salvage other usr;"),
     // a file that stands where one is wanted first, without a preserve and with some
     ("", "f:e:abc", "e=f0644:mine", "abc 644 e;salvage e;"),
     ("", "f:e:abc", "e=f0600:abc", "abc 644 e;"),
@@ -384,6 +381,92 @@ const ROWS: [(&str, &str, &str, &str); 47] = [
         "f:e:new:0644:install-only",
         "e=f0640:mine",
         "mode 644 e;",
+    ),
+    // what no package delivered goes with a directory with a stated mode, at any depth, and is salvaged
+    (
+        "d:usr:0755 f:usr/a:abc",
+        "",
+        "usr=d0755 usr/a=f0644:abc usr/m=d0700 usr/m/n=f0600:mine usr/z=l:a",
+        "gone usr/a;gone usr;salvage usr/m;salvage usr/m/n;salvage usr/z;",
+    ),
+    // so it does where a file or a link takes the directory's place
+    (
+        "d:usr:0755",
+        "f:usr:abc",
+        "usr=d0755 usr/m=f0600:mine",
+        "abc 644 usr;salvage usr/m;",
+    ),
+    (
+        "",
+        "l:usr:a",
+        "usr=d0755 usr/m=f0600:mine",
+        "link a usr;salvage usr;salvage usr/m;",
+    ),
+    // a directory without a stated mode goes where nothing is left in it
+    (
+        "f:usr/a/b:abc",
+        "",
+        "usr=d0755 usr/a=d0755 usr/a/b=f0644:abc",
+        "gone usr/a/b;gone usr/a;gone usr;",
+    ),
+    (
+        "f:usr/a/b:abc",
+        "",
+        "usr=d0755 usr/a=d0755 usr/a/b=f0644:abc usr/c=f0644:mine",
+        "gone usr/a/b;gone usr/a;",
+    ),
+    (
+        "f:usr/a/b:abc:0644:abandon",
+        "",
+        "usr=d0755 usr/a=d0755 usr/a/b=f0644:abc",
+        "",
+    ),
+    // an empty one of no package keeps it
+    (
+        "f:usr/a:abc",
+        "",
+        "usr=d0755 usr/a=f0644:abc usr/m=d0755",
+        "gone usr/a;",
+    ),
+    // a named pipe below a directory that goes
+    (
+        "d:usr:0755",
+        "",
+        "usr=d0755 usr/p=o",
+        "gone usr;salvage other usr/p;",
+    ),
+    // side names at which something was or is wanted, or a directory stands, are lost
+    (
+        "f:e:old:0644:renameold",
+        "f:e:new:0644:renameold f:e.old:abc",
+        "e=f0644:mine",
+        "e.old lost;new 644 e;abc 644 e.old;",
+    ),
+    (
+        "f:e:old:0644:renameold",
+        "f:e:new:0644:renameold",
+        "e=f0644:mine e.old=d0755",
+        "e.old lost;new 644 e;",
+    ),
+    // one at which a file or a link stands isn't
+    (
+        "f:e:old:0644:renameold",
+        "f:e:new:0644:renameold",
+        "e=f0644:mine e.old=f0600:x",
+        "e.old;new 644 e;",
+    ),
+    (
+        "f:e:old:0644:renamenew",
+        "f:e:new:0644:renamenew",
+        "e=f0644:mine e.new=l:a",
+        "e.new;mode 644 e;",
+    ),
+    // several at once, by their paths
+    (
+        "f:a:old:0644:legacy f:b:old:0644:renameold",
+        "f:a:new:0644:legacy f:b:new:0644:renameold",
+        "a=f0644:mine b=f0644:mine",
+        "a.legacy;b.old;new 644 a;new 644 b;",
     ),
     // and where nothing does
     ("", "f:e:new:0644:legacy f:z:abc", "", "abc 644 z;"),
