@@ -43,6 +43,7 @@ suffix_put bytes standing (New payload m) = refl
 pub record IsLostSide (r : Request) (t : Image) (l : Lost) : Type 0 where
   pub side : salvage.Side
   pub at : side_at r t l.path.now.bytes ≡ Some side
+  pub own : side ≡ side_put r.bytes (readable (t.look l.path.now.bytes)) l.put
   pub ending : side.suffix ≡ ending_of l.put
   pub lost : is_lost r t (l.path.now.bytes ++ side.suffix) ≡ true
 
@@ -53,6 +54,7 @@ lost_side r t s one is =
     record {
       side = side_put r.bytes (readable (t.look p)) s.put;
       at = one.is;
+      own = refl;
       ending = ending;
       lost = ap (λ (e : List ℕ). is_lost r t (p ++ e)) ending ∙ (subst (IsNameOf r t (p ++ ending_of s.put)) is one.name).1;
     }

@@ -19,7 +19,7 @@ use Rattle.ips_sides.specs.declared.side.Side.{Side}
 use Rattle.ips_aside.specs.declared.lost.LostName.{LostName}
 use Rattle.ips_aside.specs.declared.ways.Ways.{Ways}
 use Rattle.ips_aside.specs.Lost.{AreNamesOf, HasName, folder_paths, in_folder, lost_seen, names_of}
-use Rattle.ips_aside.specs.Ways.{IsMarkedAbove, IsStandingAbove, is_standing, is_way, path_in}
+use Rattle.ips_aside.specs.Ways.{IsMarkedAbove, IsStandingAbove, is_standing, is_way, bytes_if_any}
 use Rattle.ips_aside.proofs.Defined.{IsLostSide, all_tried, any_at, folder_listed, front_named, goes_name, told}
 
 -- one of the paths, at which a test holds
@@ -110,14 +110,14 @@ module _ (r : Request) (t : Image) (a : Aside) (things : List (List ℕ)) (sides
       go (inl e) = inner_thing things (λ x k. k) n e
       go (inr e) = inner_name names (told r t a things sides names are) are.has n e
 
-  module _ (w : Ways) (above : IsMarkedAbove w.above goers) (standing : IsStandingAbove t a.root (path_in w.standing)) (formed : IsImage t) (none : t.look a.root ≡ None) where
-    no_dir : (q : List ℕ) → is_standing (path_in w.standing) q ≡ false → (covers q a.root ≡ true) ⊎ (covers a.root q ≡ true) → is_dir (t.look q) ≡ false
+  module _ (w : Ways) (above : IsMarkedAbove w.above goers) (standing : IsStandingAbove t a.root (bytes_if_any w.standing)) (formed : IsImage t) (none : t.look a.root ≡ None) where
+    no_dir : (q : List ℕ) → is_standing (bytes_if_any w.standing) q ≡ false → (covers q a.root ≡ true) ⊎ (covers a.root q ≡ true) → is_dir (t.look q) ≡ false
     no_dir q off (inr down) = none_below t a.root q formed none down
     no_dir q off (inl up) = go (same_path q a.root) refl
       where
         go : (b : Bool) → same_path q a.root ≡ b → is_dir (t.look q) ≡ false
         go true e = ap is_dir (ap t.look (same_path-true q a.root e) ∙ none)
-        go false e = none_above t a.root q (path_in w.standing) standing (below_of q a.root up e) off
+        go false e = none_above t a.root q (bytes_if_any w.standing) standing (below_of q a.root up e) off
 
     near : (q n : List ℕ) → is_below q n ≡ true → is_below a.root n ≡ true → (covers q a.root ≡ true) ⊎ (covers a.root q ≡ true)
     near q n up down = comparable q a.root n (below_covers q n up) (below_covers a.root n down)
@@ -128,7 +128,7 @@ module _ (r : Request) (t : Image) (a : Aside) (things : List (List ℕ)) (sides
 
     pub only_ways : (q : List ℕ) → is_way w q ≡ true → SavedBelow r t a q × (is_dir (t.look q) ≡ false) × ((covers q a.root || covers a.root q) ≡ true)
     only_ways q h =
-        let parts = and_parts _ (not (is_standing (path_in w.standing) q)) h in
+        let parts = and_parts _ (not (is_standing (bytes_if_any w.standing) q)) h in
         let one = passing (is_below q) goers (sym (above q) ∙ parts.0) in
         let there = inner one.path one.there in
         let side = near q one.path one.passes there.inside in
@@ -165,4 +165,4 @@ module _ (r : Request) (t : Image) (a : Aside) (things : List (List ℕ)) (sides
       not_standing None s q dir = refl
 
       pub all_ways : (q : List ℕ) → SavedBelow r t a q → is_dir (t.look q) ≡ false → (covers q a.root || covers a.root q) ≡ true → is_way w q ≡ true
-      all_ways q b dir side = and_from _ _ (above q ∙ goer q b.at b.goes b.inside_it dir (or_cases _ _ side)) (not_from_false _ (not_standing (path_in w.standing) standing q dir))
+      all_ways q b dir side = and_from _ _ (above q ∙ goer q b.at b.goes b.inside_it dir (or_cases _ _ side)) (not_from_false _ (not_standing (bytes_if_any w.standing) standing q dir))

@@ -53,7 +53,7 @@ less_so (a ∷ p) (b ∷ q) h = go (less_so p q) (or_cases (nat_lt a b) ((a == b
         ap (λ (o : Ordering). is_lt (ordering_then o (slice_cmp nat_cmp p q))) (sym (nat_cmp_is a b Equal (eqb-true a b parts.0))) ∙ rec parts.1
 
 -- of two paths one is less, or they are the same
-less_or : (p q : List ℕ) → (lesser p q ≡ true) ⊎ ((lesser q p ≡ true) ⊎ (p ≡ q))
+pub less_or : (p q : List ℕ) → (lesser p q ≡ true) ⊎ ((lesser q p ≡ true) ⊎ (p ≡ q))
 less_or [] [] = inr (inr refl)
 less_or [] (b ∷ q) = inl refl
 less_or (a ∷ p) [] = inr (inl refl)

@@ -12,8 +12,8 @@ use Rattle.ips_conflict.specs.Index.{has_path}
 use Rattle.ips_aside.specs.declared.ways.Ways.{Ways}
 
 -- the bytes of a path, if there is one
-abbrev pub path_in : Option RelPath → Option (List ℕ)
-path_in o = option_map (λ p. p.bytes) o
+abbrev pub bytes_if_any : Option RelPath → Option (List ℕ)
+bytes_if_any o = option_map (λ p. p.bytes) o
 
 -- Just what stands above these paths is marked.
 abbrev pub IsMarkedAbove : BTreeSet (Vec ℕ Global) → List (List ℕ) → Type 0
@@ -31,4 +31,4 @@ is_standing None q = false
 
 -- The path is that of a directory on the way.
 abbrev pub is_way : Ways → List ℕ → Bool
-is_way w q = has_path w.above q && not (is_standing (path_in w.standing) q)
+is_way w q = has_path w.above q && not (is_standing (bytes_if_any w.standing) q)

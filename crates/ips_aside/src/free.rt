@@ -41,8 +41,8 @@ fn first_name(
     Ok(name)
 }
 
-// The path in the salvage folder.
-pub(crate) fn inside(alloc: Global, root: &RelPath, path: &RelPath) -> Result<Vec<u8>, AllocError>
+/// The path in the salvage folder at `root`.
+pub fn inside(alloc: Global, root: &RelPath, path: &RelPath) -> Result<Vec<u8>, AllocError>
     ensures { IfOk result (λ name. name.items ≡ in_folder root.now.bytes path.now.bytes) }
 {
     let mut name = Vec::from_slice(alloc, root.bytes())?;

@@ -16,7 +16,7 @@ ghost use Rattle.ips_sides.specs.Sides.{AreSides};
 ghost use Rattle.ips_aside.specs.declared.lost.LostName.{LostName};
 ghost use Rattle.ips_aside.specs.declared.ways.Ways.{Ways};
 ghost use Rattle.ips_aside.specs.Lost.{AreLostNames, AreNamesOf, HasName, folder_paths, lost_in, names_of};
-ghost use Rattle.ips_aside.specs.Ways.{IsMarkedAbove, IsStandingAbove, is_way, path_in};
+ghost use Rattle.ips_aside.specs.Ways.{IsMarkedAbove, IsStandingAbove, is_way, bytes_if_any};
 
 /// The name that was found of each side name that can't be used beside its path is the one of the definition, where the salvage folder lies in the
 /// folder of the records, in which nothing is wanted.
@@ -36,7 +36,7 @@ pub fn names_are_had()
 /// a directory stands at that of the records, and the ways are those that were found.
 pub fn asides_are_defined()
     ensures { (r : Request) (t : Image) (a : salvage.Aside) (things : List (List ℕ)) (sides : List Side) (names : List LostName) (ways : Ways) → AreNamesOf r t a things sides names
-        → IsMarkedAbove ways.above (folder_paths a.root things ++ names_of names) → IsStandingAbove t a.root (path_in ways.standing) → ((q : List ℕ) → a.ways q ≡ is_way ways q)
+        → IsMarkedAbove ways.above (folder_paths a.root things ++ names_of names) → IsStandingAbove t a.root (bytes_if_any ways.standing) → ((q : List ℕ) → a.ways q ≡ is_way ways q)
         → IsImage t → IsEmptied r t a.emptied → t.look a.root ≡ None
         → ((q : List ℕ) → IsTrue (is_below records_name q) → r.new.at q ≡ None) → IsTrue (is_below records_name a.root) → IsTrue (is_dir (t.look records_name)) → salvage.IsAside r t a }
 {}

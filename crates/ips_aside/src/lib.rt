@@ -15,6 +15,7 @@ mod marking;
 mod ways;
 
 pub use finding::lost_names;
+pub use free::inside;
 pub use laws::{asides_are_defined, lost_names_are_defined, names_are_had};
 pub use long::first_long_side;
 pub use lost::LostName;

@@ -8,7 +8,7 @@ ghost use Rattle.ips_content.specs.Failing.{HasFailed};
 ghost use Rattle.ips_conflict.specs.Index.{HoldsAbove};
 ghost use Rattle.ips_found.specs.Found.{thing_paths};
 ghost use Rattle.ips_aside.specs.Lost.{folder_paths, in_folder, names_of};
-ghost use Rattle.ips_aside.specs.Ways.{IsMarkedAbove, IsStandingAbove, path_in};
+ghost use Rattle.ips_aside.specs.Ways.{IsMarkedAbove, IsStandingAbove, bytes_if_any};
 
 use crate::free::inside;
 use crate::lost::LostName;
@@ -39,7 +39,7 @@ pub fn find_ways<S: Source>(
     names: &[LostName<'_>],
 ) -> Result<Ways, Or<Failed>>
     ensures above { IfOk result (λ ways. IsMarkedAbove ways.above (folder_paths root.now.bytes (thing_paths things.now) ++ names_of names.now)) }
-    ensures standing { IsTrue (S.outside.tells source.old) → IfOk result (λ ways. IsStandingAbove (S.outside.state source.old).held root.now.bytes (path_in ways.standing)) }
+    ensures standing { IsTrue (S.outside.tells source.old) → IfOk result (λ ways. IsStandingAbove (S.outside.state source.old).held root.now.bytes (bytes_if_any ways.standing)) }
     ensures reads { Reads S.outside source.old source.new (HasFailed result) }
 {
     let standing = standing_above(alloc, source, root)?;
@@ -56,7 +56,7 @@ fn standing_above<S: Source>(
     source: &mut S,
     root: &RelPath,
 ) -> Result<Option<RelPath>, Or<Failed>>
-    ensures found { IsTrue (S.outside.tells source.old) → IfOk result (λ standing. IsStandingAbove (S.outside.state source.old).held root.now.bytes (path_in standing)) }
+    ensures found { IsTrue (S.outside.tells source.old) → IfOk result (λ standing. IsStandingAbove (S.outside.state source.old).held root.now.bytes (bytes_if_any standing)) }
     ensures reads { Reads S.outside source.old source.new (HasFailed result) }
 {
     let mut at = parent(root.bytes());

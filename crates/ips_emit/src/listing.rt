@@ -24,6 +24,17 @@ pub fn is_journal(steps: &[Step]) -> bool
     true
 }
 
+/// How many contents the steps put.
+pub fn count_puts(steps: &[Step]) -> u64
+    ensures { result ≡ puts_in (map step_of steps.now) }
+{
+    let mut count = 0;
+    for step in steps {
+        count += puts_of(step);
+    }
+    count
+}
+
 // Whether a journal can list the step behind those that put so many contents.
 fn may_be_listed(step: &Step, puts: u64) -> bool
     ensures { IsTrue result ↔ (IsSafe (step_of step.now) × IsTrue (numbered puts (step_of step.now ∷ []))) }

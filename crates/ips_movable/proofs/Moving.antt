@@ -13,7 +13,7 @@ use Rattle.ips_after.proofs.Changed.{both_ways}
 use Rattle.ips_after.proofs.Behind.{behind_path, but_long, not_long}
 use Rattle.ips_found.specs.Found.{Found, FoundDir, FoundFile, FoundLink, FoundOther, IsThing, found_of, found_told}
 use Rattle.ips_found.specs.declared.found.Thing.{Thing}
-use Rattle.ips_movable.specs.Movable.{CanMove, can_be_made, cannot_move, is_fixed}
+use Rattle.ips_movable.specs.Movable.{CanMove, SaysBytes, can_be_made, cannot_move, is_fixed}
 
 -- no part of a path is too long
 short_parts : (p : List ℕ) → IsPath p → list_any is_long (parts p) ≡ false
@@ -66,12 +66,13 @@ fixed_long root x a b made can told one two front path =
     ∙ sym (ap (λ (m : Bool). not m || is_long_path (root ++ 47 ∷ x.path.bytes)) (sym told) ∙ ap (λ (m : Bool). not m || is_long_path (root ++ 47 ∷ x.path.bytes)) can ∙ long_behind root x.path.bytes front path)
 
 -- and else it can
-pub moves : (root : List ℕ) (x : Thing) (a b : List ℕ) (made : Bool) → made ≡ true → made ≡ can_be_made (found_told x.found) → a ≡ root → b ≡ x.path.bytes → IsPath root → IsPath x.path.bytes → nat_lt 1022 (length a + length b) ≡ false → CanMove root x
-moves root x a b made can told one two front path few =
+pub moves : (root : List ℕ) (x : Thing) (a b : List ℕ) (made : Bool) → made ≡ true → made ≡ can_be_made (found_told x.found) → a ≡ root → b ≡ x.path.bytes → IsPath root → IsPath x.path.bytes → nat_lt 1022 (length a + length b) ≡ false → SaysBytes (found_told x.found) → CanMove root x
+moves root x a b made can told one two front path few says =
     let short : is_long_path (root ++ 47 ∷ x.path.bytes) ≡ false = long_behind root x.path.bytes front path
     ∙ sym (ap (λ (l : List ℕ). nat_lt 1022 (length l + length b)) one ∙ ap (λ (l : List ℕ). nat_lt 1022 (length root + length l)) two) ∙ few in
     record {
       made = sym told ∙ can;
+      says = says;
       short = short;
       path = path_behind root x.path.bytes front path short;
     }

@@ -2,6 +2,7 @@
 use Rattle.std.specs.Prelude.{◌≡◌, ℕ, Bool, true, false, not, ◌&&◌, ◌||◌, IsTrue, IsFalse, List, ◌∷◌, ◌++◌, Some, length, nat_lt, slice_get, take}
 use Rattle.std.specs.List.{AllByRecursion}
 use Rattle.ips_text.specs.Path.{IsPath}
+use Rattle.ips_text.specs.Quote.{AreBytes}
 use Rattle.ips_outside.specs.Image.{Image}
 use Rattle.ips_after.specs.Salvage.{is_long_path, movable}
 use Rattle.ips_found.specs.Found.{Found, FoundDir, FoundFile, FoundLink, FoundOther, found_told}
@@ -22,9 +23,17 @@ is_fixed root x = not (can_be_made (found_told x.found)) || is_long_path (root +
 abbrev pub cannot_move : Image → List ℕ → List ℕ → Bool
 cannot_move t root p = not (movable (t.look p)) || is_long_path (root ++ 47 ∷ p)
 
--- The thing can be moved below the folder: a step can make it again, and its name there is a path.
+-- what a symbolic link says that was found is bytes
+abbrev pub SaysBytes : Found → Type 0
+SaysBytes (FoundDir m f) = Unit {0}
+SaysBytes (FoundFile m) = Unit {0}
+SaysBytes (FoundLink g) = AreBytes g
+SaysBytes FoundOther = Unit {0}
+
+-- The thing can be moved below the folder: a step can make it again, of bytes if it is a symbolic link, and its name there is a path.
 pub record CanMove (root : List ℕ) (x : Thing) : Type 0 where
   pub made : IsTrue (can_be_made (found_told x.found))
+  pub says : SaysBytes (found_told x.found)
   pub short : IsFalse (is_long_path (root ++ 47 ∷ x.path.bytes))
   pub path : IsPath (root ++ 47 ∷ x.path.bytes)
 

@@ -1,11 +1,12 @@
 //! The first thing that can't be moved.
 
-ghost use Rattle.std.specs.Prelude.{◌≡◌, ◌++◌, ◌∷◌, false, IfNone, IfSome};
+ghost use Rattle.std.specs.Prelude.{◌≡◌, ◌&&◌, ◌++◌, ◌∷◌, false, IfNone, IfSome, length, nat_lt};
 ghost use Rattle.std.specs.List.{AllByRecursion};
 ghost use Rattle.ips_text.specs.Path.{IsPath};
+ghost use Rattle.ips_text.specs.Quote.{AreBytes};
 ghost use Rattle.ips_found.specs.Found.{found_told};
 ghost use Rattle.ips_movable.specs.Movable as spec;
-ghost use Rattle.ips_movable.specs.Movable.{CanMove, IsFirstFixed};
+ghost use Rattle.ips_movable.specs.Movable.{CanMove, IsFirstFixed, SaysBytes};
 
 use ips_found::{Found, Thing};
 use ips_text::RelPath;
@@ -33,12 +34,21 @@ fn is_fixed(thing: &Thing, root: &RelPath) -> bool
 
 // Whether a step can make again what was found.
 fn can_be_made(found: &Found) -> bool
-    ensures { result ≡ spec.can_be_made (found_told found.now) }
+    ensures made { result ≡ spec.can_be_made (found_told found.now) }
+    ensures says { SaysBytes (found_told found.now) }
 {
     match found {
         Found::Dir { foreign, .. } => !*foreign,
         Found::File { .. } => true,
-        Found::Link { target } => !target.is_empty() && target.len() < 4096,
+        Found::Link { target } => can_be_said(target),
         Found::Other => false,
     }
+}
+
+// Whether a symbolic link that a step makes can say this.
+fn can_be_said(target: &[u8]) -> bool
+    ensures short { result ≡ (nat_lt 0 (length target.now) && nat_lt (length target.now) 4096) }
+    ensures bytes { AreBytes target.now }
+{
+    !target.is_empty() && target.len() < 4096
 }

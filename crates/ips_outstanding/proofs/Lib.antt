@@ -1,6 +1,6 @@
-mod Answered
-mod Compared
-mod Gone
+pub mod Answered
+pub mod Compared
+pub mod Gone
 mod Marks
 mod Meant
 mod Noting
