@@ -1,0 +1,5 @@
+mod Asked
+mod Gathered
+mod Staged
+mod Hindered
+mod Moved

@@ -1,0 +1,29 @@
+use Rattle.std.proofs.Common.{◌++◌, []}
+use Rattle.std.proofs.lemmas.Result.{on_ok_weaker}
+use Rattle.ips_text.proofs.Lists.{all_append}
+use Rattle.ips_change.specs.Told.{naming}
+use Rattle.ips_survey.specs.Marks.{row_paths}
+use Rattle.ips_draft.specs.Drafting.{provenances_in, turns_saving}
+use Rattle.ips_image_steps.specs.Findings.{IsFileThere}
+use Rattle.ips_image_steps.proofs.Asked.{settled_targets}
+use Rattle.ips_image_steps.proofs.Staged.{none_copied, saved_there}
+use Rattle.ips_image_steps.proofs.found.add_all.Goals as goal
+
+pub draw-requires-clause-targets : goal.draw-requires-clause-targets
+draw-requires-clause-targets g c = settled_targets c.args.table.now.rows.items c.args.table.now.said.items c.args.settled.now c.requires.request c.requires.whole
+
+pub returns : goal.returns
+returns g c = on_ok_weaker c.draw.result (λ drawn r t a asked found root.
+    let table = c.args.table.now in
+    let settled = c.args.settled.now in
+    let laid = g.L.Laying.laid c.args.laying.now in
+    let saved = c.in_ok-add_saved.ensures r t a [] [] asked.good found.bare root found.under found.found found.are found.ways_are found.short (c.requires.none r.bytes t) in
+    let plan = drawn r t (turns_saving r t a saved.asides) saved.more asked.good asked.table asked.accounts asked.lays found.settles saved.steps in
+    let rest = provenances_in laid (row_paths table.rows.items) table.said.items settled.changes.items settled.emptied.items plan.places in
+    record {
+      asides = saved.asides;
+      are_asides = saved.are;
+      provenances = saved.more ++ rest;
+      steps = plan.steps;
+      files = all_append (IsFileThere t) saved.more rest (saved_there (naming r) t saved.more saved.sources) (none_copied t laid (row_paths table.rows.items) table.said.items settled.changes.items settled.emptied.items plan.places);
+    }) c.draw.ensures

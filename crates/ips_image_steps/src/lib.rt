@@ -1,0 +1,16 @@
+//! The steps of a request over an image: from a table of its paths to the plan, or to the first path at which it can't be carried out.
+//!
+//! In reading order: why there are no steps (`fault`), the whole (`steps`), what is found on the way, one finding behind the other (`settled`, `saved`,
+//! `named`), the steps by what was found (`found`), and whether they can be listed (`listed`).
+#![tactic(auto)]
+
+mod fault;
+mod found;
+mod listed;
+mod named;
+mod saved;
+mod settled;
+mod steps;
+
+pub use fault::StepsFault;
+pub use steps::image_steps;

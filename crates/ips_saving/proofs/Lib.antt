@@ -1,0 +1,6 @@
+mod Last
+mod Apart
+mod Named
+mod Gathered
+mod Emission
+mod Shown
