@@ -1,5 +1,6 @@
 -- The modes that are given to the names of a file, row by row.
-use Rattle.std.proofs.Common.{◌≡◌, ℕ, ◌+◌, ◌<◌, Bool, true, false, cond, not, ◌&&◌, ◌||◌, List, [], ◌∷◌, ◌++◌, filter, length, get_or, take, Option, Some, None, is_none, is_some, Result, Ok, Err, IfOk, refl, sym, ◌∙◌, ap}
+use Rattle.std.proofs.Common.{◌≡◌, ℕ, ◌+◌, ◌<◌, Bool, true, false, cond, not, ◌&&◌, ◌||◌, List, [], ◌∷◌, ◌++◌, filter, length, get_or, take, Option, Some, None, is_none, is_some, Result, Ok, Err, IfOk, refl, sym, ◌∙◌, ap, subst, arith}
+use Rattle.std.proofs.lemmas.Option.{none-some, same_Some}
 use Rattle.ips_text.proofs.Ancestry.{covers-self}
 use Rattle.ips_text.proofs.Lists.{take_item}
 use Rattle.ips_outside.specs.Change.{names}
@@ -7,12 +8,14 @@ use Rattle.ips_outside.specs.Image.{Dir, Entry, File, Image, Link, Other, is_fil
 use Rattle.ips_outside.specs.Outside.{look_of, readable}
 use Rattle.ips_outside.specs.declared.outside.Look.{Look}
 use Rattle.ips_outside.specs.declared.outside.Look.TheVariants as look
+use Rattle.ips_digest.specs.Name.{spelling}
 use Rattle.ips_after.specs.After.{ranks}
 use Rattle.ips_after.specs.Change.{Change, Changes, Given, Joined, Kept, Laid, Removed, cleared, joins, laid_entry, left, remoded, replaces, target, with_given}
 use Rattle.ips_after.specs.Lists.{listed}
-use Rattle.ips_after.specs.Request.{IsRequest, Request, Wanted}
+use Rattle.ips_after.specs.Request.{IsRequest, Request, Want, WantDir, WantFile, WantHard, WantLink, Wanted}
 use Rattle.ips_after.proofs.Changed.{reached_from}
 use Rattle.ips_after.proofs.Fits.{given_but, target_plain}
+use Rattle.ips_change.specs.Fitting.{stated_mode}
 use Rattle.ips_order.proofs.Filtered.{same_filtered}
 use Rattle.ips_survey.specs.declared.row.Row.{Row}
 use Rattle.ips_survey.proofs.Filling.{rows_more}
@@ -20,7 +23,10 @@ use Rattle.ips_survey.specs.declared.said.Said.{Said}
 use Rattle.ips_survey.specs.Rows.{IsRowOf, row_pair}
 use Rattle.ips_survey.specs.Marks.{row_paths}
 use Rattle.ips_survey.specs.Tables.{IsTable}
-use Rattle.ips_ledger.specs.Left.{is_ranked, only_file}
+use Rattle.ips_ledger.specs.declared.left.Left.{Left}
+use Rattle.ips_ledger.specs.declared.left.Left.TheVariants as lefts
+use Rattle.ips_ledger.specs.Base.{mode_left}
+use Rattle.ips_ledger.specs.Left.{AreSmallWanted, HasSmall, IsOwnLeft, is_ranked, only_file}
 
 -- ---- an order of paths, path by path
 
@@ -155,10 +161,61 @@ left_stays change order t q none stays =
     nothing (Joined to) h = refl
     nothing (Given m) h = refl
 
--- what holds of an answer holds of it under a weaker test
-pub if_ok : {A E : Type 0} (x : Result A E) (P Q : A → Type 0) → ((a : A) → P a → Q a) → IfOk x P → IfOk x Q
-if_ok (Ok a) P Q f h = f a h
-if_ok (Err e) P Q f h = tt
+-- where one more name of another path's file is made, no file is laid
+nothing_laid : (c : Change) → joins c ≡ true → laid_entry c ≡ None
+nothing_laid Kept h = refl
+nothing_laid Removed h = refl
+nothing_laid (Laid e) h = cc
+nothing_laid (Joined to) h = refl
+nothing_laid (Given m) h = refl
 
-pub never_err : {A E : Type 0} (x : A) (e : E) → Ok x ≡ Err e → ⊥
-never_err x e h = cc
+-- what is left to be edited where something takes the place of what stands, or it goes
+pub own_gone : (change : Changes) (order : List (List ℕ)) (t : Image) (q : List ℕ) → replaces (change q) ≡ true
+    → cond (joins (change q)) None (only_file (left change order t (target (change q) q))) ≡ only_file (laid_entry (change q))
+own_gone change order t q goes = go (joins (change q)) refl
+  where
+    go : (b : Bool) → joins (change q) ≡ b → cond b None (only_file (left change order t (target (change q) q))) ≡ only_file (laid_entry (change q))
+    go true is = sym (ap only_file (nothing_laid (change q) is))
+    go false is = ap only_file (left_gone change order t q is goes)
+
+-- what is left to be edited where it stays, unless something above goes
+pub own_stays : (change : Changes) (order : List (List ℕ)) (t : Image) (q : List ℕ) → replaces (change q) ≡ false
+    → cond (joins (change q)) None (only_file (left change order t (target (change q) q))) ≡ only_file (cond (cleared change q) None (with_given change order t q (t.look q)))
+own_stays change order t q stays =
+    ap (λ (b : Bool). cond b None (only_file (left change order t (target (change q) q)))) (unjoined (change q) stays)
+    ∙ ap only_file (left_stays change order t q (unjoined (change q) stays) stays)
+  where
+    unjoined : (c : Change) → replaces c ≡ false → joins c ≡ false
+    unjoined Kept h = refl
+    unjoined Removed h = refl
+    unjoined (Laid e) h = refl
+    unjoined (Joined to) h = cc
+    unjoined (Given m) h = refl
+
+-- ---- modes
+
+pub small_at : (new : Want) (q : List ℕ) → AreSmallWanted new → HasSmall (new.at q)
+small_at new q few = go (new.at q) refl
+  where
+    go : (w : Option Wanted) → new.at q ≡ w → HasSmall w
+    go (Some w) is = few q w is
+    go None is = tt
+
+-- a mode that is stated is one of permission bits
+pub stated_small : (new : Option Wanted) (m : ℕ) → stated_mode new ≡ Some m → HasSmall new → m < 4096
+stated_small (Some (WantDir None)) m h few = cc
+stated_small (Some (WantDir (Some n))) m h few = subst (λ (k : ℕ). k < 4096) (same_Some n m h) few
+stated_small (Some (WantFile payload n preserve)) m h few = subst (λ (k : ℕ). k < 4096) (same_Some n m h) few
+stated_small (Some (WantLink says)) m h few = cc
+stated_small (Some (WantHard to)) m h few = cc
+stated_small None m h few = cc
+
+-- so is that of a payload's file that is left
+pub laid_small : (new : Option Wanted) (left : Left) → IsOwnLeft true new left → HasSmall new → mode_left 0 left < 4096
+laid_small new lefts.Nothing own few = omega arith
+laid_small new (lefts.Standing m) own few = let no : true ≡ false = own in cc
+laid_small (Some (WantDir n)) (lefts.Laid payload m) own few = absurd (none-some (spelling payload, m) own.1)
+laid_small (Some (WantFile p n preserve)) (lefts.Laid payload m) own few = subst (λ (k : ℕ). k < 4096) (ap (λ (x : List ℕ × ℕ). x.1) (same_Some (p, n) (spelling payload, m) own.1)) few
+laid_small (Some (WantLink says)) (lefts.Laid payload m) own few = absurd (none-some (spelling payload, m) own.1)
+laid_small (Some (WantHard to)) (lefts.Laid payload m) own few = absurd (none-some (spelling payload, m) own.1)
+laid_small None (lefts.Laid payload m) own few = absurd (none-some (spelling payload, m) own.1)

@@ -1,3 +1,4 @@
+pub mod Answered
 mod Silent
 mod Givings
-mod Bases
+pub mod Bases

@@ -1,15 +1,19 @@
 -- What becomes of rows where nothing is said of any path.
-use Rattle.std.proofs.Common.{◌≡◌, ℕ, zero, suc, ◌<◌, Bool, false, cond, List, [], ◌∷◌, map, length, get_or, Option, Some, sym, ◌∙◌, ap, arith}
+use Rattle.std.proofs.Common.{◌≡◌, ℕ, zero, suc, ◌<◌, Bool, false, cond, List, [], ◌∷◌, map, length, get_or, Option, Some, sym, ◌∙◌, ap, subst, arith}
 use Rattle.std.specs.Prelude.{slice_get}
 use Rattle.std.specs.List.{AllByRecursion}
-use Rattle.std.proofs.lemmas.Option.{same_Some}
+use Rattle.std.proofs.lemmas.Option.{get_or_from_slice_get, same_Some}
+use Rattle.ips_text.proofs.Lists.{element}
 use Rattle.ips_outside.specs.Image.{Entry, Image}
 use Rattle.ips_after.specs.After.{change_settled, over_or, supported}
 use Rattle.ips_after.specs.Change.{Change, Kept, Removed}
 use Rattle.ips_after.specs.Lists.{listed}
-use Rattle.ips_after.specs.Request.{IsRequest, Request}
+use Rattle.ips_after.specs.Request.{IsRequest, Request, Wanted}
 use Rattle.ips_change.specs.declared.change.Change.{Change as Told}
+use Rattle.ips_change.specs.declared.change.Change.TheVariants as told
 use Rattle.ips_change.specs.Told.{change_told, naming}
+use Rattle.ips_links.specs.Fitting.{FitsSupported}
+use Rattle.ips_links.proofs.Fitted.{fit_here}
 use Rattle.ips_survey.specs.declared.row.Row.{Row}
 use Rattle.ips_survey.specs.declared.said.Said.{Said}
 use Rattle.ips_survey.specs.Rows.{IsRowOf, row_pair}
@@ -20,7 +24,7 @@ use Rattle.ips_links.proofs.Linked.{all_here}
 use Rattle.ips_emptied.proofs.Remaining.{settled_bare}
 use Rattle.ips_emptied.specs.declared.settled.Settled.{Settled}
 use Rattle.ips_emptied.specs.Joining.{HasAll, SettlesRows}
-use Rattle.ips_ledger.specs.Left.{IsSilent, changes_by, emptied_by}
+use Rattle.ips_ledger.specs.Left.{FitsFile, IsSilent, changes_by, emptied_by}
 
 -- the path of the row at a place
 pub row_at : (rows : List Row) (i : ℕ) (row : Row) → i < length rows → row ≡ get_or rows i row → slice_get (row_paths rows) i ≡ Some row.path.now.bytes
@@ -54,3 +58,21 @@ changes_bare r t rows said s q good table all apart =
 -- what is wanted at the path of a row
 pub wanted_here : (r : Request) (rows : List Row) (i : ℕ) (row : Row) (p : List ℕ) → AllByRecursion (IsRowOf r) rows → slice_get (row_paths rows) i ≡ Some p → i < length rows → row ≡ get_or rows i row → (row_pair row).wanted ≡ r.new.at p
 wanted_here r rows i row p of there lt is = (all_here (IsRowOf r) rows i row lt is of).1 ∙ ap r.new.at (same_Some row.path.now.bytes p (sym (row_at rows i row lt is) ∙ there))
+
+fits_file : (new : Option Wanted) (c : Told) → FitsSupported new c → FitsFile new c
+fits_file new told.Kept h = tt
+fits_file new told.Removed h = tt
+fits_file new (told.Dir mode) h = tt
+fits_file new (told.File payload mode) h = h
+fits_file new (told.Link target) h = tt
+fits_file new (told.Hard to) h = tt
+fits_file new (told.Mode mode) h = h
+
+-- what becomes of a row is what is wanted there, as far as files go
+pub fits_here : (r : Request) (rows : List Row) (s : Settled) (i : ℕ) (p : List ℕ) (c : Told) → HasAll rows s → AllByRecursion (IsRowOf r) rows → i < length rows → slice_get (row_paths rows) i ≡ Some p → c ≡ get_or s.changes.items i c → FitsFile (r.new.at p) c
+fits_here r rows s i p c all of lt there is =
+    let e = element rows i lt in
+    let row = e.0 in
+    let at = sym (get_or_from_slice_get rows i row row e.1) in
+    subst (λ (w : Option Wanted). FitsFile w c) (wanted_here r rows i row p of there lt at)
+    (fits_file (row_pair row).wanted c (fit_here FitsSupported rows s.changes.items i row c lt at (omega (arith, lt, all.changes)) is all.fits))

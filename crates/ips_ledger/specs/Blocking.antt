@@ -4,8 +4,8 @@ use Rattle.ips_outside.specs.Image.{Entry, Image, is_file}
 use Rattle.ips_after.specs.Request.{Request, Wanted, is_dir_wanted, is_file_wanted}
 
 -- Something other than a file is wanted.
-abbrev pub wants_other : Option Wanted → Bool
-wants_other w = is_some w && not (is_file_wanted w)
+abbrev pub wants_other_than_file : Option Wanted → Bool
+wants_other_than_file w = is_some w && not (is_file_wanted w)
 
 -- Something other than a file stands there.
 abbrev pub is_in_way : Option Entry → Bool
@@ -13,7 +13,7 @@ is_in_way e = is_some e && not (is_file e)
 
 -- Something other than a file stands or is wanted at the path.
 abbrev pub is_blocked : Request → Image → List ℕ → Bool
-is_blocked r t p = wants_other (r.new.at p) || is_in_way (t.look p)
+is_blocked r t p = wants_other_than_file (r.new.at p) || is_in_way (t.look p)
 
 -- Something other than a directory is wanted at the path of the folder of account files.
 abbrev pub is_folder_blocked : Request → Bool

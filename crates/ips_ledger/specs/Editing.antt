@@ -1,5 +1,5 @@
 -- What an edit makes of account files where some can't be files, and which of them are due.
-use Rattle.std.specs.Prelude.{◌≡◌, ◌⊎◌, ℕ, ◌<◌, ◌≤◌, Bool, false, cond, if◌then◌else◌, List, [], ◌∷◌, ◌++◌, length, codes, Result, Ok, Err}
+use Rattle.std.specs.Prelude.{ℕ, Bool, cond, if◌then◌else◌, List, [], ◌∷◌, ◌++◌, codes, Result, Ok, Err}
 use Rattle.ips_text.specs.Ancestry.{same_path}
 use Rattle.ips_text.specs.Reading.{◌>>=◌}
 use Rattle.ips_action.specs.Action.{Fields}
@@ -14,9 +14,6 @@ use Rattle.ips_accounts.specs.Editing.{edited_books}
 use Rattle.ips_due.specs.Due.{DueFile}
 use Rattle.ips_ledger.specs.declared.blocked.Blocked.{Blocked}
 use Rattle.ips_ledger.specs.declared.outdated.Modes.{Modes}
-use Rattle.ips_ledger.specs.declared.fault.LedgerFault.{LedgerFault}
-use Rattle.ips_ledger.specs.declared.fault.LedgerFault.TheVariants.{TooLarge}
-use Rattle.ips_ledger.specs.Texts.{account_limit}
 
 -- The lines of a file or its first bad line, which is line 0 where its path is blocked.
 abbrev pub placed_book : Book → Bool → List ℕ → Result (List AccountLine) AccountFault
@@ -45,23 +42,9 @@ due_book path mode before after = cond (same_path before after) [] (record { pat
 abbrev pub due_books : Modes → Texts → Texts → List DueFile
 due_books modes before after = due_book (codes "etc/passwd") modes.passwd before.passwd after.passwd ++ due_book (codes "etc/shadow") modes.shadow before.shadow after.shadow ++ due_book (codes "etc/group") modes.group before.group after.group
 
--- A text that is written isn't longer than an account file may be.
-abbrev pub IsShort : List ℕ → List ℕ → Type 0
-IsShort before after = same_path before after ≡ false → length after ≤ account_limit
-
 -- The first bad line of these texts of passwd and shadow, or else line 0 of this file.
 abbrev pub first_bad : Book → List ℕ → List ℕ → Result Accounts AccountFault
 first_bad book passwd shadow = do
   lines ← read_book Passwd passwd
   others ← read_book Shadow shadow
   Err (BadAccountLine book 0)
-
--- The text is written and longer than an account file may be, which is told with how many bytes it has.
-abbrev pub IsLong : List ℕ → List ℕ → LedgerFault → Type 0
-IsLong before after why = (why ≡ TooLarge (length after)) × (account_limit < length after) × (same_path before after ≡ false)
-
--- The first of the texts that are written and too long is told.
-abbrev pub IsFirstLong : Texts → Texts → LedgerFault → Type 0
-IsFirstLong before after why = IsLong before.passwd after.passwd why
-    ⊎ (IsShort before.passwd after.passwd × IsLong before.shadow after.shadow why)
-    ⊎ (IsShort before.passwd after.passwd × IsShort before.shadow after.shadow × IsLong before.group after.group why)

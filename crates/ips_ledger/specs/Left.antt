@@ -1,12 +1,16 @@
 -- What a request leaves at the path of an account file, where account files and records say nothing.
-use Rattle.std.specs.Prelude.{◌≡◌, ℕ, Bool, false, cond, ◌&&◌, List, Option, Some, None, filter, is_none, is_some}
+use Rattle.std.specs.Prelude.{◌≡◌, ℕ, Bool, true, false, cond, ◌&&◌, List, Option, Some, None, filter, is_none, is_some}
 use Rattle.std.specs.List.{AllByRecursion}
 use Rattle.ips_outside.specs.Image.{Entry, Dir, File, Image, Link, Other}
 use Rattle.ips_outside.specs.Outside.{readable}
-use Rattle.ips_digest.specs.Name.{spelling}
+use Rattle.ips_digest.specs.Name.{IsName, spelling}
 use Rattle.ips_after.specs.After.{change_after, image_after, ranks}
 use Rattle.ips_after.specs.Change.{Changes, cleared, joins, replaces, with_given}
-use Rattle.ips_after.specs.Request.{IsRequest, Request, Wanted}
+use Rattle.ips_after.specs.Planned.{HasWantedParts}
+use Rattle.ips_after.specs.Request.{IsRequest, Request, Want, Wanted}
+use Rattle.ips_change.specs.declared.change.Change.{Change as Told}
+use Rattle.ips_change.specs.declared.change.Change.TheVariants as told
+use Rattle.ips_change.specs.Fitting.{laid_file, stated_mode}
 use Rattle.ips_change.specs.Told.{naming}
 use Rattle.ips_survey.specs.declared.row.Row.{Row}
 use Rattle.ips_survey.specs.declared.said.Said.{Said}
@@ -43,6 +47,10 @@ only_file None = None
 abbrev pub file_left : Request → Image → (List ℕ → Bool) → List ℕ → Option Entry
 file_left r t emptied q = only_file ((image_after r t emptied).look q)
 
+-- The file that is left at a path to be edited: none where one more name of another path's file is made there.
+abbrev pub own_left : Request → Image → (List ℕ → Bool) → List ℕ → Option Entry
+own_left r t emptied q = cond (joins (change_after r t emptied q)) None (file_left r t emptied q)
+
 -- The file that is left as it is told, with the bytes of each payload and what stands there.
 abbrev pub left_told : (List ℕ → List ℕ) → Option Entry → Left → Option Entry
 left_told bytes e Nothing = None
@@ -52,6 +60,27 @@ left_told bytes e (Laid payload mode) = Some (File mode (bytes (spelling payload
 -- The path is and was wanted, or is and wasn't: those of the first sort come first where modes decide.
 abbrev pub is_ranked : Bool → Option Wanted → Option Wanted → Bool
 is_ranked was old new = cond was (is_some old) (is_none old) && is_some new
+
+-- What is wanted has modes of permission bits.
+abbrev pub AreSmallWanted : Want → Type 0
+AreSmallWanted new = (q : List ℕ) (w : Wanted) → new.at q ≡ Some w → HasWantedParts w
+
+-- What is wanted, where something is, has a mode of permission bits.
+abbrev pub HasSmall : Option Wanted → Type 0
+HasSmall (Some w) = HasWantedParts w
+HasSmall None = Unit {0}
+
+-- A file that is laid has the payload and the mode of the wanted one, and a mode that is given is the stated one.
+abbrev pub FitsFile : Option Wanted → Told → Type 0
+FitsFile new (told.File payload mode) = laid_file new ≡ Some (spelling payload.now, mode)
+FitsFile new (told.Mode mode) = stated_mode new ≡ Some mode
+FitsFile new c = Unit {0}
+
+-- A payload's file is left where it takes the place of what stands and is the wanted one; what stands is left where nothing takes its place.
+abbrev pub IsOwnLeft : Bool → Option Wanted → Left → Type 0
+IsOwnLeft replaced new Nothing = Unit {0}
+IsOwnLeft replaced new (Standing mode) = replaced ≡ false
+IsOwnLeft replaced new (Laid payload mode) = (replaced ≡ true) × (laid_file new ≡ Some (spelling payload, mode)) × IsName payload
 
 -- These are the marks of the rows at which what stands goes or is replaced.
 abbrev pub AreReplaced : Request → Image → List Row → Settled → List Bool → Type 0
@@ -67,7 +96,12 @@ abbrev pub IsLeftStanding : Image → List Row → Settled → List Bool → Lis
 IsLeftStanding t rows s replaced path left = (r : Request) (said : List (Option Said)) → IsRequest r → IsTable r rows said → IsSilent r → SettlesRows r t rows s → AreReplaced r t rows s replaced
     → left_told r.bytes (t.look path) left ≡ only_file (cond (cleared (changes_by r t rows s) path) None (with_given (changes_by r t rows s) (ranks r) t path (t.look path)))
 
--- This is the file that the request leaves at the path, unless one more name of another path's file is made there.
+-- This is the file that the request leaves at the path to be edited, with these directories emptied.
+pub record IsLeftOf (r : Request) (t : Image) (emptied : List ℕ → Bool) (path : List ℕ) (left : Left) : Type 0 where
+  pub is : left_told r.bytes (t.look path) left ≡ own_left (naming r) t emptied path
+  pub own : IsOwnLeft (replaces (change_after (naming r) t emptied path)) (r.new.at path) left
+
+-- This is the file that each request of these rows leaves at the path to be edited.
 abbrev pub IsLeft : Image → List Row → Settled → List Bool → List ℕ → Left → Type 0
 IsLeft t rows s replaced path left = (r : Request) (said : List (Option Said)) → IsRequest r → IsTable r rows said → IsSilent r → SettlesRows r t rows s → AreReplaced r t rows s replaced
-    → joins (changes_by r t rows s path) ≡ false → left_told r.bytes (t.look path) left ≡ file_left (naming r) t (emptied_by rows s) path
+    → IsLeftOf r t (emptied_by rows s) path left

@@ -1,11 +1,12 @@
 -- The text of an account file, by what is left there, and why it isn't read.
-use Rattle.std.specs.Prelude.{◌≡◌, ◌⊎◌, ℕ, ◌<◌, Bool, IsTrue, List, [], length, Option, Some, Err}
+use Rattle.std.specs.Prelude.{◌≡◌, ◌≢◌, ◌⊎◌, ℕ, ◌<◌, ◌≤◌, Bool, IsTrue, List, [], length, Option, Some, Err}
 use Rattle.ips_outside.specs.Image.{Entry, Image}
 use Rattle.ips_outside.specs.Outside.{readable}
 use Rattle.ips_digest.specs.declared.name.PayloadName.{PayloadName}
 use Rattle.ips_files.specs.Files.{file_at, HasSize}
 use Rattle.ips_repo.specs.declared.fault.RepoFault.{RepoFault}
-use Rattle.ips_repo.specs.Payload.{IsDamage, IsPayload, digest_by, payload_opening}
+use Rattle.ips_repo.specs.declared.fault.RepoFault.TheVariants as faults
+use Rattle.ips_repo.specs.Payload.{IsDamage, IsOpenFault, IsPayload, digest_by, payload_limit, payload_opening}
 use Rattle.ips_repo.specs.Places.{payload_place}
 use Rattle.ips_ledger.specs.declared.fault.LedgerFault.{LedgerFault}
 use Rattle.ips_ledger.specs.declared.fault.LedgerFault.TheVariants as fault
@@ -16,9 +17,22 @@ use Rattle.ips_ledger.specs.declared.left.Left.TheVariants.{Nothing, Standing, L
 abbrev pub account_limit : ℕ
 account_limit = 16777216
 
--- The payload has this fault: it can't be opened for it, or its bytes are damaged.
-abbrev pub IsPayloadFault : List ℕ → Image → PayloadName → RepoFault → Type 0
-IsPayloadFault publisher t name why = (payload_opening publisher name t ≡ Err why) ⊎ ((bytes : List ℕ) × (file_at t (payload_place publisher name) ≡ Some bytes) × IsDamage name bytes why)
+-- The payload can't be opened for this fault: it is missing, or it has more bytes than a payload may have.
+pub record IsUnopened (tells : Bool) (publisher : List ℕ) (t : Image) (name : PayloadName) (why : RepoFault) : Type 0 where
+  pub fault : IsOpenFault why
+  pub no_call : why ≢ faults.SourceFault
+  pub held : IsTrue tells → payload_opening publisher name t ≡ Err why
+
+-- The payload has bytes, no more than a payload may have, that are damaged.
+pub record IsDamaged (tells : Bool) (publisher : List ℕ) (t : Image) (name : PayloadName) (why : RepoFault) : Type 0 where
+  pub bytes : List ℕ
+  pub within : length bytes ≤ payload_limit
+  pub damage : IsDamage name bytes why
+  pub held : IsTrue tells → file_at t (payload_place publisher name) ≡ Some bytes
+
+-- The payload has this fault, and so has its file, where the repository tells what it holds.
+abbrev pub IsPayloadFault : Bool → List ℕ → Image → PayloadName → RepoFault → Type 0
+IsPayloadFault tells publisher t name why = IsUnopened tells publisher t name why ⊎ IsDamaged tells publisher t name why
 
 -- Why a payload of these bytes, which are so many, isn't taken: they are damaged, or intact and more than an account file may have.
 abbrev pub IsRefused : PayloadName → List ℕ → ℕ → LedgerFault → Type 0
@@ -30,8 +44,8 @@ IsRefused name bytes count fault.FolderFault = ⊥
 
 -- Why a payload that is laid at an account file isn't read: it has a fault, or is intact with more bytes than an account file may have.
 abbrev pub IsUnread : Bool → List ℕ → Image → PayloadName → LedgerFault → Type 0
-IsUnread tells publisher t name (fault.Payload other why) = (other ≡ name) × (IsTrue tells → IsPayloadFault publisher t name why)
-IsUnread tells publisher t name (fault.TooLarge count) = (account_limit < count) × ((bytes : List ℕ) × (length bytes ≡ count) × IsPayload tells publisher t name bytes)
+IsUnread tells publisher t name (fault.Payload other why) = (other ≡ name) × IsPayloadFault tells publisher t name why
+IsUnread tells publisher t name (fault.TooLarge count) = (account_limit < count) × (count ≤ payload_limit) × ((bytes : List ℕ) × (length bytes ≡ count) × IsPayload tells publisher t name bytes)
 IsUnread tells publisher t name (fault.Account why) = ⊥
 IsUnread tells publisher t name fault.SourceFault = Unit {0}
 IsUnread tells publisher t name fault.FolderFault = ⊥

@@ -1,6 +1,6 @@
 //! The base of an account file.
 
-ghost use Rattle.std.specs.Prelude.{◌≡◌, ◌≤◌, IsTrue, IfOk, Err, length};
+ghost use Rattle.std.specs.Prelude.{◌≡◌, ◌<◌, ◌≤◌, IsTrue, IfOk, Err, length};
 ghost use Rattle.std.specs.List.{AllByRecursion};
 ghost use Rattle.std.specs.List.Sorted.{IsStrictlySortedBy};
 ghost use Rattle.std.specs.Ordering.{nat_cmp};
@@ -8,12 +8,13 @@ ghost use Rattle.std.specs.Cmp.Lexicographic.{slice_cmp};
 ghost use Rattle.ips_text.specs.Reading.{IfBad};
 ghost use Rattle.ips_text.specs.declared.refusal.Or.TheVariants.{Bad};
 ghost use Rattle.ips_outside.specs.Outside.{Reads};
-ghost use Rattle.ips_survey.specs.Rows.{HasLooked};
+ghost use Rattle.ips_after.specs.Request.{Request};
+ghost use Rattle.ips_survey.specs.Rows.{HasLooked, IsRowOf};
 ghost use Rattle.ips_survey.specs.Marks.{row_paths};
 ghost use Rattle.ips_emptied.specs.Joining.{HasAll};
 ghost use Rattle.ips_ledger.specs.declared.fault.LedgerFault.TheVariants as fault;
 ghost use Rattle.ips_ledger.specs.Base as spec;
-ghost use Rattle.ips_ledger.specs.Left.{IsLeft};
+ghost use Rattle.ips_ledger.specs.Left.{AreSmallWanted};
 ghost use Rattle.ips_ledger.specs.Texts.{account_limit};
 
 use crate::fault::LedgerFault;
@@ -22,7 +23,7 @@ use crate::left::Left;
 use crate::reading::read_left;
 use ips_emptied::Settled;
 use ips_folder::Folder;
-use ips_outside::{Failed, Source};
+use ips_outside::Source;
 use ips_survey::Row;
 use ips_text::{Or, RelPath};
 use std::alloc::Global;
@@ -57,15 +58,15 @@ pub fn base_at<'a, F: Folder, S: Source>(
     requires settled { HasAll rows.now settled.now }
     requires replaced { length replaced.now ≡ length rows.now }
     requires looked { IsTrue (F.outside.tells folder.old) → AllByRecursion (HasLooked (F.outside.state folder.old).held) rows.now }
-    ensures base { IsTrue (F.outside.tells folder.old) → IfOk result (λ base. spec.IsBase (F.outside.state folder.old).held rows.now settled.now replaced.now path.now.bytes mode (S.outside.tells source.old) publisher.now (S.outside.state source.old).held base.text.items base.mode) }
+    ensures base { IfOk result (λ base. spec.IsBase (F.outside.tells folder.old) (F.outside.state folder.old).held rows.now settled.now replaced.now path.now.bytes mode (S.outside.tells source.old) publisher.now (S.outside.state source.old).held base.text.items base.mode) }
+    ensures small { mode < 4096 → IfOk result (λ base. (r : Request) → AllByRecursion (IsRowOf r) rows.now → AreSmallWanted r.new → base.mode < 4096) }
     ensures within { IfOk result (λ base. length base.text.items ≤ account_limit) }
     ensures refused { IfBad result (spec.IsBaseUnread (F.outside.tells folder.old) (F.outside.state folder.old).held rows.now settled.now replaced.now path.now.bytes (S.outside.tells source.old) publisher.now (S.outside.state source.old).held) }
     ensures reads { Reads F.outside folder.old folder.new (result ≡ Err (Bad fault.FolderFault)) }
     ensures reads_source { Reads S.outside source.old source.new (result ≡ Err (Bad fault.SourceFault)) }
 {
-    let left = match find_left(folder, rows, settled, replaced, path) {
-        Ok(left) => left,
-        Err(fault) => return Err(fault),
+    let Ok(left) = left_at(folder, rows, settled, replaced, path) else {
+        return Err(Or::Bad(LedgerFault::FolderFault));
     };
     match read_left(alloc, folder, source, publisher, path, left) {
         Ok(text) => Ok(BaseFile {
@@ -73,29 +74,6 @@ pub fn base_at<'a, F: Folder, S: Source>(
             mode: mode_of(left, mode),
         }),
         Err(fault) => Err(fault),
-    }
-}
-
-// What is left at the path.
-fn find_left<'a, F: Folder>(
-    folder: &mut F,
-    rows: &[Row<'a>],
-    settled: &Settled<'a>,
-    replaced: &[bool],
-    path: &RelPath,
-) -> Result<Left, Or<LedgerFault>>
-    requires order { IsStrictlySortedBy (slice_cmp nat_cmp) (row_paths rows.now) }
-    requires settled { HasAll rows.now settled.now }
-    requires replaced { length replaced.now ≡ length rows.now }
-    requires looked { IsTrue (F.outside.tells folder.old) → AllByRecursion (HasLooked (F.outside.state folder.old).held) rows.now }
-    ensures left { IsTrue (F.outside.tells folder.old) → IfOk result (IsLeft (F.outside.state folder.old).held rows.now settled.now replaced.now path.now.bytes) }
-    ensures faults { IfBad result (λ why. why ≡ fault.FolderFault) }
-    ensures reads { Reads F.outside folder.old folder.new (result ≡ Err (Bad fault.FolderFault)) }
-{
-    match left_at(folder, rows, settled, replaced, path) {
-        Ok(left) => Ok(left),
-        Err(Or::Bad(Failed)) => Err(Or::Bad(LedgerFault::FolderFault)),
-        Err(Or::OutOfMemory) => Err(Or::OutOfMemory),
     }
 }
 

@@ -1,6 +1,6 @@
 //! Whether the path of an account file is blocked.
 
-ghost use Rattle.std.specs.Prelude.{◌≡◌, not, ◌&&◌, IsTrue, IfOk, List, Option, is_some};
+ghost use Rattle.std.specs.Prelude.{◌≡◌, not, ◌&&◌, false, IsErr, IsTrue, IfOk, List, Option, is_some};
 ghost use Rattle.std.specs.List.Sorted.{IsStrictlySortedBy};
 ghost use Rattle.std.specs.Option.{option_map};
 ghost use Rattle.std.specs.Ordering.{nat_cmp};
@@ -10,31 +10,30 @@ ghost use Rattle.ips_outside.specs.Outside.{Reads, look_of};
 ghost use Rattle.ips_after.specs.Request as after;
 ghost use Rattle.ips_after.specs.Request.{Request};
 ghost use Rattle.ips_wanted.specs.Wanted.{wanted_of};
-ghost use Rattle.ips_content.specs.Failing.{HasFailed};
 ghost use Rattle.ips_survey.specs.declared.said.Said as saying;
 ghost use Rattle.ips_survey.specs.Marks.{row_paths};
 ghost use Rattle.ips_survey.specs.Tables.{IsTable};
 ghost use Rattle.ips_ledger.specs.Blocking as spec;
 
-use ips_content::look_at;
 use ips_meaning::Entry;
 use ips_outside::{Failed, Look, Source};
 use ips_survey::{Row, place};
-use ips_text::{Or, RelPath};
+use ips_text::RelPath;
 
-/// Whether something other than a file stands or is wanted at the path.
+/// Whether something other than a file stands or is wanted at the path. `Failed` where the folder failed.
 pub fn is_blocked<S: Source>(
     source: &mut S,
     rows: &[Row<'_>],
     path: &RelPath,
-) -> Result<bool, Or<Failed>>
+) -> Result<bool, Failed>
     requires order { IsStrictlySortedBy (slice_cmp nat_cmp) (row_paths rows.now) }
+    ensures wanted { IfOk result (λ blocked. (r : Request) (said : List (Option saying.Said)) → IsTable r rows.now said → blocked ≡ false → spec.wants_other_than_file (r.new.at path.now.bytes) ≡ false) }
     ensures found { IsTrue (S.outside.tells source.old) → IfOk result (λ blocked. (r : Request) (said : List (Option saying.Said)) → IsTable r rows.now said
         → blocked ≡ spec.is_blocked r (S.outside.state source.old).held path.now.bytes) }
-    ensures reads { Reads S.outside source.old source.new (HasFailed result) }
+    ensures reads { Reads S.outside source.old source.new (IsErr result) }
 {
-    let other = wants_other(wanted_at(rows, path.bytes()));
-    let stands = is_in_way(look_at(source, path)?);
+    let other = wants_other_than_file(wanted_at(rows, path.bytes()));
+    let stands = is_in_way(source.look(path)?);
     Ok(other || stands)
 }
 
@@ -58,8 +57,8 @@ fn wanted_at<'a>(rows: &[Row<'a>], path: &[u8]) -> Option<&'a Entry>
 }
 
 // Whether something other than a file is wanted.
-fn wants_other(new: Option<&Entry>) -> bool
-    ensures { result ≡ spec.wants_other (option_map (λ x. wanted_of x.now) new.entry) }
+fn wants_other_than_file(new: Option<&Entry>) -> bool
+    ensures { result ≡ spec.wants_other_than_file (option_map (λ x. wanted_of x.now) new.entry) }
 {
     matches!(
         new,

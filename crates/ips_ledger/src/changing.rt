@@ -1,6 +1,7 @@
 //! What becomes of a path, and where something goes or is replaced.
 
 ghost use Rattle.std.specs.Prelude.{◌≡◌, ◌<◌, ℕ, IfOk, List, Option, Some, length, slice_get};
+ghost use Rattle.std.specs.List.{AllByRecursion};
 ghost use Rattle.std.specs.List.Sorted.{IsStrictlySortedBy};
 ghost use Rattle.std.specs.Ordering.{nat_cmp};
 ghost use Rattle.std.specs.Cmp.Lexicographic.{slice_cmp};
@@ -9,10 +10,11 @@ ghost use Rattle.ips_after.specs.Change as outcome;
 ghost use Rattle.ips_after.specs.Request.{IsRequest, Request};
 ghost use Rattle.ips_change.specs.Told.{change_told};
 ghost use Rattle.ips_survey.specs.declared.said.Said as saying;
+ghost use Rattle.ips_survey.specs.Rows.{IsRowOf};
 ghost use Rattle.ips_survey.specs.Marks.{row_paths};
 ghost use Rattle.ips_survey.specs.Tables.{IsTable};
 ghost use Rattle.ips_emptied.specs.Joining.{HasAll, SettlesRows};
-ghost use Rattle.ips_ledger.specs.Left.{AreReplaced, IsSilent, changes_by};
+ghost use Rattle.ips_ledger.specs.Left.{AreReplaced, FitsFile, IsSilent, changes_by};
 
 use ips_change::Change;
 use ips_emptied::Settled;
@@ -48,8 +50,9 @@ pub(crate) fn is_replacing(change: Change<'_>) -> bool
 pub(crate) fn settled_at<'a>(rows: &[Row<'a>], settled: &Settled<'a>, i: usize) -> Change<'a>
     requires within { i < length rows.now }
     requires settled { HasAll rows.now settled.now }
-    ensures { (r : Request) (t : Image) (p : List ℕ) → IsSilent r → SettlesRows r t rows.now settled.now → slice_get (row_paths rows.now) i ≡ Some p
+    ensures told { (r : Request) (t : Image) (p : List ℕ) → IsSilent r → SettlesRows r t rows.now settled.now → slice_get (row_paths rows.now) i ≡ Some p
         → change_told r.bytes result ≡ changes_by r t rows.now settled.now p }
+    ensures fits { (r : Request) (p : List ℕ) → AllByRecursion (IsRowOf r) rows.now → slice_get (row_paths rows.now) i ≡ Some p → FitsFile (r.new.at p) result }
 {
     if settled.emptied[i] {
         Change::Removed
@@ -62,8 +65,9 @@ pub(crate) fn settled_at<'a>(rows: &[Row<'a>], settled: &Settled<'a>, i: usize) 
 pub(crate) fn change_at<'a>(rows: &[Row<'a>], settled: &Settled<'a>, path: &[u8]) -> Change<'a>
     requires order { IsStrictlySortedBy (slice_cmp nat_cmp) (row_paths rows.now) }
     requires settled { HasAll rows.now settled.now }
-    ensures { (r : Request) (t : Image) (said : List (Option saying.Said)) → IsRequest r → IsTable r rows.now said → IsSilent r → SettlesRows r t rows.now settled.now
+    ensures told { (r : Request) (t : Image) (said : List (Option saying.Said)) → IsRequest r → IsTable r rows.now said → IsSilent r → SettlesRows r t rows.now settled.now
         → change_told r.bytes result ≡ changes_by r t rows.now settled.now path.now }
+    ensures fits { (r : Request) → AllByRecursion (IsRowOf r) rows.now → FitsFile (r.new.at path.now) result }
 {
     match place(rows, path) {
         Some(i) => settled_at(rows, settled, i),

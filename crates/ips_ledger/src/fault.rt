@@ -14,7 +14,7 @@ pub enum LedgerFault {
         /// What is wrong: it is missing, too large, damaged or compressed.
         fault: RepoFault,
     },
-    /// An account file has, or would have, more bytes than one may have.
+    /// The text of what is left at an account file has more bytes than one may have, which is the limit `AccountBytes`.
     TooLarge {
         /// How many bytes.
         count: u64,

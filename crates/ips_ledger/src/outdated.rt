@@ -1,18 +1,15 @@
 //! The account files that are due.
 
 ghost use Rattle.std.specs.Prelude.{◌≡◌, ◌++◌, [], OnOk, IfOk, map};
-ghost use Rattle.ips_text.specs.Reading.{IfBad};
 ghost use Rattle.ips_books.specs.Seen.{texts};
 ghost use Rattle.ips_outstanding.specs.Parts.{due_file};
-ghost use Rattle.ips_ledger.specs.Editing.{IsFirstLong, IsLong, IsShort, due_book, due_books};
+ghost use Rattle.ips_ledger.specs.Editing.{due_book, due_books};
 
-use crate::fault::LedgerFault;
-use crate::payload::ACCOUNT_BYTES;
 use ips_books::Books;
 use ips_content::is_same;
 use ips_outstanding::AccountFile;
-use ips_text::{Or, RelPath};
-use std::alloc::Global;
+use ips_text::RelPath;
+use std::alloc::{AllocError, Global};
 
 /// The mode of each account file.
 #[derive(Clone, Copy, Drop)]
@@ -25,22 +22,14 @@ pub struct Modes {
     pub group: u16,
 }
 
-/// The account files whose text changes, with these modes.
-///
-/// # Errors
-///
-/// `TooLarge` at the first of them that would have more bytes than an account file may have.
+/// The account files whose text changes, with these modes. How many bytes each has isn't asked here.
 pub fn due(
     alloc: Global,
     modes: Modes,
     before: &Books,
     after: &Books,
-) -> Result<Vec<AccountFile>, Or<LedgerFault>>
-    ensures files { IfOk result (λ files. map due_file files.items ≡ due_books modes (texts before.now) (texts after.now)) }
-    ensures passwd { OnOk result (IsShort before.now.passwd.items after.now.passwd.items) }
-    ensures shadow { OnOk result (IsShort before.now.shadow.items after.now.shadow.items) }
-    ensures group { OnOk result (IsShort before.now.group.items after.now.group.items) }
-    ensures refused { IfBad result (IsFirstLong (texts before.now) (texts after.now)) }
+) -> Result<Vec<AccountFile>, AllocError>
+    ensures { IfOk result (λ files. map due_file files.items ≡ due_books modes (texts before.now) (texts after.now)) }
 {
     let mut files = Vec::new(alloc);
     match add_all(alloc, modes, before, after, &mut files) {
@@ -56,13 +45,9 @@ fn add_all(
     before: &Books,
     after: &Books,
     files: &mut Vec<AccountFile>,
-) -> Result<(), Or<LedgerFault>>
-    requires none { files.old.items ≡ [] }
-    ensures files { OnOk result (map due_file files.new.items ≡ due_books modes (texts before.now) (texts after.now)) }
-    ensures passwd { OnOk result (IsShort before.now.passwd.items after.now.passwd.items) }
-    ensures shadow { OnOk result (IsShort before.now.shadow.items after.now.shadow.items) }
-    ensures group { OnOk result (IsShort before.now.group.items after.now.group.items) }
-    ensures refused { IfBad result (IsFirstLong (texts before.now) (texts after.now)) }
+) -> Result<(), AllocError>
+    requires { files.old.items ≡ [] }
+    ensures { OnOk result (map due_file files.new.items ≡ due_books modes (texts before.now) (texts after.now)) }
 {
     add(
         alloc,
@@ -98,21 +83,14 @@ fn add(
     before: &[u8],
     after: &[u8],
     files: &mut Vec<AccountFile>,
-) -> Result<(), Or<LedgerFault>>
-    ensures files { OnOk result (map due_file files.new.items ≡ map due_file files.old.items ++ due_book path.now mode before.now after.now) }
-    ensures short { OnOk result (IsShort before.now after.now) }
-    ensures refused { IfBad result (IsLong before.now after.now) }
+) -> Result<(), AllocError>
+    ensures { OnOk result (map due_file files.new.items ≡ map due_file files.old.items ++ due_book path.now mode before.now after.now) }
 {
     if is_same(before, after) {
         return Ok(());
     }
-    if after.len() as u64 > ACCOUNT_BYTES {
-        return Err(Or::Bad(LedgerFault::TooLarge {
-            count: after.len() as u64,
-        }));
-    }
     let Ok(path) = RelPath::parse(alloc, path) else {
-        return Err(Or::OutOfMemory);
+        return Err(AllocError);
     };
     let bytes = Vec::from_slice(alloc, after)?;
     files.push(AccountFile { path, mode, bytes })?;

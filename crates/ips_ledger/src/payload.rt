@@ -120,6 +120,7 @@ fn gather<S: Source>(
     ensures named { payload.new.name ≡ payload.old.name }
     ensures placed { payload.new.place ≡ payload.old.place }
     ensures count { IfOk result (λ count. count ≡ length payload.new.bytes) }
+    ensures sized { IfOk result (λ count. count ≤ payload_limit) }
     ensures kept { IfOk result (λ count. count ≤ account_limit → bytes.new.items ≡ payload.new.bytes) }
     ensures front { IsTrue (S.outside.tells source.old) → IsFrontOf (S.outside.state source.old).held payload.old → IsFrontOf (S.outside.state source.old).held payload.new }
     ensures faults { IfBad result (λ why. why ≡ fault.SourceFault) }

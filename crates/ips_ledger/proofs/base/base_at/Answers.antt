@@ -1,14 +1,25 @@
-use Rattle.std.proofs.Common.{ap, ◌∙◌}
+use Rattle.std.proofs.Common.{Bool, inr, subst}
 use Rattle.ips_outside.specs.State.{State}
-use Rattle.ips_ledger.proofs.Bases.{base_is}
+use Rattle.ips_files.specs.Files.{file_at}
+use Rattle.ips_ledger.specs.Texts.{IsTextUnread}
+use Rattle.ips_ledger.proofs.Answered.{fault_as}
 use Rattle.ips_ledger.proofs.base.base_at.Goals as goal
 
-pub returns-in-Ok-read_left-clause-base : goal.returns-in-Ok-read_left-clause-base
-returns-in-Ok-read_left-clause-base g c = λ told r said good table silent are marks payloads none.
+pub returns-in-Err-clause-refused : goal.returns-in-Err-clause-refused
+returns-in-Err-clause-refused g c =
     let o = g.F.Source.outside in
+    let p = g.S.Source.outside in
     let q = c.args.path.now.bytes in
-    let t = (o.state c.args.folder.now).held in
-    let first = c.find_left.ensures.reads in
-    let both = base_is r.bytes (t.look q) ((o.state c.find_left.new.folder).held.look q) (o.tells c.find_left.new.folder) (g.S.Source.outside.tells c.args.source.now) c.args.publisher.now (g.S.Source.outside.state c.args.source.now).held c.args.mode _ c.in-Ok.left c.in-Ok-read_left.text.items
-    (first.call.same_kind ∙ told) (ap (λ (s : State). s.held.look q) first.kept) c.in-Ok-read_left.ensures.text payloads (c.in-Ok.ensures.left told r said good table silent are marks none) in
-    (both.0, c.mode_of.ensures ∙ both.1)
+    let first = c.left_at.ensures.reads in
+    let tells = p.tells c.args.source.now in
+    let publisher = c.args.publisher.now in
+    let repository = (p.state c.args.source.now).held in
+    let left = c.in-Ok.left in
+    fault_as c.in-Err.fault (IsTextUnread (o.tells c.left_at.new.folder) (file_at (o.state c.left_at.new.folder).held q) tells publisher repository left) _
+    (λ why unread. inr (
+      left,
+      c.in-Ok.ensures.found,
+      subst (λ (b : Bool). IsTextUnread b (file_at (o.state c.args.folder.now).held q) tells publisher repository left why) first.call.same_kind
+          (subst (λ (u : State). IsTextUnread (o.tells c.left_at.new.folder) (file_at u.held q) tells publisher repository left why) first.kept unread),
+    ))
+    c.in-Err.ensures.refused

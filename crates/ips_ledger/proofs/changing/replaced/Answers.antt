@@ -21,7 +21,7 @@ loop-i-preserved c =
       long = one_more c.loop-i.marks.items c.push.new.self.items c.is_replacing.result i c.in_ok-push.ensures.items c.loop-i.invariant.long;
       so_far = λ r t silent are.
           c.in_ok-push.ensures.items ∙ row_more (λ q. replaces (changes_by r t rows s q)) rows i row c.loop-i.marks.items c.is_replacing.result lt there (c.loop-i.invariant.so_far r t silent are)
-          (c.is_replacing.ensures r.bytes ∙ ap replaces (c.settled_at.ensures r t row.path.now.bytes silent are (row_at rows i row lt there)));
+          (c.is_replacing.ensures r.bytes ∙ ap replaces (c.settled_at.ensures.told r t row.path.now.bytes silent are (row_at rows i row lt there)));
     }
 
 pub returns-clause-marks : goal.returns-clause-marks

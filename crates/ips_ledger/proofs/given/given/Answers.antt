@@ -1,16 +1,15 @@
-use Rattle.std.proofs.Common.{◌<◌, List, length, filter, take_all, Some, ◌∙◌, ap, subst, arith}
+use Rattle.std.proofs.Common.{◌<◌, IsErr, List, length, filter, take_all, Some, ◌∙◌, ap, arith}
 use Rattle.ips_outside.specs.Image.{File}
 use Rattle.ips_outside.specs.State.{State}
-use Rattle.ips_outside.proofs.Reading.{reads_then}
+use Rattle.ips_outside.proofs.Reading.{answered, reads_then}
 use Rattle.ips_after.specs.Change.{replaces, with_given}
-use Rattle.ips_content.specs.Failing.{HasFailed}
 use Rattle.ips_survey.specs.declared.row.Row.{Row}
 use Rattle.ips_survey.specs.Rows.{IsRowOf}
 use Rattle.ips_survey.specs.Marks.{row_paths}
 use Rattle.ips_links.proofs.Linked.{all_here}
 use Rattle.ips_ledger.specs.Left.{changes_by}
 use Rattle.ips_ledger.proofs.Silent.{row_at}
-use Rattle.ips_ledger.proofs.Givings.{given_step, ranked}
+use Rattle.ips_ledger.proofs.Givings.{given_step, ranked, small_at}
 use Rattle.ips_ledger.proofs.given.given.Goals as goal
 
 pub loop-i-preserved : goal.loop-i-preserved
@@ -25,12 +24,13 @@ loop-i-preserved g c =
     let t = (o.state c.args.folder.now).held in
     let lt : i < length rows = c.loop-i-test.true in
     record {
-      reads = reads_then o c.args.folder.now c.loop-i.folder c.given_at.new.folder (HasFailed c.given_at.result) _ inv.reads c.given_at.ensures.reads (λ f. subst (λ (r : _). HasFailed r) c.in_ok-given.was f) (λ f. absurd f);
+      reads = reads_then o c.args.folder.now c.loop-i.folder c.given_at.new.folder (IsErr c.given_at.result) _ inv.reads c.given_at.ensures.reads (answered c.given_at.result c.in_ok-given.given c.in_ok-given.was) (λ f. absurd f);
+      small = λ few r of wanted. c.in_ok-given.ensures.small (inv.small few r of wanted) (r.new.at row.path.now.bytes) (c.settled_at-change.ensures.fits r row.path.now.bytes of (row_at rows i row lt c.index-rows-i.is)) (small_at r.new row.path.now.bytes wanted);
       so_far = λ told r body of silent are marks.
           let change = changes_by r t rows s in
           given_step r t (o.state c.loop-i.folder).held change c.args.was rows i row q _ (Some (File c.args.mode body)) (Some (File c.loop-i.given body)) (Some (File c.in_ok-given.given body)) lt c.index-rows-i.is
           (all_here (IsRowOf r) rows i row lt c.index-rows-i.is of)
-          (c.settled_at-change.ensures r t row.path.now.bytes silent are (row_at rows i row lt c.index-rows-i.is))
+          (c.settled_at-change.ensures.told r t row.path.now.bytes silent are (row_at rows i row lt c.index-rows-i.is))
           (ap (λ (s : State). s.held) inv.reads.kept)
           (inv.so_far told r body of silent are marks)
           (c.in_ok-given.ensures.found (inv.reads.call.same_kind ∙ told) (λ p. replaces (change p)) r.bytes body marks);

@@ -2,7 +2,7 @@ use Rattle.std.proofs.Common.{◌≡◌, Err, refl}
 use Rattle.ips_text.specs.declared.refusal.Or.TheVariants.{Bad}
 use Rattle.ips_outside.proofs.Reading.{handed_on, no_fault, reads_as}
 use Rattle.ips_ledger.specs.declared.fault.LedgerFault.TheVariants as fault
-use Rattle.ips_ledger.proofs.Givings.{never_err}
+use Rattle.ips_ledger.proofs.Answered.{never_err}
 use Rattle.ips_ledger.proofs.payload.read_payload.Goals as goal
 
 pub returns-in-Ok-clause-reads : goal.returns-in-Ok-clause-reads

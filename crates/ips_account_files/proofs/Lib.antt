@@ -1,0 +1,5 @@
+mod Arounds
+mod Found
+mod Refused
+mod Due
+mod Once

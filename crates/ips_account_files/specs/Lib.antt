@@ -1,0 +1,5 @@
+pub mod Around
+pub mod Bases
+pub mod Finding
+pub mod Behind
+pub mod Laws
