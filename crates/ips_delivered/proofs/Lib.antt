@@ -2,7 +2,9 @@ mod Names
 mod Owning
 mod Numbered
 mod Rows
-mod Picked
+pub mod Picked
 mod Drivers
-mod Places
-mod Outcomes
+pub mod OneList
+pub mod Lent
+pub mod Places
+pub mod Outcomes

@@ -1,11 +1,11 @@
 -- What is picked of a list that is gone through from the front, and what the table of actions says of names.
-use Rattle.std.proofs.Common.{◌≡◌, ◌∙◌, ◌++◌, ◌∷◌, [], ℕ, zero, suc, ◌<◌, ◌≤◌, Bool, true, false, cond, List, map, filter, length, get_or, refl, sym, ap, subst, arith, inl, inr}
+use Rattle.std.proofs.Common.{◌≡◌, ◌∙◌, ◌++◌, ◌∷◌, [], ℕ, zero, suc, ◌+◌, ◌<◌, ◌≤◌, Bool, true, false, cond, List, map, filter, take, length, get_or, refl, sym, ap, subst, arith, inl, inr}
 use Rattle.std.specs.Prelude.{slice_get, unwrap_or, codes}
 use Rattle.std.specs.List.{AllByRecursion}
 use Rattle.std.proofs.lemmas.List.{append_assoc, map-append}
 use Rattle.std.proofs.lemmas.List.Elements.{filter-append}
 use Rattle.std.proofs.lemmas.List.Concat.{flat_map-cons}
-use Rattle.ips_text.proofs.Lists.{all_append}
+use Rattle.ips_text.proofs.Lists.{all_append, map_item}
 use Rattle.ips_filter.specs.Admitted.{Admits}
 use Rattle.ips_filter.specs.Settings.{Set}
 use Rattle.ips_manifest.specs.declared.line.Line.{Line}
@@ -30,34 +30,36 @@ use Rattle.ips_delivered.proofs.Names.{quoted_name}
 
 -- ---- what is picked
 
-module _ {A : Type 0} (test : Placed → Bool) (f : Placed → A) where
-  one_picked : (p : Placed) (t : Bool) → map f (cond t (p ∷ []) []) ≡ cond t (f p ∷ []) []
+module _ {X A : Type 0} (test : X → Bool) (f : X → A) where
+  one_picked : (p : X) (t : Bool) → map f (cond t (p ∷ []) []) ≡ cond t (f p ∷ []) []
   one_picked p true = refl
   one_picked p false = refl
 
-  picked_more : (xs : List Placed) (p : Placed) → map f (filter test (xs ++ p ∷ [])) ≡ map f (filter test xs) ++ cond (test p) (f p ∷ []) []
+  pub picked_more : (xs : List X) (p : X) → map f (filter test (xs ++ p ∷ [])) ≡ map f (filter test xs) ++ cond (test p) (f p ∷ []) []
   picked_more xs p = ap (map f) (filter-append test xs (p ∷ [])) ∙ map-append f (filter test xs) (filter test (p ∷ [])) ∙ ap (λ (l : List A). map f (filter test xs) ++ l) (one_picked p (test p))
 
-  pub picked_all : (Q : A → Type 0) (xs : List Placed) (p : Placed) → AllByRecursion Q (map f (filter test xs)) → (test p ≡ true → Q (f p)) → AllByRecursion Q (map f (filter test (xs ++ p ∷ [])))
+  pub picked_all : (Q : A → Type 0) (xs : List X) (p : X) → AllByRecursion Q (map f (filter test xs)) → (test p ≡ true → Q (f p)) → AllByRecursion Q (map f (filter test (xs ++ p ∷ [])))
   picked_all Q xs p so_far one = subst (AllByRecursion Q) (sym (picked_more xs p)) (all_append Q (map f (filter test xs)) (cond (test p) (f p ∷ []) []) so_far (go (test p) refl))
     where
       go : (t : Bool) → test p ≡ t → AllByRecursion Q (cond t (f p ∷ []) [])
       go true is = (one is, tt)
       go false is = tt
 
-  -- the records of what is picked
-  module _ (g : A → List ℕ × Content) where
-    one_record : (p : Placed) (t : Bool) → map g (cond t (f p ∷ []) []) ≡ cond t (g (f p) ∷ []) []
-    one_record p true = refl
-    one_record p false = refl
+-- what all of a list are that are told, one is
+pub told_at : {A B : Type 0} (f : A → B) (P : B → Type 0) (xs : List A) (i : ℕ) (x : A) → i < length xs → x ≡ get_or xs i x → AllByRecursion P (map f xs) → P (f x)
+told_at f P [] i x lt is all = absurd (omega (arith, lt))
+told_at f P (y ∷ xs) zero x lt is all = subst (λ (z : _). P (f z)) (sym is) all.0
+told_at f P (y ∷ xs) (suc i) x lt is all = told_at f P xs i x (omega (arith, lt)) is all.1
 
-    pub records_more : (old now next : List DueRecord) (xs : List Placed) (p : Placed) → map due_record now ≡ map due_record old ++ map g (map f (filter test xs)) → map due_record next ≡ map due_record now ++ cond (test p) (g (f p) ∷ []) []
-        → map due_record next ≡ map due_record old ++ map g (map f (filter test (xs ++ p ∷ [])))
-    records_more old now next xs p so_far one =
-        one
-        ∙ ap (λ (l : List (List ℕ × Content)). l ++ cond (test p) (g (f p) ∷ []) []) so_far
-        ∙ append_assoc (map due_record old) (map g (map f (filter test xs))) (cond (test p) (g (f p) ∷ []) [])
-        ∙ sym (ap (λ (l : List (List ℕ × Content)). map due_record old ++ l) (ap (map g) (picked_more xs p) ∙ map-append g (map f (filter test xs)) (cond (test p) (f p ∷ []) []) ∙ ap (λ (l : List (List ℕ × Content)). map g (map f (filter test xs)) ++ l) (one_record p (test p))))
+-- the records of what is gone through, one more
+pub records_more : {A B : Type 0} (f : A → B) (g : B → List ℕ × Content) (old now next : List DueRecord) (one : DueRecord) (xs : List A) (i : ℕ) (x : A) → i < length xs → x ≡ get_or xs i x
+    → map due_record now ≡ map due_record old ++ map g (map f (take i xs)) → next ≡ now ++ one ∷ [] → due_record one ≡ g (f x) → map due_record next ≡ map due_record old ++ map g (map f (take (i + 1) xs))
+records_more f g old now next one xs i x lt is so_far pushed shows =
+    ap (map due_record) pushed
+    ∙ map-append due_record now (one ∷ [])
+    ∙ (λ j. so_far j ++ shows j ∷ [])
+    ∙ append_assoc (map due_record old) (map g (map f (take i xs))) (g (f x) ∷ [])
+    ∙ ap (λ (l : List (List ℕ × Content)). map due_record old ++ l) (sym (ap (map g) (map_item f xs i x lt is) ∙ map-append g (map f (take i xs)) (f x ∷ [])))
 
 -- ---- kinds
 

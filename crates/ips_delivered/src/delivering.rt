@@ -12,12 +12,14 @@ ghost use Rattle.ips_outstanding.specs.Parts.{due_record};
 ghost use Rattle.ips_delivered.specs.Delivering as spec;
 ghost use Rattle.ips_delivered.specs.Delivering.{AreDelivered, HasUnknownOwner, PackagesDeliver};
 ghost use Rattle.ips_delivered.specs.Known as known;
+ghost use Rattle.ips_delivered.specs.Named.{names_told, records_with};
 ghost use Rattle.ips_delivered.specs.Known.{ActionsDeliver, missing_told};
 ghost use Rattle.ips_text.specs.Path.{IsPath};
 
-use crate::admitted::admitted;
-use crate::licenses::{add_legacies, add_licenses};
+use crate::admitting::admitted;
+use crate::named::{Named, names_of};
 use crate::owners::{owner_rows, parsed};
+use crate::recording::{add_legacies, add_licenses};
 use crate::unknown::{Missing, UnknownOwner, first_unknown};
 use ips_action::{Action, ActionKind};
 use ips_books::Books;
@@ -85,9 +87,23 @@ fn records(
     requires stems { AllByRecursion (λ p. IsStem false p.stem) admitted.now }
     ensures { IfOk result (λ records. AreDelivered admitted.now rows.now (map due_record records.items)) }
 {
+    let named = names_of(alloc, admitted)?;
+    all_records(alloc, admitted, rows, &named)
+}
+
+// The same, where these are the licenses and the legacy packages.
+fn all_records(
+    alloc: Global,
+    admitted: &[Placed<'_>],
+    rows: &[OwnerRow],
+    named: &Named<'_>,
+) -> Result<Vec<DueRecord>, AllocError>
+    requires { CanBeNamed (names_told named.now) }
+    ensures { IfOk result (λ records. (bytes : List ℕ) × IsDrivers (map (λ p. p.action) admitted.now) bytes × (map due_record records.items ≡ records_with rows.now bytes (names_told named.now).licenses (names_told named.now).legacy)) }
+{
     let mut records = first_records(alloc, admitted, rows)?;
-    add_licenses(alloc, admitted, &mut records)?;
-    add_legacies(alloc, admitted, &mut records)?;
+    add_licenses(alloc, &named.licenses, &mut records)?;
+    add_legacies(alloc, &named.legacy, &mut records)?;
     Ok(records)
 }
 

@@ -24,7 +24,7 @@ use Rattle.ips_due.specs.Delivered.{Delivered, creation_due, delivered_gone, del
 use Rattle.ips_outstanding.specs.Noted.{either}
 use Rattle.ips_outstanding.specs.declared.due.DueRecord.{DueRecord}
 use Rattle.ips_outstanding.specs.Parts.{due_record}
-use Rattle.ips_state_due.specs.Parts.{due_at, records_by}
+use Rattle.ips_state_due.specs.Parts.{due_at, placed_records}
 use Rattle.ips_state_due.proofs.Behind.{DueEntry}
 
 -- ---- the first record of a path
@@ -98,7 +98,7 @@ places_own : (r : Recorded) (places : List Place) → map (due_at r) places ≡ 
 places_own r [] = refl
 places_own r (p ∷ places) = ap (λ (l : List DueEntry). due_at r p ∷ l) (places_own r places)
 
-pub records_same : (r : Recorded) (places : List Place) (others : List DueRecord) → AreRecords r (map (entry_at r) places) → (q : List ℕ) → record_at (records_by r places others) q ≡ record_at (own_records (records_of r) ++ map due_record others) q
+pub records_same : (r : Recorded) (places : List Place) (others : List DueRecord) → AreRecords r (map (entry_at r) places) → (q : List ℕ) → record_at (placed_records r places others) q ≡ record_at (own_records (records_of r) ++ map due_record others) q
 records_same r places others are q =
     found_append (map (due_at r) places) (map due_record others) q
     ∙ ap (λ (o : Option Content). either o (record_at (map due_record others) q)) (ap (λ (l : List DueEntry). record_at l q) (places_own r places) ∙ moved_same (records_of r) (map (entry_at r) places) are.due are.order q)
@@ -106,14 +106,14 @@ records_same r places others are q =
 
 -- with others behind them that mean the same
 behind_same : (r : Recorded) (places : List Place) (others : List DueRecord) (rest : List DueEntry) → AreRecords r (map (entry_at r) places) → ((q : List ℕ) → record_at (map due_record others) q ≡ record_at rest q)
-    → (q : List ℕ) → record_at (records_by r places others) q ≡ record_at (own_records (records_of r) ++ rest) q
+    → (q : List ℕ) → record_at (placed_records r places others) q ≡ record_at (own_records (records_of r) ++ rest) q
 behind_same r places others rest are same q =
     records_same r places others are q ∙ found_append (own_records (records_of r)) (map due_record others) q
     ∙ ap (either (record_at (own_records (records_of r)) q)) (same q) ∙ sym (found_append (own_records (records_of r)) rest q)
 
 pub request_same : (accounts : List DueFile) (old new : Recorded) (was is : Delivered) (places : List Place) (others : List DueRecord) (gone : List (List ℕ)) → AreRecords new (map (entry_at new) places)
     → ((q : List ℕ) → record_at (map due_record others) q ≡ record_at (delivered_records is) q) → ((q : List ℕ) → listed gone q ≡ listed (taken_away old new ++ delivered_gone was is) q)
-    → MeansSame (record { accounts = accounts; records = records_by new places others; renewed = renewed_by (old.format == 1) (new.format == 1); folders = []; gone = gone }) (request_due accounts old new was is)
+    → MeansSame (record { accounts = accounts; records = placed_records new places others; renewed = renewed_by (old.format == 1) (new.format == 1); folders = []; gone = gone }) (request_due accounts old new was is)
 request_same accounts old new was is places others gone are same_others same_gone = record {
   accounts = λ q. refl;
   records = behind_same new places others (delivered_records is) are same_others;
@@ -124,7 +124,7 @@ request_same accounts old new was is places others gone are same_others same_gon
 
 pub creation_same : (new : Recorded) (places : List Place) (others : List DueRecord) → AreRecords new (map (entry_at new) places)
     → ((q : List ℕ) → record_at (map due_record others) q ≡ record_at (delivered_records (record { owners = []; drivers = []; licenses = []; legacy = [] })) q)
-    → MeansSame (record { accounts = []; records = records_by new places others; renewed = packages_path ∷ []; folders = first_folders; gone = [] }) (creation_due new)
+    → MeansSame (record { accounts = []; records = placed_records new places others; renewed = packages_path ∷ []; folders = first_folders; gone = [] }) (creation_due new)
 creation_same new places others are same_others = record {
   accounts = λ q. refl;
   records = behind_same new places others (delivered_records (record { owners = []; drivers = []; licenses = []; legacy = [] })) are same_others;

@@ -13,8 +13,8 @@ abbrev pub due_at : Recorded → Place → List ℕ × Content
 due_at r place = (place.path.bytes, Own (record_text r place.part))
 
 -- The records at these places of the state, and the others.
-abbrev pub records_by : Recorded → List Place → List DueRecord → List (List ℕ × Content)
-records_by r places others = map (due_at r) places ++ map due_record others
+abbrev pub placed_records : Recorded → List Place → List DueRecord → List (List ℕ × Content)
+placed_records r places others = map (due_at r) places ++ map due_record others
 
 -- The state is in one of both formats, and has the parts of these places.
 pub record HasPlaces (r : Recorded) (places : List Place) : Type 0 where

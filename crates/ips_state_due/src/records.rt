@@ -5,7 +5,7 @@ ghost use Rattle.ips_state.specs.State.{recorded};
 ghost use Rattle.ips_entries.specs.Part.{HasPart, record_text};
 ghost use Rattle.ips_due.specs.Due.{Own};
 ghost use Rattle.ips_outstanding.specs.Parts.{content_told};
-ghost use Rattle.ips_state_due.specs.Parts.{HasPlaces, records_by};
+ghost use Rattle.ips_state_due.specs.Parts.{HasPlaces, placed_records};
 
 use ips_entries::{Place, text_of};
 use ips_outstanding::{Content, DueRecord, Records};
@@ -26,11 +26,11 @@ impl<'a> Model for StateRecords<'a> {
     ghost use Rattle.std.specs.Prelude.{ℕ, List};
     ghost use Rattle.ips_due.specs.Due.{Content};
     ghost use Rattle.ips_state.specs.State.{recorded};
-    ghost use Rattle.ips_state_due.specs.Parts.{HasPlaces, records_by};
+    ghost use Rattle.ips_state_due.specs.Parts.{HasPlaces, placed_records};
 
     ghost Value = { List (List ℕ × Content) };
 
-    ghost view = { λ s. records_by (recorded s.state.now) s.places.now s.others.now };
+    ghost view = { λ s. placed_records (recorded s.state.now) s.places.now s.others.now };
 
     ghost invariant = { λ s. HasPlaces (recorded s.state.now) s.places.now };
 }
@@ -39,7 +39,7 @@ impl<'a> StateRecords<'a> {
     /// The records at these places of the state, and the others.
     pub fn new(state: &'a State, places: &'a [Place], others: &'a [DueRecord]) -> StateRecords<'a>
         requires { HasPlaces (recorded state.now) places.now }
-        ensures { result ≡ records_by (recorded state.now) places.now others.now }
+        ensures { result ≡ placed_records (recorded state.now) places.now others.now }
     {
         StateRecords {
             state,

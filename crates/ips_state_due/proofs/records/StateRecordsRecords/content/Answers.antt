@@ -9,7 +9,7 @@ use Rattle.ips_due.specs.Due.{Content, Own}
 use Rattle.ips_outstanding.specs.declared.due.Content.{Content as Told}
 use Rattle.ips_outstanding.specs.declared.due.DueRecord.{DueRecord}
 use Rattle.ips_outstanding.specs.Parts.{content_told, due_record}
-use Rattle.ips_state_due.specs.Parts.{due_at, records_by}
+use Rattle.ips_state_due.specs.Parts.{due_at, placed_records}
 use Rattle.ips_state_due.proofs.Behind.{DueEntry, behind, in_front, lengths}
 use Rattle.ips_state_due.proofs.records.StateRecordsRecords.content.Goals as goal
 
@@ -18,7 +18,7 @@ returns-in-Some c =
     let r = recorded c.self.inside.state.now in
     let places = c.self.inside.places.now in
     let others = c.self.inside.others.now in
-    let there = ap (λ (l : List DueEntry). slice_get (map (λ (e : DueEntry). e.1) l) c.args.number) (sym c.self.view_is) ∙ slice_get-map (λ (e : DueEntry). e.1) (records_by r places others) c.args.number
+    let there = ap (λ (l : List DueEntry). slice_get (map (λ (e : DueEntry). e.1) l) c.args.number) (sym c.self.view_is) ∙ slice_get-map (λ (e : DueEntry). e.1) (placed_records r places others) c.args.number
     ∙ ap (option_map (λ (e : DueEntry). e.1)) (in_front (due_at r) due_record places others c.args.number c.in-Some.place.now (slice_get-get_or places c.args.number c.in-Some.place.now c.in-Some.ensures.lookup.3.0 ∙ ap (λ (x : Place). Some x) (sym c.in-Some.ensures.lookup.1))) in
     IfOk-weaker c.text_at.result (λ (content : Told). content_told content ≡ Own (record_text r c.in-Some.place.now.part)) (λ (content : Told). slice_get (map (λ (e : DueEntry). e.1) c.args.self.now) c.args.number ≡ Some (content_told content))
     (λ content own. there ∙ ap (λ (x : Content). Some x) (sym own)) c.text_at.ensures
@@ -29,7 +29,7 @@ returns-in-None c =
     let places = c.self.inside.places.now in
     let others = c.self.inside.others.now in
     let all : length c.args.self.now ≡ length places + length others = ap (λ (l : List DueEntry). length l) (sym c.self.view_is) ∙ lengths (due_at r) due_record places others in
-    let there = ap (λ (l : List DueEntry). slice_get (map (λ (e : DueEntry). e.1) l) c.args.number) (sym c.self.view_is) ∙ slice_get-map (λ (e : DueEntry). e.1) (records_by r places others) c.args.number
+    let there = ap (λ (l : List DueEntry). slice_get (map (λ (e : DueEntry). e.1) l) c.args.number) (sym c.self.view_is) ∙ slice_get-map (λ (e : DueEntry). e.1) (placed_records r places others) c.args.number
     ∙ ap (option_map (λ (e : DueEntry). e.1)) (behind (due_at r) due_record places others c.args.number c.index-self-number.result c.in-None.ensures.lookup.3 (omega (arith, c.requires, all))) in
     let other : DueRecord = get_or others (c.args.number - length places) c.index-self-number.result in
     IfOk-weaker c.copy.result (λ (content : Told). content_told content ≡ content_told other.content) (λ (content : Told). slice_get (map (λ (e : DueEntry). e.1) c.args.self.now) c.args.number ≡ Some (content_told content))

@@ -1,0 +1,3 @@
+mod Paths
+mod Meaning
+mod Files

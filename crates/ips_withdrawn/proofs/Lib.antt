@@ -1,0 +1,3 @@
+pub mod More
+mod Places
+mod Going
