@@ -1,0 +1,5 @@
+mod Silent
+mod Spoken
+mod Asked
+mod Licenses
+mod Beyond

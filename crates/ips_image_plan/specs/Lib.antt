@@ -1,0 +1,7 @@
+pub mod Meaning
+pub mod Accounts
+pub mod Between
+pub mod Steps
+pub mod Licenses
+pub mod Acting
+pub mod Behind

@@ -1,0 +1,70 @@
+-- The limits of a plan.
+use Rattle.std.specs.Prelude.{ℕ, cond, nat_lt, List, [], ◌∷◌, length, Option, Some, None, slice_get}
+use Rattle.std.specs.Option.{option_map}
+use Rattle.std.specs.Ordering.{nat_cmp, is_gt}
+use Rattle.std.specs.Cmp.Lexicographic.{slice_cmp}
+use Rattle.ips_text.specs.declared.limits.Which.{Which}
+use Rattle.ips_text.specs.declared.limits.Which.TheVariants.{AccountBytes, ImageFileBytes, Steps}
+use Rattle.ips_steps.specs.Steps.{Step, Gone, Fresh, Mode, Put, Symlink, Hard}
+use Rattle.ips_journal.specs.declared.staged.Staged.{Staged}
+use Rattle.ips_journal.specs.declared.staged.Staged.TheVariants.{Payload, Bytes, Standing}
+use Rattle.ips_after.specs.Findings.{is_account_path}
+use Rattle.ips_plan_limits.specs.declared.large.Large.{Large}
+use Rattle.ips_plan_limits.specs.declared.limits.Excess.{Excess}
+
+-- How many bytes a file may have at the path: an account file 16 MiB, any other 64 MiB.
+abbrev pub limit_at : List ℕ → ℕ
+limit_at path = cond (is_account_path path) 16777216 67108864
+
+-- What there is too much of where a file at the path is too large.
+abbrev pub which_at : List ℕ → Which
+which_at path = cond (is_account_path path) AccountBytes ImageFileBytes
+
+-- How many bytes of its own a content has; none if it is a payload or a copy of what stands.
+abbrev pub own_count : Option Staged → Option ℕ
+own_count (Some (Payload name)) = None
+own_count (Some (Bytes bytes)) = Some (length bytes.items)
+own_count (Some (Standing from)) = None
+own_count None = None
+
+-- The file of the path with so many bytes, where that is more than it may have.
+abbrev pub large_at : List ℕ → Option ℕ → Option (List ℕ × ℕ)
+large_at path (Some count) = cond (nat_lt (limit_at path) count) (Some (path, count)) None
+large_at path None = None
+
+-- The file that the step puts with bytes of its own, where it has more than it may have.
+abbrev pub large_of : List Staged → Step → Option (List ℕ × ℕ)
+large_of staged (Gone p) = None
+large_of staged (Fresh m p) = None
+large_of staged (Mode m p) = None
+large_of staged (Put n m p) = large_at p (own_count (slice_get staged n))
+large_of staged (Symlink p target) = None
+large_of staged (Hard p to) = None
+
+-- Of two files the one of the lesser path, else the first.
+abbrev pub lesser_of : List ℕ × ℕ → List ℕ × ℕ → List ℕ × ℕ
+lesser_of found other = cond (is_gt (slice_cmp nat_cmp found.0 other.0)) other found
+
+-- The same, where each may be none.
+abbrev pub lesser_large : Option (List ℕ × ℕ) → Option (List ℕ × ℕ) → Option (List ℕ × ℕ)
+lesser_large (Some found) (Some other) = Some (lesser_of found other)
+lesser_large (Some found) None = Some found
+lesser_large None other = other
+
+-- The file of the least path of these steps, and of what was found before them.
+abbrev pub least_large : List Staged → Option (List ℕ × ℕ) → List Step → Option (List ℕ × ℕ)
+least_large staged found [] = found
+least_large staged found (s ∷ later) = least_large staged (lesser_large found (large_of staged s)) later
+
+-- The file of the least path, by bytes, that is put with bytes of its own and has more than it may have.
+abbrev pub first_large : List Staged → List Step → Option (List ℕ × ℕ)
+first_large staged steps = least_large staged None steps
+
+-- What of a plan is beyond its limit: its steps, of which there may be 4,000,000, or else the first file that is too large.
+abbrev pub first_excess : List Step → List Staged → Option Excess
+first_excess steps staged = cond (nat_lt 4000000 (length steps)) (Some (record { which = Steps; count = length steps }))
+    (option_map (λ (f : List ℕ × ℕ). record { which = which_at f.0; count = f.1 }) (first_large staged steps))
+
+-- A file that is too large, as it is told: its path and how many bytes it has.
+abbrev pub large_told : Large → List ℕ × ℕ
+large_told f = (f.path.now.bytes, f.count)

@@ -1,0 +1,40 @@
+//! What of a plan is beyond its limit.
+
+ghost use Rattle.std.specs.Prelude.{◌≡◌, map};
+ghost use Rattle.ips_steps.specs.View.{step_of};
+ghost use Rattle.ips_plan_limits.specs.Limits as spec;
+
+use crate::large::{first_large, which_at};
+use ips_journal::Staged;
+use ips_steps::Step;
+use ips_text::Which;
+
+/// What is beyond its limit, and how many there are: steps, or bytes of a file.
+#[derive(Clone, Copy, Drop)]
+pub struct Excess {
+    /// What there is too much of.
+    pub which: Which,
+    /// How many.
+    pub count: u64,
+}
+
+/// What of a plan is beyond its limit: its steps, of which there may be 4,000,000, or else the first file, by the bytes of its path, that is put with
+/// bytes of its own and has more than it may have. An account file may have 16 MiB, any other 64 MiB.
+pub fn first_excess(steps: &[Step], staged: &[Staged]) -> Option<Excess>
+    ensures { result ≡ spec.first_excess (map step_of steps.now) staged.now }
+{
+    let count = steps.len() as u64;
+    if count > 4_000_000 {
+        return Some(Excess {
+            which: Which::Steps,
+            count,
+        });
+    }
+    match first_large(steps, staged) {
+        Some(file) => Some(Excess {
+            which: which_at(file.path),
+            count: file.count,
+        }),
+        None => None,
+    }
+}
