@@ -1,0 +1,24 @@
+use Rattle.std.proofs.Common.{inr, refl, sym, subst}
+use Rattle.ips_state.specs.State.{recorded}
+use Rattle.ips_asked.specs.Requested.{kind_asked}
+use Rattle.ips_next.specs.Decided.{IsUndecided}
+use Rattle.ips_next.proofs.Phases.{unposed_undecided}
+use Rattle.ips_next.proofs.deciding.avoided.Goals as goal
+
+pub returns-in-Err-Bad-clause-refused : goal.returns-in-Err-Bad-clause-refused
+returns-in-Err-Bad-clause-refused g c = λ told old asked_by posed.
+    let held = (g.S.Source.outside.state c.args.source.now).held in
+    let asked = recorded c.args.asked.now in
+    let f = rw c.in-Err-Bad.field-0-is at (c.in-Err-Bad.ensures.refused told) in
+    rw c.in-Err-Bad.field-0-is (subst (IsUndecided c.args.what.now old asked held) (sym f.1) (unposed_undecided c.args.what.now old asked held f.0 (record {
+      request = c.args.request.now;
+      is_request = posed.is_request;
+      repository = _;
+      looked_at = posed.looked_at;
+      over = asked;
+      is_over = inr refl;
+      fault = f.2;
+    })))
+
+pub returns-in-Err-Bad-clause-early : goal.returns-in-Err-Bad-clause-early
+returns-in-Err-Bad-clause-early g c = rw c.in-Err-Bad.field-0-is (rw c.in-Err-Bad.field-0-is at (c.in-Err-Bad.ensures.early (kind_asked c.args.what.now)))
