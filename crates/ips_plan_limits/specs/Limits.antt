@@ -1,20 +1,27 @@
 -- The limits of a plan.
-use Rattle.std.specs.Prelude.{ℕ, cond, nat_lt, List, [], ◌∷◌, length, Option, Some, None, slice_get}
+use Rattle.std.specs.Prelude.{ℕ, Bool, ◌&&◌, ◌||◌, not, cond, nat_lt, List, [], ◌∷◌, length, Option, Some, None, slice_get}
 use Rattle.std.specs.Option.{option_map}
 use Rattle.std.specs.Ordering.{nat_cmp, is_gt}
 use Rattle.std.specs.Cmp.Lexicographic.{slice_cmp}
 use Rattle.ips_text.specs.declared.limits.Which.{Which}
 use Rattle.ips_text.specs.declared.limits.Which.TheVariants.{AccountBytes, ImageFileBytes, Steps}
+use Rattle.ips_text.specs.Ancestry.{covers, same_path}
+use Rattle.ips_steps.specs.Private.{records_name}
 use Rattle.ips_steps.specs.Steps.{Step, Gone, Fresh, Mode, Put, Symlink, Hard}
 use Rattle.ips_journal.specs.declared.staged.Staged.{Staged}
 use Rattle.ips_journal.specs.declared.staged.Staged.TheVariants.{Payload, Bytes, Standing}
 use Rattle.ips_after.specs.Findings.{is_account_path}
+use Rattle.ips_due.specs.Delivered.{owners_path, drivers_path}
 use Rattle.ips_plan_limits.specs.declared.large.Large.{Large}
 use Rattle.ips_plan_limits.specs.declared.limits.Excess.{Excess}
 
--- How many bytes a file may have at the path: an account file 16 MiB, any other 64 MiB.
-abbrev pub limit_at : List ℕ → ℕ
-limit_at path = cond (is_account_path path) 16777216 67108864
+-- The path is at or below `var/pkg`, but for the owners and the drivers: the records that an image is loaded from stand at such.
+abbrev pub is_loaded_path : List ℕ → Bool
+is_loaded_path path = covers records_name path && not (same_path owners_path path || same_path drivers_path path)
+
+-- How many bytes a file may have at the path: an account file 16 MiB, a record that an image is loaded from 64 MiB; there is no limit to others.
+abbrev pub limit_at : List ℕ → Option ℕ
+limit_at path = cond (is_account_path path) (Some 16777216) (cond (is_loaded_path path) (Some 67108864) None)
 
 -- What there is too much of where a file at the path is too large.
 abbrev pub which_at : List ℕ → Which
@@ -27,9 +34,14 @@ own_count (Some (Bytes bytes)) = Some (length bytes.items)
 own_count (Some (Standing from)) = None
 own_count None = None
 
+-- The file of the path with so many bytes, where that is more than this limit.
+abbrev pub large_over : List ℕ → ℕ → Option ℕ → Option (List ℕ × ℕ)
+large_over path count (Some limit) = cond (nat_lt limit count) (Some (path, count)) None
+large_over path count None = None
+
 -- The file of the path with so many bytes, where that is more than it may have.
 abbrev pub large_at : List ℕ → Option ℕ → Option (List ℕ × ℕ)
-large_at path (Some count) = cond (nat_lt (limit_at path) count) (Some (path, count)) None
+large_at path (Some count) = large_over path count (limit_at path)
 large_at path None = None
 
 -- The file that the step puts with bytes of its own, where it has more than it may have.

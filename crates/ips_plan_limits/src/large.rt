@@ -10,7 +10,7 @@ ghost use Rattle.ips_plan_limits.specs.Limits.{large_told, lesser_large};
 use ips_content::is_same;
 use ips_journal::Staged;
 use ips_steps::Step;
-use ips_text::{RelPath, Which};
+use ips_text::{RelPath, Which, covers};
 use std::cmp::Ordering;
 
 /// A file that has more bytes than it may have: its path, and how many.
@@ -66,8 +66,8 @@ fn large_of<'a>(step: &'a Step, staged: &[Staged]) -> Option<Large<'a>>
 fn large_at<'a>(path: &'a RelPath, count: Option<u64>) -> Option<Large<'a>>
     ensures { option_map large_told result ≡ spec.large_at path.now.bytes count }
 {
-    match count {
-        Some(count) if count > limit_at(path) => Some(Large { path, count }),
+    match (count, limit_at(path)) {
+        (Some(count), Some(limit)) if count > limit => Some(Large { path, count }),
         _ => None,
     }
 }
@@ -82,15 +82,26 @@ fn own_count(staged: &[Staged], number: u64) -> Option<u64>
     }
 }
 
-// How many bytes a file may have at the path.
-fn limit_at(path: &RelPath) -> u64
+// How many bytes a file may have at the path, where there is a limit.
+fn limit_at(path: &RelPath) -> Option<u64>
     ensures { result ≡ spec.limit_at path.now.bytes }
 {
     if is_account(path.bytes()) {
-        16_777_216
+        Some(16_777_216)
+    } else if is_loaded(path.bytes()) {
+        Some(67_108_864)
     } else {
-        67_108_864
+        None
     }
+}
+
+// Whether the path is at or below `var/pkg`, but for the owners and the drivers.
+#[tactic(auto, unfolding(ips_steps::specs::Private::records_name))]
+fn is_loaded(path: &[u8]) -> bool
+    ensures { result ≡ spec.is_loaded_path path.now }
+{
+    covers(b"var/pkg", path)
+        && !(is_same(b"var/pkg/owners", path) || is_same(b"var/pkg/drivers", path))
 }
 
 /// What there is too much of where a file at the path is too large.

@@ -19,7 +19,8 @@ pub struct Excess {
 }
 
 /// What of a plan is beyond its limit: its steps, of which there may be 4,000,000, or else the first file, by the bytes of its path, that is put with
-/// bytes of its own and has more than it may have. An account file may have 16 MiB, any other 64 MiB.
+/// bytes of its own and has more than it may have. An account file may have 16 MiB, a record that an image is loaded from 64 MiB; owners, drivers and what stands
+/// elsewhere have no limit.
 pub fn first_excess(steps: &[Step], staged: &[Staged]) -> Option<Excess>
     ensures { result ≡ spec.first_excess (map step_of steps.now) staged.now }
 {
