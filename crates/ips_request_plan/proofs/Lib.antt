@@ -1,0 +1,3 @@
+mod Proper
+mod Carried
+mod Ungiven
