@@ -4,5 +4,8 @@ pub mod Places
 pub mod InTurn
 pub mod Kept
 pub mod Lawful
+pub mod Values
 pub mod Walk
+pub mod Filled
+pub mod Given
 pub mod One

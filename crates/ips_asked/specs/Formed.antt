@@ -1,14 +1,15 @@
 -- Commands whose words can be recorded.
-use Rattle.std.specs.Prelude.{false, List, IsTrue, is_some}
+use Rattle.std.specs.Prelude.{ℕ, false, List, ◌∷◌, ◌++◌, IsTrue, is_some}
 use Rattle.std.specs.List.{AllByRecursion}
 use Rattle.ips_fmri.specs.Name.{IsPublisher, IsStem}
-use Rattle.ips_fmri.specs.Version.{IfVersion}
+use Rattle.ips_fmri.specs.Version.{IfVersion, IsStamp, stamp_text}
 use Rattle.ips_fmri.specs.declared.fmri.Fmri.{Fmri}
-use Rattle.ips_records.specs.Form.{IsWord, IfWord, IfMarked, IsNamed}
+use Rattle.ips_records.specs.Form.{IsWord, IfWord, IfMarked, IsNamed, IsRequestLine}
 use Rattle.ips_syntax.specs.declared.values.VariantWord.{VariantWord}
 use Rattle.ips_syntax.specs.declared.values.FacetWord.{FacetWord}
+use Rattle.ips_words.specs.declared.command.Command.{Command}
 use Rattle.ips_words.specs.declared.what.What.{What}
-use Rattle.ips_words.specs.declared.what.What.TheVariants.{ImageCreate, ChangeFacet, ChangeVariant, SetMediator, Avoid, Freeze, SetPublisher}
+use Rattle.ips_words.specs.declared.what.What.TheVariants.{ImageCreate, ChangeFacet, ChangeVariant, SetMediator, Avoid, Freeze, SetPublisher, Search}
 
 -- the names of facets are words
 abbrev pub AreFacetWords : List FacetWord → Type 0
@@ -33,3 +34,17 @@ IsFormed w = Unit {0}
 abbrev pub HasVersions : What → Type 0
 HasVersions (Freeze freezes) = AllByRecursion (λ (f : Fmri). IsTrue (is_some f.version)) freezes.items
 HasVersions w = Unit {0}
+
+-- The words can be kept: behind the text of any moment and a blank they are a line of the history.
+abbrev pub CanBeKept : List ℕ → Type 0
+CanBeKept words = (moment : ℕ) → IsStamp moment → IsRequestLine (stamp_text moment ++ 32 ∷ words)
+
+-- The words of the command can be kept. A search changes nothing and isn't kept; its pattern may be empty.
+abbrev pub HasLine : What → List ℕ → Type 0
+HasLine (Search pattern) words = Unit {0}
+HasLine w words = CanBeKept words
+
+-- The command is such as words give: what it would record has the form of its record, and its words can be kept in the history.
+pub record IsFormedCommand (c : Command) : Type 0 where
+  pub formed : IsFormed c.what
+  pub line : HasLine c.what c.history

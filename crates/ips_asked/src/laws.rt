@@ -1,6 +1,10 @@
 //! Laws of what is asked.
 
-ghost use Rattle.std.specs.Prelude.{◌≡◌, ◌⊎◌, ℕ, List, Option};
+ghost use Rattle.std.specs.Prelude.{◌≡◌, ◌⊎◌, ℕ, List, Option, map, string_bytes};
+ghost use Rattle.std.specs.List.{AllByRecursion};
+ghost use Rattle.std.specs.Str.{IsUtf8};
+ghost use Rattle.std.specs.declared.alloc.Global.{Global};
+ghost use Rattle.std.specs.declared.string.String.{String};
 ghost use Rattle.ips_fmri.specs.Name.{IsPublisher};
 ghost use Rattle.ips_records.specs.Form.{IfWord};
 ghost use Rattle.ips_syntax.specs.declared.values.VariantWord.{VariantWord};
@@ -12,12 +16,20 @@ ghost use Rattle.ips_words.specs.declared.command.Command.{Command};
 ghost use Rattle.ips_words.specs.declared.what.What.{What};
 ghost use Rattle.ips_words.specs.declared.what.What.TheVariants.{UpdateFormat};
 ghost use Rattle.ips_asked.specs.Asked.{IsAskedBy};
-ghost use Rattle.ips_asked.specs.Formed.{AreFacetWords, AreVariantWords, HasVersions, IsFormed};
+ghost use Rattle.ips_asked.specs.Formed.{AreFacetWords, AreVariantWords, HasVersions, IsFormed, IsFormedCommand};
 ghost use Rattle.ips_asked.specs.Founded.{IsFounded};
 
 /// The freezes that a command of the command line asks for have versions.
 pub fn commands_have_versions()
     ensures { (words : List (List ℕ)) (c : Command) → IsCommand words c → HasVersions c.what }
+{}
+
+/// A command of the command line is formed: what it would record has the form of its record, and its words can stand in a line of the history.
+/// Words are texts.
+pub fn commands_are_formed()
+    ensures formed { (words : List (List ℕ)) (c : Command) → AllByRecursion IsUtf8 words → IsCommand words c → IsFormedCommand c }
+    ensures read { (words : List (String Global)) (c : Command) → IsCommand (map string_bytes words) c → IsFormedCommand c }
+    ensures versions { (w : What) → IsFormed w → HasVersions w }
 {}
 
 /// Records that are in order stay so where a command changes them.

@@ -5,3 +5,6 @@ pub mod Same
 pub mod Phases
 pub mod Best
 pub mod OneDecided
+pub mod Recorded
+pub mod OneNext
+pub mod OfKind

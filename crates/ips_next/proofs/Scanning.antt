@@ -1,5 +1,5 @@
 -- Packages that are put into an index from the last to the first.
-use Rattle.std.proofs.Common.{◌≡◌, ℕ, Bool, not, cond, List, [], ◌∷◌, ◌++◌, map, refl, ap, subst, ◌∙◌, append_assoc}
+use Rattle.std.proofs.Common.{◌≡◌, ℕ, Bool, false, not, cond, List, [], ◌∷◌, ◌++◌, map, refl, ap, subst, ◌∙◌, append_assoc}
 use Rattle.std.specs.List.{AllByRecursion}
 use Rattle.std.specs.List.Sorted.{IsStrictlySortedBy}
 use Rattle.std.specs.Ordering.{nat_cmp}
@@ -9,6 +9,8 @@ use Rattle.ips_index.specs.Rows.{IndexedValue, scanned}
 use Rattle.ips_index.specs.Scan.{IsScan, IsPut, Scanned, without}
 use Rattle.ips_index.specs.Text.{AreIndexRows}
 use Rattle.ips_index.proofs.Scans.{scan_put}
+use Rattle.ips_fmri.specs.Name.{IsStem}
+use Rattle.ips_state.specs.Form.{IsPackage}
 use Rattle.ips_manifest.specs.declared.package.Package.{Package}
 use Rattle.ips_state.specs.State.{Ascend, Installed, installed}
 use Rattle.ips_asked.proofs.Kept.{unlike}
@@ -57,3 +59,13 @@ one_put packages left others p old new order is put more rows =
         each = rows;
       };
     }
+
+-- the stem of one of the packages
+stem_among : (front packages : List Package) (p : Package) → AllByRecursion IsPackage (map installed (front ++ p ∷ packages)) → IsStem false p.stem
+stem_among [] packages p all = all.0.stem
+stem_among (q ∷ front) packages p all = stem_among front packages p all.1
+
+-- the last package that is left has a stem
+pub last_stem : (packages left others : List Package) (p : Package) (rows : List IndexedValue) → AllByRecursion IsPackage (map installed packages) → ArePutBehind packages left rows → left ≡ others ++ p ∷ [] → IsStem false p.stem
+last_stem packages left others p rows all put is =
+    stem_among others put.behind p (subst (λ (l : List Package). AllByRecursion IsPackage (map installed l)) (put.whole ∙ ap (λ (l : List Package). l ++ put.behind) is ∙ append_assoc others (p ∷ []) put.behind) all)

@@ -173,3 +173,27 @@ MayCome k (NoSolution stems refutation) = Unit {0}
 MayCome k (SearchSpent limit) = Unit {0}
 MayCome k NothingToDo = Unit {0}
 MayCome k SourceFault = Unit {0}
+
+-- patterns name packages: not where the selection is kept
+abbrev pub names : Kind → Bool
+names kind.Install = true
+names kind.Update = true
+names kind.Uninstall = true
+names kind.Keep = false
+
+-- The fault may come of a command of this kind: of a pattern where it has some, and of the repository, its catalog and its manifests where it
+-- looks for versions.
+abbrev pub ComesOfKind : Kind → NextFault → Type 0
+ComesOfKind k OldFormat = Unit {0}
+ComesOfKind k NoRepository = looks k ≡ true
+ComesOfKind k (BadCatalog fault) = looks k ≡ true
+ComesOfKind k (NoMatch pattern) = names k ≡ true
+ComesOfKind k (Ambiguous pattern stems) = names k ≡ true
+ComesOfKind k (ManifestMissing fmri) = looks k ≡ true
+ComesOfKind k (BadManifest fmri fault) = looks k ≡ true
+ComesOfKind k (BadDepend fmri line) = Unit {0}
+ComesOfKind k (TooLarge which count) = looks k ≡ true
+ComesOfKind k (NoSolution stems refutation) = Unit {0}
+ComesOfKind k (SearchSpent limit) = Unit {0}
+ComesOfKind k NothingToDo = Unit {0}
+ComesOfKind k SourceFault = Unit {0}

@@ -11,7 +11,7 @@ use Rattle.ips_state.specs.Text.{versioned_stem}
 use Rattle.ips_state.specs.Records.{with_line}
 use Rattle.ips_words.specs.declared.command.Command.{Command}
 use Rattle.ips_words.specs.declared.what.What.{What}
-use Rattle.ips_words.specs.declared.what.What.TheVariants.{UpdateFormat, RebuildIndex}
+use Rattle.ips_words.specs.declared.what.What.TheVariants.{UpdateFormat, RebuildIndex, Search}
 use Rattle.ips_asked.specs.Asked.{IsAskedBy}
 use Rattle.ips_next.specs.Decided.{IsDecided, IsUndecided}
 use Rattle.ips_next.specs.declared.fault.NextFault.{NextFault}
@@ -41,6 +41,11 @@ pub record IsOldFormat (w : What) (format : ℕ) : Type 0 where
 pub record Asks (g : Given) (asked : Recorded) : Type 0 where
   pub format : (g.old.format ≡ 2) ⊎ (g.what ≡ UpdateFormat)
   pub is_asked : IsAskedBy g.what g.old asked
+
+-- the command is a search, which has no line in the history
+abbrev pub searches : What → Bool
+searches (Search pattern) = true
+searches w = false
 
 -- ---- the new state
 

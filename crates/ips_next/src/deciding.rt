@@ -4,12 +4,14 @@ ghost use Rattle.std.specs.Prelude.{◌≡◌, ℕ, List, IsTrue, IfOk, Err, is_
 ghost use Rattle.ips_text.specs.Reading.{IfBad};
 ghost use Rattle.ips_text.specs.declared.refusal.Or.TheVariants.{Bad};
 ghost use Rattle.ips_outside.specs.Outside.{Reads};
-ghost use Rattle.ips_state.specs.State.{Ascend, Installed, IsOrdered, Recorded, installed, recorded};
+ghost use Rattle.ips_state.specs.Lawful.{ArePackages, AreStems, IsLawful};
+ghost use Rattle.ips_state.specs.State.{Recorded, installed, recorded};
 ghost use Rattle.ips_request.specs.Request.{looks_at_repository};
-ghost use Rattle.ips_problem.specs.Asked.{IsAsked};
+ghost use Rattle.ips_problem.specs.Asked.{IsAsked, tells_where};
 ghost use Rattle.ips_problem.specs.Avoided.{AreAvoided};
 ghost use Rattle.ips_problem.specs.Held.{posed_of};
 ghost use Rattle.ips_problem.specs.Posed.{Posed};
+ghost use Rattle.ips_problem.specs.Recordable.{IsRecordable};
 ghost use Rattle.ips_problem.specs.Taken.{IsChoice};
 ghost use Rattle.ips_asked.specs.Asked.{IsAskedBy};
 ghost use Rattle.ips_asked.specs.Requested.{IsRequestOf, kind_asked};
@@ -51,12 +53,13 @@ pub fn decided<S: Source>(
     asked: &State,
     source: &mut S,
 ) -> Result<Chosen, Or<NextFault>>
-    requires old { IsOrdered (recorded old.now) }
-    requires asked { IsOrdered (recorded asked.now) }
+    requires old { IsLawful (recorded old.now) }
+    requires asked { IsLawful (recorded asked.now) }
     requires asked_by { IsAskedBy what.now (recorded old.now) (recorded asked.now) }
-    ensures decided { IsTrue (S.outside.tells source.old) → IfOk result (λ d. IsDecided what.now (recorded old.now) (recorded asked.now) (S.outside.state source.old).held (map installed d.packages.items) d.avoid.items) }
-    ensures order { IfOk result (λ d. Ascend (map (λ (p : Installed). p.stem) (map installed d.packages.items))) }
-    ensures refused { IsTrue (S.outside.tells source.old) → IfBad result (IsUndecided what.now (recorded old.now) (recorded asked.now) (S.outside.state source.old).held) }
+    ensures decided { IsTrue (tells_where (decided.looks (kind_asked what.now)) (S.outside.tells source.old)) → IfOk result (λ d. IsDecided what.now (recorded old.now) (recorded asked.now) (S.outside.state source.old).held (map installed d.packages.items) d.avoid.items) }
+    ensures packages { IfOk result (λ d. ArePackages (map installed d.packages.items)) }
+    ensures stems { IfOk result (λ d. AreStems d.avoid.items) }
+    ensures refused { IsTrue (tells_where (decided.looks (kind_asked what.now)) (S.outside.tells source.old)) → IfBad result (IsUndecided what.now (recorded old.now) (recorded asked.now) (S.outside.state source.old).held) }
     ensures early { IfBad result (MayCome (kind_asked what.now)) }
     ensures reads { Reads S.outside source.old source.new (result ≡ Err (Bad fault.SourceFault)) }
 {
@@ -78,15 +81,16 @@ fn decided_over<S: Source>(
     repo: Option<&Repo>,
     source: &mut S,
 ) -> Result<Chosen, Or<NextFault>>
-    requires old { IsOrdered (recorded old.now) }
-    requires asked { IsOrdered (recorded asked.now) }
+    requires old { IsLawful (recorded old.now) }
+    requires asked { IsLawful (recorded asked.now) }
     requires asked_by { IsAskedBy what.now (recorded old.now) (recorded asked.now) }
     requires request { IsRequestOf what.now request.now }
     requires repository { is_some repo ≡ decided.looks (kind_asked what.now) }
-    ensures decided { IsTrue (S.outside.tells source.old) → IsLookedAt (decided.looks (kind_asked what.now)) (recorded old.now).publisher (S.outside.state source.old).held (option_map (λ r. r.now) repo.entry)
+    ensures decided { IsTrue (tells_where (decided.looks (kind_asked what.now)) (S.outside.tells source.old)) → IsLookedAt (decided.looks (kind_asked what.now)) (recorded old.now).publisher (S.outside.state source.old).held (option_map (λ r. r.now) repo.entry)
         → IfOk result (λ d. IsDecided what.now (recorded old.now) (recorded asked.now) (S.outside.state source.old).held (map installed d.packages.items) d.avoid.items) }
-    ensures order { IfOk result (λ d. Ascend (map (λ (p : Installed). p.stem) (map installed d.packages.items))) }
-    ensures refused { IsTrue (S.outside.tells source.old) → IsLookedAt (decided.looks (kind_asked what.now)) (recorded old.now).publisher (S.outside.state source.old).held (option_map (λ r. r.now) repo.entry)
+    ensures packages { IfOk result (λ d. ArePackages (map installed d.packages.items)) }
+    ensures stems { IfOk result (λ d. AreStems d.avoid.items) }
+    ensures refused { IsTrue (tells_where (decided.looks (kind_asked what.now)) (S.outside.tells source.old)) → IsLookedAt (decided.looks (kind_asked what.now)) (recorded old.now).publisher (S.outside.state source.old).held (option_map (λ r. r.now) repo.entry)
         → IfBad result (IsUndecided what.now (recorded old.now) (recorded asked.now) (S.outside.state source.old).held) }
     ensures early { IfBad result (MayCome (kind_asked what.now)) }
     ensures reads { Reads S.outside source.old source.new (result ≡ Err (Bad fault.SourceFault)) }
@@ -119,12 +123,14 @@ fn decided_in<S: Source>(
     problem: &Problem,
     source: &mut S,
 ) -> Result<Chosen, Or<NextFault>>
-    requires asked { IsOrdered (recorded asked.now) }
+    requires recordable { IsRecordable (posed_of problem.now) }
+    requires asked { IsLawful (recorded asked.now) }
     requires repository { is_some repo ≡ looks_at_repository request.now }
-    ensures decided { IsTrue (S.outside.tells source.old) → (old : Recorded) → IsPosed what.now old (recorded asked.now) (S.outside.state source.old).held request.now (option_map (λ r. r.now) repo.entry) (posed_of problem.now)
+    ensures decided { IsTrue (tells_where (is_some repo.entry) (S.outside.tells source.old)) → (old : Recorded) → IsPosed what.now old (recorded asked.now) (S.outside.state source.old).held request.now (option_map (λ r. r.now) repo.entry) (posed_of problem.now)
         → IfOk result (λ d. IsDecided what.now old (recorded asked.now) (S.outside.state source.old).held (map installed d.packages.items) d.avoid.items) }
-    ensures order { IfOk result (λ d. Ascend (map (λ (p : Installed). p.stem) (map installed d.packages.items))) }
-    ensures refused { IsTrue (S.outside.tells source.old) → (old : Recorded) → IsAskedBy what.now old (recorded asked.now)
+    ensures packages { IfOk result (λ d. ArePackages (map installed d.packages.items)) }
+    ensures stems { IfOk result (λ d. AreStems d.avoid.items) }
+    ensures refused { IsTrue (tells_where (is_some repo.entry) (S.outside.tells source.old)) → (old : Recorded) → IsAskedBy what.now old (recorded asked.now)
         → IsPosed what.now old (recorded asked.now) (S.outside.state source.old).held request.now (option_map (λ r. r.now) repo.entry) (posed_of problem.now)
         → IfBad result (IsUndecided what.now old (recorded asked.now) (S.outside.state source.old).held) }
     ensures early { IfBad result (MayCome (kind_asked what.now)) }
@@ -159,12 +165,14 @@ fn avoided<S: Source>(
     choice: &[u32],
     source: &mut S,
 ) -> Result<Vec<Text>, Or<NextFault>>
-    requires asked { IsOrdered (recorded asked.now) }
+    requires recordable { IsRecordable (posed_of problem.now) }
+    requires asked { IsLawful (recorded asked.now) }
     requires repository { is_some repo ≡ looks_at_repository request.now }
     requires choice { IsChoice (posed_of problem.now) choice.now }
-    ensures avoided { IsTrue (S.outside.tells source.old) → (old : Recorded) → IsPosed what.now old (recorded asked.now) (S.outside.state source.old).held request.now (option_map (λ r. r.now) repo.entry) (posed_of problem.now)
+    ensures avoided { IsTrue (tells_where (is_some repo.entry) (S.outside.tells source.old)) → (old : Recorded) → IsPosed what.now old (recorded asked.now) (S.outside.state source.old).held request.now (option_map (λ r. r.now) repo.entry) (posed_of problem.now)
         → IfOk result (λ avoid. (kept : Posed) × IsAsked request.now (recorded asked.now) (option_map (λ r. r.now) repo.entry) (S.outside.state source.old).held kept × AreAvoided kept choice.now avoid.items) }
-    ensures refused { IsTrue (S.outside.tells source.old) → (old : Recorded) → IsAskedBy what.now old (recorded asked.now)
+    ensures stems { IfOk result (λ avoid. AreStems avoid.items) }
+    ensures refused { IsTrue (tells_where (is_some repo.entry) (S.outside.tells source.old)) → (old : Recorded) → IsAskedBy what.now old (recorded asked.now)
         → IsPosed what.now old (recorded asked.now) (S.outside.state source.old).held request.now (option_map (λ r. r.now) repo.entry) (posed_of problem.now)
         → IfBad result (IsUndecided what.now old (recorded asked.now) (S.outside.state source.old).held) }
     ensures early { IfBad result (MayCome (kind_asked what.now)) }
@@ -187,7 +195,9 @@ fn avoided<S: Source>(
 
 // The stems that are avoided from a choice on, in a puzzle over other avoided stems, of which it is a choice too.
 fn avoided_from(alloc: Global, kept: &Problem, choice: &[u32]) -> Result<Vec<Text>, Or<NextFault>>
+    requires { IsRecordable (posed_of kept.now) }
     ensures avoided { IfOk result (λ avoid. AreAvoided (posed_of kept.now) choice.now avoid.items) }
+    ensures stems { IfOk result (λ avoid. AreStems avoid.items) }
     ensures never { IfBad result (λ why. ⊥) }
 {
     if !is_choice(kept, choice) {

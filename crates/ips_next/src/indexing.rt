@@ -1,10 +1,12 @@
 //! The index of the chosen packages.
 
-ghost use Rattle.std.specs.Prelude.{◌≡◌, List, map, IfOk, OnOk};
+ghost use Rattle.std.specs.Prelude.{◌≡◌, false, List, map, IfOk, IfSome, OnOk};
+ghost use Rattle.ips_fmri.specs.Name.{IsStem};
 ghost use Rattle.ips_index.specs.Scan.{IsPut};
 ghost use Rattle.ips_index.specs.Rows.{scanned};
 ghost use Rattle.ips_index.specs.Text.{AreIndexRows};
-ghost use Rattle.ips_state.specs.State.{Ascend, Installed, installed};
+ghost use Rattle.ips_state.specs.Lawful.{ArePackages};
+ghost use Rattle.ips_state.specs.State.{installed};
 ghost use Rattle.ips_manifest.specs.declared.line.Line as declared;
 ghost use Rattle.ips_next.specs.Next as next;
 ghost use Rattle.ips_next.specs.Next.{IsIndexOf, IsIndexed, scanned_of};
@@ -12,7 +14,6 @@ ghost use Rattle.ips_next.specs.Next.{IsIndexOf, IsIndexed, scanned_of};
 use ips_action::Action;
 use ips_index::Index;
 use ips_manifest::{Line, Package};
-use ips_records::stem;
 use ips_words::What;
 use std::alloc::{AllocError, Global};
 
@@ -23,8 +24,9 @@ pub fn indexed(
     has: bool,
     packages: &[Package],
 ) -> Result<Option<Index>, AllocError>
-    requires { Ascend (map (λ (p : Installed). p.stem) (map installed packages.now)) }
-    ensures { IfOk result (IsIndexed (next.is_index_due what.now has) (map installed packages.now)) }
+    requires { ArePackages (map installed packages.now) }
+    ensures indexed { IfOk result (IsIndexed (next.is_index_due what.now has) (map installed packages.now)) }
+    ensures rows { IfOk result (λ index. IfSome index AreIndexRows) }
 {
     if !is_due(what, has) {
         return Ok(None);
@@ -45,7 +47,7 @@ fn is_due(what: &What, has: bool) -> bool
 
 // The index of the packages, which are put in from the last to the first.
 fn index_of(alloc: Global, packages: &[Package]) -> Result<Index, AllocError>
-    requires { Ascend (map (λ (p : Installed). p.stem) (map installed packages.now)) }
+    requires { ArePackages (map installed packages.now) }
     ensures { IfOk result (IsIndexOf (map installed packages.now)) }
 {
     let mut index = Index::new(alloc);
@@ -59,14 +61,12 @@ fn index_of(alloc: Global, packages: &[Package]) -> Result<Index, AllocError>
 
 // Puts the rows of a package in.
 fn put(alloc: Global, index: &mut Index, single: &Package) -> Result<(), AllocError>
+    requires { IsStem false single.now.stem }
     ensures put { OnOk result (IsPut (scanned_of (installed single.now)).stem (scanned (scanned_of (installed single.now)).stem (scanned_of (installed single.now)).actions) index.old index.new) }
     ensures rows { OnOk result (AreIndexRows index.new) }
 {
-    let Some(stem) = stem(alloc, single.stem.as_str().as_bytes())? else {
-        return Err(AllocError);
-    };
     let actions = actions_of(alloc, &single.manifest.lines)?;
-    index.put(alloc, stem.as_str(), &actions)
+    index.put(alloc, single.stem.as_str(), &actions)
 }
 
 // The actions of the lines.

@@ -6,7 +6,10 @@ ghost use Rattle.ips_request.specs.Case.{IsReading, ManifestReading};
 ghost use Rattle.ips_state.specs.State.{Installed, Recorded};
 ghost use Rattle.ips_words.specs.declared.what.What.{What};
 ghost use Rattle.ips_next.specs.Best.{AreBest, NoneFits};
-ghost use Rattle.ips_next.specs.Decided.{HasNoSolution, IsDecided, IsPosed, chosen_over};
+ghost use Rattle.ips_next.specs.Decided.{ComesOfKind, HasNoSolution, IsDecided, IsPosed, chosen_over};
+ghost use Rattle.ips_asked.specs.Requested.{kind_asked};
+ghost use Rattle.ips_next.specs.declared.fault.NextFault as next;
+ghost use Rattle.ips_next.specs.Next.{ChangesNothing, ComesNext, Given, IsNext};
 ghost use Rattle.ips_problem.specs.Posed.{Posed};
 ghost use Rattle.ips_repo.specs.Opening.{Opened};
 ghost use Rattle.ips_request.specs.declared.request.Request.{Request};
@@ -35,4 +38,20 @@ pub fn decided_is_one()
 pub fn decided_excludes_none()
     ensures { (w : What) (old asked : Recorded) (held : Image) (packages : List Installed) (avoid : List (List ℕ)) (request : Request) (repository : Option Opened) (p : Posed) (stems : List tried.Tried) (refutation : Refutation)
         → IsDecided w old asked held packages avoid → IsPosed w old asked held request repository p → HasNoSolution p stems refutation → ⊥ }
+{}
+
+/// The next state is one: the same packages, lists and settings, the same index and the same line in the history.
+pub fn next_is_one()
+    ensures { (g : Given) (a b : Recorded) → IsNext g a → IsNext g b → a ≡ b }
+{}
+
+/// That there is a next state and that nothing is to be done exclude each other.
+pub fn next_excludes_nothing()
+    ensures { (g : Given) (new : Recorded) → IsNext g new → ChangesNothing g → ⊥ }
+{}
+
+/// A fault comes only of the kinds of commands of which it may: of a pattern where there are some, and of the repository, its catalog and its manifests
+/// where versions are looked for.
+pub fn faults_are_of_their_kinds()
+    ensures { (g : Given) (why : next.NextFault) → ComesNext g why → ComesOfKind (kind_asked g.what) why }
 {}

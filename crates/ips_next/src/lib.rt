@@ -2,7 +2,8 @@
 //! the new records.
 //!
 //! Promised, where the source tells what it holds: an answer is the next state (`specs/Next`: `IsNext`), or a fault under its cause
-//! (`ComesNext`), each at its turn; whatever it tells, a source fault comes only where a call failed.
+//! (`ComesNext`), each at its turn; a command that looks for no versions needs no source that tells. Whatever it tells, the next state can be
+//! recorded, and a source fault comes only where a call failed.
 //!
 //! In reading order: faults (`fault`); the repository (`opening`), the puzzle (`posing`), what there was to try (`tried`), the choice
 //! (`choosing`, `deciding`); the index (`indexing`), what differs (`alike`, `unchanged`), the line of the history (`line`); the next
@@ -23,6 +24,9 @@ mod tried;
 mod unchanged;
 
 pub use fault::NextFault;
-pub use laws::{decided_excludes_none, decided_is_best, decided_is_one, none_fits};
+pub use laws::{
+    decided_excludes_none, decided_is_best, decided_is_one, faults_are_of_their_kinds,
+    next_excludes_nothing, next_is_one, none_fits,
+};
 pub use line::add_line;
 pub use next::next_state;

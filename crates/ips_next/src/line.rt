@@ -1,7 +1,10 @@
 //! The line of a command in the history.
 
 ghost use Rattle.std.specs.Prelude.{◌≡◌, ℕ, ◌<◌, List, IfOk, OnOk};
+ghost use Rattle.std.specs.List.{AllByRecursion};
+ghost use Rattle.ips_records.specs.Form.{IsRequestLine};
 ghost use Rattle.ips_state.specs.Records.{kept, with_line};
+ghost use Rattle.ips_asked.specs.Formed.{CanBeKept};
 ghost use Rattle.ips_next.specs.Next.{IsLineOf};
 
 use ips_moment::moment_text;
@@ -19,7 +22,8 @@ pub fn add_line(
     history: &mut Vec<Text>,
 ) -> Result<(), AllocError>
     requires { moment < 253370764800 }
-    ensures { OnOk result ((line : List ℕ) × IsLineOf moment words.now line × (history.new.items ≡ with_line history.old.items line)) }
+    ensures line { OnOk result ((line : List ℕ) × IsLineOf moment words.now line × (history.new.items ≡ with_line history.old.items line)) }
+    ensures lawful { OnOk result (CanBeKept words.now → AllByRecursion IsRequestLine history.old.items → AllByRecursion IsRequestLine history.new.items) }
 {
     let line = line_of(alloc, moment, words)?;
     history.push(line)?;

@@ -1,15 +1,18 @@
 //! The state that a command leads to.
 
-ghost use Rattle.std.specs.Prelude.{◌≡◌, ◌⊎◌, ◌↔◌, ℕ, ◌<◌, List, IsTrue, IfOk, OnOk, Err};
+ghost use Rattle.std.specs.Prelude.{◌≡◌, ◌⊎◌, ◌↔◌, ℕ, ◌<◌, false, List, IsTrue, IfOk, OnOk, Err};
 ghost use Rattle.ips_words.specs.declared.what.What.TheVariants.{UpdateFormat};
 ghost use Rattle.ips_text.specs.Reading.{IfBad};
 ghost use Rattle.ips_text.specs.declared.refusal.Or.TheVariants.{Bad};
 ghost use Rattle.ips_outside.specs.Outside.{Reads};
 ghost use Rattle.ips_state.specs.State.{Recorded, recorded};
 ghost use Rattle.ips_state.specs.Lawful.{IsLawful};
-ghost use Rattle.ips_asked.specs.Formed.{HasVersions};
+ghost use Rattle.ips_problem.specs.Asked.{tells_where};
+ghost use Rattle.ips_asked.specs.Formed.{CanBeKept, IsFormed, IsFormedCommand};
 ghost use Rattle.ips_asked.specs.Requested.{kind_asked};
+ghost use Rattle.ips_next.specs.Decided as decided;
 ghost use Rattle.ips_next.specs.Decided.{MayCome};
+ghost use Rattle.ips_next.specs.Next as spec;
 ghost use Rattle.ips_next.specs.Next.{ComesNext, IsNext, IsOldFormat, IsSettled, given};
 ghost use Rattle.ips_next.specs.declared.fault.NextFault.TheVariants as fault;
 
@@ -26,7 +29,8 @@ use ips_words::{Command, What};
 use std::alloc::{AllocError, Global};
 
 /// The state to which a changing command leads an image of this state, at this moment, so many seconds after the first of January
-/// 1970. The command is one that `Command::read` gives, other than `image-create` and `fix`.
+/// 1970. The command is one that `Command::read` gives, other than `image-create` and `fix`. The next state can be recorded, whatever the
+/// source tells. A command that looks for no versions reads nothing of the source: its state and faults are what they are, whether or not that tells.
 ///
 /// OldFormat comes first, exactly where the records are of the first format and the command isn't `update-format`; NoRepository,
 /// BadCatalog and TooLarge of a catalog at `install` and `update` alone; then the faults of the puzzle, NoSolution and SearchSpent;
@@ -40,15 +44,21 @@ pub fn next_state<S: Source>(
 ) -> Result<State, Or<NextFault>>
     requires moment { moment < 253370764800 }
     requires lawful { IsLawful (recorded old.now) }
-    requires versions { HasVersions command.now.what }
+    requires formed { IsFormedCommand command.now }
+    ensures lawful { IfOk result (λ s. IsLawful (recorded s)) }
     ensures next { IsTrue (S.outside.tells source.old) → IfOk result (λ s. IsNext (given (recorded old.now) command.now moment (S.outside.state source.old).held) (recorded s)) }
     ensures refused { IsTrue (S.outside.tells source.old) → IfBad result (ComesNext (given (recorded old.now) command.now moment (S.outside.state source.old).held)) }
+    ensures next_unread { decided.looks (kind_asked command.now.what) ≡ false → IfOk result (λ s. IsNext (given (recorded old.now) command.now moment (S.outside.state source.old).held) (recorded s)) }
+    ensures refused_unread { decided.looks (kind_asked command.now.what) ≡ false → IfBad result (ComesNext (given (recorded old.now) command.now moment (S.outside.state source.old).held)) }
     ensures old_format { IsOldFormat command.now.what old.now.format → result ≡ Err (Bad fault.OldFormat) }
     ensures early { IfBad result (λ why. MayCome (kind_asked command.now.what) why ⊎ IsOldFormat command.now.what old.now.format) }
     ensures reads { Reads S.outside source.old source.new (result ≡ Err (Bad fault.SourceFault)) }
 {
     if old.format == 1 && !updates_format(&command.what) {
         return Err(Or::Bad(NextFault::OldFormat));
+    }
+    if searches(&command.what) {
+        return Err(Or::OutOfMemory);
     }
     from_copy(alloc, command, moment, old, source)
 }
@@ -63,10 +73,12 @@ fn from_copy<S: Source>(
 ) -> Result<State, Or<NextFault>>
     requires moment { moment < 253370764800 }
     requires lawful { IsLawful (recorded old.now) }
-    requires versions { HasVersions command.now.what }
+    requires formed { IsFormed command.now.what }
+    requires words { CanBeKept command.now.history }
     requires format { (old.now.format ≡ 2) ⊎ (command.now.what ≡ UpdateFormat) }
-    ensures next { IsTrue (S.outside.tells source.old) → IfOk result (λ s. IsNext (given (recorded old.now) command.now moment (S.outside.state source.old).held) (recorded s)) }
-    ensures refused { IsTrue (S.outside.tells source.old) → IfBad result (ComesNext (given (recorded old.now) command.now moment (S.outside.state source.old).held)) }
+    ensures lawful { IfOk result (λ s. IsLawful (recorded s)) }
+    ensures next { IsTrue (tells_where (decided.looks (kind_asked command.now.what)) (S.outside.tells source.old)) → IfOk result (λ s. IsNext (given (recorded old.now) command.now moment (S.outside.state source.old).held) (recorded s)) }
+    ensures refused { IsTrue (tells_where (decided.looks (kind_asked command.now.what)) (S.outside.tells source.old)) → IfBad result (ComesNext (given (recorded old.now) command.now moment (S.outside.state source.old).held)) }
     ensures early { IfBad result (MayCome (kind_asked command.now.what)) }
     ensures reads { Reads S.outside source.old source.new (result ≡ Err (Bad fault.SourceFault)) }
 {
@@ -87,11 +99,13 @@ fn changed<S: Source>(
 ) -> Result<State, Or<NextFault>>
     requires moment { moment < 253370764800 }
     requires lawful { IsLawful (recorded old.now) }
-    requires versions { HasVersions command.now.what }
+    requires formed { IsFormed command.now.what }
+    requires words { CanBeKept command.now.history }
     requires format { (old.now.format ≡ 2) ⊎ (command.now.what ≡ UpdateFormat) }
     requires copy { recorded copy ≡ recorded old.now }
-    ensures next { IsTrue (S.outside.tells source.old) → IfOk result (λ s. IsNext (given (recorded old.now) command.now moment (S.outside.state source.old).held) (recorded s)) }
-    ensures refused { IsTrue (S.outside.tells source.old) → IfBad result (ComesNext (given (recorded old.now) command.now moment (S.outside.state source.old).held)) }
+    ensures lawful { IfOk result (λ s. IsLawful (recorded s)) }
+    ensures next { IsTrue (tells_where (decided.looks (kind_asked command.now.what)) (S.outside.tells source.old)) → IfOk result (λ s. IsNext (given (recorded old.now) command.now moment (S.outside.state source.old).held) (recorded s)) }
+    ensures refused { IsTrue (tells_where (decided.looks (kind_asked command.now.what)) (S.outside.tells source.old)) → IfBad result (ComesNext (given (recorded old.now) command.now moment (S.outside.state source.old).held)) }
     ensures early { IfBad result (MayCome (kind_asked command.now.what)) }
     ensures reads { Reads S.outside source.old source.new (result ≡ Err (Bad fault.SourceFault)) }
 {
@@ -110,6 +124,13 @@ fn updates_format(what: &What) -> bool
     matches!(what, What::UpdateFormat)
 }
 
+// Whether the command is a search. It changes nothing, and its words have no line in the history: it is refused like want of memory.
+fn searches(what: &What) -> bool
+    ensures { result ≡ spec.searches what.now }
+{
+    matches!(what, What::Search { .. })
+}
+
 // Changes the old state to the next one.
 fn go_on<S: Source>(
     alloc: Global,
@@ -121,11 +142,13 @@ fn go_on<S: Source>(
 ) -> Result<(), Or<NextFault>>
     requires moment { moment < 253370764800 }
     requires lawful { IsLawful (recorded old.now) }
-    requires versions { HasVersions command.now.what }
+    requires formed { IsFormed command.now.what }
+    requires words { CanBeKept command.now.history }
     requires format { (old.now.format ≡ 2) ⊎ (command.now.what ≡ UpdateFormat) }
     requires copy { recorded next.old ≡ recorded old.now }
-    ensures next { IsTrue (S.outside.tells source.old) → OnOk result (IsNext (given (recorded old.now) command.now moment (S.outside.state source.old).held) (recorded next.new)) }
-    ensures refused { IsTrue (S.outside.tells source.old) → IfBad result (ComesNext (given (recorded old.now) command.now moment (S.outside.state source.old).held)) }
+    ensures lawful { OnOk result (IsLawful (recorded next.new)) }
+    ensures next { IsTrue (tells_where (decided.looks (kind_asked command.now.what)) (S.outside.tells source.old)) → OnOk result (IsNext (given (recorded old.now) command.now moment (S.outside.state source.old).held) (recorded next.new)) }
+    ensures refused { IsTrue (tells_where (decided.looks (kind_asked command.now.what)) (S.outside.tells source.old)) → IfBad result (ComesNext (given (recorded old.now) command.now moment (S.outside.state source.old).held)) }
     ensures early { IfBad result (MayCome (kind_asked command.now.what)) }
     ensures reads { Reads S.outside source.old source.new (result ≡ Err (Bad fault.SourceFault)) }
 {
@@ -146,11 +169,12 @@ fn settle<S: Source>(
     next: &mut State,
 ) -> Result<(), Or<NextFault>>
     requires lawful { IsLawful (recorded old.now) }
-    requires versions { HasVersions what.now }
+    requires formed { IsFormed what.now }
     requires format { (old.now.format ≡ 2) ⊎ (what.now ≡ UpdateFormat) }
     requires copy { recorded next.old ≡ recorded old.now }
-    ensures settled { IsTrue (S.outside.tells source.old) → (words : List ℕ) (moment : ℕ) → OnOk result ((asked : Recorded) × IsSettled (record { old = recorded old.now; what = what.now; words = words; moment = moment; held = (S.outside.state source.old).held }) asked (recorded next.new)) }
-    ensures refused { IsTrue (S.outside.tells source.old) → (words : List ℕ) (moment : ℕ) → IfBad result (ComesNext (record { old = recorded old.now; what = what.now; words = words; moment = moment; held = (S.outside.state source.old).held })) }
+    ensures lawful { OnOk result (IsLawful (recorded next.new)) }
+    ensures settled { IsTrue (tells_where (decided.looks (kind_asked what.now)) (S.outside.tells source.old)) → (words : List ℕ) (moment : ℕ) → OnOk result ((asked : Recorded) × IsSettled (record { old = recorded old.now; what = what.now; words = words; moment = moment; held = (S.outside.state source.old).held }) asked (recorded next.new)) }
+    ensures refused { IsTrue (tells_where (decided.looks (kind_asked what.now)) (S.outside.tells source.old)) → (words : List ℕ) (moment : ℕ) → IfBad result (ComesNext (record { old = recorded old.now; what = what.now; words = words; moment = moment; held = (S.outside.state source.old).held })) }
     ensures early { IfBad result (MayCome (kind_asked what.now)) }
     ensures reads { Reads S.outside source.old source.new (result ≡ Err (Bad fault.SourceFault)) }
 {

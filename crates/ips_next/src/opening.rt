@@ -10,6 +10,7 @@ ghost use Rattle.ips_repo.specs.Opening as repository;
 ghost use Rattle.ips_repo.specs.Opening.{IsOpeningFault};
 ghost use Rattle.ips_repo.specs.declared.fault.RepoFault.TheVariants as repo_fault;
 ghost use Rattle.ips_state.specs.State.{Recorded};
+ghost use Rattle.ips_problem.specs.Asked.{tells_where};
 ghost use Rattle.ips_asked.specs.Requested.{kind_asked};
 ghost use Rattle.ips_next.specs.Decided as decided;
 ghost use Rattle.ips_next.specs.Decided.{IsLookedAt, IsUndecided, MayCome};
@@ -30,8 +31,8 @@ pub fn open<S: Source>(
     source: &mut S,
 ) -> Result<Option<Repo>, Or<NextFault>>
     ensures some { IfOk result (λ repo. is_some repo ≡ decided.looks (kind_asked what.now)) }
-    ensures looked_at { IsTrue (S.outside.tells source.old) → IfOk result (IsLookedAt (decided.looks (kind_asked what.now)) publisher.now (S.outside.state source.old).held) }
-    ensures refused { IsTrue (S.outside.tells source.old) → (old asked : Recorded) → old.publisher ≡ publisher.now → IfBad result (IsUndecided what.now old asked (S.outside.state source.old).held) }
+    ensures looked_at { IsTrue (tells_where (decided.looks (kind_asked what.now)) (S.outside.tells source.old)) → IfOk result (IsLookedAt (decided.looks (kind_asked what.now)) publisher.now (S.outside.state source.old).held) }
+    ensures refused { IsTrue (tells_where (decided.looks (kind_asked what.now)) (S.outside.tells source.old)) → (old asked : Recorded) → old.publisher ≡ publisher.now → IfBad result (IsUndecided what.now old asked (S.outside.state source.old).held) }
     ensures early { IfBad result (MayCome (kind_asked what.now)) }
     ensures reads { Reads S.outside source.old source.new (result ≡ Err (Bad fault.SourceFault)) }
 {

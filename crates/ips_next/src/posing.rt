@@ -4,11 +4,13 @@ ghost use Rattle.std.specs.Prelude.{◌≡◌, IsTrue, IfOk, Err, is_some, optio
 ghost use Rattle.ips_text.specs.Reading.{IfBad};
 ghost use Rattle.ips_text.specs.declared.refusal.Or.TheVariants.{Bad};
 ghost use Rattle.ips_outside.specs.Outside.{Reads};
-ghost use Rattle.ips_state.specs.State.{IsOrdered, recorded};
+ghost use Rattle.ips_state.specs.Lawful.{IsLawful};
+ghost use Rattle.ips_state.specs.State.{recorded};
 ghost use Rattle.ips_request.specs.Request.{looks_at_repository};
 ghost use Rattle.ips_request.specs.declared.fault.ProblemFault as problem;
-ghost use Rattle.ips_problem.specs.Asked.{IsAsked, IsProblemFault};
+ghost use Rattle.ips_problem.specs.Asked.{IsAsked, IsProblemFault, tells_where};
 ghost use Rattle.ips_problem.specs.Held.{posed_of};
+ghost use Rattle.ips_problem.specs.Recordable.{IsRecordable};
 ghost use Rattle.ips_next.specs.Decided as decided;
 ghost use Rattle.ips_next.specs.Decided.{MayCome};
 ghost use Rattle.ips_request.specs.declared.kind.Kind.{Kind};
@@ -30,10 +32,11 @@ pub fn pose<S: Source>(
     repo: Option<&Repo>,
     source: &mut S,
 ) -> Result<Problem, Or<NextFault>>
-    requires lawful { IsOrdered (recorded state.now) }
+    requires lawful { IsLawful (recorded state.now) }
     requires repository { is_some repo ≡ looks_at_repository request.now }
-    ensures posed { IsTrue (S.outside.tells source.old) → IfOk result (λ p. IsAsked request.now (recorded state.now) (option_map (λ r. r.now) repo.entry) (S.outside.state source.old).held (posed_of p)) }
-    ensures refused { IsTrue (S.outside.tells source.old) → IfBad result (λ why. (f : problem.ProblemFault) × (why ≡ decided.unposed f) × IsProblemFault request.now (recorded state.now) (option_map (λ r. r.now) repo.entry) (S.outside.state source.old).held f) }
+    ensures posed { IsTrue (tells_where (is_some repo.entry) (S.outside.tells source.old)) → IfOk result (λ p. IsAsked request.now (recorded state.now) (option_map (λ r. r.now) repo.entry) (S.outside.state source.old).held (posed_of p)) }
+    ensures recordable { IfOk result (λ p. IsRecordable (posed_of p)) }
+    ensures refused { IsTrue (tells_where (is_some repo.entry) (S.outside.tells source.old)) → IfBad result (λ why. (f : problem.ProblemFault) × (why ≡ decided.unposed f) × IsProblemFault request.now (recorded state.now) (option_map (λ r. r.now) repo.entry) (S.outside.state source.old).held f) }
     ensures early { (k : Kind) → IfBad result (MayCome k) }
     ensures reads { Reads S.outside source.old source.new (result ≡ Err (Bad fault.SourceFault)) }
 {

@@ -3,10 +3,10 @@
 ghost use Rattle.std.specs.Prelude.{◌≡◌};
 ghost use Rattle.ips_state.specs.State.{recorded};
 ghost use Rattle.ips_state.specs.Lawful.{IsLawful};
-ghost use Rattle.ips_asked.specs.Formed.{HasVersions};
+ghost use Rattle.ips_asked.specs.Formed.{IsFormedCommand};
 
 use crate::world::{repository, state};
-use ips_asked::commands_have_versions;
+use ips_asked::commands_are_formed;
 use ips_next::{NextFault, next_state};
 use ips_outside::SureSource;
 use ips_state::State;
@@ -17,7 +17,7 @@ use std::process::Abort;
 
 // The command that the words, which are divided by blanks, mean.
 fn command(rt: &impl Abort, alloc: Global, line: &str) -> Command
-    ensures { HasVersions result.what }
+    ensures { IsFormedCommand result }
 {
     let line = format!(in alloc; "-R image -s repository {line}").expect(rt, "memory");
     let mut words = Vec::new(alloc);
@@ -26,7 +26,7 @@ fn command(rt: &impl Abort, alloc: Global, line: &str) -> Command
             .push(String::from_str(alloc, word).expect(rt, "memory"))
             .expect(rt, "memory");
     }
-    commands_have_versions();
+    commands_are_formed();
     match Command::read(alloc, &words) {
         Ok(command) => command,
         Err(_) => panic!(rt; "no command"),
@@ -109,7 +109,7 @@ fn next_told(
     source: &mut SureSource,
 ) -> String
     requires lawful { IsLawful (recorded old.now) }
-    requires versions { HasVersions command.now.what }
+    requires formed { IsFormedCommand command.now }
 {
     match next_state(alloc, command, 3600, old, source) {
         Ok(new) => state_told(rt, alloc, &new),

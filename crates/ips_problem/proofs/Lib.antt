@@ -15,3 +15,4 @@ pub mod Offering
 pub mod Growth
 pub mod OneReach
 pub mod OneSelection
+pub mod Recording

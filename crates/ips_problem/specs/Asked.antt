@@ -1,5 +1,5 @@
 -- The puzzle of a request, and why a request poses none.
-use Rattle.std.specs.Prelude.{ℕ, ◌⊎◌, List, Option}
+use Rattle.std.specs.Prelude.{ℕ, ◌⊎◌, Bool, not, ◌||◌, List, Option}
 use Rattle.ips_outside.specs.Image.{Image}
 use Rattle.ips_repo.specs.Opening.{Opened}
 use Rattle.ips_state.specs.State.{Recorded}
@@ -11,6 +11,10 @@ use Rattle.ips_request.specs.Request.{AreNames, IsPatternFault, asked_case}
 use Rattle.ips_problem.specs.Posed.{Posed}
 use Rattle.ips_problem.specs.Fault.{IsFirstFault}
 use Rattle.ips_problem.specs.Gathered.{IsPosedBy}
+
+-- A source that is looked at tells what it holds; else it needn't, since nothing is read of it.
+abbrev pub tells_where : Bool → Bool → Bool
+tells_where looked tells = not looked || tells
 
 -- The puzzle is that of the request on what the image records, over the repository and what the source holds.
 pub record IsAsked (q : Request) (s : Recorded) (repo : Option Opened) (held : Image) (p : Posed) : Type 0 where

@@ -9,3 +9,4 @@ pub mod Laws
 pub mod Held
 pub mod Taken
 pub mod Avoided
+pub mod Recordable

@@ -5,10 +5,12 @@ ghost use Rattle.std.specs.List.{list_any};
 ghost use Rattle.std.specs.Option.{option_map};
 ghost use Rattle.ips_depend.specs.Selection as selection;
 ghost use Rattle.ips_refute.specs.Meaning.{pairs};
+ghost use Rattle.ips_state.specs.Lawful.{AreStems};
 ghost use Rattle.ips_state.specs.State.{Ascend};
 ghost use Rattle.ips_problem.specs.Avoided.{AreAvoided, absent_stem, missed_among, missed_by};
 ghost use Rattle.ips_problem.specs.Held.{posed_of};
 ghost use Rattle.ips_problem.specs.Posed.{is_number, picked};
+ghost use Rattle.ips_problem.specs.Recordable.{IsRecordable};
 ghost use Rattle.ips_problem.specs.Seen.{puzzle_of, seen_test};
 ghost use Rattle.ips_problem.specs.Taken.{IsChoice};
 
@@ -28,7 +30,8 @@ impl Problem {
     /// present. The choice has a candidate for each stem, by its number.
     pub fn avoid(&self, alloc: Global, chosen: &[u32]) -> Result<Vec<Text>, AllocError>
         requires { IsChoice (posed_of self.now) chosen.now }
-        ensures { IfOk result (λ stems. AreAvoided (posed_of self.now) chosen.now stems.items) }
+        ensures avoided { IfOk result (λ stems. AreAvoided (posed_of self.now) chosen.now stems.items) }
+        ensures lawful { IfOk result (λ stems. IsRecordable (posed_of self.now) → AreStems stems.items) }
     {
         let mut stems = copies(alloc, &self.avoid)?;
         for test in &self.tests {

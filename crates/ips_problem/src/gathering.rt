@@ -1,6 +1,7 @@
 //! What is known of a stem in reach.
 
-ghost use Rattle.std.specs.Prelude.{◌≡◌, ◌<◌, ◌≤◌, ◌^◌, ℕ, filter, Err, IsTrue, IfOk, List, Option, option_map, vec_len};
+ghost use Rattle.std.specs.Prelude.{◌≡◌, ◌<◌, ◌≤◌, ◌^◌, ℕ, filter, Err, IsTrue, IfOk, is_some, List, Option, option_map, vec_len};
+ghost use Rattle.std.specs.List.{AllByRecursion};
 ghost use Rattle.ips_text.specs.Reading.{IfBad};
 ghost use Rattle.ips_text.specs.declared.refusal.Or.TheVariants.{Bad};
 ghost use Rattle.ips_fmri.specs.Version.{Parts};
@@ -14,14 +15,18 @@ ghost use Rattle.ips_request.specs.Reads.{is_gone_at, stands_at};
 ghost use Rattle.ips_request.specs.Subject.{case_in, case_of, files_of, repo_of};
 ghost use Rattle.ips_request.specs.declared.fault.ProblemFault.TheVariants as fault;
 ghost use Rattle.ips_problem.specs.Gathered as spec;
+ghost use Rattle.ips_problem.specs.Asked.{tells_where};
+ghost use Rattle.ips_problem.specs.Recordable.{IsManifest, IsOverSound, IsSoundRead};
 ghost use Rattle.ips_problem.specs.Gathered.{AreReadBehind, Got, GotFault, IsFaultAmong, IsJudgedRead, IsReadBehind, IsRowOf, coming_from};
 
+use crate::fetching::fetched;
+use crate::forms::version_again;
 use crate::rows::Row;
 use ips_fmri::Version;
 use ips_manifest::Manifest;
 use ips_outside::Source;
 use ips_repo::Repo;
-use ips_request::{ProblemFault, Read, Subject, arranged, fetched, judged, missing, newest_first};
+use ips_request::{ProblemFault, Read, Subject, arranged, judged, missing, newest_first};
 use ips_text::Or;
 use std::alloc::{AllocError, Global};
 
@@ -35,13 +40,14 @@ pub fn row_of<S: Source>(
     total: &mut u64,
 ) -> Result<Row, Or<ProblemFault>>
     requires { total.old ≤ all_manifests_limit }
-    ensures row { IsTrue (S.outside.tells source.old) → IfOk result (λ row. (r : ManifestReading) → IsReading subject.now.state.now.settings r
+    ensures row { IsTrue (tells_where (is_some subject.now.repo) (S.outside.tells source.old)) → IfOk result (λ row. (r : ManifestReading) → IsReading subject.now.state.now.settings r
         → IsRowOf (case_in subject.now (S.outside.state source.old).held r) stem.now row) }
-    ensures read { IsTrue (S.outside.tells source.old) → IfOk result (λ row. (r : ManifestReading) → IsReading subject.now.state.now.settings r
+    ensures read { IsTrue (tells_where (is_some subject.now.repo) (S.outside.tells source.old)) → IfOk result (λ row. (r : ManifestReading) → IsReading subject.now.state.now.settings r
         → AreReadBehind (case_in subject.now (S.outside.state source.old).held r) total.old total.new stem.now (fault_of.needed (case_in subject.now (S.outside.state source.old).held r) stem.now) row.reads.items) }
-    ensures bad { IsTrue (S.outside.tells source.old) → IfBad result (λ why. (r : ManifestReading) → IsReading subject.now.state.now.settings r
+    ensures bad { IsTrue (tells_where (is_some subject.now.repo) (S.outside.tells source.old)) → IfBad result (λ why. (r : ManifestReading) → IsReading subject.now.state.now.settings r
         → IsFaultAmong subject.now.state.now.settings (case_in subject.now (S.outside.state source.old).held r) total.old stem.now (fault_of.needed (case_in subject.now (S.outside.state source.old).held r) stem.now) why) }
     ensures few { total.new ≤ all_manifests_limit }
+    ensures sound { IfOk result (λ row. IsOverSound subject.now → AllByRecursion IsSoundRead row.reads.items) }
     ensures candidates { IfOk result (λ row. vec_len row.candidates < 2 ^ 32) }
     ensures reads { Reads S.outside source.old source.new (result ≡ Err (Bad fault.SourceFault)) }
 {
@@ -88,11 +94,12 @@ fn read_all<S: Source>(
     total: &mut u64,
 ) -> Result<Vec<Read>, Or<ProblemFault>>
     requires { total.old ≤ all_manifests_limit }
-    ensures read { IsTrue (S.outside.tells source.old) → IfOk result (λ reads. (r : ManifestReading) → IsReading subject.now.state.now.settings r
+    ensures read { IsTrue (tells_where (is_some subject.now.repo) (S.outside.tells source.old)) → IfOk result (λ reads. (r : ManifestReading) → IsReading subject.now.state.now.settings r
         → AreReadBehind (case_in subject.now (S.outside.state source.old).held r) total.old total.new stem.now versions.now reads.items) }
-    ensures bad { IsTrue (S.outside.tells source.old) → IfBad result (λ why. (r : ManifestReading) → IsReading subject.now.state.now.settings r
+    ensures bad { IsTrue (tells_where (is_some subject.now.repo) (S.outside.tells source.old)) → IfBad result (λ why. (r : ManifestReading) → IsReading subject.now.state.now.settings r
         → IsFaultAmong subject.now.state.now.settings (case_in subject.now (S.outside.state source.old).held r) total.old stem.now versions.now why) }
     ensures few { total.new ≤ all_manifests_limit }
+    ensures sound { IfOk result (λ reads. IsOverSound subject.now → AllByRecursion IsSoundRead reads.items) }
     ensures reads { Reads S.outside source.old source.new (result ≡ Err (Bad fault.SourceFault)) }
 {
     let mut reads = Vec::new(alloc);
@@ -116,11 +123,12 @@ fn read_version<S: Source>(
     total: &mut u64,
 ) -> Result<Read, Or<ProblemFault>>
     requires { total.old ≤ all_manifests_limit }
-    ensures read { IsTrue (S.outside.tells source.old) → IfOk result (λ read. (r : ManifestReading) → IsReading subject.now.state.now.settings r
+    ensures read { IsTrue (tells_where (is_some subject.now.repo) (S.outside.tells source.old)) → IfOk result (λ read. (r : ManifestReading) → IsReading subject.now.state.now.settings r
         → IsReadBehind (case_in subject.now (S.outside.state source.old).held r) total.old total.new stem.now version.now read) }
-    ensures bad { IsTrue (S.outside.tells source.old) → IfBad result (λ why. (r : ManifestReading) → IsReading subject.now.state.now.settings r
+    ensures bad { IsTrue (tells_where (is_some subject.now.repo) (S.outside.tells source.old)) → IfBad result (λ why. (r : ManifestReading) → IsReading subject.now.state.now.settings r
         → IsManifestFault subject.now.state.now.settings (case_in subject.now (S.outside.state source.old).held r) total.old (record { stem = stem.now; version = version.now }) why) }
     ensures few { total.new ≤ all_manifests_limit }
+    ensures sound { IfOk result (λ read. IsOverSound subject.now → IsSoundRead read) }
     ensures reads { Reads S.outside source.old source.new (result ≡ Err (Bad fault.SourceFault)) }
 {
     match manifest_of(alloc, subject, source, stem, version, total) {
@@ -139,11 +147,12 @@ fn manifest_of<S: Source>(
     total: &mut u64,
 ) -> Result<Manifest, Or<ProblemFault>>
     requires { total.old ≤ all_manifests_limit }
-    ensures got { IsTrue (S.outside.tells source.old) → IfOk result (λ m. (r : ManifestReading)
+    ensures got { IsTrue (tells_where (is_some subject.now.repo) (S.outside.tells source.old)) → IfOk result (λ m. (r : ManifestReading)
         → Got (own (case_in subject.now (S.outside.state source.old).held r) stem.now version.now) (files_of (repo_of subject.now) (S.outside.state source.old).held stem.now version.now) total.old total.new m.lines.items) }
-    ensures bad { IsTrue (S.outside.tells source.old) → IfBad result (λ why. (r : ManifestReading)
+    ensures bad { IsTrue (tells_where (is_some subject.now.repo) (S.outside.tells source.old)) → IfBad result (λ why. (r : ManifestReading)
         → GotFault (own (case_in subject.now (S.outside.state source.old).held r) stem.now version.now) (files_of (repo_of subject.now) (S.outside.state source.old).held stem.now version.now) total.old (name_of (record { stem = stem.now; version = version.now })) why) }
     ensures few { total.new ≤ all_manifests_limit }
+    ensures manifest { IfOk result (λ m. IsOverSound subject.now → IsManifest m.lines.items) }
     ensures reads { Reads S.outside source.old source.new (result ≡ Err (Bad fault.SourceFault)) }
 {
     match subject.own(stem, version) {
@@ -162,11 +171,12 @@ fn from_repository<S: Source>(
     total: &mut u64,
 ) -> Result<Manifest, Or<ProblemFault>>
     requires { total.old ≤ all_manifests_limit }
-    ensures found { IsTrue (S.outside.tells source.old) → IfOk result (λ m. IsThere
+    ensures found { IsTrue (tells_where (is_some repo.entry) (S.outside.tells source.old)) → IfOk result (λ m. IsThere
         (files_of (option_map (λ r. r.now) repo.entry) (S.outside.state source.old).held stem.now version.now) (IsFetched total.old total.new m.lines.items)) }
-    ensures bad { IsTrue (S.outside.tells source.old) → IfBad result (IsFetchFault total.old
+    ensures bad { IsTrue (tells_where (is_some repo.entry) (S.outside.tells source.old)) → IfBad result (IsFetchFault total.old
         (files_of (option_map (λ r. r.now) repo.entry) (S.outside.state source.old).held stem.now version.now) (name_of (record { stem = stem.now; version = version.now }))) }
     ensures few { total.new ≤ all_manifests_limit }
+    ensures manifest { IfOk result (λ m. IsManifest m.lines.items) }
     ensures reads { Reads S.outside source.old source.new (result ≡ Err (Bad fault.SourceFault)) }
 {
     match repo {
@@ -185,11 +195,12 @@ fn judged_read(
 ) -> Result<Read, Or<ProblemFault>>
     ensures read { IfOk result (λ read. (file : List ℕ → Parts → Option (List ℕ)) (r : ManifestReading)
         → IsJudgedRead subject.now.state.now.settings (case_of subject.now file r) stem.now version.now manifest.lines.items read) }
+    ensures sound { IfOk result (λ read. IsManifest manifest.lines.items → IsSoundRead read) }
     ensures bad { IfBad result (IsOwnFault subject.now.state.now.settings manifest.lines.items (name_of (record { stem = stem.now; version = version.now }))) }
 {
     let tests = judged(alloc, stem, version, &manifest, &subject.state.settings)?;
     let gone = manifest.is_obsolete();
-    let version: Version = version.copy(alloc)?;
+    let version: Version = version_again(alloc, version)?;
     let comes = subject.may_come(stem, &version);
     let stands = subject.own(stem, &version).is_some();
     let newest = subject.is_greatest(stem, &version);

@@ -1,9 +1,10 @@
 //! The stems in reach, gone through one by one.
 
-ghost use Rattle.std.specs.Prelude.{◌≡◌, ◌∷◌, ◌++◌, ◌<◌, ◌≤◌, ◌^◌, [], ℕ, Err, IsTrue, IfOk, List, OnOk, Option, Some, length, map, nat_eq, option_map, slice_get, vec_len};
+ghost use Rattle.std.specs.Prelude.{◌≡◌, ◌∷◌, ◌++◌, ◌<◌, ◌≤◌, ◌^◌, [], ℕ, false, Err, IsTrue, IfOk, List, OnOk, Option, Some, is_some, length, map, nat_eq, option_map, slice_get, vec_len};
 ghost use Rattle.std.specs.List.{flat_map};
 ghost use Rattle.ips_text.specs.Reading.{IfBad};
 ghost use Rattle.ips_text.specs.declared.refusal.Or.TheVariants.{Bad};
+ghost use Rattle.ips_fmri.specs.Name.{IsStem};
 ghost use Rattle.ips_fmri.specs.Version.{Parts};
 ghost use Rattle.ips_outside.specs.Outside.{Reads};
 ghost use Rattle.ips_depend.specs.Dependency as depend;
@@ -14,13 +15,16 @@ ghost use Rattle.ips_request.specs.Stems.{stems_of, put_all};
 ghost use Rattle.ips_request.specs.Subject.{case_in, case_of, seen_naming};
 ghost use Rattle.ips_request.specs.declared.fault.ProblemFault.TheVariants as fault;
 ghost use Rattle.ips_problem.specs.Fault.{IsFirstFault};
+ghost use Rattle.ips_problem.specs.Asked.{tells_where};
 ghost use Rattle.ips_problem.specs.Gathered as gathered_of;
 ghost use Rattle.ips_problem.specs.Gathered.{IsGathered, IsPosedBy, asked_at, tests_asked};
 ghost use Rattle.ips_problem.specs.Held.{posed_of};
 ghost use Rattle.ips_problem.specs.Posed as posed;
 ghost use Rattle.ips_problem.specs.Reach.{stems_wanted};
+ghost use Rattle.ips_problem.specs.Recordable.{IsOverSound, IsRecordable, IsSoundlyGathered};
 ghost use Rattle.ips_problem.specs.Seen.{seen_test};
 
+use crate::forms::stem_of;
 use crate::gathered::Gathered;
 use crate::gathering::row_of;
 use crate::problem::Problem;
@@ -39,9 +43,10 @@ pub fn posed_by<S: Source>(
     subject: &Subject<'_>,
     source: &mut S,
 ) -> Result<Problem, Or<ProblemFault>>
-    ensures posed { IsTrue (S.outside.tells source.old) → IfOk result (λ p. (r : ManifestReading) → IsReading subject.now.state.now.settings r
+    ensures posed { IsTrue (tells_where (is_some subject.now.repo) (S.outside.tells source.old)) → IfOk result (λ p. (r : ManifestReading) → IsReading subject.now.state.now.settings r
         → IsPosedBy (case_in subject.now (S.outside.state source.old).held r) (posed_of p)) }
-    ensures bad { IsTrue (S.outside.tells source.old) → IfBad result (λ why. (r : ManifestReading) → IsReading subject.now.state.now.settings r
+    ensures recordable { IfOk result (λ p. IsOverSound subject.now → IsRecordable (posed_of p)) }
+    ensures bad { IsTrue (tells_where (is_some subject.now.repo) (S.outside.tells source.old)) → IfBad result (λ why. (r : ManifestReading) → IsReading subject.now.state.now.settings r
         → IsFirstFault subject.now.state.now.settings (case_in subject.now (S.outside.state source.old).held r) why) }
     ensures reads { Reads S.outside source.old source.new (result ≡ Err (Bad fault.SourceFault)) }
 {
@@ -60,7 +65,8 @@ pub fn posed_by<S: Source>(
 
 // Where the list of stems begins, before any of them was gone through.
 fn begun(alloc: Global, subject: &Subject<'_>) -> Result<Gathered, AllocError>
-    ensures { IfOk result (λ g. (file : List ℕ → Parts → Option (List ℕ)) (r : ManifestReading) → IsGathered (case_of subject.now file r) g) }
+    ensures sound { IfOk result IsSoundlyGathered }
+    ensures gathered { IfOk result (λ g. (file : List ℕ → Parts → Option (List ℕ)) (r : ManifestReading) → IsGathered (case_of subject.now file r) g) }
 {
     let mut stems = IndexSet::new(alloc);
     add_named(alloc, &mut stems, &subject.named)?;
@@ -95,9 +101,10 @@ fn next<S: Source>(
     gathered: Gathered,
 ) -> Result<Gathered, Or<ProblemFault>>
     requires { length gathered.rows.items < length gathered.stems.keys }
-    ensures gathered { IsTrue (S.outside.tells source.old) → IfOk result (λ g. (r : ManifestReading) → IsReading subject.now.state.now.settings r
+    ensures gathered { IsTrue (tells_where (is_some subject.now.repo) (S.outside.tells source.old)) → IfOk result (λ g. (r : ManifestReading) → IsReading subject.now.state.now.settings r
         → IsGathered (case_in subject.now (S.outside.state source.old).held r) gathered → IsGathered (case_in subject.now (S.outside.state source.old).held r) g) }
-    ensures bad { IsTrue (S.outside.tells source.old) → IfBad result (λ why. (r : ManifestReading) → IsReading subject.now.state.now.settings r
+    ensures sound { IfOk result (λ g. IsOverSound subject.now → IsSoundlyGathered gathered → IsSoundlyGathered g) }
+    ensures bad { IsTrue (tells_where (is_some subject.now.repo) (S.outside.tells source.old)) → IfBad result (λ why. (r : ManifestReading) → IsReading subject.now.state.now.settings r
         → IsGathered (case_in subject.now (S.outside.state source.old).held r) gathered
         → IsFirstFault subject.now.state.now.settings (case_in subject.now (S.outside.state source.old).held r) why) }
     ensures reads { Reads S.outside source.old source.new (result ≡ Err (Bad fault.SourceFault)) }
@@ -129,10 +136,11 @@ fn is_whole(gathered: &Gathered) -> bool
 // The stem with this number.
 fn stem_at(alloc: Global, stems: &IndexSet<String>, number: usize) -> Result<Text, AllocError>
     requires { number < length stems.now.keys }
-    ensures { IfOk result (λ stem. slice_get (stems_of stems.now.keys) number ≡ Some stem) }
+    ensures there { IfOk result (λ stem. slice_get (stems_of stems.now.keys) number ≡ Some stem) }
+    ensures stem { IfOk result (IsStem false) }
 {
     match stems.get_index(number) {
-        Some(stem) => Text::new(alloc, stem.as_str()),
+        Some(stem) => stem_of(alloc, stem.as_str()),
         None => Err(AllocError),
     }
 }
@@ -248,7 +256,8 @@ fn wanted(dependency: &Test) -> &[Fmri]
 // The puzzle of all that was gathered.
 fn whole(alloc: Global, subject: &Subject<'_>, gathered: Gathered) -> Result<Problem, AllocError>
     requires { length gathered.rows.items ≡ length gathered.stems.keys }
-    ensures { IfOk result (λ p. (file : List ℕ → Parts → Option (List ℕ)) (r : ManifestReading)
+    ensures recordable { IfOk result (λ p. IsOverSound subject.now → IsSoundlyGathered gathered → IsRecordable (posed_of p)) }
+    ensures posed { IfOk result (λ p. (file : List ℕ → Parts → Option (List ℕ)) (r : ManifestReading)
         → IsGathered (case_of subject.now file r) gathered → IsPosedBy (case_of subject.now file r) (posed_of p)) }
 {
     let avoid = still_avoided(alloc, subject)?;

@@ -7,13 +7,15 @@
 //! admissible, and that its first solution is the best selection.
 //!
 //! What a request asks of one stem, and how its manifests are read, is the crate `ips_request`. In reading order: what is known of a
-//! stem in reach (`rows`, `gathered`, `gathering`); the stems gone through one by one (`growing`, `building`); the puzzle (`problem`,
+//! stem in reach (`forms`, `fetching`, `rows`, `gathered`, `gathering`); the stems gone through one by one (`growing`, `building`); the puzzle (`problem`,
 //! `numbering`, `answers`, `picked`, `puzzle`); what a choice selects and avoids (`taking`, `avoiding`); and the laws (`laws`).
 #![tactic(auto)]
 
 mod answers;
 mod avoiding;
 mod building;
+mod fetching;
+mod forms;
 mod gathered;
 mod gathering;
 mod growing;

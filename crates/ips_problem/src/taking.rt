@@ -2,8 +2,10 @@
 
 ghost use Rattle.std.specs.Prelude.{◌≡◌, IfOk, Some, length, map};
 ghost use Rattle.std.specs.Option.{option_map};
+ghost use Rattle.ips_state.specs.Lawful.{ArePackages};
 ghost use Rattle.ips_state.specs.State.{installed};
 ghost use Rattle.ips_problem.specs.Held.{posed_of};
+ghost use Rattle.ips_problem.specs.Recordable.{IsRecordable};
 ghost use Rattle.ips_problem.specs.Seen.{puzzle_of, seen_read, seen_row};
 ghost use Rattle.ips_problem.specs.Taken.{AreTaken, IsChoice, offer_at, package_of, selected_below};
 
@@ -19,7 +21,8 @@ impl Problem {
     /// a stem whose candidate isn't absence is a package of that version and manifest.
     pub fn take(&self, alloc: Global, chosen: &[u32]) -> Result<Vec<Package>, AllocError>
         requires { IsChoice (posed_of self.now) chosen.now }
-        ensures { IfOk result (λ packages. AreTaken (posed_of self.now) chosen.now (map installed packages.items)) }
+        ensures taken { IfOk result (λ packages. AreTaken (posed_of self.now) chosen.now (map installed packages.items)) }
+        ensures lawful { IfOk result (λ packages. IsRecordable (posed_of self.now) → ArePackages (map installed packages.items)) }
     {
         let mut packages = selected(alloc, self.stems.as_slice(), &self.rows, chosen)?;
         packages.sort_by(|a, b| a.stem.cmp(&b.stem))?;

@@ -2,6 +2,7 @@ use Rattle.std.proofs.Common.{sym, ◌∙◌}
 use Rattle.std.proofs.lemmas.Bool.{true≢false}
 use Rattle.std.proofs.lemmas.Result.{err_from_is_err_and}
 use Rattle.ips_state.specs.State.{recorded}
+use Rattle.ips_next.proofs.Recorded.{line_added}
 use Rattle.ips_next.proofs.next.go_on.Goals as goal
 
 pub returns-in_err-settle-clause-refused : goal.returns-in_err-settle-clause-refused
@@ -18,7 +19,7 @@ pub returns-clause-next : goal.returns-clause-next
 returns-clause-next g c = λ told.
     let settled = c.in_ok-settle.ensures.settled told c.args.command.now.history c.args.moment in
     let s = recorded c.settle.new.next in
-    let line = c.in_ok-add_line.ensures in
+    let line = c.in_ok-add_line.ensures.line in
     record {
       asked = settled.0;
       settled = s;
@@ -40,3 +41,8 @@ returns-clause-next g c = λ told.
         index = s.index;
       };
     }
+
+pub returns-clause-lawful : goal.returns-clause-lawful
+returns-clause-lawful g c =
+    let lawful = c.in_ok-settle.ensures.lawful in
+    line_added (recorded c.settle.new.next) c.add_line.new.history.items lawful (c.in_ok-add_line.ensures.lawful c.requires.words lawful.history)

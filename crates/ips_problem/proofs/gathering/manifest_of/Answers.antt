@@ -1,9 +1,12 @@
-use Rattle.std.proofs.Common.{◌∙◌, ap, option_map, refl, subst, sym}
+use Rattle.std.proofs.Common.{None, ◌∙◌, ap, option_map, refl, subst, sym}
 use Rattle.ips_state.specs.State.{installed}
 use Rattle.ips_request.specs.Manifests.{name_of}
 use Rattle.ips_request.specs.Subject.{files_of, repo_of}
 use Rattle.ips_request.proofs.Results.{ok_also, bad_also}
 use Rattle.ips_problem.specs.Gathered.{Got, GotFault}
+use Rattle.ips_request.specs.Subject.{case_of}
+use Rattle.ips_problem.specs.Recordable.{IsManifest}
+use Rattle.ips_problem.proofs.Recording.{no_reading, own_manifest}
 use Rattle.ips_problem.proofs.gathering.manifest_of.Goals as goal
 
 pub returns-in_ok-copy-in-Some-clause-got : goal.returns-in_ok-copy-in-Some-clause-got
@@ -24,3 +27,9 @@ returns-in-None-clause-bad g c = λ told.
     bad_also c.from_repository.result _ _ (c.from_repository.ensures.bad told)
     (λ why h r. subst (λ o. GotFault o (files c.args.stem.now c.args.version.now) c.args.total.now (name_of (record { stem = c.args.stem.now; version = c.args.version.now })) why)
     (sym (ap (option_map (λ p. installed p.now)) c.in-None.is) ∙ c.own.ensures files r) h)
+
+pub returns-in_ok-copy-in-Some-clause-manifest : goal.returns-in_ok-copy-in-Some-clause-manifest
+returns-in_ok-copy-in-Some-clause-manifest g c = λ over.
+    let case = case_of c.args.subject.now (λ stem v. None) no_reading in
+    let found = sym (c.own.ensures (λ stem v. None) no_reading) ∙ ap (option_map (λ p. installed p.now)) c.in-Some.is in
+    subst IsManifest (sym c.in_ok-copy-in-Some.ensures) (own_manifest case c.args.stem.now c.args.version.now _ over.packages found)

@@ -1,4 +1,4 @@
-use Rattle.std.proofs.Common.{◌+◌, ◌∙◌, [], Global, Vec, ap, refl, subst, sym, take}
+use Rattle.std.proofs.Common.{is_some, ◌∷◌, ◌+◌, ◌∙◌, [], Global, Vec, ap, refl, subst, sym, take}
 use Rattle.std.proofs.lemmas.Result.{err_from_is_err_and}
 use Rattle.ips_text.specs.declared.refusal.Or.TheVariants.{Bad}
 use Rattle.ips_outside.specs.State.{State}
@@ -9,11 +9,16 @@ use Rattle.ips_request.specs.Manifests.{IsManifestFault}
 use Rattle.ips_request.specs.Subject.{case_in}
 use Rattle.ips_request.proofs.Named.{bad_handed}
 use Rattle.ips_problem.specs.Gathered.{AreReadBehind, IsReadBehind}
+use Rattle.std.specs.List.{AllByRecursion}
+use Rattle.ips_text.proofs.Lists.{all_append}
+use Rattle.ips_problem.specs.Recordable.{IsSoundRead}
+use Rattle.ips_problem.specs.Asked.{tells_where}
 use Rattle.ips_problem.proofs.Growth.{none_read, read_next, fault_next}
 use Rattle.ips_problem.proofs.gathering.read_all.Goals as goal
 
 pub loop-version-init : goal.loop-version-init
 loop-version-init g c = record {
+  sound = λ over. subst (AllByRecursion IsSoundRead) (sym c.new-reads.ensures.items) tt;
   few = c.requires;
   calls = reads_none g.S.Source.outside c.args.source.now ⊥ (λ f. f);
   read = λ told r is. subst (AreReadBehind (case_in c.args.subject.now (g.S.Source.outside.state c.args.source.now).held r) c.args.total.now c.args.total.now c.args.stem.now []) (sym c.new-reads.ensures.items)
@@ -22,6 +27,7 @@ loop-version-init g c = record {
 
 pub loop-version-preserved : goal.loop-version-preserved
 loop-version-preserved g c = record {
+  sound = λ over. subst (AllByRecursion IsSoundRead) (sym c.in_ok-push.ensures.items) (all_append IsSoundRead c.loop-version.reads.items (c.in-Ok.read ∷ []) (c.loop-version.invariant.sound over) (c.in-Ok.ensures.sound over, tt));
   few = c.read_version.ensures.few;
   calls = reads_then g.S.Source.outside c.args.source.now c.loop-version.source c.read_version.new.source _ ⊥ c.loop-version.invariant.calls c.read_version.ensures.reads
       (no_fault c.read_version.result c.in-Ok.read (Bad fault.SourceFault) c.in-Ok.is) (λ f. absurd f);
@@ -32,7 +38,7 @@ loop-version-preserved g c = record {
       let inv = c.loop-version.invariant in
       let case = case_in s (g.S.Source.outside.state c.args.source.now).held r in
       let kept = ap (λ (t : State). case_in s t.held r) inv.calls.kept in
-      let one = subst (λ c'. IsReadBehind c' c.loop-version.total c.read_version.new.total stem v c.in-Ok.read) kept (c.in-Ok.ensures.read (inv.calls.call.same_kind ∙ told) r is) in
+      let one = subst (λ c'. IsReadBehind c' c.loop-version.total c.read_version.new.total stem v c.in-Ok.read) kept (c.in-Ok.ensures.read (ap (tells_where (is_some c.args.subject.now.repo)) inv.calls.call.same_kind ∙ told) r is) in
       subst (AreReadBehind case c.args.total.now c.read_version.new.total stem (take (c.loop-version.version-index + 1) c.args.versions.now)) (sym c.in_ok-push.ensures.items)
       (read_next case c.args.total.now c.loop-version.total c.read_version.new.total stem c.args.versions.now c.loop-version.version-index v c.loop-version.reads.items c.in-Ok.read
       c.loop-version-test.true c.version-item.is (inv.read told r is) one);
@@ -44,7 +50,7 @@ returns-in-Err-clause-bad g c = λ told.
     let stem = c.args.stem.now in
     let v = c.version-item.result in
     let inv = c.loop-version.invariant in
-    bad_handed Read (Vec Read Global) _ _ c.in-Err.why (c.in-Err.ensures.bad (inv.calls.call.same_kind ∙ told))
+    bad_handed Read (Vec Read Global) _ _ c.in-Err.why (c.in-Err.ensures.bad (ap (tells_where (is_some c.args.subject.now.repo)) inv.calls.call.same_kind ∙ told))
     (λ why h r is.
     let kept = ap (λ (t : State). case_in s t.held r) inv.calls.kept in
     fault_next s.state.now.settings (case_in s (g.S.Source.outside.state c.args.source.now).held r) c.args.total.now c.loop-version.total stem c.args.versions.now c.loop-version.version-index v c.loop-version.reads.items why

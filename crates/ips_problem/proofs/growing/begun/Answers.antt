@@ -8,11 +8,12 @@ use Rattle.ips_request.specs.Subject.{case_of, seen_naming}
 use Rattle.ips_request.proofs.Lookups.{put_all_append}
 use Rattle.ips_problem.specs.Seen.{seen_row, seen_test}
 use Rattle.ips_problem.proofs.Growth.{gathered_none}
+use Rattle.ips_problem.proofs.Recording.{none_gathered}
 use Rattle.ips_problem.proofs.growing.begun.Goals as goal
 use Rattle.ips_request.proofs.Subjects.{package_stems}
 
-pub returns : goal.returns
-returns c = λ file r.
+pub returns-clause-gathered : goal.returns-clause-gathered
+returns-clause-gathered c = λ file r.
     let s = c.args.subject.now in
     let f = λ (n : Naming). n.stems in
     let named = flat_map f (map seen_naming s.named.items) in
@@ -23,3 +24,6 @@ returns c = λ file r.
     ∙ ap (λ ss. firsts (named ++ ss)) (package_stems packages) in
     gathered_none (case_of s file r) (stems_of c.add_packages.new.stems.keys) (length c.new.result.items) (map seen_row c.new.result.items) (map seen_test c.new-2.result.items) 0
     all (ap (λ (rs : List rows.Row). length rs) c.new.ensures.items) (ap (map seen_row) c.new.ensures.items) (ap (map seen_test) c.new-2.ensures.items) refl
+
+pub returns-clause-sound : goal.returns-clause-sound
+returns-clause-sound c = none_gathered _ c.new.ensures.items (ap (map seen_test) c.new-2.ensures.items)

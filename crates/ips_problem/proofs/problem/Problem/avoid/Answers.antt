@@ -6,6 +6,8 @@ use Rattle.ips_state.specs.State.{Ascend}
 use Rattle.ips_problem.specs.Avoided.{AreAvoided, missed_by}
 use Rattle.ips_problem.specs.Held.{posed_of}
 use Rattle.ips_problem.specs.Seen.{puzzle_of, seen_test}
+use Rattle.ips_request.proofs.Results.{ok_then}
+use Rattle.ips_problem.proofs.Recording.{avoided_stems}
 use Rattle.ips_problem.proofs.Missing.{avoided, gathered_more}
 use Rattle.ips_problem.proofs.problem.Problem.avoid.Goals as goal
 
@@ -36,7 +38,12 @@ returns c =
     let missed = λ (t : Numbered). missed_by (puzzle_of p.stems.keys p.rows.items) choice (seen_test t) in
     let past : length p.tests.items ≤ i = subst (λ (l : List Numbered). length l ≤ i) c.deref-test-items.ensures.value c.loop-test-test.false in
     let all = c.loop-test.invariant ∙ ap (λ (l : List Numbered). p.avoid.items ++ flat_map missed l) (take_all i p.tests.items past) in
+    let are =
     if_both (λ (v : Vec (List ℕ) Global). Ascend v.items) (λ (v : Vec (List ℕ) Global). (stem : List ℕ) → Contains v.items stem ↔ Contains before stem)
     (λ (v : Vec (List ℕ) Global). AreAvoided (posed_of p) choice v.items)
     (λ v order same. avoided (posed_of p) choice seen_test p.tests.items before v.items refl all order same)
-    c.in_order.result c.in_order.ensures.order c.in_order.ensures.each
+    c.in_order.result c.in_order.ensures.order c.in_order.ensures.each in
+    record {
+      avoided = are;
+      lawful = ok_then (λ (v : Vec (List ℕ) Global). AreAvoided (posed_of p) choice v.items) _ c.in_order.result are (λ v avoided sound. avoided_stems (posed_of p) v.items choice sound avoided);
+    }
