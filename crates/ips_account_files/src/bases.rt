@@ -18,13 +18,11 @@ ghost use Rattle.ips_account_files.specs.Around.{AreMarks, IsSilentOver, around}
 ghost use Rattle.ips_account_files.specs.Bases.{AreBases, IsFirstUnread, new_modes, no_texts};
 ghost use Rattle.ips_account_files.specs.Finding.{mode_found, text_found};
 
-use crate::finding::find;
+use crate::finding::{Surveyed, find};
 use ips_books::Books;
-use ips_emptied::Settled;
 use ips_folder::Folder;
 use ips_ledger::{BaseFile, Blocked, LedgerFault, Modes, is_folder_blocked};
 use ips_outside::Source;
-use ips_survey::Row;
 use ips_text::Or;
 use std::alloc::Global;
 
@@ -70,39 +68,25 @@ pub(crate) fn read_all<'a, F: Folder, S: Source>(
     alloc: Global,
     folder: &mut F,
     source: &mut S,
-    publisher: &str,
-    rows: &[Row<'a>],
-    settled: &Settled<'a>,
-    replaced: &[bool],
+    surveyed: Surveyed<'_, 'a>,
     bases: &mut Bases,
 ) -> Result<(), Or<LedgerFault>>
-    requires order { IsStrictlySortedBy (slice_cmp nat_cmp) (row_paths rows.now) }
-    requires settled { HasAll rows.now settled.now }
-    requires replaced { length replaced.now ≡ length rows.now }
-    requires marks { AreMarks rows.now settled.now replaced.now }
-    requires looked { IsTrue (F.outside.tells folder.old) → AllByRecursion (HasLooked (F.outside.state folder.old).held) rows.now }
+    requires order { IsStrictlySortedBy (slice_cmp nat_cmp) (row_paths surveyed.rows.now) }
+    requires settled { HasAll surveyed.rows.now surveyed.settled.now }
+    requires replaced { length surveyed.replaced.now ≡ length surveyed.rows.now }
+    requires marks { AreMarks surveyed.rows.now surveyed.settled.now surveyed.replaced.now }
+    requires looked { IsTrue (F.outside.tells folder.old) → AllByRecursion (HasLooked (F.outside.state folder.old).held) surveyed.rows.now }
     requires texts { texts bases.old.books ≡ no_texts }
     requires modes { bases.old.modes ≡ new_modes }
-    ensures bases { OnOk result ((r : Request) → IsSilentOver (around F.outside S.outside folder.old source.old publisher.now rows.now settled.now) rows.now settled.now r
-        → AreBases (around F.outside S.outside folder.old source.old publisher.now rows.now settled.now) r bases.new.blocked (texts bases.new.books) bases.new.modes) }
-    ensures refused { IfBad result (λ why. (r : Request) → IsSilentOver (around F.outside S.outside folder.old source.old publisher.now rows.now settled.now) rows.now settled.now r
-        → (why ≡ fault.FolderFault) ⊎ IsFirstUnread (around F.outside S.outside folder.old source.old publisher.now rows.now settled.now) r why) }
+    ensures bases { OnOk result ((r : Request) → IsSilentOver (around F.outside S.outside folder.old source.old surveyed.entry.publisher.now surveyed.entry.rows.now surveyed.entry.settled.now) surveyed.entry.rows.now surveyed.entry.settled.now r
+        → AreBases (around F.outside S.outside folder.old source.old surveyed.entry.publisher.now surveyed.entry.rows.now surveyed.entry.settled.now) r bases.new.blocked (texts bases.new.books) bases.new.modes) }
+    ensures refused { IfBad result (λ why. (r : Request) → IsSilentOver (around F.outside S.outside folder.old source.old surveyed.entry.publisher.now surveyed.entry.rows.now surveyed.entry.settled.now) surveyed.entry.rows.now surveyed.entry.settled.now r
+        → (why ≡ fault.FolderFault) ⊎ IsFirstUnread (around F.outside S.outside folder.old source.old surveyed.entry.publisher.now surveyed.entry.rows.now surveyed.entry.settled.now) r why) }
     ensures reads { Reads F.outside folder.old folder.new (result ≡ Err (Bad fault.FolderFault)) }
     ensures reads_source { Reads S.outside source.old source.new (result ≡ Err (Bad fault.SourceFault)) }
 {
-    let elsewhere = is_folder_blocked(rows);
-    let found = match find(
-        alloc,
-        folder,
-        source,
-        publisher,
-        rows,
-        settled,
-        replaced,
-        b"etc/passwd",
-        0o644,
-        elsewhere,
-    ) {
+    let taken = is_folder_blocked(surveyed.rows);
+    let found = match find(alloc, folder, source, surveyed, b"etc/passwd", 0o644, taken) {
         Ok(found) => found,
         Err(fault) => return Err(fault),
     };
@@ -112,18 +96,7 @@ pub(crate) fn read_all<'a, F: Folder, S: Source>(
         &mut bases.modes.passwd,
         &mut bases.blocked.passwd,
     );
-    let found = match find(
-        alloc,
-        folder,
-        source,
-        publisher,
-        rows,
-        settled,
-        replaced,
-        b"etc/shadow",
-        0o400,
-        false,
-    ) {
+    let found = match find(alloc, folder, source, surveyed, b"etc/shadow", 0o400, false) {
         Ok(found) => found,
         Err(fault) => return Err(fault),
     };
@@ -133,18 +106,7 @@ pub(crate) fn read_all<'a, F: Folder, S: Source>(
         &mut bases.modes.shadow,
         &mut bases.blocked.shadow,
     );
-    let found = match find(
-        alloc,
-        folder,
-        source,
-        publisher,
-        rows,
-        settled,
-        replaced,
-        b"etc/group",
-        0o644,
-        false,
-    ) {
+    let found = match find(alloc, folder, source, surveyed, b"etc/group", 0o644, false) {
         Ok(found) => found,
         Err(fault) => return Err(fault),
     };

@@ -25,38 +25,46 @@ use ips_survey::Row;
 use ips_text::{Or, RelPath};
 use std::alloc::Global;
 
+/// The rows of a request with what becomes of each, and the publisher of the payloads that they lay.
+#[derive(Clone, Copy, Drop)]
+pub(crate) struct Surveyed<'r, 'a> {
+    /// The publisher.
+    pub publisher: &'r str,
+    /// The rows.
+    pub rows: &'r [Row<'a>],
+    /// What becomes of each.
+    pub settled: &'r Settled<'a>,
+    /// At which of them what stands goes or is replaced.
+    pub replaced: &'r [bool],
+}
+
 /// What a request leaves at this path, and none where the path is blocked, or the files can't be edited for another reason. `mode` is that of a new file.
 pub(crate) fn find<'a, F: Folder, S: Source>(
     alloc: Global,
     folder: &mut F,
     source: &mut S,
-    publisher: &str,
-    rows: &[Row<'a>],
-    settled: &Settled<'a>,
-    replaced: &[bool],
+    surveyed: Surveyed<'_, 'a>,
     path: &[u8],
     mode: u16,
     elsewhere: bool,
 ) -> Result<Option<BaseFile>, Or<LedgerFault>>
-    requires order { IsStrictlySortedBy (slice_cmp nat_cmp) (row_paths rows.now) }
-    requires settled { HasAll rows.now settled.now }
-    requires replaced { length replaced.now ≡ length rows.now }
-    requires marks { AreMarks rows.now settled.now replaced.now }
-    requires looked { IsTrue (F.outside.tells folder.old) → AllByRecursion (HasLooked (F.outside.state folder.old).held) rows.now }
+    requires order { IsStrictlySortedBy (slice_cmp nat_cmp) (row_paths surveyed.rows.now) }
+    requires settled { HasAll surveyed.rows.now surveyed.settled.now }
+    requires replaced { length surveyed.replaced.now ≡ length surveyed.rows.now }
+    requires marks { AreMarks surveyed.rows.now surveyed.settled.now surveyed.replaced.now }
+    requires looked { IsTrue (F.outside.tells folder.old) → AllByRecursion (HasLooked (F.outside.state folder.old).held) surveyed.rows.now }
     requires small { mode < 4096 }
-    ensures found { IfOk result (λ found. (r : Request) → IsSilentOver (around F.outside S.outside folder.old source.old publisher.now rows.now settled.now) rows.now settled.now r
-        → IsFound (around F.outside S.outside folder.old source.old publisher.now rows.now settled.now) r path.now mode elsewhere found) }
-    ensures refused { IfBad result (λ why. (r : Request) → IsSilentOver (around F.outside S.outside folder.old source.old publisher.now rows.now settled.now) rows.now settled.now r
-        → IsLost (around F.outside S.outside folder.old source.old publisher.now rows.now settled.now) r path.now elsewhere why) }
+    ensures found { IfOk result (λ found. (r : Request) → IsSilentOver (around F.outside S.outside folder.old source.old surveyed.entry.publisher.now surveyed.entry.rows.now surveyed.entry.settled.now) surveyed.entry.rows.now surveyed.entry.settled.now r
+        → IsFound (around F.outside S.outside folder.old source.old surveyed.entry.publisher.now surveyed.entry.rows.now surveyed.entry.settled.now) r path.now mode elsewhere found) }
+    ensures refused { IfBad result (λ why. (r : Request) → IsSilentOver (around F.outside S.outside folder.old source.old surveyed.entry.publisher.now surveyed.entry.rows.now surveyed.entry.settled.now) surveyed.entry.rows.now surveyed.entry.settled.now r
+        → IsLost (around F.outside S.outside folder.old source.old surveyed.entry.publisher.now surveyed.entry.rows.now surveyed.entry.settled.now) r path.now elsewhere why) }
     ensures reads { Reads F.outside folder.old folder.new (result ≡ Err (Bad fault.FolderFault)) }
     ensures reads_source { Reads S.outside source.old source.new (result ≡ Err (Bad fault.SourceFault)) }
 {
     let Ok(path) = RelPath::parse(alloc, path) else {
         return Err(Or::OutOfMemory);
     };
-    find_at(
-        alloc, folder, source, publisher, rows, settled, replaced, &path, mode, elsewhere,
-    )
+    find_at(alloc, folder, source, surveyed, &path, mode, elsewhere)
 }
 
 // The same at a path that was read.
@@ -64,35 +72,40 @@ fn find_at<'a, F: Folder, S: Source>(
     alloc: Global,
     folder: &mut F,
     source: &mut S,
-    publisher: &str,
-    rows: &[Row<'a>],
-    settled: &Settled<'a>,
-    replaced: &[bool],
+    surveyed: Surveyed<'_, 'a>,
     path: &RelPath,
     mode: u16,
     elsewhere: bool,
 ) -> Result<Option<BaseFile>, Or<LedgerFault>>
-    requires order { IsStrictlySortedBy (slice_cmp nat_cmp) (row_paths rows.now) }
-    requires settled { HasAll rows.now settled.now }
-    requires replaced { length replaced.now ≡ length rows.now }
-    requires marks { AreMarks rows.now settled.now replaced.now }
-    requires looked { IsTrue (F.outside.tells folder.old) → AllByRecursion (HasLooked (F.outside.state folder.old).held) rows.now }
+    requires order { IsStrictlySortedBy (slice_cmp nat_cmp) (row_paths surveyed.rows.now) }
+    requires settled { HasAll surveyed.rows.now surveyed.settled.now }
+    requires replaced { length surveyed.replaced.now ≡ length surveyed.rows.now }
+    requires marks { AreMarks surveyed.rows.now surveyed.settled.now surveyed.replaced.now }
+    requires looked { IsTrue (F.outside.tells folder.old) → AllByRecursion (HasLooked (F.outside.state folder.old).held) surveyed.rows.now }
     requires small { mode < 4096 }
-    ensures found { IfOk result (λ found. (r : Request) → IsSilentOver (around F.outside S.outside folder.old source.old publisher.now rows.now settled.now) rows.now settled.now r
-        → IsFound (around F.outside S.outside folder.old source.old publisher.now rows.now settled.now) r path.now.bytes mode elsewhere found) }
-    ensures refused { IfBad result (λ why. (r : Request) → IsSilentOver (around F.outside S.outside folder.old source.old publisher.now rows.now settled.now) rows.now settled.now r
-        → IsLost (around F.outside S.outside folder.old source.old publisher.now rows.now settled.now) r path.now.bytes elsewhere why) }
+    ensures found { IfOk result (λ found. (r : Request) → IsSilentOver (around F.outside S.outside folder.old source.old surveyed.entry.publisher.now surveyed.entry.rows.now surveyed.entry.settled.now) surveyed.entry.rows.now surveyed.entry.settled.now r
+        → IsFound (around F.outside S.outside folder.old source.old surveyed.entry.publisher.now surveyed.entry.rows.now surveyed.entry.settled.now) r path.now.bytes mode elsewhere found) }
+    ensures refused { IfBad result (λ why. (r : Request) → IsSilentOver (around F.outside S.outside folder.old source.old surveyed.entry.publisher.now surveyed.entry.rows.now surveyed.entry.settled.now) surveyed.entry.rows.now surveyed.entry.settled.now r
+        → IsLost (around F.outside S.outside folder.old source.old surveyed.entry.publisher.now surveyed.entry.rows.now surveyed.entry.settled.now) r path.now.bytes elsewhere why) }
     ensures reads { Reads F.outside folder.old folder.new (result ≡ Err (Bad fault.FolderFault)) }
     ensures reads_source { Reads S.outside source.old source.new (result ≡ Err (Bad fault.SourceFault)) }
 {
-    let Ok(blocked) = is_blocked(folder, rows, path) else {
+    let Ok(blocked) = is_blocked(folder, surveyed.rows, path) else {
         return Err(Or::Bad(LedgerFault::FolderFault));
     };
     if elsewhere || blocked {
         return Ok(None);
     }
     match base_at(
-        alloc, folder, source, publisher, rows, settled, replaced, path, mode,
+        alloc,
+        folder,
+        source,
+        surveyed.publisher,
+        surveyed.rows,
+        surveyed.settled,
+        surveyed.replaced,
+        path,
+        mode,
     ) {
         Ok(base) => Ok(Some(base)),
         Err(fault) => Err(fault),

@@ -21,6 +21,7 @@ use crate::admitted::has_accounts;
 use crate::bases::{Bases, read_all};
 use crate::editing::edited;
 use crate::files::AccountFiles;
+use crate::finding::Surveyed;
 use ips_action::Action;
 use ips_emptied::Settled;
 use ips_folder::Folder;
@@ -64,9 +65,15 @@ pub fn account_files<'a, F: Folder, S: Source>(
         return Ok(AccountFiles::none(alloc));
     }
     match replaced(alloc, rows, settled) {
-        Ok(marks) => read_and_edit(
-            alloc, folder, source, publisher, rows, settled, &marks, old, new,
-        ),
+        Ok(marks) => {
+            let surveyed = Surveyed {
+                publisher,
+                rows,
+                settled,
+                replaced: &marks,
+            };
+            read_and_edit(alloc, folder, source, surveyed, old, new)
+        }
         Err(_) => Err(Or::OutOfMemory),
     }
 }
@@ -76,29 +83,24 @@ fn read_and_edit<'a, F: Folder, S: Source>(
     alloc: Global,
     folder: &mut F,
     source: &mut S,
-    publisher: &str,
-    rows: &[Row<'a>],
-    settled: &Settled<'a>,
-    replaced: &[bool],
+    surveyed: Surveyed<'_, 'a>,
     old: &[Action],
     new: &[Action],
 ) -> Result<AccountFiles, Or<LedgerFault>>
-    requires order { IsStrictlySortedBy (slice_cmp nat_cmp) (row_paths rows.now) }
-    requires settled { HasAll rows.now settled.now }
-    requires replaced { length replaced.now ≡ length rows.now }
-    requires marks { AreMarks rows.now settled.now replaced.now }
-    requires looked { IsTrue (F.outside.tells folder.old) → AllByRecursion (HasLooked (F.outside.state folder.old).held) rows.now }
-    ensures given { IfOk result (λ files. (r : Request) → IsSilentOver (around F.outside S.outside folder.old source.old publisher.now rows.now settled.now) rows.now settled.now r
-        → BehindWhere true (around F.outside S.outside folder.old source.old publisher.now rows.now settled.now) r old.now new.now (Ok (files_seen files))) }
-    ensures refused { IfBad result (λ why. (r : Request) → IsSilentOver (around F.outside S.outside folder.old source.old publisher.now rows.now settled.now) rows.now settled.now r
-        → BehindWhere true (around F.outside S.outside folder.old source.old publisher.now rows.now settled.now) r old.now new.now (Err why)) }
+    requires order { IsStrictlySortedBy (slice_cmp nat_cmp) (row_paths surveyed.rows.now) }
+    requires settled { HasAll surveyed.rows.now surveyed.settled.now }
+    requires replaced { length surveyed.replaced.now ≡ length surveyed.rows.now }
+    requires marks { AreMarks surveyed.rows.now surveyed.settled.now surveyed.replaced.now }
+    requires looked { IsTrue (F.outside.tells folder.old) → AllByRecursion (HasLooked (F.outside.state folder.old).held) surveyed.rows.now }
+    ensures given { IfOk result (λ files. (r : Request) → IsSilentOver (around F.outside S.outside folder.old source.old surveyed.entry.publisher.now surveyed.entry.rows.now surveyed.entry.settled.now) surveyed.entry.rows.now surveyed.entry.settled.now r
+        → BehindWhere true (around F.outside S.outside folder.old source.old surveyed.entry.publisher.now surveyed.entry.rows.now surveyed.entry.settled.now) r old.now new.now (Ok (files_seen files))) }
+    ensures refused { IfBad result (λ why. (r : Request) → IsSilentOver (around F.outside S.outside folder.old source.old surveyed.entry.publisher.now surveyed.entry.rows.now surveyed.entry.settled.now) surveyed.entry.rows.now surveyed.entry.settled.now r
+        → BehindWhere true (around F.outside S.outside folder.old source.old surveyed.entry.publisher.now surveyed.entry.rows.now surveyed.entry.settled.now) r old.now new.now (Err why)) }
     ensures reads { Reads F.outside folder.old folder.new (result ≡ Err (Bad fault.FolderFault)) }
     ensures reads_source { Reads S.outside source.old source.new (result ≡ Err (Bad fault.SourceFault)) }
 {
     let mut bases = Bases::new(alloc);
-    match read_all(
-        alloc, folder, source, publisher, rows, settled, replaced, &mut bases,
-    ) {
+    match read_all(alloc, folder, source, surveyed, &mut bases) {
         Ok(()) => edited(alloc, &bases, old, new),
         Err(fault) => Err(fault),
     }

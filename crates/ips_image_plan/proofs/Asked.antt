@@ -1,7 +1,7 @@
 -- The requests of a table between two states.
 use Rattle.std.proofs.Common.{ℕ, List, Option, inl, inr, Result, Ok, Err}
 use Rattle.std.proofs.lemmas.Bool.{or_cases}
-use Rattle.std.specs.Prelude.{codes}
+use Rattle.std.specs.Prelude.{OnOk, codes}
 use Rattle.std.specs.List.{AllByRecursion}
 use Rattle.std.specs.List.Sorted.{IsStrictlySortedBy}
 use Rattle.std.specs.Ordering.{nat_cmp}
@@ -39,6 +39,11 @@ unmovable_weaker (Ok e) P Q f h = h
 unmovable_weaker (Err (Bad (Unmovable p))) P Q f h = f p.bytes h
 unmovable_weaker (Err (Bad FolderFault)) P Q f h = h
 unmovable_weaker (Err OutOfMemory) P Q f h = h
+
+-- what holds anyway holds where there is an answer
+pub ok_holds : {T E : Type 0} (x : Result T E) (P : Type 0) → P → OnOk x P
+ok_holds (Ok t) P h = h
+ok_holds (Err e) P h = tt
 
 -- the bytes of each payload, where none are known
 pub no_bytes : List ℕ → List ℕ

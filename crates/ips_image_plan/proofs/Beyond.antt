@@ -2,9 +2,9 @@
 use Rattle.std.proofs.Common.{ℕ, Bool, List}
 use Rattle.ips_outside.specs.Image.{Image}
 use Rattle.ips_books.specs.Accounts.{Accounts}
-use Rattle.ips_due.specs.Due.{Due, DueFile}
+use Rattle.ips_due.specs.Due.{Due, DueFile, IsDue}
 use Rattle.ips_emit.specs.declared.emitting.Emitted.{Emitted}
-use Rattle.ips_request_due.specs.RequestDue.{IsRequestDue}
+use Rattle.ips_request_due.specs.RequestDue.{IsRequestDue, LeavesAlone}
 use Rattle.ips_image_plan.specs.Behind.{AreSteps, ComesOf, ComesOfDue, IsBeyond}
 use Rattle.ips_image_plan.specs.Licenses.{AreDisplayed}
 use Rattle.ips_image_plan.specs.declared.behind.BehindFault.{BehindFault}
@@ -21,9 +21,9 @@ module _ (told : Bool) (t : Image) (moment : List ℕ) (b : Between) (due : Due)
   too_large e shown displayed steps fault.FolderFault h = absurd h
 
   -- what is due tells why, where all owners are known
-  pub comes_behind : (files : List DueFile) (books : Accounts) → IsRequestDue files books b.old.now b.new.now due → (why : BehindFault) → ComesOfDue told t moment b due accept why → ComesOf told t moment b files books accept why
-  comes_behind files books is (fault.UnknownOwner unknown) h = absurd h
-  comes_behind files books is (fault.LicenseNeeded asked) h = record { due = due; is_due = is; comes = h }
-  comes_behind files books is (fault.Unmovable path) h = record { due = due; is_due = is; comes = h }
-  comes_behind files books is (fault.TooLarge excess) h = record { due = due; is_due = is; comes = h }
-  comes_behind files books is fault.FolderFault h = h
+  pub comes_behind : (files : List DueFile) (books : Accounts) → IsRequestDue files books b.old.now b.new.now due → IsDue due → LeavesAlone due → (why : BehindFault) → ComesOfDue told t moment b due accept why → ComesOf told t moment b files books accept why
+  comes_behind files books is together apart (fault.UnknownOwner unknown) h = absurd h
+  comes_behind files books is together apart (fault.LicenseNeeded asked) h = record { due = due; is_due = is; together = together; apart = apart; comes = h }
+  comes_behind files books is together apart (fault.Unmovable path) h = record { due = due; is_due = is; together = together; apart = apart; comes = h }
+  comes_behind files books is together apart (fault.TooLarge excess) h = record { due = due; is_due = is; together = together; apart = apart; comes = h }
+  comes_behind files books is together apart fault.FolderFault h = h

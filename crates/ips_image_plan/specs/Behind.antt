@@ -3,25 +3,26 @@ use Rattle.std.specs.Prelude.{◌≡◌, ℕ, Bool, IsTrue, List, map, Some, Non
 use Rattle.ips_outside.specs.Image.{Image}
 use Rattle.ips_books.specs.Accounts.{Accounts}
 use Rattle.ips_steps.specs.View.{step_of}
-use Rattle.ips_due.specs.Due.{Due, DueFile}
+use Rattle.ips_due.specs.Due.{Due, DueFile, IsDue}
 use Rattle.ips_delivered.specs.Delivering.{HasUnknownOwner}
 use Rattle.ips_emit.specs.declared.emitting.Emitted.{Emitted}
 use Rattle.ips_image_steps.specs.Answers.{CanBeListed}
 use Rattle.ips_plan_limits.specs.Limits.{first_excess}
 use Rattle.ips_plan_limits.specs.declared.limits.Excess.{Excess}
-use Rattle.ips_request_due.specs.RequestDue.{IsRequestDue}
+use Rattle.ips_request_due.specs.RequestDue.{IsRequestDue, LeavesAlone}
 use Rattle.ips_image_plan.specs.Licenses.{AreDisplayed, AreNeeded}
-use Rattle.ips_image_plan.specs.Steps.{AreStepsBetween, IsHinderedBetween}
+use Rattle.ips_image_plan.specs.Steps.{AreStepsBetween, HasOver, IsHinderedBetween}
 use Rattle.ips_image_plan.specs.declared.behind.BehindFault.{BehindFault}
 use Rattle.ips_image_plan.specs.declared.behind.BehindFault.TheVariants as fault
 use Rattle.ips_image_plan.specs.declared.behind.Planned.{Planned}
 use Rattle.ips_image_plan.specs.declared.between.Between.{Between}
 
 -- These are steps of the request between these states where this is due, whether or not they are too many: a journal can list them, and where the folder tells
--- what it holds, they are those over that image.
+-- what it holds, they are those over that image, for which account files and records say something.
 pub record AreSteps (told : Bool) (t : Image) (moment : List ℕ) (b : Between) (due : Due) (emitted : Emitted) : Type 0 where
   pub lists : CanBeListed emitted
   pub steps : IsTrue told → AreStepsBetween moment b due t emitted
+  pub over : IsTrue told → HasOver due t
 
 -- The steps are those where this is due, with no more of them, and of the bytes that they write, than there may be; the licenses are those that are to be shown, and
 -- all that must be accepted are.
@@ -35,6 +36,7 @@ pub record IsUnmovableOf (told : Bool) (t : Image) (moment : List ℕ) (b : Betw
   pub shown : List (List ℕ)
   pub displayed : AreDisplayed b.old.now b.new.now accept shown
   pub hindered : IsTrue told → IsHinderedBetween moment b due t path
+  pub over : IsTrue told → HasOver due t
 
 -- The steps of the request are too many, or write too many bytes; all licenses that must be accepted are.
 pub record IsTooLargeOf (told : Bool) (t : Image) (moment : List ℕ) (b : Between) (due : Due) (accept : Bool) (excess : Excess) : Type 0 where
@@ -60,16 +62,21 @@ ComesOfDue told t moment b due accept (fault.Unmovable path) = IsUnmovableOf tol
 ComesOfDue told t moment b due accept (fault.TooLarge excess) = IsTooLargeOf told t moment b due accept excess
 ComesOfDue told t moment b due accept fault.FolderFault = Unit {0}
 
--- The steps and the licenses are those of the request between these states with these account files, where owners have the numbers of these accounts.
+-- The steps and the licenses are those of the request between these states with these account files, where owners have the numbers of these accounts; what is due
+-- hangs together, and leaves alone what is salvaged.
 pub record IsPlanned (told : Bool) (t : Image) (moment : List ℕ) (b : Between) (files : List DueFile) (books : Accounts) (accept : Bool) (p : Planned) : Type 0 where
   pub due : Due
   pub is_due : IsRequestDue files books b.old.now b.new.now due
+  pub together : IsDue due
+  pub apart : LeavesAlone due
   pub planned : IsPlannedOf told t moment b due accept p
 
--- All owners are known, and there are no steps for this.
+-- All owners are known, what is due hangs together and leaves alone what is salvaged, and there are no steps for this.
 pub record ComesBehind (told : Bool) (t : Image) (moment : List ℕ) (b : Between) (files : List DueFile) (books : Accounts) (accept : Bool) (why : BehindFault) : Type 0 where
   pub due : Due
   pub is_due : IsRequestDue files books b.old.now b.new.now due
+  pub together : IsDue due
+  pub apart : LeavesAlone due
   pub comes : ComesOfDue told t moment b due accept why
 
 -- Why there are no steps: an owner is unknown, or else what is due tells it.

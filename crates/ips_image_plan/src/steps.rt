@@ -1,6 +1,6 @@
 //! The steps of a request between two states.
 
-ghost use Rattle.std.specs.Prelude.{◌≡◌, ℕ, List, Ok, Err, IfOk, IsTrue, map};
+ghost use Rattle.std.specs.Prelude.{◌≡◌, ℕ, List, Ok, Err, IfOk, IsTrue, OnOk, map};
 ghost use Rattle.std.specs.List.{AllByRecursion};
 ghost use Rattle.std.specs.List.Sorted.{IsStrictlySortedBy};
 ghost use Rattle.std.specs.Ordering.{nat_cmp};
@@ -17,7 +17,7 @@ ghost use Rattle.ips_outstanding.specs.Verdicts.{named_paths};
 ghost use Rattle.ips_image_steps.specs.Answers.{CanBeListed, IfUnmovable};
 ghost use Rattle.ips_image_steps.specs.declared.fault.StepsFault.TheVariants as fault;
 ghost use Rattle.ips_image_plan.specs.Between.{AreMeant};
-ghost use Rattle.ips_image_plan.specs.Steps.{AreStepsBetween, IsHinderedBetween};
+ghost use Rattle.ips_image_plan.specs.Steps.{AreStepsBetween, HasOver, IsHinderedBetween};
 
 use crate::between::Between;
 use ips_due_laying::{DueLaying, due_is_laid};
@@ -54,6 +54,8 @@ pub fn steps_between<'a, F: Folder>(
     ensures lists { IfOk result CanBeListed }
     ensures planned { IsTrue (F.outside.tells folder.old) → IfOk result (AreStepsBetween moment.now between.entry due.now (F.outside.state folder.old).held) }
     ensures hindered { IsTrue (F.outside.tells folder.old) → IfUnmovable result (IsHinderedBetween moment.now between.entry due.now (F.outside.state folder.old).held) }
+    ensures over { IsTrue (F.outside.tells folder.old) → OnOk result (HasOver due.now (F.outside.state folder.old).held) }
+    ensures over_hindered { IsTrue (F.outside.tells folder.old) → IfUnmovable result (λ _. HasOver due.now (F.outside.state folder.old).held) }
     ensures reads { Reads F.outside folder.old folder.new (result ≡ Err (Bad fault.FolderFault)) }
 {
     let records = due.records();
@@ -90,10 +92,13 @@ fn steps_over<'a, F: Folder, R: Records>(
     requires proper { HasProperDue (due_of R.records due.now) }
     requires order { IsStrictlySortedBy (slice_cmp nat_cmp) (named_paths outstanding.now.named.items) }
     requires found { IsTrue (F.outside.tells folder.old) → (bytes : List ℕ → List ℕ) → AreOutstanding bytes (due_of R.records due.now) (F.outside.state folder.old).held outstanding.now.named.items }
+    requires over { IsTrue (F.outside.tells folder.old) → HasOver (due_of R.records due.now) (F.outside.state folder.old).held }
     requires looked { IsTrue (F.outside.tells folder.old) → AllByRecursion (HasLooked (F.outside.state folder.old).held) rows.now }
     ensures lists { IfOk result CanBeListed }
     ensures planned { IsTrue (F.outside.tells folder.old) → IfOk result (AreStepsBetween moment.now between.entry (due_of R.records due.now) (F.outside.state folder.old).held) }
     ensures hindered { IsTrue (F.outside.tells folder.old) → IfUnmovable result (IsHinderedBetween moment.now between.entry (due_of R.records due.now) (F.outside.state folder.old).held) }
+    ensures over { IsTrue (F.outside.tells folder.old) → OnOk result (HasOver (due_of R.records due.now) (F.outside.state folder.old).held) }
+    ensures over_hindered { IsTrue (F.outside.tells folder.old) → IfUnmovable result (λ _. HasOver (due_of R.records due.now) (F.outside.state folder.old).held) }
     ensures reads { Reads F.outside folder.old folder.new (result ≡ Err (Bad fault.FolderFault)) }
 {
     let Ok(spoken) = outstanding.spoken(alloc) else {

@@ -1,5 +1,5 @@
 -- What was found is the salvage of the request.
-use Rattle.std.proofs.Common.{◌≡◌, ◌⊎◌, inl, inr, ℕ, true, false, List, [], ◌∷◌, ◌++◌, map, Option, Some, None, is_some, refl, ◌∙◌, ap, subst}
+use Rattle.std.proofs.Common.{◌≡◌, ◌⊎◌, inl, inr, ℕ, true, false, List, [], ◌∷◌, ◌++◌, map, Option, Some, None, is_some, refl, sym, ◌∙◌, ap, subst}
 use Rattle.std.specs.List.{AllByRecursion}
 use Rattle.std.proofs.lemmas.Bool.{or_cases, or_parts, or_left, or_right}
 use Rattle.ips_text.specs.Ancestry.{is_below, same_path}
@@ -12,9 +12,13 @@ use Rattle.ips_steps.specs.Private.{records_name}
 use Rattle.ips_steps.specs.View.{step_of}
 use Rattle.ips_after.specs.Lists.{listed}
 use Rattle.ips_after.specs.Request.{IsRequest, Request}
-use Rattle.ips_after.specs.Salvage.{Aside, HasSalvagedBytes, IsAside, IsOwn, IsRoot, has_long_side, is_unmovable, salvaged, saving_contents, saving_steps, side_at}
+use Rattle.ips_after.specs.Salvage.{Aside, Beside, GoesTo, HasSalvagedBytes, IsAside, IsOwn, IsRoot, Salvage, has_long_side, is_unmovable, salvaged, saving_contents, saving_steps, side_at}
+use Rattle.ips_after.specs.Salvage.{saved as saved_at}
 use Rattle.ips_after.specs.Salvage as salvage
 use Rattle.ips_after.proofs.Names.{root_under, side_facts}
+use Rattle.ips_after.proofs.Saved.{sent_or_way}
+use Rattle.ips_steps.proofs.Lists.{clash}
+use Rattle.ips_due.specs.Apart.{LeavesSalvage}
 use Rattle.ips_change.specs.Told.{naming}
 use Rattle.ips_survey.specs.declared.table.Table.{Table}
 use Rattle.ips_survey.specs.Marks.{row_paths}
@@ -37,7 +41,8 @@ use Rattle.ips_aside.proofs.Missing.{all_ways, only_ways}
 use Rattle.ips_due.proofs.Lying.{own_of}
 use Rattle.ips_emit.specs.declared.emitting.Emitted.{Emitted}
 use Rattle.ips_emit.specs.Emitted.{staged_bytes}
-use Rattle.ips_image_steps.specs.Asked.{HasOwnFolder, IsAsked}
+use Rattle.ips_image_steps.specs.Asked.{HasOwnFolder, IsAsked, SavesNothing}
+use Rattle.ips_image_steps.specs.Sources.{HasSources}
 use Rattle.ips_image_steps.specs.Answers.{HasSteps, IsHindered}
 use Rattle.ips_image_steps.specs.Findings.{AddsAll, AreFiles, AreFound, AreSaved, IsSettled}
 use Rattle.ips_image_steps.proofs.Staged.{staged_stand}
@@ -47,7 +52,7 @@ abbrev pub aside_found : Table → Settled → List ℕ → List LostName → Wa
 aside_found table settled root names ways = record { root = root; emptied = marked_in (row_paths table.rows.items) settled.emptied.items; ways = is_way ways; lost = lost_in names }
 
 -- what a symbolic link says that is salvaged is bytes, where it can be moved
-link_bytes : (t : Image) (root : List ℕ) (xs : List Thing) (q g : List ℕ) → AreThings t xs → AllByRecursion (CanMove root) xs → listed (thing_paths xs) q ≡ true → t.look q ≡ Some (Link g) → AreBytes g
+pub link_bytes : (t : Image) (root : List ℕ) (xs : List Thing) (q g : List ℕ) → AreThings t xs → AllByRecursion (CanMove root) xs → listed (thing_paths xs) q ≡ true → t.look q ≡ Some (Link g) → AreBytes g
 link_bytes t root [] q g found can there at = cc
 link_bytes t root (x ∷ xs) q g found can there at = go (or_cases (same_path x.path.bytes q) (listed (thing_paths xs) q) there) (λ h. link_bytes t root xs q g found.1 can.1 h at)
   where
@@ -106,8 +111,32 @@ module _ (laid : List ℕ → Option Laid) (moment : List ℕ) (r : Request) (t 
       names = λ p side at gone. names_defined (naming r) t a (thing_paths things) sides names are bare under p side at gone;
     }
 
+    -- where nothing is saved there is nothing that account files and records should leave alone
+    unsaved : SavesNothing (naming r) t → (q : List ℕ) → is_some (saved_at (naming r) t a q) ≡ true → ⊥
+    unsaved none q s = go (sent_or_way (naming r) t a q s)
+      where
+        sent : (q : List ℕ) → GoesTo (naming r) t a q → ⊥
+        sent q (Salvage p h) = clash (salvaged (naming r) t p) h (none.unsalvaged p)
+        sent q (Beside p side at) = clash (is_some (side_at (naming r) t p)) (ap is_some at) (ap is_some (none.unsided p))
+
+        go : GoesTo (naming r) t a q ⊎ (a.ways q ≡ true) → ⊥
+        go (inl g) = sent q g
+        go (inr w) = let x = (is_aside.ways_only q w).0 in sent x.at x.goes
+
+    own_where : LeavesSalvage r.over ⊎ SavesNothing (naming r) t → IsOwn (naming r) t a
+    own_where (inl leaves) = own_of moment (naming r) t a named formed folder.stands folder.wanted folder.none_old folder.none_new leaves at_root is_aside
+    own_where (inr none) = record {
+      stands = folder.stands;
+      wanted = folder.wanted;
+      none_new = bare;
+      none_old = λ q b. folder.none_old q (or_left _ _ b);
+      inside = under;
+      apart = λ q s. absurd (unsaved none q s);
+      above = λ p q s up down. absurd (unsaved none p s);
+    }
+
     pub own : IsOwn (naming r) t a
-    own = own_of moment (naming r) t a named formed folder.stands folder.wanted folder.none_old folder.none_new folder.leaves at_root is_aside
+    own = own_where folder.leaves
 
     pub hindered : (p : Kept) → IsFirstPath (is_unmovable (naming r) t a) (Some p) → IsHindered moment r t p.bytes
     hindered p h = record { aside = a; is_root = at_root; is_aside = is_aside; first = record { there = h.0; first = h.1 } }
@@ -143,5 +172,6 @@ module _ (laid : List ℕ → Option Laid) (moment : List ℕ) (r : Request) (t 
           contents_are = contents;
         };
         own = own;
-        standing = staged_stand t e.staged.items adds.provenances adds.steps.provenances_are adds.files;
+        standing = staged_stand t (naming r) e.staged.items adds.sources.saved adds.sources.laid (adds.steps.provenances_are ∙ adds.sources.are) adds.sources.copied adds.sources.uncopied;
+        sources = subst (HasSources r t a adds.asides) (sym adds.steps.provenances_are) adds.sources;
       }

@@ -1,5 +1,6 @@
 mod Asked
-mod Gathered
-mod Staged
+pub mod Gathered
+pub mod Staged
 mod Hindered
 mod Moved
+pub mod Unsaved

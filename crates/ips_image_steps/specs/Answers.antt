@@ -12,8 +12,9 @@ use Rattle.ips_after.specs.Salvage.{Aside, IsAside, IsOwn, IsRoot, IsUnmovable}
 use Rattle.ips_change.specs.Told.{naming}
 use Rattle.ips_commit.specs.Contents.{AreSeen, AreStanding}
 use Rattle.ips_emit.specs.declared.emitting.Emitted.{Emitted}
-use Rattle.ips_emit.specs.Emitted.{staged_bytes}
+use Rattle.ips_emit.specs.Emitted.{provenance_of, staged_bytes}
 use Rattle.ips_plan_steps.specs.Plan.{IsPlan}
+use Rattle.ips_image_steps.specs.Sources.{HasSources}
 use Rattle.ips_image_steps.specs.declared.fault.StepsFault.{StepsFault}
 use Rattle.ips_image_steps.specs.declared.fault.StepsFault.TheVariants.{FolderFault, Unmovable}
 
@@ -24,11 +25,12 @@ pub record CanBeListed (e : Emitted) : Type 0 where
   pub seen : AreSeen e.staged.items
 
 -- The steps are those of the request over the image at that moment, with what is saved apart from what account files and records speak of; what is staged has
--- the contents of the plan, and what of it is copied stands as a file.
+-- the contents of the plan and comes from where it should, and what of it is copied stands as a file.
 pub record HasSteps (moment : List ℕ) (r : Request) (t : Image) (e : Emitted) : Type 0 where
   pub plan : IsPlan moment (naming r) t (map step_of e.steps.items) (map (staged_bytes r.bytes t) e.staged.items)
   pub own : IsOwn (naming r) t plan.aside
   pub standing : AreStanding t e.staged.items
+  pub sources : HasSources r t plan.aside plan.asides (map provenance_of e.staged.items)
 
 -- The path is the first at which the request can't be carried out over the image, with what is salvaged at that moment.
 pub record IsHindered (moment : List ℕ) (r : Request) (t : Image) (p : List ℕ) : Type 0 where

@@ -3,7 +3,7 @@ use Rattle.std.specs.Prelude.{◌≡◌, ◌++◌, ℕ, IsFalse, IsTrue, List, O
 use Rattle.std.specs.List.{AllByRecursion}
 use Rattle.ips_text.specs.Ancestry.{is_below}
 use Rattle.ips_text.specs.Kept.{Kept}
-use Rattle.ips_outside.specs.Image.{Image, is_file}
+use Rattle.ips_outside.specs.Image.{Image}
 use Rattle.ips_steps.specs.Private.{records_name}
 use Rattle.ips_after.specs.Lists.{listed}
 use Rattle.ips_after.specs.Planned.{IsProperRequest, plan_order}
@@ -29,8 +29,9 @@ use Rattle.ips_aside.specs.Lost.{AreNamesOf}
 use Rattle.ips_aside.specs.Ways.{is_way}
 use Rattle.ips_movable.specs.First.{IsFirstPath}
 use Rattle.ips_emit.specs.declared.emitting.Emitted.{Emitted}
-use Rattle.ips_emit.specs.Emitted.{FromFile, FromPayload, IsEmitted, OwnBytes, Provenance}
+use Rattle.ips_emit.specs.Emitted.{IsEmitted, Provenance}
 use Rattle.ips_draft.specs.Drafting.{turns_of, turns_saving}
+use Rattle.ips_image_steps.specs.Sources.{HasSources}
 
 -- The rows know what stands, and what becomes of each is what a request of the table makes of it.
 pub record IsSettled (t : Image) (rows : List Row) (said : List (Option Said)) (settled : Settled) : Type 0 where
@@ -61,16 +62,10 @@ pub record AreFound (r : Request) (t : Image) (a : Aside) (table : Table) (settl
   pub bare : (q : List ℕ) → IsTrue (is_below records_name q) → r.new.at q ≡ None
   pub under : IsTrue (is_below records_name a.root)
 
--- a content that is copied is that of a file which stands
-abbrev pub IsFileThere : Image → Provenance → Type 0
-IsFileThere t (FromPayload payload) = Unit {0}
-IsFileThere t (OwnBytes b) = Unit {0}
-IsFileThere t (FromFile p) = IsTrue (is_file (t.look p))
-
--- The steps are those of what is saved, and behind them those of the plan, and what is copied stands.
+-- The steps are those of what is saved, and behind them those of the plan, and their contents come from where they should.
 pub record AddsAll (r : Request) (t : Image) (a : Aside) (table : Table) (settled : Settled) (new : Emitted) : Type 0 where
   pub asides : List (List ℕ)
   pub are_asides : IsAsides (naming r) t a asides
   pub provenances : List Provenance
   pub steps : IsEmitted r.bytes t (turns_saving r t a asides ++ turns_of r t (marked_in (row_paths table.rows.items) settled.emptied.items) (plan_order (naming r) t)) provenances new
-  pub files : AllByRecursion (IsFileThere t) provenances
+  pub sources : HasSources r t a asides provenances

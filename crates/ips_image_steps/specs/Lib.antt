@@ -1,3 +1,4 @@
 pub mod Asked
+pub mod Sources
 pub mod Answers
 pub mod Findings

@@ -1,11 +1,13 @@
 //! The steps of a request over an image: from a table of its paths to the plan, or to the first path at which it can't be carried out.
 //!
 //! In reading order: why there are no steps (`fault`), the whole (`steps`), what is found on the way, one finding behind the other (`settled`, `saved`,
-//! `named`), the steps by what was found (`found`), and whether they can be listed (`listed`).
+//! `named`), the steps by what was found (`found`), whether they can be listed (`listed`),
+//! and when nothing is saved (`laws`).
 #![tactic(auto)]
 
 mod fault;
 mod found;
+mod laws;
 mod listed;
 mod named;
 mod saved;
@@ -13,4 +15,6 @@ mod settled;
 mod steps;
 
 pub use fault::StepsFault;
+pub use laws::unchanged_wants_save_nothing;
+pub use listed::can_be_listed;
 pub use steps::image_steps;

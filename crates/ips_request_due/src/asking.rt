@@ -12,12 +12,14 @@ ghost use Rattle.ips_due.specs.State.{renewed_by};
 ghost use Rattle.ips_outstanding.specs.Parts.{due_file, due_record};
 ghost use Rattle.ips_delivered.specs.Delivering.{HasUnknownOwner};
 ghost use Rattle.ips_withdrawn.specs.Withdrawn.{IsDeliveredBy};
-ghost use Rattle.ips_request_due.specs.RequestDue.{AreAccountFiles, IsRequestDue};
+ghost use Rattle.ips_request_due.specs.RequestDue.{AreAccountFiles, IsRequestDue, LeavesAlone};
 
 use crate::kept::KeptDue;
 use ips_books::Books;
 use ips_delivered::{UnknownOwner, delivered, names_are_one};
-use ips_due::{due_is_told_by_paths, requests_hang_together, requests_have_proper_due};
+use ips_due::{
+    due_is_told_by_paths, requests_hang_together, requests_have_proper_due, requests_leave_salvage,
+};
 use ips_entries::places;
 use ips_load::path_of;
 use ips_outstanding::{AccountFile, DueRecord};
@@ -28,7 +30,7 @@ use ips_withdrawn::withdrawn;
 use std::alloc::{AllocError, Global};
 
 /// What is due behind a request from the old state to the new one, with these account files, and with the texts that account files will have: the records
-/// of the new state and of what its packages deliver; what was recorded and isn't any more goes. It hangs together, and has proper parts.
+/// of the new state and of what its packages deliver; what was recorded and isn't any more goes. It hangs together, has proper parts, and leaves what is salvaged alone.
 ///
 /// Bad names the least path of an admitted directory or file of the new packages whose owner or group is unknown, the owner first.
 pub fn request_due<'a>(
@@ -44,11 +46,13 @@ pub fn request_due<'a>(
     ensures due { IfOk result (IsRequestDue (map due_file accounts.now) (books_seen books.now) old.now new.now) }
     ensures together { IfOk result IsDue }
     ensures proper { IfOk result HasProperDue }
+    ensures apart { IfOk result LeavesAlone }
     ensures unknown { IfBad result (λ fault. HasUnknownOwner (books_seen books.now) new.now.settings new.now.installed.items fault.path.bytes fault.name) }
 {
     due_is_told_by_paths();
     requests_hang_together();
     requests_have_proper_due();
+    requests_leave_salvage();
     names_are_one();
     let others = delivered(alloc, &new.installed, &new.settings, books)?;
     Ok(with_records(alloc, accounts, old, new, others)?)

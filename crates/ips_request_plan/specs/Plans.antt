@@ -73,7 +73,7 @@ pub record IsBetween (old new : State) (b : Between) : Type 0 where
   pub new_is : b.new.now ≡ new
 
 -- The plan is that of the request from the old state to the new one.
-pub record IsPlan (g : Given) (moment : List ℕ) (old new : State) (accept : Bool) (p : Plan) : Type 0 where
+pub record IsRequestPlan (g : Given) (moment : List ℕ) (old new : State) (accept : Bool) (p : Plan) : Type 0 where
   pub between : Between
   pub is_between : IsBetween old new between
   pub is_plan : IsPlanBetween g moment between accept p

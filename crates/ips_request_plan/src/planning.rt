@@ -17,7 +17,7 @@ ghost use Rattle.ips_image_plan.specs.Acting.{AreRuns};
 ghost use Rattle.ips_image_plan.specs.Between.{AreMeant, given};
 ghost use Rattle.ips_image_plan.specs.Meaning.{StateMeans};
 ghost use Rattle.ips_request_plan.specs.Causes.{IsUngiven};
-ghost use Rattle.ips_request_plan.specs.Plans.{AreCounts, AreFiles, ComesBetween, ComesOfPlan, HasNoSteps, IsPlan, IsPlanBetween, IsPlanWith, given_of};
+ghost use Rattle.ips_request_plan.specs.Plans.{AreCounts, AreFiles, ComesBetween, ComesOfPlan, HasNoSteps, IsRequestPlan, IsPlanBetween, IsPlanWith, given_of};
 ghost use Rattle.ips_request_plan.specs.declared.fault.PlanFault.TheVariants as fault;
 
 use crate::fault::{PlanFault, ungiven, unlaid, unmeant};
@@ -66,7 +66,7 @@ pub fn plan_request<S: Source, F: Folder>(
     requires moment { NamesMoment moment.now }
     requires old { IsLawful (recorded old.now) }
     requires new { IsLawful (recorded new.now) }
-    ensures planned { IfOk result (IsPlan (given_of F.outside S.outside folder.old source.old new.now) moment.now old.now new.now accept) }
+    ensures planned { IfOk result (IsRequestPlan (given_of F.outside S.outside folder.old source.old new.now) moment.now old.now new.now accept) }
     ensures refused { IfBad result (λ why. (why ≡ fault.FolderFault) ⊎ ComesOfPlan (given_of F.outside S.outside folder.old source.old new.now) moment.now old.now new.now accept why) }
     ensures reads { Reads F.outside folder.old folder.new (result ≡ Err (Bad fault.FolderFault)) }
     ensures reads_source { Reads S.outside source.old source.new (result ≡ Err (Bad fault.SourceFault)) }
@@ -93,7 +93,7 @@ fn plan_from<S: Source, F: Folder>(
     requires meant { StateMeans old.now was.now }
     requires old { IsLawful (recorded old.now) }
     requires new { IsLawful (recorded new.now) }
-    ensures planned { IfOk result (IsPlan (given_of F.outside S.outside folder.old source.old new.now) moment.now old.now new.now accept) }
+    ensures planned { IfOk result (IsRequestPlan (given_of F.outside S.outside folder.old source.old new.now) moment.now old.now new.now accept) }
     ensures refused { IfBad result (λ why. (why ≡ fault.FolderFault) ⊎ ComesOfPlan (given_of F.outside S.outside folder.old source.old new.now) moment.now old.now new.now accept why) }
     ensures reads { Reads F.outside folder.old folder.new (result ≡ Err (Bad fault.FolderFault)) }
     ensures reads_source { Reads S.outside source.old source.new (result ≡ Err (Bad fault.SourceFault)) }

@@ -20,6 +20,8 @@ returns-in-Ok-clause-planned g c =
     (λ p h. record {
       due = due;
       is_due = subst (λ (l : List AccountFile). IsRequestDue (map due_file l) (books_seen files.books) b.old.now b.new.now due) c.deref.ensures.value c.in-Ok.ensures.due;
+      together = c.in-Ok.ensures.together;
+      apart = c.in-Ok.ensures.apart;
       planned = h;
     }) c.plan_of.ensures.planned
 
@@ -31,5 +33,5 @@ returns-in-Ok-clause-refused g c =
     let files = c.args.files.now in
     let due = c.in-Ok.due in
     bad_weaker c.plan_of.result (ComesOfDue told t c.args.moment.now b due c.args.accept) (ComesOf told t c.args.moment.now b (map due_file files.due.items) (books_seen files.books) c.args.accept)
-    (comes_behind told t c.args.moment.now b due c.args.accept (map due_file files.due.items) (books_seen files.books) (subst (λ (l : List AccountFile). IsRequestDue (map due_file l) (books_seen files.books) b.old.now b.new.now due) c.deref.ensures.value c.in-Ok.ensures.due))
+    (comes_behind told t c.args.moment.now b due c.args.accept (map due_file files.due.items) (books_seen files.books) (subst (λ (l : List AccountFile). IsRequestDue (map due_file l) (books_seen files.books) b.old.now b.new.now due) c.deref.ensures.value c.in-Ok.ensures.due) c.in-Ok.ensures.together c.in-Ok.ensures.apart)
     c.plan_of.ensures.refused

@@ -17,7 +17,7 @@ returns-in-Ok-steps_between-clause-planned g c =
     let e = c.in-Ok-steps_between.emitted in
     IfOk-weaker c.within.result (λ p. (p.emitted ≡ e) × (p.licenses.items ≡ c.in-Ok.licenses.items) × (first_excess (map step_of e.steps.items) e.staged.items ≡ None)) (IsPlannedOf told t c.args.moment.now b c.args.due.now c.args.accept)
     (λ p h. record {
-      steps = subst (AreSteps told t c.args.moment.now b c.args.due.now) (sym h.0) (record { lists = c.in-Ok-steps_between.ensures.lists; steps = c.in-Ok-steps_between.ensures.planned });
+      steps = subst (AreSteps told t c.args.moment.now b c.args.due.now) (sym h.0) (record { lists = c.in-Ok-steps_between.ensures.lists; steps = c.in-Ok-steps_between.ensures.planned; over = c.in-Ok-steps_between.ensures.over });
       within = subst (λ (x : Emitted). first_excess (map step_of x.steps.items) x.staged.items ≡ None) (sym h.0) h.2;
       displayed = subst (AreDisplayed b.old.now b.new.now c.args.accept) (sym h.1) c.in-Ok.ensures.displayed;
     }) c.within.ensures.within
@@ -29,5 +29,5 @@ returns-in-Ok-steps_between-clause-refused g c =
     let b = c.args.between in
     let e = c.in-Ok-steps_between.emitted in
     bad_weaker c.within.result (IsBeyond e) (ComesOfDue told t c.args.moment.now b c.args.due.now c.args.accept)
-    (too_large told t c.args.moment.now b c.args.due.now c.args.accept e c.in-Ok.licenses.items c.in-Ok.ensures.displayed (record { lists = c.in-Ok-steps_between.ensures.lists; steps = c.in-Ok-steps_between.ensures.planned }))
+    (too_large told t c.args.moment.now b c.args.due.now c.args.accept e c.in-Ok.licenses.items c.in-Ok.ensures.displayed (record { lists = c.in-Ok-steps_between.ensures.lists; steps = c.in-Ok-steps_between.ensures.planned; over = c.in-Ok-steps_between.ensures.over }))
     c.within.ensures.beyond

@@ -13,8 +13,8 @@ use Rattle.ips_outstanding.specs.Parts.{due_of}
 use Rattle.ips_due_laying.specs.Laying.{Place, laid_at}
 use Rattle.ips_image_steps.specs.Asked.{HasOwnFolder, IsAsked}
 use Rattle.ips_image_steps.specs.Answers.{HasSteps, IsHindered}
-use Rattle.ips_image_plan.specs.Steps.{AreStepsBetween, IsHinderedBetween, said_between}
-use Rattle.ips_image_plan.proofs.Asked.{asked, has_request, own_folder, unmovable_weaker}
+use Rattle.ips_image_plan.specs.Steps.{AreStepsBetween, HasOver, IsHinderedBetween, said_between}
+use Rattle.ips_image_plan.proofs.Asked.{asked, has_request, ok_holds, own_folder, unmovable_weaker}
 use Rattle.ips_image_plan.proofs.steps.steps_over.Goals as goal
 
 pub image_steps-requires-clause-request : goal.image_steps-requires-clause-request
@@ -65,3 +65,6 @@ returns-clause-hindered g c = λ told.
     (subst (λ (places : List Place). LaysFor bytes (laid_at places) over) (sym c.new-laying.ensures) (c.due_is_laid.ensures.laid bytes due t over named (c.requires.found told bytes) said.is_over)))
     (own_folder b m due t bytes over said))
     (c.image_steps.ensures.hindered told)
+
+pub returns-clause-over : goal.returns-clause-over
+returns-clause-over g c = λ told. ok_holds c.image_steps.result (HasOver (due_of g.R.Records.records c.args.due.now) (g.F.Source.outside.state c.args.folder.now).held) (c.requires.over told)

@@ -1,12 +1,11 @@
-use Rattle.std.proofs.Common.{◌++◌, []}
+use Rattle.std.proofs.Common.{◌++◌, [], length, refl, sym, ◌∙◌, ap}
 use Rattle.std.proofs.lemmas.Result.{on_ok_weaker}
-use Rattle.ips_text.proofs.Lists.{all_append}
-use Rattle.ips_change.specs.Told.{naming}
+use Rattle.std.proofs.lemmas.List.{length-map}
 use Rattle.ips_survey.specs.Marks.{row_paths}
 use Rattle.ips_draft.specs.Drafting.{provenances_in, turns_saving}
-use Rattle.ips_image_steps.specs.Findings.{IsFileThere}
+use Rattle.ips_emit.specs.Emitted.{provenance_of, staged_bytes}
 use Rattle.ips_image_steps.proofs.Asked.{settled_targets}
-use Rattle.ips_image_steps.proofs.Staged.{none_copied, saved_there}
+use Rattle.ips_image_steps.proofs.Staged.{none_copied}
 use Rattle.ips_image_steps.proofs.found.add_all.Goals as goal
 
 pub draw-requires-clause-targets : goal.draw-requires-clause-targets
@@ -25,5 +24,12 @@ returns g c = on_ok_weaker c.draw.result (λ drawn r t a asked found root.
       are_asides = saved.are;
       provenances = saved.more ++ rest;
       steps = plan.steps;
-      files = all_append (IsFileThere t) saved.more rest (saved_there (naming r) t saved.more saved.sources) (none_copied t laid (row_paths table.rows.items) table.said.items settled.changes.items settled.emptied.items plan.places);
+      sources = record {
+        saved = saved.more;
+        laid = rest;
+        are = refl;
+        counted = ap length (sym saved.steps.provenances_are) ∙ length-map c.add_saved.new.emitted.staged.items provenance_of ∙ sym (length-map c.add_saved.new.emitted.staged.items (staged_bytes r.bytes t)) ∙ ap length saved.steps.staged;
+        copied = saved.sources;
+        uncopied = none_copied laid (row_paths table.rows.items) table.said.items settled.changes.items settled.emptied.items plan.places;
+      };
     }) c.draw.ensures

@@ -40,3 +40,16 @@ returns-clause-proper c =
     let means = made.means was is made.old.1 named d.3 in
     c.due_is_told_by_paths.ensures.proper (request_due files old new was is) c.in_ok-with_records.field-0 (turned c.in_ok-with_records.field-0 (request_due files old new was is) means)
     (c.requests_have_proper_due.ensures files old new was is c.requires.accounts.paths c.requires.accounts.modes c.requires.old c.requires.new made.old.2 d.2)
+
+pub returns-clause-apart : goal.returns-clause-apart
+returns-clause-apart c = λ bytes holds t o of.
+    let files = map due_file c.args.accounts.now in
+    let old = recorded c.args.old.now in
+    let new = recorded c.args.new.now in
+    let made = c.in_ok-with_records.ensures in
+    let was = made.old.0 in
+    let d = c.in_ok-others.ensures.records in
+    let is = d.0 in
+    let named = c.names_are_one.ensures.delivered (accounts c.args.books.now) new.settings c.args.new.now.installed.items is (subst (λ (l : List Package). PackagesDeliver (accounts c.args.books.now) new.settings l is) c.deref.ensures.value d.1) in
+    let means = made.means was is made.old.1 named d.3 in
+    c.requests_leave_salvage.ensures bytes holds files old new was is t o c.requires.accounts.paths (by_bytes was made.old.2) (by_bytes is d.2) (c.due_is_told_by_paths.ensures.over c.in_ok-with_records.field-0 (request_due files old new was is) means bytes holds t o of)

@@ -1,7 +1,7 @@
 use Rattle.std.proofs.Common.{◌≡◌, ◌⊎◌, inr, refl}
 use Rattle.std.proofs.lemmas.Result.{IfOk-weaker}
 use Rattle.ips_load.proofs.Answered.{bad_weaker}
-use Rattle.ips_request_plan.specs.Plans.{ComesBetween, ComesOfPlan, IsPlan, IsPlanBetween, NewFail, given_of}
+use Rattle.ips_request_plan.specs.Plans.{ComesBetween, ComesOfPlan, IsRequestPlan, IsPlanBetween, NewFail, given_of}
 use Rattle.ips_request_plan.specs.declared.fault.PlanFault.TheVariants as fault
 use Rattle.ips_request_plan.proofs.Carried.{none_planned}
 use Rattle.ips_request_plan.proofs.planning.plan_from.Goals as goal
@@ -9,7 +9,7 @@ use Rattle.ips_request_plan.proofs.planning.plan_from.Goals as goal
 pub returns-in-Ok-clause-planned : goal.returns-in-Ok-clause-planned
 returns-in-Ok-clause-planned g c =
     let around = given_of g.F.Source.outside g.S.Source.outside c.args.folder.now c.args.source.now c.args.new.now in
-    IfOk-weaker c.plan_between.result (IsPlanBetween around c.args.moment.now _ c.args.accept) (IsPlan around c.args.moment.now c.args.old.now c.args.new.now c.args.accept)
+    IfOk-weaker c.plan_between.result (IsPlanBetween around c.args.moment.now _ c.args.accept) (IsRequestPlan around c.args.moment.now c.args.old.now c.args.new.now c.args.accept)
     (λ p h. record { between = _; is_between = record { old_is = refl; new_is = refl }; is_plan = h }) c.plan_between.ensures.planned
 
 pub returns-in-Ok-clause-refused : goal.returns-in-Ok-clause-refused

@@ -1,0 +1,4 @@
+mod Nothing
+mod First
+mod Bare
+mod Making

@@ -1,0 +1,6 @@
+mod History
+mod Unsided
+mod Unlost
+mod Steps
+mod Told
+mod Seen

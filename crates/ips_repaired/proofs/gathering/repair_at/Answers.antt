@@ -1,0 +1,15 @@
+use Rattle.std.proofs.Common.{List, sym, ◌∙◌, subst}
+use Rattle.std.proofs.lemmas.List.{length-map}
+use Rattle.std.specs.List.{AllByRecursion}
+use Rattle.ips_change.specs.declared.change.Change.{Change}
+use Rattle.ips_emit.specs.Emitted.{HasTarget}
+use Rattle.ips_wanted.specs.Wanted.{want_of}
+use Rattle.ips_wanted.proofs.Found.{proper_at}
+use Rattle.ips_repaired.proofs.gathering.repair_at.Goals as goal
+
+pub repair_by-requires-clause-targets : goal.repair_by-requires-clause-targets
+repair_by-requires-clause-targets g c =
+    let want = c.args.want.now in
+    let means = c.requires.meant in
+    subst (λ (l : List Change). AllByRecursion HasTarget l) (sym c.deref.ensures.value)
+    (c.mended_changes_have_targets.ensures (want_of want) c.in-Ok.changes.items (λ q w at. (proper_at want q w means.proper means.bytes at).1) (c.in-Ok.ensures.long ∙ sym (length-map want (λ e. e.0))) c.in-Ok.ensures.fits)

@@ -1,0 +1,4 @@
+pub mod Meant
+pub mod Repairing
+pub mod Gathered
+pub mod Drawing

@@ -1,0 +1,3 @@
+mod Legacy
+mod Fitting
+mod Meant

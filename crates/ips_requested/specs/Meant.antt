@@ -1,0 +1,56 @@
+-- What is promised of the plan of a request: the image after it.
+use Rattle.std.specs.Prelude.{ℕ, Bool, true, List, Ok}
+use Rattle.ips_outside.specs.Image.{Image}
+use Rattle.ips_steps.specs.Private.{visible}
+use Rattle.ips_state.specs.declared.state.State.{State}
+use Rattle.ips_moment.specs.Moment.{IsMomentText}
+use Rattle.ips_meaning.specs.declared.entry.Entry.{Entry}
+use Rattle.ips_books.specs.Accounts.{Accounts}
+use Rattle.ips_books.specs.Lines.{account_lines}
+use Rattle.ips_books.specs.Reading.{Texts}
+use Rattle.ips_after.specs.Request.{Over}
+use Rattle.ips_after.specs.Salvage.{IsImageAfter}
+use Rattle.ips_wanted.specs.Named.{is_payload_of}
+use Rattle.ips_due.specs.Asked.{request_between}
+use Rattle.ips_due.specs.Due.{Due, IsOverOf}
+use Rattle.ips_staged_plans.specs.Payloads.{payload_bytes}
+use Rattle.ips_account_files.specs.Behind.{Files}
+use Rattle.ips_request_due.specs.RequestDue.{IsRequestDue}
+use Rattle.ips_image_plan.specs.Accounts.{Given, IsLedger}
+use Rattle.ips_image_plan.specs.Meaning.{StateMeans}
+use Rattle.ips_request_plan.specs.Plans.{ComesOfPlan, IsRequestPlan}
+use Rattle.ips_request_plan.specs.declared.fault.PlanFault.{PlanFault}
+use Rattle.ips_request_plan.specs.declared.planning.Plan.{Plan}
+
+-- The plan is that of the request from the old state to the new one at this moment.
+abbrev pub IsPlanAt : Given → ℕ → State → State → Bool → Plan → Type 0
+IsPlanAt g moment old new accept p = (text : List ℕ) × IsMomentText moment text × IsRequestPlan g text old new accept p
+
+-- Why there is none at this moment.
+abbrev pub ComesAt : Given → ℕ → State → State → Bool → PlanFault → Type 0
+ComesAt g moment old new accept why = (text : List ℕ) × IsMomentText moment text × ComesOfPlan g text old new accept why
+
+-- An image and the repository of the publisher of a state's packages, where both tell what they hold.
+abbrev pub given_telling : State → Image → Image → Given
+given_telling new repository t = record { told = true; image = t; tells = true; publisher = new.publisher; repository = repository }
+
+-- The lines of the account files.
+abbrev pub accounts_in : Texts → Accounts
+accounts_in books = record { passwd = account_lines books.passwd; shadow = account_lines books.shadow; group = account_lines books.group }
+
+-- What is then seen is the image after the request from the old state to the new one, over this image at this moment: by what the packages of both mean, with
+-- the bytes that payloads have in the repository, the account files behind the request, and what is due.
+pub record IsMeant (moment : ℕ) (old new : State) (repository t after : Image) : Type 0 where
+  pub text : List ℕ
+  pub is_text : IsMomentText moment text
+  pub was : List (List ℕ × Entry)
+  pub old_means : StateMeans old was
+  pub is : List (List ℕ × Entry)
+  pub new_means : StateMeans new is
+  pub files : Files
+  pub are_files : IsLedger (given_telling new repository t) old new was is (payload_bytes new.publisher repository) (Ok files)
+  pub due : Due
+  pub is_due : IsRequestDue files.due (accounts_in files.books) old new due
+  pub over : Over
+  pub is_over : IsOverOf (payload_bytes new.publisher repository) is_payload_of due t over
+  pub image : IsImageAfter text (request_between was is (payload_bytes new.publisher repository) is_payload_of over) (visible t) after
