@@ -59,8 +59,8 @@ module _ {F T : Type 0} (o : Outside F) (means : Image → Image → Type 0) (be
   pub created_unmade : (x : Ending T) → AreUnmade o old new x → IsCreated o means x before before old new
   created_unmade (ending.FolderFault false) (is, says) = ⊎_elim (λ kept. Uncreated early_fault kept) (λ making. Failed refl making) says
   created_unmade (ending.FolderFault true) (is, says) = cc
-  created_unmade (ending.NotDirectory path) says = Uncreated (record { refused = refl; undone = refl; unrecovered = refl; finished = refl; readable = refl; unspawned = refl }) says.0
-  created_unmade ending.OutOfMemory says = Uncreated (record { refused = refl; undone = refl; unrecovered = refl; finished = refl; readable = refl; unspawned = refl }) says
+  created_unmade (ending.NotDirectory path) says = Uncreated (record { refused = refl; undone = refl; unrecovered = refl; finished = refl; readable = refl; unspawned = refl; payload = tt }) says.0
+  created_unmade ending.OutOfMemory says = Uncreated (record { refused = refl; undone = refl; unrecovered = refl; finished = refl; readable = refl; unspawned = refl; payload = tt }) says
   created_unmade (ending.Done told) says = absurd says
   created_unmade (ending.Shown told) says = absurd says
   created_unmade (ending.Refused told) says = absurd says

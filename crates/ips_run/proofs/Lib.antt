@@ -3,6 +3,7 @@ mod Directories
 mod Created
 mod Carried
 mod Told
+mod Said
 mod Recoveries
 mod Nexts
 mod Performed

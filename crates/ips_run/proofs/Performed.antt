@@ -22,13 +22,13 @@ use Rattle.ips_run.proofs.Nexts.{refused_of, stopped_of, shown_of, changed_of, s
 -- ---- endings before the gate was looked at, and of a refusal there
 
 pub early_fault : {T : Type 0} → IsEarly {T = T} (ending.FolderFault false)
-early_fault = record { refused = refl; undone = refl; unrecovered = refl; finished = refl; readable = refl; unspawned = refl }
+early_fault = record { refused = refl; undone = refl; unrecovered = refl; finished = refl; readable = refl; unspawned = refl; payload = tt }
 
 pub early_out_of_memory : {T : Type 0} → IsEarly {T = T} ending.OutOfMemory
-early_out_of_memory = record { refused = refl; undone = refl; unrecovered = refl; finished = refl; readable = refl; unspawned = refl }
+early_out_of_memory = record { refused = refl; undone = refl; unrecovered = refl; finished = refl; readable = refl; unspawned = refl; payload = tt }
 
 pub early_unfinished : {T : Type 0} → IsEarly {T = T} ending.Unfinished
-early_unfinished = record { refused = refl; undone = refl; unrecovered = refl; finished = refl; readable = refl; unspawned = refl }
+early_unfinished = record { refused = refl; undone = refl; unrecovered = refl; finished = refl; readable = refl; unspawned = refl; payload = tt }
 
 -- these endings, of what an operation decides
 abbrev pub fault_of : {T : Type 0} → (Image → Decision T → Type 0) → Ending T

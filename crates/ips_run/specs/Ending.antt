@@ -1,6 +1,10 @@
 -- What the ending of a run claims of the image, and whose fault it is.
 use Rattle.std.specs.Prelude.{◌≡◌, Bool, true, false, not, IsTrue, IsFalse, Option, Some, None, Result, Ok, Err}
+use Rattle.ips_commit.specs.Contents.{IsPayloadFault}
 use Rattle.ips_history.specs.Run.{Claim}
+use Rattle.ips_run.specs.declared.operation.Change.{Change}
+use Rattle.ips_run.specs.declared.operation.Decision.{Decision}
+use Rattle.ips_run.specs.declared.operation.Decision.TheVariants as decision
 use Rattle.ips_run.specs.declared.ending.Ending.{Ending}
 use Rattle.ips_run.specs.declared.ending.Ending.TheVariants as ending
 
@@ -65,6 +69,11 @@ abbrev pub is_source_fault : {T : Type 0} → Ending T → Bool
 is_source_fault ending.SourceFault = true
 is_source_fault other = false
 
+-- a payload is said to have a fault only that a payload can have
+abbrev pub HasPayloadFault : {T : Type 0} → Ending T → Type 0
+HasPayloadFault (ending.BadPayload name fault) = IsPayloadFault name fault
+HasPayloadFault other = Unit {0}
+
 -- an actuator couldn't be run
 abbrev pub is_spawn_fault : {T : Type 0} → Ending T → Bool
 is_spawn_fault (ending.SpawnFault after) = true
@@ -75,6 +84,27 @@ abbrev pub EndsAs : {T X : Type 0} → (Ending T → Bool) → Result X (Ending 
 EndsAs kind (Ok x) = ⊥
 EndsAs kind (Err e) = IsTrue (kind e)
 
+-- the operation tells something: what is done, what is shown, or why it refuses
+abbrev pub is_told : {T : Type 0} → Ending T → Bool
+is_told (ending.Done told) = true
+is_told (ending.Shown told) = true
+is_told (ending.Refused told) = true
+is_told other = false
+
+-- of a change that is carried out this is told, where it is done, and else nothing
+abbrev pub TellsAtMost : {T : Type 0} → T → Ending T → Type 0
+TellsAtMost told (ending.Done is) = is ≡ told
+TellsAtMost told (ending.Shown is) = ⊥
+TellsAtMost told (ending.Refused is) = ⊥
+TellsAtMost told other = Unit {0}
+
+-- what is told is that of a decision of which this is said
+abbrev pub TellsAsSaid : {T : Type 0} → (Decision T → Type 0) → Ending T → Type 0
+TellsAsSaid says (ending.Done told) = (c : Change _) × says (decision.Change c) × (told ≡ c.told)
+TellsAsSaid says (ending.Shown told) = says (decision.Shown told)
+TellsAsSaid says (ending.Refused told) = says (decision.Refused told)
+TellsAsSaid says other = Unit {0}
+
 -- An ending of a request that hasn't come to its gate: what is seen is as before, nothing was recovered, no journal was read and
 -- no actuator run.
 pub record IsEarly {T : Type 0} (x : Ending T) : Type 0 where
@@ -84,3 +114,4 @@ pub record IsEarly {T : Type 0} (x : Ending T) : Type 0 where
   pub finished : IsFalse (is_left x)
   pub readable : IsFalse (is_bad_journal x)
   pub unspawned : IsFalse (is_spawn_fault x)
+  pub payload : HasPayloadFault x

@@ -11,7 +11,7 @@ ghost use Rattle.ips_kinds.specs.Tallies.{seen_by, taken};
 ghost use Rattle.ips_actuate.specs.Running.{IsFaultOfRun};
 ghost use Rattle.ips_commit.specs.Pending.{HasNoOtherMark};
 ghost use Rattle.ips_commit.specs.Staging.{IsStaged};
-ghost use Rattle.ips_run.specs.Ending.{is_left, is_folder_fault, is_source_fault, is_spawn_fault};
+ghost use Rattle.ips_run.specs.Ending.{HasPayloadFault, TellsAtMost, is_left, is_folder_fault, is_source_fault, is_spawn_fault};
 ghost use Rattle.ips_run.specs.Comes.{HasRun, IsCarriedTo};
 ghost use Rattle.ips_run.specs.Phases.{IsCarried, IsUnrun, uncommitted_as};
 
@@ -41,6 +41,8 @@ pub(crate) fn carry_out<T: Drop, F: Folder, P: Spawner>(
     ensures folder { HasCause (F.outside.faults folder.old) (F.outside.faults folder.new) (IsTrue (is_folder_fault result)) }
     ensures spawner { HasCause (P.running.faults spawner.old) (P.running.faults spawner.new) (IsTrue (is_spawn_fault result)) }
     ensures changed { IsTrue (is_left result) → Rose (F.outside.changes folder.old) (F.outside.changes folder.new) }
+    ensures payload { HasPayloadFault result }
+    ensures tells { TellsAtMost prepared.told result }
     ensures later { F.outside.changes folder.old ≤ F.outside.changes folder.new }
     ensures read { IsFalse (is_source_fault result) }
     ensures same_kind { F.outside.tells folder.new ≡ F.outside.tells folder.old }

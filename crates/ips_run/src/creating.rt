@@ -15,7 +15,7 @@ ghost use Rattle.ips_history.specs.Directories.{creates, var_name, with_director
 ghost use Rattle.ips_history.specs.Transition.{IsNotYetSafe};
 ghost use Rattle.ips_history.specs.Run.{StaysShut};
 ghost use Rattle.ips_run.specs.declared.creating.DirectoryFault.TheVariants as fault;
-ghost use Rattle.ips_run.specs.Ending.{EndsAs, is_left, is_folder_fault, is_source_fault, is_spawn_fault};
+ghost use Rattle.ips_run.specs.Ending.{EndsAs, HasPayloadFault, TellsAsSaid, is_told, is_left, is_folder_fault, is_source_fault, is_spawn_fault};
 ghost use Rattle.ips_run.specs.Comes.{Comes, HasRun};
 ghost use Rattle.ips_run.specs.Creating.{IsMissing, IsBlockedBy, SaysOfDirectories, HasMade, HasMadeInPart, AreMade, AreUnmade, IsCreated, ended_as};
 ghost use Rattle.ips_run.specs.Phases.{HasFailedInCommit};
@@ -71,6 +71,8 @@ pub(crate) fn create<T: Drop, S: Source, F: Folder, P: Spawner, C: Operation<T>>
     ensures folder { HasCause (F.outside.faults folder.old) (F.outside.faults folder.new) (IsTrue (is_folder_fault result)) }
     ensures source { Reads S.outside source.old source.new (IsTrue (is_source_fault result)) }
     ensures spawner { HasCause (P.running.faults spawner.old) (P.running.faults spawner.new) (IsTrue (is_spawn_fault result)) }
+    ensures payload { HasPayloadFault result }
+    ensures says { TellsAsSaid (C.says operation.now) result }
     ensures same_kind { F.outside.tells folder.new ≡ F.outside.tells folder.old }
 {
     match make_directories(alloc, folder) {
@@ -89,6 +91,8 @@ fn make_directories<T: Drop, F: Folder>(alloc: Global, folder: &mut F) -> Result
     ensures cause { HasCause (F.outside.faults folder.old) (F.outside.faults folder.new) (EndsAs is_folder_fault result) }
     ensures read { IfErr result (λ x. IsFalse (is_source_fault x)) }
     ensures unspawned { IfErr result (λ x. IsFalse (is_spawn_fault x)) }
+    ensures payload { IfErr result HasPayloadFault }
+    ensures silent { IfErr result (λ x. IsFalse (is_told x)) }
     ensures later { F.outside.changes folder.old ≤ F.outside.changes folder.new }
     ensures same_kind { F.outside.tells folder.new ≡ F.outside.tells folder.old }
 {

@@ -7,7 +7,7 @@ ghost use Rattle.ips_steps.specs.Private.{records_name, gate_name};
 ghost use Rattle.ips_history.specs.Directories.{shows, creates};
 ghost use Rattle.ips_run.specs.declared.operation.Decision.TheVariants as decision;
 ghost use Rattle.ips_run.specs.Planned.{CanBeListed, IsPlanned};
-ghost use Rattle.ips_run.specs.Ending.{EndsAs, IsEarly, is_folder_fault, is_source_fault};
+ghost use Rattle.ips_run.specs.Ending.{EndsAs, TellsAsSaid, IsEarly, is_folder_fault, is_source_fault};
 ghost use Rattle.ips_run.specs.Comes.{IsUnready};
 
 use crate::ending::Ending;
@@ -29,6 +29,8 @@ pub(crate) fn decided<T: Drop, S: Source, F: Folder, C: Operation<T>>(
     ensures decided { IsTrue (F.outside.tells folder.old)
         → IfOk result (λ c. C.decides operation.now (S.outside.tells source.old) (S.outside.state source.old).held (F.outside.state folder.old).held (decision.Change c)) }
     ensures changes { IfOk result (λ _. IsFalse (shows (C.effect operation.now))) }
+    ensures says { IfOk result (λ c. C.says operation.now (decision.Change c)) }
+    ensures told { IfErr result (TellsAsSaid (C.says operation.now)) }
     ensures listed { IfOk result CanBeListed }
     ensures planned { IsTrue (F.outside.tells folder.old)
         → IfOk result (IsPlanned (C.means operation.now) (S.outside.tells source.old) (S.outside.state source.old).held (F.outside.state folder.old).held) }
@@ -61,6 +63,7 @@ pub(crate) fn shown<T: Drop, S: Source, F: Folder, C: Operation<T>>(
     requires shows { IsTrue (shows (C.effect operation.now)) }
     requires shut { IsTrue (F.outside.tells folder.old) → (F.outside.state folder.old).held.look gate_name ≡ None }
     ensures early { IsEarly result }
+    ensures told { TellsAsSaid (C.says operation.now) result }
     ensures unready { IsTrue (F.outside.tells folder.old) → IsUnready (C.effect operation.now)
         (C.decides operation.now (S.outside.tells source.old) (S.outside.state source.old).held (F.outside.state folder.old).held)
         (S.outside.tells source.old) (S.outside.state source.old).held result }

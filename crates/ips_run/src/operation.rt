@@ -70,6 +70,9 @@ pub trait Operation<T> {
     /// What it means: with such a repository that image is followed by this.
     ghost means: { Self → Bool → Image → Image → Image → Type 0 };
 
+    /// What its decisions are like, whatever folder and repository tell.
+    ghost says: { Self → Decision T → Type 0 };
+
     fn effect(&self) -> Effect
         ensures { result ≡ effect self.now };
 
@@ -86,6 +89,7 @@ pub trait Operation<T> {
         ensures decided { IsTrue (F.outside.tells folder.old)
             → IfOk result (decides self.now (S.outside.tells source.old) (S.outside.state source.old).held (F.outside.state folder.old).held) }
         ensures of_effect { IfOk result (IsOfEffect (effect self.now)) }
+        ensures says { IfOk result (says self.now) }
         ensures lists { IfOk result (IfChange CanBeListed) }
         ensures planned { IsTrue (F.outside.tells folder.old)
             → IfOk result (IfChange (IsPlanned (means self.now) (S.outside.tells source.old) (S.outside.state source.old).held (F.outside.state folder.old).held)) }

@@ -7,7 +7,7 @@ ghost use Rattle.ips_steps.specs.declared.step.Sort.{Sort};
 ghost use Rattle.ips_kinds.specs.Tallies.{seen_by, taken};
 ghost use Rattle.ips_history.specs.Directories.{shows, image_for};
 ghost use Rattle.ips_history.specs.Run.{IsRun};
-ghost use Rattle.ips_run.specs.Ending.{claim_of, is_left, is_refused, is_folder_fault, is_source_fault, is_spawn_fault};
+ghost use Rattle.ips_run.specs.Ending.{HasPayloadFault, TellsAsSaid, claim_of, is_left, is_refused, is_folder_fault, is_source_fault, is_spawn_fault};
 ghost use Rattle.ips_run.specs.Comes.{Comes, HasRun};
 ghost use Rattle.ips_run.specs.Phases.{HasFailedInCommit, HasFailedInRecovery, IsKeptOrSettled};
 
@@ -53,6 +53,12 @@ pub fn perform<T: Drop, S: Source, F: Folder, P: Spawner, C: Operation<T>>(
     ensures folder { HasCause (F.outside.faults folder.old) (F.outside.faults folder.new) (IsTrue (is_folder_fault result)) }
     ensures source { Reads S.outside source.old source.new (IsTrue (is_source_fault result)) }
     ensures spawner { HasCause (P.running.faults spawner.old) (P.running.faults spawner.new) (IsTrue (is_spawn_fault result)) }
+
+    // What is told is that of a decision, whether or not anything is told of the image.
+    ensures says { TellsAsSaid (C.says operation.now) result }
+
+    // A payload is said to have a fault only that a payload can have, whether or not anything is told.
+    ensures payload { HasPayloadFault result }
 
     // Where something is shown, no fault is the repository's or a spawner's, whether or not the folder tells its image.
     ensures shows_unasked { IsTrue (shows (C.effect operation.now)) → IsFalse (is_source_fault result) }

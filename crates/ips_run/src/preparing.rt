@@ -12,8 +12,10 @@ ghost use Rattle.ips_journal.specs.Text.{journal_text};
 ghost use Rattle.ips_commit.specs.Contents.{AreIntactContents};
 ghost use Rattle.ips_commit.specs.Staging.{CanStage, HasStaged};
 ghost use Rattle.ips_history.specs.Directories.{shows, creates};
+ghost use Rattle.ips_run.specs.declared.operation.Change.{Change};
+ghost use Rattle.ips_run.specs.declared.operation.Decision.TheVariants as decision;
 ghost use Rattle.ips_run.specs.Planned.{CanBeListed};
-ghost use Rattle.ips_run.specs.Ending.{EndsAs, IsEarly, is_folder_fault, is_source_fault};
+ghost use Rattle.ips_run.specs.Ending.{EndsAs, TellsAsSaid, is_told, IsEarly, is_folder_fault, is_source_fault};
 ghost use Rattle.ips_run.specs.Comes.{IsUnready};
 ghost use Rattle.ips_run.specs.Phases.{IsReadied, IsUnstaged};
 
@@ -52,6 +54,8 @@ pub(crate) fn prepare<T: Drop, S: Source, F: Folder, C: Operation<T>>(
         (C.decides operation.now (S.outside.tells source.old) (S.outside.state source.old).held (F.outside.state folder.old).held)
         (S.outside.tells source.old) (S.outside.state source.old).held (F.outside.state folder.old) (F.outside.state folder.new)) }
     ensures changes { IfOk result (λ _. IsFalse (shows (C.effect operation.now))) }
+    ensures says { IfOk result (λ p. (c : Change T) × C.says operation.now (decision.Change c) × (p.told ≡ c.told)) }
+    ensures told { IfErr result (TellsAsSaid (C.says operation.now)) }
     ensures early { IfErr result IsEarly }
     ensures unready { IsTrue (F.outside.tells folder.old) → IfErr result (IsUnready (C.effect operation.now)
         (C.decides operation.now (S.outside.tells source.old) (S.outside.state source.old).held (F.outside.state folder.old).held)
@@ -101,6 +105,7 @@ fn ready_for<T: Drop, S: Source, F: Folder>(
         (HasStaged (S.outside.tells source.old) (S.outside.state source.old).held change.now.publisher (map step_of change.now.steps.items) change.now.staged.items (F.outside.state folder.old).held (F.outside.state folder.new)) }
     ensures intact { IsTrue (S.outside.tells source.old) → OnOk result (AreIntactContents (S.outside.state source.old).held change.now.publisher change.now.staged.items) }
     ensures early { IfErr result IsEarly }
+    ensures silent { IfErr result (λ x. IsFalse (is_told x)) }
     ensures unstaged { IfErr result (IsUnstaged (S.outside.tells source.old) (S.outside.state source.old).held change.now) }
     ensures later { F.outside.changes folder.old ≤ F.outside.changes folder.new }
     ensures source { Reads S.outside source.old source.new (EndsAs is_source_fault result) }

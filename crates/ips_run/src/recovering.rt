@@ -6,7 +6,7 @@ ghost use Rattle.ips_outside.specs.Outside.{HasCause, Rose};
 ghost use Rattle.ips_steps.specs.Private.{gate_name};
 ghost use Rattle.ips_steps.specs.declared.step.Sort.{Sort};
 ghost use Rattle.ips_kinds.specs.Tallies.{seen_by, taken};
-ghost use Rattle.ips_run.specs.Ending.{is_refused, is_left, is_folder_fault, is_source_fault, is_spawn_fault};
+ghost use Rattle.ips_run.specs.Ending.{HasPayloadFault, is_told, is_refused, is_left, is_folder_fault, is_source_fault, is_spawn_fault};
 ghost use Rattle.ips_run.specs.Comes.{IsBackTo};
 ghost use Rattle.ips_run.specs.Phases.{IsBack};
 
@@ -37,6 +37,8 @@ pub(crate) fn recovered<T: Drop, F: Folder>(
         → IsTrue (is_refused result) → F.outside.changes folder.new ≡ F.outside.changes folder.old }
     ensures kept { IsTrue (F.outside.tells folder.old) → (F.outside.state folder.old).held.look gate_name ≢ None
         → IsTrue (is_refused result) → F.outside.state folder.new ≡ F.outside.state folder.old }
+    ensures payload { HasPayloadFault result }
+    ensures silent { IsFalse (is_told result) }
     ensures later { F.outside.changes folder.old ≤ F.outside.changes folder.new }
     ensures read { IsFalse (is_source_fault result) }
     ensures unspawned { IsFalse (is_spawn_fault result) }

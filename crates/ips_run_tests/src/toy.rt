@@ -49,6 +49,8 @@ impl Operation<u8> for Toy {
 
     ghost means = { λ s tells repository t u. Unit {0} };
 
+    ghost says = { λ s d. Unit {0} };
+
     fn effect(&self) -> Effect {
         self.effect
     }

@@ -28,7 +28,8 @@ use Rattle.ips_report.specs.declared.outcome.Outcome.TheVariants as outcome
 use Rattle.ips_run.specs.declared.operation.Decision.{Decision}
 use Rattle.ips_run.specs.declared.operation.Decision.TheVariants.{Shown}
 use Rattle.ips_showing.specs.Asked.{Asked, Listing, History, Contents, Verify, Search, IsOfRecords}
-use Rattle.ips_showing.specs.Answers.{Answer, text_told, unread_told, unnamed_told, unmeant_told}
+use Rattle.ips_refusals.specs.Told.{Answer, unread_told, unmeant_told}
+use Rattle.ips_showing.specs.Answers.{text_told, unnamed_told}
 use Rattle.ips_showing.specs.Shows as shows
 use Rattle.ips_showing.specs.Shows.{AreUnmeant, IsNamed, IsNotNamed, IsUnread, Loaded, Shows}
 

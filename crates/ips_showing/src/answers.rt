@@ -1,10 +1,8 @@
-//! Texts and faults as they are answered.
+//! Texts and names as they are answered.
 
 ghost use Rattle.std.specs.Prelude.{◌≡◌};
-ghost use Rattle.ips_showing.specs.Answers.{text_told, unmeant_told, unnamed_told, unread_told};
+ghost use Rattle.ips_showing.specs.Answers.{text_told, unnamed_told};
 
-use ips_load::StateFault;
-use ips_meaning::WantFault;
 use ips_report::Outcome;
 use ips_run::{DecideFault, Decision};
 use ips_shown::NamingFault;
@@ -23,23 +21,6 @@ pub(crate) fn text_shown(
     }
 }
 
-// The records can't be read.
-pub(crate) fn unread(fault: Or<StateFault>) -> Result<Decision<Outcome>, Or<DecideFault>>
-    ensures { result ≡ unread_told fault }
-{
-    match fault {
-        Or::Bad(StateFault::NoImage) => Ok(Decision::Refused(Outcome::NoImage)),
-        Or::Bad(StateFault::BadImage { file, line }) => {
-            Ok(Decision::Refused(Outcome::BadImage { file, line }))
-        }
-        Or::Bad(StateFault::TooLarge { which, count }) => {
-            Ok(Decision::Refused(Outcome::TooLarge { which, count }))
-        }
-        Or::Bad(StateFault::FolderFault) => Err(Or::Bad(DecideFault::FolderFault)),
-        Or::OutOfMemory => Err(Or::OutOfMemory),
-    }
-}
-
 // The pattern names no package.
 pub(crate) fn unnamed(fault: NamingFault) -> Decision<Outcome>
     ensures { result ≡ unnamed_told fault }
@@ -49,15 +30,5 @@ pub(crate) fn unnamed(fault: NamingFault) -> Decision<Outcome>
         NamingFault::Ambiguous { pattern, stems } => {
             Decision::Refused(Outcome::Ambiguous { pattern, stems })
         }
-    }
-}
-
-// The packages mean no image.
-pub(crate) fn unmeant(fault: WantFault) -> Decision<Outcome>
-    ensures { result ≡ unmeant_told fault }
-{
-    match fault {
-        WantFault::Reserved { path } => Decision::Refused(Outcome::Reserved { path }),
-        WantFault::Clash(clash) => Decision::Refused(Outcome::Clash(clash)),
     }
 }

@@ -9,14 +9,16 @@ ghost use Rattle.ips_meaning.specs.Want.{PackagesMean};
 ghost use Rattle.ips_state.specs.State.{recorded};
 ghost use Rattle.ips_load.specs.Held.{Holds};
 ghost use Rattle.ips_run.specs.Planned.{IsOfEffect};
+ghost use Rattle.ips_told.specs.Told.{IsToldAs};
 ghost use Rattle.ips_run.specs.declared.operation.DecideFault.TheVariants as fault;
 ghost use Rattle.ips_showing.specs.Asked as asked;
 ghost use Rattle.ips_showing.specs.Shows.{AreCompared, Loaded, Shows};
 
-use crate::answers::{text_shown, unmeant};
+use crate::answers::text_shown;
 use ips_folder::Folder;
 use ips_meaning::{Finding, Want, want};
 use ips_outside::Failed;
+use ips_refusals::unmeant;
 use ips_report::Outcome;
 use ips_run::{DecideFault, Decision};
 use ips_state::State;
@@ -33,6 +35,7 @@ pub(crate) fn compared<F: Folder>(
     requires { IsTrue (F.outside.tells folder.old) → Holds (F.outside.state folder.old).held (recorded state.now) }
     ensures decided { IsTrue (F.outside.tells folder.old) → IfOk result (Shows (F.outside.state folder.old).held asked.Verify) }
     ensures of_effect { IfOk result (IsOfEffect effect.Shows) }
+    ensures says { IfOk result IsToldAs }
     ensures unasked { result ≢ Err (Bad fault.SourceFault) }
     ensures reads { Reads F.outside folder.old folder.new (result ≡ Err (Bad fault.FolderFault)) }
 {
@@ -54,6 +57,7 @@ fn against<F: Folder>(
     requires mean { PackagesMean state.now.settings state.now.mediators.items state.now.installed.items want.now }
     ensures decided { IsTrue (F.outside.tells folder.old) → IfOk result (Shows (F.outside.state folder.old).held asked.Verify) }
     ensures of_effect { IfOk result (IsOfEffect effect.Shows) }
+    ensures says { IfOk result IsToldAs }
     ensures unasked { result ≢ Err (Bad fault.SourceFault) }
     ensures reads { Reads F.outside folder.old folder.new (result ≡ Err (Bad fault.FolderFault)) }
 {
@@ -68,6 +72,7 @@ fn against<F: Folder>(
 fn judged(alloc: Global, found: Vec<Finding>) -> Result<Decision<Outcome>, Or<DecideFault>>
     ensures decided { (t : Image) (l : Loaded t) → AreCompared t l.state found.items → IfOk result (Shows t asked.Verify) }
     ensures of_effect { IfOk result (IsOfEffect effect.Shows) }
+    ensures says { IfOk result IsToldAs }
     ensures unasked { result ≢ Err (Bad fault.SourceFault) }
     ensures kept { result ≢ Err (Bad fault.FolderFault) }
 {

@@ -3,7 +3,7 @@
 //! Promised, where the folder tells what it holds: what is decided is shown by that image, each outcome under its cause
 //! (`specs/Shows`). Nothing is written, and the repository is never asked.
 //!
-//! In reading order: what is asked (`showing`), texts and faults as they are answered (`answers`), what the records tell (`stated`),
+//! In reading order: what is asked (`showing`), texts and names as they are answered (`answers`), what the records tell (`stated`),
 //! what differs from the packages (`comparing`), what a search finds (`searching`), all of it (`operation`).
 #![tactic(auto)]
 

@@ -2,6 +2,7 @@
 
 ghost use Rattle.std.specs.Prelude.{◌≡◌};
 ghost use Rattle.ips_history.specs.declared.effect.Effect.TheVariants as effects;
+ghost use Rattle.ips_told.specs.Told.{IsToldAs};
 ghost use Rattle.ips_showing.specs.Asked.{asked};
 ghost use Rattle.ips_showing.specs.Shows.{Shows};
 
@@ -22,6 +23,8 @@ impl<'a> Operation<Outcome> for Showing<'a> {
     ghost decides = { λ s tells repository t d. Shows t (asked s) d };
 
     ghost means = { λ s tells repository t u. u ≡ t };
+
+    ghost says = { λ s d. IsToldAs d };
 
     fn effect(&self) -> Effect {
         Effect::Shows

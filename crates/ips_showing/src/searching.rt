@@ -7,14 +7,16 @@ ghost use Rattle.ips_outside.specs.Outside.{Reads};
 ghost use Rattle.ips_history.specs.declared.effect.Effect.TheVariants as effect;
 ghost use Rattle.ips_index.specs.Rows.{row_seen};
 ghost use Rattle.ips_run.specs.Planned.{IsOfEffect};
+ghost use Rattle.ips_told.specs.Told.{IsToldAs};
 ghost use Rattle.ips_run.specs.declared.operation.DecideFault.TheVariants as fault;
 ghost use Rattle.ips_showing.specs.Asked.{Search};
 ghost use Rattle.ips_showing.specs.Shows.{AreFoundIn, HasIndex, Shows};
 
-use crate::answers::{text_shown, unread};
+use crate::answers::text_shown;
 use ips_folder::Folder;
 use ips_image::load_index;
 use ips_index::{Index, IndexRow};
+use ips_refusals::unread;
 use ips_report::Outcome;
 use ips_run::{DecideFault, Decision};
 use ips_shown::found_text;
@@ -29,6 +31,7 @@ pub(crate) fn searched<F: Folder>(
 ) -> Result<Decision<Outcome>, Or<DecideFault>>
     ensures decided { IsTrue (F.outside.tells folder.old) → IfOk result (Shows (F.outside.state folder.old).held (Search pattern.now)) }
     ensures of_effect { IfOk result (IsOfEffect effect.Shows) }
+    ensures says { IfOk result IsToldAs }
     ensures unasked { result ≢ Err (Bad fault.SourceFault) }
     ensures reads { Reads F.outside folder.old folder.new (result ≡ Err (Bad fault.FolderFault)) }
 {
@@ -47,6 +50,7 @@ fn matched(
 ) -> Result<Decision<Outcome>, Or<DecideFault>>
     ensures decided { (t : Image) → HasIndex t index.now → IfOk result (Shows t (Search pattern.now)) }
     ensures of_effect { IfOk result (IsOfEffect effect.Shows) }
+    ensures says { IfOk result IsToldAs }
     ensures unasked { result ≢ Err (Bad fault.SourceFault) }
     ensures kept { result ≢ Err (Bad fault.FolderFault) }
 {
@@ -64,6 +68,7 @@ fn found(
 ) -> Result<Decision<Outcome>, Or<DecideFault>>
     ensures decided { (t : Image) → AreFoundIn t pattern.now (map row_seen rows.now) → IfOk result (Shows t (Search pattern.now)) }
     ensures of_effect { IfOk result (IsOfEffect effect.Shows) }
+    ensures says { IfOk result IsToldAs }
     ensures unasked { result ≢ Err (Bad fault.SourceFault) }
     ensures kept { result ≢ Err (Bad fault.FolderFault) }
 {

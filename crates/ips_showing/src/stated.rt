@@ -8,11 +8,12 @@ ghost use Rattle.ips_history.specs.declared.effect.Effect.TheVariants as effect;
 ghost use Rattle.ips_state.specs.State.{recorded};
 ghost use Rattle.ips_load.specs.Held.{Holds};
 ghost use Rattle.ips_run.specs.Planned.{IsOfEffect};
+ghost use Rattle.ips_told.specs.Told.{IsToldAs};
 ghost use Rattle.ips_run.specs.declared.operation.DecideFault.TheVariants as fault;
 ghost use Rattle.ips_showing.specs.Asked.{Contents, IsOfRecords, asked};
 ghost use Rattle.ips_showing.specs.Shows.{IsPackageText, Shows};
 
-use crate::answers::{text_shown, unnamed, unread};
+use crate::answers::{text_shown, unnamed};
 use crate::comparing::compared;
 use crate::showing::Showing;
 use ips_filter::Settings;
@@ -20,6 +21,7 @@ use ips_fmri::Pattern;
 use ips_folder::Folder;
 use ips_image::load;
 use ips_manifest::Package;
+use ips_refusals::unread;
 use ips_report::Outcome;
 use ips_run::{DecideFault, Decision};
 use ips_shown::{contents_text, history_text, list_text, named};
@@ -36,6 +38,7 @@ pub(crate) fn loaded<F: Folder>(
     requires { IsOfRecords (asked showing.now) }
     ensures decided { IsTrue (F.outside.tells folder.old) → IfOk result (Shows (F.outside.state folder.old).held (asked showing.now)) }
     ensures of_effect { IfOk result (IsOfEffect effect.Shows) }
+    ensures says { IfOk result IsToldAs }
     ensures unasked { result ≢ Err (Bad fault.SourceFault) }
     ensures reads { Reads F.outside folder.old folder.new (result ≡ Err (Bad fault.FolderFault)) }
 {
@@ -56,6 +59,7 @@ fn stated<F: Folder>(
     requires holds { IsTrue (F.outside.tells folder.old) → Holds (F.outside.state folder.old).held (recorded state.now) }
     ensures decided { IsTrue (F.outside.tells folder.old) → IfOk result (Shows (F.outside.state folder.old).held (asked showing.now)) }
     ensures of_effect { IfOk result (IsOfEffect effect.Shows) }
+    ensures says { IfOk result IsToldAs }
     ensures unasked { result ≢ Err (Bad fault.SourceFault) }
     ensures reads { Reads F.outside folder.old folder.new (result ≡ Err (Bad fault.FolderFault)) }
 {
@@ -77,6 +81,7 @@ fn delivered(
 ) -> Result<Decision<Outcome>, Or<DecideFault>>
     ensures decided { (t : Image) → Holds t (recorded state.now) → IfOk result (Shows t (Contents pattern.now manifest)) }
     ensures of_effect { IfOk result (IsOfEffect effect.Shows) }
+    ensures says { IfOk result IsToldAs }
     ensures unasked { result ≢ Err (Bad fault.SourceFault) }
     ensures kept { result ≢ Err (Bad fault.FolderFault) }
 {

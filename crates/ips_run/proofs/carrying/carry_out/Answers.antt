@@ -1,6 +1,7 @@
 use Rattle.ips_outside.proofs.Faults.{no_cause, cause_as, cause_behind}
 use Rattle.ips_steps.proofs.Lists.{clash}
 use Rattle.ips_run.specs.Ending.{is_left, is_folder_fault}
+use Rattle.ips_run.proofs.Said.{unrun_payload, unrun_tells}
 use Rattle.ips_run.proofs.Carried.{carried_unrun, carried_part, carried_but, carried_all}
 use Rattle.ips_run.proofs.Told.{told_unrun, told_part, told_done, told_but, unrun_folder, unrun_source, unrun_left, unrun_cause}
 use Rattle.ips_run.proofs.carrying.carry_out.Goals as goal
@@ -68,3 +69,15 @@ returns-in-Err-clause-changed g c = λ left. absurd (clash (is_left c.unrun.resu
 
 pub returns-clause-changed : goal.returns-clause-changed
 returns-clause-changed g c = λ left. absurd (clash (is_left c.unrun-in-Err-run_all.result) left (unrun_left _ _ _ _ c.unrun-in-Err-run_all.ensures))
+
+pub returns-in-Err-clause-payload : goal.returns-in-Err-clause-payload
+returns-in-Err-clause-payload g c = unrun_payload _ c.unrun.ensures
+
+pub returns-in-Err-clause-tells : goal.returns-in-Err-clause-tells
+returns-in-Err-clause-tells g c = unrun_tells _ _ c.unrun.ensures
+
+pub returns-clause-payload : goal.returns-clause-payload
+returns-clause-payload g c = unrun_payload _ c.unrun-in-Err-run_all.ensures
+
+pub returns-clause-tells : goal.returns-clause-tells
+returns-clause-tells g c = unrun_tells _ _ c.unrun-in-Err-run_all.ensures

@@ -2,6 +2,7 @@ use Rattle.std.proofs.Common.{None, refl, sym, ◌∙◌}
 use Rattle.ips_steps.proofs.Lists.{clash}
 use Rattle.ips_run.specs.Ending.{is_left}
 use Rattle.ips_run.specs.Comes.{Unready, Carried}
+use Rattle.ips_run.proofs.Said.{said_of_change}
 use Rattle.ips_run.proofs.Carried.{can_open, unmarked, asked_early, asked_ready}
 use Rattle.ips_run.proofs.Told.{none_run, carried_as}
 use Rattle.ips_run.proofs.Performed.{left_fault}
@@ -56,3 +57,6 @@ returns-clause-begun g c = λ told clean left.
       rose = c.carry_out.ensures.folder.rose (left_fault c.carry_out.result left);
       changed = c.carry_out.ensures.changed left;
     }
+
+pub returns-clause-says : goal.returns-clause-says
+returns-clause-says g c = said_of_change (g.C.Operation.says c.args.operation.now) c.in-Ok.prepared.told c.carry_out.result c.in-Ok.ensures.says c.carry_out.ensures.tells

@@ -13,4 +13,4 @@ returns-in-Ok-None-clause-decided g c = λ tells. shows.NoIndex (c.in-Ok-None.en
 pub returns-in-Err-clause-decided : goal.returns-in-Err-clause-decided
 returns-in-Err-clause-decided g c = λ tells.
     let t = (g.F.Source.outside.state c.args.folder.now).held in
-    unread_by (Option (List IndexedValue)) t (Search c.args.pattern.now) (IsSearchFault t) c.in-Err.fault c.unread.result c.unread.ensures (c.in-Err.ensures.fault tells) (λ f h. h)
+    unread_by (Option (List IndexedValue)) t (Search c.args.pattern.now) (IsSearchFault t) c.in-Err.fault c.unread.result c.unread.ensures.told (c.in-Err.ensures.fault tells) (λ f h. h)

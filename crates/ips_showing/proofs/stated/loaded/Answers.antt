@@ -8,4 +8,4 @@ pub returns-in-Err-clause-decided : goal.returns-in-Err-clause-decided
 returns-in-Err-clause-decided g c = λ tells.
     let t = (g.F.Source.outside.state c.args.folder.now).held in
     let a = asked c.args.showing.now in
-    unread_by State t a (IsStateFault t) c.in-Err.fault c.unread.result c.unread.ensures (c.in-Err.ensures.fault tells) (λ f. unread_of t a f c.requires)
+    unread_by State t a (IsStateFault t) c.in-Err.fault c.unread.result c.unread.ensures.told (c.in-Err.ensures.fault tells) (λ f. unread_of t a f c.requires)

@@ -18,6 +18,7 @@ pub returns-in-Ok-true : goal.returns-in-Ok-true
 returns-in-Ok-true g c = record {
   decided = λ told. IfOk-weaker c.answer.result (IfChange IsToyChange) (λ _. Unit {0}) (λ d is. tt) c.answer.ensures.change;
   of_effect = c.answer.ensures.of_effect c.args.self.now.effect (search rules);
+  says = IfOk-weaker c.answer.result (IfChange IsToyChange) (λ _. Unit {0}) (λ d is. tt) c.answer.ensures.change;
   lists = all_listed c.answer.result c.answer.ensures.change;
   planned = λ told. all_planned c.answer.result _ _ _ (c.in-Ok-true.ensures.found told c.in-Ok-true.field-0-test) (c.requires.shut told) c.answer.ensures.change;
   source_unasked = λ shown. c.answer.ensures.source_kept;

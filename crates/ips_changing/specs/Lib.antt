@@ -1,0 +1,4 @@
+pub mod Commands
+pub mod Plans
+pub mod Decides
+pub mod Leads

@@ -1,0 +1,155 @@
+//! The steps of a decision: the state that the records tell, the next one, the plan of the request, and the change.
+
+ghost use Rattle.std.specs.Prelude.{◌≡◌, ◌<◌, None, Err, IsTrue, IfOk};
+ghost use Rattle.ips_text.specs.declared.refusal.Or.TheVariants.{Bad};
+ghost use Rattle.ips_outside.specs.Outside.{Reads};
+ghost use Rattle.ips_steps.specs.Private.{gate_name};
+ghost use Rattle.ips_history.specs.declared.effect.Effect.TheVariants as effects;
+ghost use Rattle.ips_state.specs.State.{recorded};
+ghost use Rattle.ips_state.specs.Lawful.{IsLawful};
+ghost use Rattle.ips_load.specs.Held.{Holds};
+ghost use Rattle.ips_asked.specs.Formed.{IsFormedCommand};
+ghost use Rattle.ips_run.specs.Planned.{CanBeListed, IfChange, IsOfEffect, IsPlanned};
+ghost use Rattle.ips_run.specs.declared.operation.DecideFault.TheVariants as fault;
+ghost use Rattle.ips_told.specs.Told.{IsToldAs};
+ghost use Rattle.ips_changing.specs.Decides.{Decides, LeadsOn, asked_of};
+ghost use Rattle.ips_changing.specs.Leads.{LeadsWhere};
+ghost use Rattle.ips_changing.specs.Plans as plans;
+
+use crate::changing::accepts;
+use ips_counts::Sorts;
+use ips_emit::Emitted;
+use ips_folder::Folder;
+use ips_image::load;
+use ips_image_plan::Planned;
+use ips_next::next_state;
+use ips_outside::Source;
+use ips_refusals::{plan_faults_are_told, unled, unplanned, unread};
+use ips_report::Outcome;
+use ips_request_plan::Plan;
+use ips_requested::plan;
+use ips_run::{Change, DecideFault, Decision};
+use ips_state::State;
+use ips_text::{Or, Text};
+use ips_words::Command;
+use std::alloc::{AllocError, Global};
+
+// What the command decides.
+pub(crate) fn loaded<S: Source, F: Folder>(
+    alloc: Global,
+    command: &Command,
+    moment: u64,
+    source: &mut S,
+    folder: &mut F,
+) -> Result<Decision<Outcome>, Or<DecideFault>>
+    requires moment { moment < 253370764800 }
+    requires formed { IsFormedCommand command.now }
+    requires shut { IsTrue (F.outside.tells folder.old) → (F.outside.state folder.old).held.look gate_name ≡ None }
+    ensures decided { IsTrue (F.outside.tells folder.old)
+        → IfOk result (Decides (asked_of command.now moment (S.outside.tells source.old) (S.outside.state source.old).held (F.outside.state folder.old).held)) }
+    ensures of_effect { IfOk result (IsOfEffect effects.Changes) }
+    ensures says { IfOk result IsToldAs }
+    ensures lists { IfOk result (IfChange CanBeListed) }
+    ensures planned { IsTrue (F.outside.tells folder.old)
+        → IfOk result (IfChange (IsPlanned (LeadsWhere command.now moment) (S.outside.tells source.old) (S.outside.state source.old).held (F.outside.state folder.old).held)) }
+    ensures reads { Reads F.outside folder.old folder.new (result ≡ Err (Bad fault.FolderFault)) }
+    ensures source { Reads S.outside source.old source.new (result ≡ Err (Bad fault.SourceFault)) }
+{
+    match load(alloc, folder) {
+        Ok(old) => stated(alloc, command, moment, &old, source, folder),
+        Err(fault) => unread(fault),
+    }
+}
+
+// The same, where the records tell this state.
+fn stated<S: Source, F: Folder>(
+    alloc: Global,
+    command: &Command,
+    moment: u64,
+    old: &State,
+    source: &mut S,
+    folder: &mut F,
+) -> Result<Decision<Outcome>, Or<DecideFault>>
+    requires moment { moment < 253370764800 }
+    requires formed { IsFormedCommand command.now }
+    requires shut { IsTrue (F.outside.tells folder.old) → (F.outside.state folder.old).held.look gate_name ≡ None }
+    requires lawful { IsLawful (recorded old.now) }
+    requires holds { IsTrue (F.outside.tells folder.old) → Holds (F.outside.state folder.old).held (recorded old.now) }
+    ensures decided { IsTrue (F.outside.tells folder.old)
+        → IfOk result (Decides (asked_of command.now moment (S.outside.tells source.old) (S.outside.state source.old).held (F.outside.state folder.old).held)) }
+    ensures of_effect { IfOk result (IsOfEffect effects.Changes) }
+    ensures says { IfOk result IsToldAs }
+    ensures lists { IfOk result (IfChange CanBeListed) }
+    ensures planned { IsTrue (F.outside.tells folder.old)
+        → IfOk result (IfChange (IsPlanned (LeadsWhere command.now moment) (S.outside.tells source.old) (S.outside.state source.old).held (F.outside.state folder.old).held)) }
+    ensures reads { Reads F.outside folder.old folder.new (result ≡ Err (Bad fault.FolderFault)) }
+    ensures source { Reads S.outside source.old source.new (result ≡ Err (Bad fault.SourceFault)) }
+{
+    match next_state(alloc, command, moment, old, source) {
+        Ok(new) => led(alloc, command, moment, old, &new, source, folder),
+        Err(fault) => unled(fault),
+    }
+}
+
+// The same, where the command leads to this new state.
+fn led<S: Source, F: Folder>(
+    alloc: Global,
+    command: &Command,
+    moment: u64,
+    old: &State,
+    new: &State,
+    source: &mut S,
+    folder: &mut F,
+) -> Result<Decision<Outcome>, Or<DecideFault>>
+    requires moment { moment < 253370764800 }
+    requires shut { IsTrue (F.outside.tells folder.old) → (F.outside.state folder.old).held.look gate_name ≡ None }
+    requires lawful { IsLawful (recorded old.now) }
+    requires holds { IsTrue (F.outside.tells folder.old) → Holds (F.outside.state folder.old).held (recorded old.now) }
+    requires leads { LeadsOn (asked_of command.now moment (S.outside.tells source.old) (S.outside.state source.old).held (F.outside.state folder.old).held) old.now new.now }
+    ensures decided { IsTrue (F.outside.tells folder.old)
+        → IfOk result (Decides (asked_of command.now moment (S.outside.tells source.old) (S.outside.state source.old).held (F.outside.state folder.old).held)) }
+    ensures of_effect { IfOk result (IsOfEffect effects.Changes) }
+    ensures says { IfOk result IsToldAs }
+    ensures lists { IfOk result (IfChange CanBeListed) }
+    ensures planned { IsTrue (F.outside.tells folder.old)
+        → IfOk result (IfChange (IsPlanned (LeadsWhere command.now moment) (S.outside.tells source.old) (S.outside.state source.old).held (F.outside.state folder.old).held)) }
+    ensures reads { Reads F.outside folder.old folder.new (result ≡ Err (Bad fault.FolderFault)) }
+    ensures source { Reads S.outside source.old source.new (result ≡ Err (Bad fault.SourceFault)) }
+{
+    plan_faults_are_told();
+    let Ok(publisher) = new.publisher.copy(alloc) else {
+        return Err(Or::OutOfMemory);
+    };
+    let accept = accepts(&command.what);
+    match plan(alloc, old, new, moment, accept, source, folder) {
+        Ok(plan) => Ok(Decision::Change(change_of(publisher, plan))),
+        Err(fault) => unplanned(fault),
+    }
+}
+
+// The change that the plan is.
+fn change_of(publisher: Text, plan: Plan) -> Change<Outcome>
+    ensures { result ≡ plans.change_of publisher plan }
+{
+    let Plan {
+        planned,
+        before,
+        after,
+        counts,
+    } = plan;
+    let Planned { emitted, licenses } = planned;
+    let Emitted { steps, staged } = emitted;
+    let sorts = Sorts::of(&steps);
+    Change {
+        publisher,
+        steps,
+        staged,
+        before,
+        after,
+        told: Outcome::Done {
+            counts,
+            steps: sorts,
+            licenses,
+        },
+    }
+}

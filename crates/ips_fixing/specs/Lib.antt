@@ -1,0 +1,3 @@
+pub mod Fixes
+pub mod Told
+pub mod Decides

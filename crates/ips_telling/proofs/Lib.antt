@@ -1,0 +1,3 @@
+mod Tellings
+mod Adding
+mod Items
