@@ -1,3 +1,2 @@
 pub mod TwoSteps
-pub mod Examples
 pub mod Removals

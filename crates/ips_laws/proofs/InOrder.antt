@@ -8,7 +8,7 @@ use Rattle.std.proofs.lemmas.Cmp.{nat_list_cmp_total}
 use Rattle.std.proofs.lemmas.List.Elements.{All-contains, All-from_recursion}
 use Rattle.std.proofs.lemmas.Map.Keys.{sorted_head, sorted_tail}
 use Rattle.ips_meaning.specs.declared.entry.Entry.{Entry}
-use Rattle.ips_plan.proofs.Elements.{here_or_later, first_of, later_of}
+use Rattle.ips_laws.proofs.Elements.{here_or_later, first_of, later_of}
 use Rattle.ips_text.proofs.Orders.{one_way}
 
 abbrev Ascend : List (List ℕ) → Type 0

@@ -1,6 +1,6 @@
+pub mod Elements
 pub mod InOrder
+pub mod Apart
 pub mod Pairs
 pub mod OneEntry
 pub mod OneMeaning
-pub mod OneImage
-pub mod OneDone

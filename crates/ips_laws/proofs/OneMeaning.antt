@@ -14,8 +14,7 @@ use Rattle.ips_meaning.specs.Want.{IsWanted, IsWantOf, IsFreeOfClashes, Packages
 use Rattle.ips_laws.specs.Alike.{AreLike}
 use Rattle.ips_laws.proofs.InOrder.{same_paths}
 use Rattle.ips_laws.proofs.OneEntry.{wanted_like}
-use Rattle.ips_top.proofs.OneMeaning.{all_seen}
-use Rattle.ips_plan.proofs.Apart.{one_left}
+use Rattle.ips_laws.proofs.Apart.{one_left}
 use Rattle.ips_meaning.proofs.Together.{entry_there}
 
 -- ---- what an image takes
@@ -23,6 +22,10 @@ use Rattle.ips_meaning.proofs.Together.{entry_there}
 -- the actions of a package, as it is seen, in their places
 abbrev seen_placed : Installed → List Placed
 seen_placed q = map (λ line. record { stem = q.stem; line = line.number; action = line.action }) q.lines
+
+all_seen : (ps : List Package) → all_placed ps ≡ flat_map seen_placed (map installed ps)
+all_seen [] = refl
+all_seen (p ∷ ps) = ap (λ (l : List Placed). placed_of p ++ l) (all_seen ps)
 
 -- an image takes the same kept actions of packages that show the same
 one_kept : (s : Set) (mediators : List SetMediator) (a b : List Package) → map installed a ≡ map installed b → (x : Taken s mediators a) (y : Taken s mediators b) → x.kept ≡ y.kept

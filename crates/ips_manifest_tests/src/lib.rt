@@ -1,5 +1,5 @@
 //! Tests of what is said of packages: actions and manifests, catalogs, variants and facets, dependencies, mediators, the state of
-//! an image, which line can't be installed yet or is at or below a path, the keep table, account files, actuators, indexes, and the texts of records. `table` reads the cases.
+//! an image, the keep table, account files, actuators, indexes, and the texts of records. `table` reads the cases.
 #![tactic(auto)]
 
 #[cfg(test)]
@@ -22,8 +22,6 @@ mod manifest;
 mod mediate;
 #[cfg(test)]
 mod records;
-#[cfg(test)]
-mod resolve;
 #[cfg(test)]
 mod state;
 #[cfg(test)]

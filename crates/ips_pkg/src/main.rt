@@ -1,20 +1,31 @@
 //! The program `pkg`: it makes the objects of the host and calls the top call, which does everything else.
 #![tactic(auto)]
 
-ghost use Rattle.std.specs.Prelude.{◌≡◌, ◌∷◌, ℕ, List, codes, map, string_bytes};
+ghost use Rattle.std.specs.Prelude.{◌≡◌, ◌<◌, ◌∷◌, ℕ, List, IfOk, codes, map, string_bytes};
 
-use ips_host::{HostFolder, HostSink, HostSource};
+use ips_folder::Folder;
+use ips_host::{HostFolder, HostSink, HostSource, HostSpawner};
+use ips_kinds::{FreshKind, GoneKind, HardKind, Kind, LinkKind, ModeKind, PutKind};
+use ips_outside::{Sink, Source, Spawner};
 use ips_text::Text;
 use ips_top::run;
+use std::alloc::{AllocError, Global};
 use std::process::ExitCode;
+use std::time::{Clock, SystemTime, UNIX_EPOCH};
 use std::{env, io};
 
 /// The number of a run for which no memory is left.
 const OUT_OF_MEMORY: u8 = 99;
 
+/// The last second of the year 9998, counted from the first of January 1970.
+const LAST_SECOND: u64 = 253370764799;
+
 fn main(rt: HostRuntime) -> ExitCode {
     let alloc = rt.alloc();
     let Ok(words) = words_of(&rt) else {
+        return ExitCode::FAILURE;
+    };
+    let Ok(moment) = moment_of(&rt) else {
         return ExitCode::FAILURE;
     };
     let (image, repository) = roots_of(&words);
@@ -23,20 +34,63 @@ fn main(rt: HostRuntime) -> ExitCode {
     };
     let of_source: Result<_, _> = rt.clone();
     let of_folder: Result<_, _> = rt.clone();
-    let (Ok(of_source), Ok(of_folder)) = (of_source, of_folder) else {
+    let of_spawner: Result<_, _> = rt.clone();
+    let (Ok(of_source), Ok(of_folder), Ok(of_spawner)) = (of_source, of_folder, of_spawner) else {
         return ExitCode::FAILURE;
     };
     let mut source = HostSource::new(of_source, repository);
     let mut folder = HostFolder::new(of_folder, image);
+    let mut spawner = HostSpawner::new(of_spawner);
     let mut sink = HostSink::new(rt);
-    let status = run(alloc, &words, &mut source, &mut folder, &mut sink);
-    ExitCode::from(status.number())
+    let number = number_of(
+        alloc,
+        &words,
+        moment,
+        &mut source,
+        &mut folder,
+        &mut spawner,
+        &mut sink,
+    );
+    ExitCode::from(number.unwrap_or(OUT_OF_MEMORY))
 }
 
 // The words of the command line, without the program's name.
 fn words_of(rt: &HostRuntime) -> io::Result<Vec<String>> {
     let words = env::args(rt)?.skip(1).collect(rt.alloc())?;
     Ok(words)
+}
+
+// The seconds since the first of January 1970: none before it, and the last of the year 9998 behind that.
+fn moment_of(clock: &impl Clock) -> io::Result<u64>
+    ensures { IfOk result (λ moment. moment < 253370764800) }
+{
+    match SystemTime::now(clock)?.duration_since(UNIX_EPOCH) {
+        Ok(since) => Ok(since.as_secs().min(LAST_SECOND)),
+        Err(_) => Ok(0),
+    }
+}
+
+// The number of the run, with one kind for each sort of step.
+fn number_of<S: Source, F: Folder, P: Spawner, O: Sink>(
+    alloc: Global,
+    words: &[String],
+    moment: u64,
+    repo: &mut S,
+    image: &mut F,
+    spawner: &mut P,
+    out: &mut O,
+) -> Result<u8, AllocError>
+    requires moment { moment < 253370764800 }
+{
+    let mut kinds: Vec<Box<dyn Kind>> = Vec::new(alloc);
+    kinds.push(Box::new(alloc, GoneKind::new())?)?;
+    kinds.push(Box::new(alloc, FreshKind::new())?)?;
+    kinds.push(Box::new(alloc, ModeKind::new())?)?;
+    kinds.push(Box::new(alloc, PutKind::new())?)?;
+    kinds.push(Box::new(alloc, LinkKind::new())?)?;
+    kinds.push(Box::new(alloc, HardKind::new())?)?;
+    let status = run(alloc, words, moment, repo, image, spawner, &mut kinds, out);
+    Ok(status.number())
 }
 
 // The paths of the image and the repository, where the words begin `-R <image> -s <repository>`, and else empty paths.

@@ -1,15 +1,5 @@
-pub mod Fronts
-pub mod Pieces
-pub mod Showing
-pub mod Wording
-pub mod Asking
-pub mod Trying
-pub mod Chosen
-pub mod Tellings
-pub mod Refusals
-pub mod Meanings
-pub mod Laying
-pub mod OneOrder
-pub mod OneAsking
-pub mod OneChosen
-pub mod OneMeaning
+mod Endings
+mod Wider
+mod Runs
+mod Commands
+pub mod Takers

@@ -1,9 +1,3 @@
-pub mod Words
-pub mod Request
-pub mod Text
-pub mod Unsolved
-pub mod Plan
-pub mod Answer
-pub mod Report
-pub mod Telling
-pub mod Offer
+pub mod Performed
+pub mod Runs
+pub mod Histories

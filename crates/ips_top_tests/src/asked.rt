@@ -2,8 +2,7 @@
 
 use crate::conflict::clash_told;
 use crate::meaning::{entry_told, want_told};
-use crate::plan::plan_told;
-use crate::rows::{column, number, row_of};
+use crate::rows::{column, row_of};
 use std::alloc::Global;
 use std::process::Abort;
 
@@ -16,8 +15,6 @@ pub enum Asked {
     Want,
     // What two packages want at a path: the path.
     Entry,
-    // A plan: what stands in the image, the manifest, and the look that fails.
-    Plan,
 }
 
 fn told(rt: &impl Abort, alloc: Global, asked: Asked, row: &str) -> String {
@@ -28,7 +25,6 @@ fn told(rt: &impl Abort, alloc: Global, asked: Asked, row: &str) -> String {
         Asked::Clash => clash_told(rt, alloc, first),
         Asked::Want => want_told(rt, alloc, first, second, third),
         Asked::Entry => entry_told(rt, alloc, first),
-        Asked::Plan => plan_told(rt, alloc, first, second, number(rt, third)),
     }
 }
 

@@ -1,217 +1,250 @@
 //! The cases, each table behind what it shows.
 
-use crate::runs::{Asked, rows_told};
-use crate::world::World;
+use crate::packages::repository;
+use crate::runs::rows_told;
+use crate::world::{Mishap, NONE, World, held, look_told, restore, run_line};
+use ips_folder::{Choice, Stop};
+use std::alloc::Global;
+use std::process::Abort;
 
-// Each on the image that the one before left, and what then stands there.
-const OUTCOMES: &str = r#"
-# the newest version, and then its file is in the way, while its directories may stand; and an older one
-run | -R i -s r install hello -> 0 "done\n"
-run | -R i -s r install hello -> 1 "not yet hello@2 line 4\n"
-run | -R i -s r install hello@1 -> 0 "done\n"
-# no version is admitted, and a wildcard
-run | -R i -s r install hello@3 -> 1 "no solution\nstem 0 hello\nrefutation 2\n- | 0 | -\n"
-run | -R i -s r install h* -> 1 "not yet hello@2 line 4\n"
-# the version that is incorporated, of which then all stands
-run | -R i -s r install inc -> 0 "done\n"
-run | -R i -s r install inc -> 0 "done\n"
-# two that exclude each other: either dependency refutes it
-run | -R i -s r install a b -> 1 "no solution\nstem 0 a 1\nstem 1 b 1\nrefutation 2\n0.0 | 1 | t1\n- | 0 | n0\n"
-# either is enough, absence of the first comes first, and three beginnings are needed
-run | -R i -s r install --search-limit 2 app -> 1 "search limit 2 spent\n"
-run | -R i -s r install --search-limit 3 app -> 0 "done\n"
-run | -R i -s r install odd -> 1 "bad depend odd@1 line 2\n"
-run | -R i -s r install nope -> 1 "no match nope\n"
-run | -R i -s r install z* -> 1 "no match z*\n"
-run | -R i -s r install x -> 1 "ambiguous x: a/x b/x\n"
-run | -R i -s r install a/x -> 1 "manifest missing a/x@1\n"
-run | -R i -s r install bad -> 1 "bad manifest bad@1 line 2\n"
-run | -R i -s r install escape -> 1 "bad manifest escape@1 line 1\n"
-run | -R i -s r install link -> 0 "done\n"
-run | -R i -s r install lost -> 1 "payload missing 3333333333333333333333333333333333333333\n"
-run | -R i -s r install damaged -> 1 "payload damaged a9993e364706816aba3e25717850c26c9cd0d89d found cb4cc28df0fdbe0ecf9d9662e294b118092a5735\n"
-run | -R i -s r install gzip -> 1 "compressed 2222222222222222222222222222222222222222 found c1df680e393d04a2a3b050a06db652e9ab37f761\n"
-# no pattern, no limit, no number, the options the other way round, another command, and a pattern that is none
-run | -R i -s r install -> 2 "usage: word 0: unknown\n"
-run | -R i -s r install --search-limit 2 -> 2 "usage: word 0: unknown\n"
-run | -R i -s r install --search-limit 0 app -> 2 "usage: word 0: unknown\n"
-run | -s r -R i install hello -> 2 "usage: word 0: unknown\n"
-run | -R i -s r remove hello -> 2 "usage: word 0: unknown\n"
-run | -R i -s r install hello <empty> -> 2 "usage: word 0: unknown\n"
-# what then stands in the image
-look | opt -> dir 755
-look | opt/empty -> file 444 0
-look | usr -> dir 755
-look | usr/share/hello -> file 644 3
-look | usr/share/sparc -> absent
-look | lib2 -> absent
-look | lib3 -> dir 755
-look | lib4 -> absent
-look | app -> dir 755
-look | a -> absent
-look | b -> dir 755
-look | lib -> dir 755
-look | lib/a -> link
-look | var -> dir 755
-look | var/pkg -> dir 755
-look | lost -> absent
-look | damaged -> absent
-look | gzip -> absent"#;
-
-// The mark and the catalog.
-const JUDGED: &str = r#"
-mark | catalog -> "done\n"
-# another format, and the mark is judged before the catalog
-version = 5%0a | catalog -> "no repository\n"
-| -> "no repository\n"
-# no JSON text, another shape, no version, and two equal ones
-mark | -> "bad catalog\n"
-mark | {"test": []} -> "bad catalog\n"
-mark | {"test": {"hello": [{"version": "x"}]}} -> "bad catalog\n"
-mark | {"test": {"hello": [{"version": "1"}, {"version": "1"}]}} -> "bad catalog\n"
-# without the publisher the catalog is empty
-mark | {"other": {"hello": []}} -> "no match hello\n""#;
-
-// A manifest that is one byte beyond the limit.
-const LARGE: &str = r#"
-run | -R i -s r install large -> 1 "too large: 16777217\n""#;
-
-// Each call on the repository fails in turn: what is told, whether the outcome is that fault, and what then stands at `usr`.
-const SOURCE_FAULTS: &str = r#"
-# the mark, the catalog, two manifests and the payload are each looked at and read
-1 -> "source fault\n" fault: true usr: absent
-2 -> "source fault\n" fault: true usr: absent
-3 -> "source fault\n" fault: true usr: absent
-4 -> "source fault\n" fault: true usr: absent
-5 -> "source fault\n" fault: true usr: absent
-6 -> "source fault\n" fault: true usr: absent
-7 -> "source fault\n" fault: true usr: absent
-8 -> "source fault\n" fault: true usr: absent
-9 -> "source fault\n" fault: true usr: absent
-10 -> "source fault\n" fault: true usr: absent
-# the payload is read once more as it is laid: only that comes behind the first change
-11 -> "source fault\n" fault: true usr: dir 755
-# no further call
-12 -> "done\n" fault: false usr: dir 755"#;
-
-// Each call on the image fails in turn.
-const IMAGE_FAULTS: &str = r#"
-# what stands at five paths is looked at: those of the lines, and `var` and `var/pkg`
-1 -> 1 "folder fault: unchanged\n"
-2 -> 1 "folder fault: unchanged\n"
-3 -> 1 "folder fault: unchanged\n"
-4 -> 1 "folder fault: unchanged\n"
-5 -> 1 "folder fault: unchanged\n"
-# then four directories are made, the file is made, filled and given its mode, and all is synced
-6 -> 1 "folder fault: unfinished\n"
-7 -> 1 "folder fault: unfinished\n"
-8 -> 1 "folder fault: unfinished\n"
-9 -> 1 "folder fault: unfinished\n"
-10 -> 1 "folder fault: unfinished\n"
-11 -> 1 "folder fault: unfinished\n"
-12 -> 1 "folder fault: unfinished\n"
-13 -> 1 "folder fault: unfinished\n"
-# no further call
-14 -> 0 "done\n""#;
-
-// Room for so many bytes, the call that fails, and what is then told; what happened stays the outcome.
-const SINK_FAULTS: &str = r#"
-0 | 9 -> 1 "" done: true
-3 | 9 -> 1 "don" done: true
-80 | 1 -> 1 "" done: true
-80 | 2 -> 0 "done\n" done: true"#;
-
-// What can't be one image, and what can't be installed yet: nothing is laid.
-const REFUSALS: &str = r#"
-# two packages deliver one file, each of which can be installed alone
-run | -R i -s r install post mail -> 1 "clash etc/m mail:1 post:1\n"
-run | -R i -s r install under -> 1 "clash lib under:1 under:2\n"
-run | -R i -s r install alone -> 1 "clash bin/b alone:1 alone:1\n"
-# reserved paths come before clashes, and these before what can't be installed yet
-run | -R i -s r install kept under user -> 1 "reserved var/pkg/a%20b\n"
-run | -R i -s r install under user -> 1 "clash lib under:1 under:2\n"
-run | -R i -s r install user way -> 1 "not yet user@1 line 3\n"
-run | -R i -s r install keeping -> 1 "not yet keeping@1 line 1\n"
-look | var -> absent"#;
-
-// The rule of a clash, which isn't printed.
-const RULES: &str = r#"
-rule | -R i -s r install mail post -> Deliverers
-rule | -R i -s r install under -> Below
-rule | -R i -s r install alone -> Target
+// An image that is made, and changed by commands, and what then stands in it.
+const COMMANDS: &str = r#"
+# words that are none, and what needs no image
+run | -R i -s r install -> 2 "usage: word 5: missing\n"
+run | -R i -s r frob -> 2 "usage: word 4: unknown\n"
+run | --version -> 0 "pkg 0.1\n"
+# no image, an image, and not another one
+run | -R i -s r list -> 1 "no image\n"
+run | -R i -s r image-create -p test -> 0 "install 0, update 0, remove 0\nsteps: gone 0, fresh 3, mode 0, put 7, link 0, hard 0\ndone\n"
+run | -R i -s r image-create -p test -> 1 "image exists\n"
+look | var/pkg/image -> file 644 "image 2\npublisher test\n"
+look | var/pkg/lost+found -> dir 755
+look | var/pkg/history -> file 644 "20240102T030405Z image-create -p test\n"
+# a package
+run | -R i -s r install hello -> 0 "install 1, update 0, remove 0\nsteps: gone 0, fresh 2, mode 0, put 4, link 0, hard 0\ndone\n"
+look | usr/share/hello -> file 644 "abc"
+look | var/pkg/owners -> file 644 "0 2 root bin usr\n0 2 root bin usr/share\n0 2 root bin usr/share/hello\n"
+look | var/pkg/history -> file 644 "20240102T030405Z image-create -p test\n20240102T030405Z install hello\n"
+look | var/pkg/stage -> absent
+run | -R i -s r install hello -> 4 "nothing to do\n"
+run | -R i -s r list -> 0 "hello@1.0,5.11-1:20240102T030405Z\n"
+run | -R i -s r contents hello -> 0 "usr\nusr/share\nusr/share/hello\n"
+run | -R i -s r verify -> 0 "ok\n"
+# a damaged file is found and repaired
+remove | usr/share/hello ->
+run | -R i -s r verify -> 1 "missing usr/share/hello\ndamaged 1\n"
+run | -R i -s r fix -> 0 "install 0, update 0, remove 0\nsteps: gone 0, fresh 0, mode 0, put 2, link 0, hard 0\ndone\n"
+run | -R i -s r verify -> 0 "ok\n"
+run | -R i -s r fix -> 4 "nothing to do\n"
+look | usr/share/hello -> file 644 "abc"
+# and the package goes
+run | -R i -s r uninstall hello -> 0 "install 0, update 0, remove 1\nsteps: gone 4, fresh 0, mode 0, put 2, link 0, hard 0\ndone\n"
 look | usr -> absent
-look | bin -> absent
+look | var/pkg/packages -> dir 755
+# one more name of a file goes with it
+run | -R i -s r install x@1 -> 0 "install 1, update 0, remove 0\nsteps: gone 0, fresh 1, mode 0, put 4, link 0, hard 1\ndone\n"
+run | -R i -s r update -> 0 "install 0, update 1, remove 0\nsteps: gone 0, fresh 0, mode 0, put 3, link 0, hard 1\ndone\n"
+look | bin/b -> file 644 ""
+same | bin/a | bin/b -> true
+# what a user put into a directory that goes is salvaged, twice at one moment
+run | -R i -s r install opt/app -> 0 "install 1, update 0, remove 0\nsteps: gone 0, fresh 2, mode 0, put 4, link 0, hard 0\ndone\n"
+put | opt/app/notes | n ->
+run | -R i -s r uninstall opt/app -> 0 "install 0, update 0, remove 1\nsteps: gone 4, fresh 3, mode 0, put 3, link 0, hard 0\ndone\n"
+look | var/pkg/lost+found/20240102T030405Z/opt/app/notes -> file 644 "n"
 look | opt -> absent
-look | var -> absent"#;
+# a freeze, which an update keeps, and an avoided package
+run | -R i -s r uninstall x -> 0 "install 0, update 0, remove 1\nsteps: gone 4, fresh 0, mode 0, put 2, link 0, hard 0\ndone\n"
+run | -R i -s r install x@1 -> 0 "install 1, update 0, remove 0\nsteps: gone 0, fresh 1, mode 0, put 4, link 0, hard 1\ndone\n"
+run | -R i -s r freeze x@1 -> 0 "install 0, update 0, remove 0\nsteps: gone 0, fresh 0, mode 0, put 2, link 0, hard 0\ndone\n"
+run | -R i -s r update -> 4 "nothing to do\n"
+run | -R i -s r avoid y -> 0 "install 0, update 0, remove 0\nsteps: gone 0, fresh 0, mode 0, put 2, link 0, hard 0\ndone\n"
+run | -R i -s r install g -> 0 "install 1, update 0, remove 0\nsteps: gone 0, fresh 0, mode 0, put 2, link 0, hard 0\ndone\n"
+run | -R i -s r list -> 0 "g@1\nx@1\n"
+"#;
 
-// Links, names of one file, and the directories that no line gives.
-const LAID: &str = r#"
-run | -R i -s r install python2 python3 names -> 0 "done\n"
-look | usr -> dir 755
-look | usr/bin -> dir 755
-look | usr/bin/python -> link
-look | bin -> dir 755
-look | bin/a -> file 555 3
-look | bin/m -> file 555 3
-look | bin/z -> file 555 3
-look | opt/c -> file 555 3
-look | var/pkg -> dir 755
-target | usr/bin/python -> python2.7
-same | bin/m | bin/a -> true
-same | bin/m | bin/z -> true
-same | bin/m | opt/c -> true"#;
+// What settings do.
+const SETTINGS: &str = r#"
+run | -R i -s r image-create -p test --facet facet.doc=false -> 0 "install 0, update 0, remove 0\nsteps: gone 0, fresh 3, mode 0, put 7, link 0, hard 0\ndone\n"
+run | -R i -s r install doc -> 0 "install 1, update 0, remove 0\nsteps: gone 0, fresh 0, mode 0, put 2, link 0, hard 0\ndone\n"
+look | doc -> absent
+run | -R i -s r change-facet facet.doc=true -> 0 "install 0, update 0, remove 0\nsteps: gone 0, fresh 0, mode 0, put 4, link 0, hard 0\ndone\n"
+look | doc -> file 644 "abc"
+# the vendor's link, then one of a version that is set, then none
+run | -R i -s r install python2 python3 -> 0 "install 2, update 0, remove 0\nsteps: gone 0, fresh 0, mode 0, put 3, link 1, hard 0\ndone\n"
+look | python -> link "python2.7"
+run | -R i -s r set-mediator -V 3.9 python -> 0 "install 0, update 0, remove 0\nsteps: gone 0, fresh 0, mode 0, put 2, link 1, hard 0\ndone\n"
+look | python -> link "python3.9"
+run | -R i -s r set-mediator -V 4.0 python -> 0 "install 0, update 0, remove 0\nsteps: gone 1, fresh 0, mode 0, put 2, link 0, hard 0\ndone\n"
+look | python -> absent
+# an index, and what is found in it
+run | -R i -s r search hello -> 1 "no index\n"
+run | -R i -s r rebuild-index -> 0 "install 0, update 0, remove 0\nsteps: gone 0, fresh 0, mode 0, put 2, link 0, hard 0\ndone\n"
+run | -R i -s r search nothing -> 1 "no match nothing\n"
+"#;
 
-// A file that stands in the image as `way` is installed; what stands stays, and a directory has the mode that a line gives it.
-const STANDING: &str = r#"
-# something stands in the way: the first line at or below its path is told, or the image where there is none
-usr -> "not yet way@1 line 2\n" mine
-usr/share -> "not yet way@1 line 2\n" mine
-usr/share/g -> "not yet way@1 line 3\n" mine
-home -> "not yet way@1 line 1\n" mine
-var/pkg -> "not yet image line 0\n" mine
-# a directory stands where one is wanted, and a file where nothing is
-home/x -> "done\n" mine
-usr/share/h -> "done\n" mine"#;
+// Files that may be edited.
+const EDITS: &str = r#"
+run | -R i -s r image-create -p test -> 0 "install 0, update 0, remove 0\nsteps: gone 0, fresh 3, mode 0, put 7, link 0, hard 0\ndone\n"
+run | -R i -s r install conf@1 kept@1 -> 0 "install 2, update 0, remove 0\nsteps: gone 0, fresh 1, mode 0, put 6, link 0, hard 0\ndone\n"
+put | etc/x.conf | mine ->
+put | etc/kept | mine ->
+run | -R i -s r update -> 0 "install 0, update 2, remove 0\nsteps: gone 0, fresh 0, mode 2, put 4, link 0, hard 0\ndone\n"
+look | etc/x.conf -> file 644 "mine"
+look | etc/x.conf.new -> file 644 ""
+look | etc/kept -> file 644 "mine"
+"#;
 
-// Each table but the first one has a repository and an image for each of its rows.
+// Accounts, licenses and actuators.
+const ACTIONS: &str = r#"
+run | -R i -s r image-create -p test --actuator /bin/echo -> 0 "install 0, update 0, remove 0\nsteps: gone 0, fresh 3, mode 0, put 7, link 0, hard 0\ndone\n"
+run | -R i -s r install accounts -> 0 "install 1, update 0, remove 0\nsteps: gone 0, fresh 1, mode 0, put 5, link 0, hard 0\ndone\n"
+look | etc/passwd -> file 644 "svc:x:70:70:& User:/:\n"
+look | etc/shadow -> file 400 "svc:*LK*:::::::\n"
+look | etc/group -> file 644 "svc::70:\n"
+run | -R i -s r install taken -> 1 "id taken 70\n"
+run | -R i -s r install nobody -> 1 "unknown owner nobody9 of home\n"
+run | -R i -s r install license -> 6 "license needed: license L\n"
+run | -R i -s r install --accept license -> 0 "license: license CDDL\ninstall 1, update 0, remove 0\nsteps: gone 0, fresh 1, mode 0, put 4, link 0, hard 0\ndone\n"
+status | 3 ->
+run | -R i -s r install acts -> 1 "actuator failed after 3: /bin/echo restart svc:/a\n"
+ran | -> "/bin/echo\0restart\0svc:/a\0\n"
+look | acts -> file 644 "abc"
+status | 0 ->
+run | -R i -s r uninstall acts -> 0 "install 0, update 0, remove 1\nsteps: gone 2, fresh 0, mode 0, put 2, link 0, hard 0\ndone\n"
+with | -R i -s r install acts | spawner 1 -> 1 "spawn fault after\n"
+"#;
+
+// What is refused, and leaves the image as it was.
+const REFUSALS: &str = r#"
+run | -R i -s r image-create -p test -> 0 "install 0, update 0, remove 0\nsteps: gone 0, fresh 3, mode 0, put 7, link 0, hard 0\ndone\n"
+run | -R i -s r install none -> 1 "no match none\n"
+run | -R i -s r install a b -> 1 "no solution\nstem 0 a 1\nstem 1 b 1\nrefutation 2\n0.0 | 1 | t1\n- | 0 | n0\n"
+run | -R i -s r install --search-limit 2 either -> 1 "search limit 2 spent\n"
+run | -R i -s r install one other -> 1 "clash etc/m one:1 other:1\n"
+run | -R i -s r install reserved -> 1 "reserved var/pkg/x\n"
+run | -R i -s r install lost -> 1 "payload missing 3333333333333333333333333333333333333333\n"
+run | -R i -s r install damaged -> 1 "payload damaged cb4cc28df0fdbe0ecf9d9662e294b118092a5735 found c9a2a5540dcfc3ebad99e723223675d3f15edc54\n"
+run | -R i -s r install gzip -> 1 "compressed 2222222222222222222222222222222222222222 found c1df680e393d04a2a3b050a06db652e9ab37f761\n"
+run | -R i -s r install bad -> 1 "bad manifest bad@1 line 2\n"
+run | -R i -s r install absent -> 1 "manifest missing absent@1\n"
+with | -R i -s r install hello | source 1 -> 1 "source fault\n"
+with | -R i -s r install hello | folder 1 -> 1 "folder fault: unchanged\n"
+with | -R i -s r history | sink 1 -> 1 part ""
+look | usr -> absent
+run | -R i -s r list -> 0 ""
+put | var/pkg/avoid | =%0a ->
+run | -R i -s r list -> 1 "bad image var/pkg/avoid line 1\n"
+"#;
+
+fn world(rt: &impl Abort, alloc: Global) -> World {
+    World::new(alloc, repository(rt, alloc, "mark", "catalog"))
+}
+
 #[test]
-fn tells_each_outcome_and_fault(rt: HostRuntime) {
+fn each_command_does_what_it_says(rt: HostRuntime) {
     let alloc = rt.alloc();
-    let mut world = World::whole(&rt, alloc);
-    for (asked, count, table) in [
-        (Asked::Script, 45u32, OUTCOMES),
-        (Asked::Judged, 8u32, JUDGED),
-        (Asked::SourceFault, 12u32, SOURCE_FAULTS),
-        (Asked::ImageFault, 14u32, IMAGE_FAULTS),
-        (Asked::SinkFault, 4u32, SINK_FAULTS),
+    for (count, table) in [
+        (43u32, COMMANDS),
+        (14u32, SETTINGS),
+        (8u32, EDITS),
+        (16u32, ACTIONS),
+        (18u32, REFUSALS),
     ] {
-        let rows = rows_told(&rt, alloc, asked, &mut world, table);
+        let mut world = world(&rt, alloc);
+        let rows = rows_told(&rt, alloc, &mut world, table);
         assert!(rt; rows == count, "{rows} rows in place of {count}");
     }
 }
 
-#[test]
-fn manifests_have_a_limit(rt: HostRuntime) {
-    let alloc = rt.alloc();
-    let mut world = World::large(&rt, alloc);
-    for (asked, count, table) in [(Asked::Script, 1u32, LARGE)] {
-        let rows = rows_told(&rt, alloc, asked, &mut world, table);
-        assert!(rt; rows == count, "{rows} rows in place of {count}");
+// What is left of the names that a stop at this call touches.
+fn choice_at(call: u64) -> Choice {
+    match call % 5 {
+        0 => Choice::Before,
+        1 => Choice::After,
+        2 => Choice::Gone,
+        3 => Choice::Junk,
+        _ => Choice::Torn,
     }
 }
 
-// What is refused leaves the image as it was.
-#[test]
-fn links_and_what_is_refused(rt: HostRuntime) {
-    let alloc = rt.alloc();
-    let mut world = World::linked(&rt, alloc);
-    for (asked, count, table) in [
-        (Asked::Script, 8u32, REFUSALS),
-        (Asked::Script, 7u32, RULES),
-        (Asked::Script, 14u32, LAID),
-        (Asked::Standing, 7u32, STANDING),
-    ] {
-        let rows = rows_told(&rt, alloc, asked, &mut world, table);
-        assert!(rt; rows == count, "{rows} rows in place of {count}");
+const FIX: &str = "-R i -s r fix";
+
+// What is seen of `x`: its file, one more name of it, and its record.
+fn seen(rt: &impl Abort, alloc: Global, world: &World) -> String {
+    let file = look_told(rt, alloc, world, "bin/a");
+    let other = look_told(rt, alloc, world, "bin/b");
+    let record = look_told(rt, alloc, world, "var/pkg/packages/x");
+    let front = record.as_str().split("\\n").nth(1).unwrap_or("none");
+    format!(in alloc; "{file} {other} {front}").expect(rt, "memory")
+}
+
+// An update that is stopped at this call, and the fixes behind it, of which so many are stopped too: how the last one ends, and what is then seen. None where the
+// update wasn't stopped.
+fn story(
+    rt: &impl Abort,
+    alloc: Global,
+    world: &mut World,
+    stop: Stop,
+    stops: u64,
+) -> Option<String> {
+    let stopped = Mishap {
+        stop: Some(stop),
+        ..NONE
+    };
+    let update = run_line(rt, alloc, world, "-R i -s r update", stopped);
+    if update.number == 0 {
+        return None;
     }
+    for _ in 0..stops {
+        let _ = run_line(rt, alloc, world, FIX, stopped);
+    }
+    let fix = run_line(rt, alloc, world, FIX, NONE);
+    let again = run_line(rt, alloc, world, FIX, NONE);
+    let (seen, first, last) = (
+        seen(rt, alloc, world),
+        fix.taken.as_str(),
+        again.taken.as_str(),
+    );
+    Some(format!(in alloc; "{seen} {first:?} {last:?}").expect(rt, "memory"))
+}
+
+// How a story may end.
+const ENDINGS: [&str; 4] = [
+    r#"file 644 "abc" file 644 "abc" version 1 "nothing to do\n" "nothing to do\n""#,
+    r#"file 644 "abc" file 644 "abc" version 1 "recovered: leftovers cleared\n" "nothing to do\n""#,
+    r#"file 644 "" file 644 "" version 2 "recovered: new image\n" "nothing to do\n""#,
+    r#"file 644 "" file 644 "" version 2 "recovered: leftovers cleared\n" "nothing to do\n""#,
+];
+
+// How many calls an update is stopped at. Each fifth call is stopped with one choice, and each second update has a fix that is stopped too.
+fn stopped_at(rt: &impl Abort, alloc: Global, world: &mut World) -> u64 {
+    let before = held(rt, alloc, world);
+    for call in 1..200u64 {
+        restore(rt, alloc, world, &before);
+        let choice = choice_at(call);
+        match story(rt, alloc, world, Stop { call, choice }, call % 2) {
+            Some(ended) => {
+                let is_known = ENDINGS.iter().any(|ending| ended.as_str() == *ending);
+                assert!(rt; is_known, "{call}: {ended}");
+            }
+            None => return call,
+        }
+    }
+    0
+}
+
+#[test]
+fn a_stopped_update_is_undone_or_done(rt: HostRuntime) {
+    let alloc = rt.alloc();
+    let mut world = world(&rt, alloc);
+    let _ = run_line(
+        &rt,
+        alloc,
+        &mut world,
+        "-R i -s r image-create -p test",
+        NONE,
+    );
+    let _ = run_line(&rt, alloc, &mut world, "-R i -s r install x@1", NONE);
+    let calls = stopped_at(&rt, alloc, &mut world);
+    assert!(rt; calls > 20, "{calls} calls");
 }

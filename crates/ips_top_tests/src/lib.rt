@@ -1,7 +1,7 @@
 //! Tests of what packages mean, and of the whole program over a repository and an image in memory.
 //!
-//! Clashes, what is wanted, and its plan are tables of rows, and `asked` says what is asked of a row. The runs of the program are
-//! tables of `cases`; `runs` says what is asked of a row, over the repositories of `packages` and the image of a `world`.
+//! Clashes and what is wanted are tables of rows, and `asked` says what is asked of a row. The runs of the program are tables of `cases`; `runs` says what is asked of
+//! a row, over the repository of `packages` and the image of a `world`.
 #![tactic(auto)]
 
 #[cfg(test)]
@@ -14,8 +14,6 @@ mod conflict;
 mod meaning;
 #[cfg(test)]
 mod packages;
-#[cfg(test)]
-mod plan;
 #[cfg(test)]
 mod rows;
 #[cfg(test)]

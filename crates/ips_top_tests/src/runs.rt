@@ -1,81 +1,116 @@
-//! What a table asks of its rows.
+//! What a table asks of its rows: each is asked of the world that the rows above it left.
 
 use crate::rows::{column, number, row_of};
 use crate::world::*;
+use ips_folder::{Choice, Stop};
 use std::alloc::Global;
 use std::process::Abort;
 
-// What a table asks of its rows, whose columns are named behind each.
-#[derive(Clone, Copy)]
-pub enum Asked {
-    // One of the questions below, each over the image that the rows above it left: the question, and its words.
-    Script,
-    // The report over another repository: its mark and its catalog.
-    Judged,
-    // The call on the repository that fails.
-    SourceFault,
-    // The call on the image that fails.
-    ImageFault,
-    // How many bytes the sink has room for, and the call on it that fails.
-    SinkFault,
-    // The path at which a file stands.
-    Standing,
+// The number of a run's status, and its report; `part` tells that the report isn't told whole.
+fn run_told(
+    rt: &impl Abort,
+    alloc: Global,
+    world: &mut World,
+    line: &str,
+    mishap: Mishap,
+) -> String {
+    let ended = run_line(rt, alloc, world, line, mishap);
+    let whole = if ended.is_told { "" } else { "part " };
+    let (number, taken) = (ended.number, ended.taken.as_str());
+    format!(in alloc; "{number} {whole}{taken:?}").expect(rt, "memory")
 }
 
-fn told(rt: &impl Abort, alloc: Global, asked: Asked, world: &mut World, row: &str) -> String {
-    let first = column(row, 0);
-    let second = column(row, 1);
-    match asked {
-        Asked::Script => script_told(rt, alloc, world, first, second, column(row, 2)),
-        Asked::Judged => judged_told(rt, alloc, first, second),
-        Asked::SourceFault => source_fault_told(rt, alloc, number(rt, first)),
-        Asked::ImageFault => image_fault_told(rt, alloc, number(rt, first)),
-        Asked::SinkFault => sink_fault_told(
-            rt,
-            alloc,
-            number(rt, first) as usize,
-            number(rt, second),
-        ),
-        Asked::Standing => standing_told(rt, alloc, first),
+// What is left of the names that a stopped run touched.
+fn choice_of(rt: &impl Abort, word: &str) -> Choice {
+    match word {
+        "before" => Choice::Before,
+        "after" => Choice::After,
+        "gone" => Choice::Gone,
+        "junk" => Choice::Junk,
+        "torn" => Choice::Torn,
+        _ => panic!(rt; "no choice"),
     }
 }
 
-// What a run tells, what rule it breaks, or what then stands at a path, where a link leads, and whether two names are one file.
-fn script_told(
+// What happens to a run: the word tells to what.
+fn mishap_of(rt: &impl Abort, word: &str, call: u64) -> Mishap {
+    match word {
+        "source" => Mishap {
+            source: call,
+            ..NONE
+        },
+        "folder" => Mishap {
+            folder: call,
+            ..NONE
+        },
+        "spawner" => Mishap {
+            spawner: call,
+            ..NONE
+        },
+        "sink" => Mishap { sink: call, ..NONE },
+        choice => Mishap {
+            stop: Some(Stop {
+                call,
+                choice: choice_of(rt, choice),
+            }),
+            ..NONE
+        },
+    }
+}
+
+// What is told of a row: of a run, to which nothing or something happens, of what it ran, or of what stands at a path; or nothing, where something is put into the
+// image or taken away, or an actuator's status is set.
+fn told(rt: &impl Abort, alloc: Global, world: &mut World, row: &str) -> String {
+    let first = column(row, 1);
+    let second = column(row, 2);
+    match column(row, 0) {
+        "run" => run_told(rt, alloc, world, first, NONE),
+        "with" => {
+            let (word, call) = second.split_once(' ').expect(rt, "a call");
+            run_told(
+                rt,
+                alloc,
+                world,
+                first,
+                mishap_of(rt, word, number(rt, call)),
+            )
+        }
+        "ran" => ran_told(rt, alloc, world),
+        "look" => look_told(rt, alloc, world, first),
+        "same" => same_told(rt, alloc, world, first, second),
+        question => {
+            change(rt, alloc, world, question, first, second);
+            String::new(alloc)
+        }
+    }
+}
+
+// Changes the world as a row says.
+fn change(
     rt: &impl Abort,
     alloc: Global,
     world: &mut World,
     question: &str,
     first: &str,
     second: &str,
-) -> String {
-    if question == "run" {
-        run_told(rt, alloc, world, first)
-    } else if question == "rule" {
-        rule_told(rt, alloc, world, first)
-    } else if question == "look" {
-        look_told(rt, alloc, world, first)
-    } else if question == "target" {
-        target_told(rt, alloc, world, first)
-    } else if question == "same" {
-        same_told(rt, alloc, world, first, second)
-    } else {
-        panic!(rt; "no question")
+) {
+    match question {
+        "put" => put(rt, alloc, world, first, second),
+        "remove" => remove(rt, alloc, world, first),
+        "status" => set_status(
+            world,
+            u8::try_from(number(rt, first)).ok().expect(rt, "a status"),
+        ),
+        _ => panic!(rt; "no question"),
     }
 }
 
-// How many rows a table has, each of which is told as it says.
-pub fn rows_told(
-    rt: &impl Abort,
-    alloc: Global,
-    asked: Asked,
-    world: &mut World,
-    table: &str,
-) -> u32 {
+/// How many rows a table has, each of which is told as it says.
+pub fn rows_told(rt: &impl Abort, alloc: Global, world: &mut World, table: &str) -> u32 {
     let mut rows = 0u32;
     for line in table.lines() {
         if let Some((row, want)) = row_of(line) {
-            let told = told(rt, alloc, asked, world, row);
+            let told = told(rt, alloc, world, row);
             assert!(rt; told.as_str() == want, "{row}: {told}, and not {want}");
             rows = rows.saturating_add(1);
         }

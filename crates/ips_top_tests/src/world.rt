@@ -1,60 +1,67 @@
 //! A repository and an image, and runs over them.
 
-use crate::conflict::rule_word;
-use crate::packages::{add, large_repository, linked_repository, repository, whole_repository};
-use ips_folder::MemFolder;
-use ips_outside::{Look, MemSink, MemSource, Tree};
+ghost use Rattle.std.specs.Prelude.{◌<◌};
+
+use crate::packages::add;
+use crate::rows::bytes_of;
+use ips_folder::{Folder, MemFolder, Stop};
+use ips_kinds::{FreshKind, GoneKind, HardKind, Kind, LinkKind, ModeKind, PutKind};
+use ips_outside::{Look, MemSink, MemSource, MemSpawner, Sink, Source, Spawner, Tree};
+use ips_report::Status;
 use ips_text::RelPath;
-use ips_top::{Outcome, Status, run};
-use std::alloc::Global;
+use ips_top::run;
+use std::alloc::{AllocError, Global};
 use std::process::Abort;
 
-// A repository and an image.
+/// The moment of each run: 20240102T030405Z.
+const MOMENT: u64 = 1704164645;
+
+/// What a repository and an image hold, how the next actuator ends, and what the last run ran.
 #[derive(Drop)]
 pub struct World {
-    repo: MemSource,
-    image: MemFolder,
+    repo: Tree,
+    image: Tree,
+    status: u8,
+    ran: String,
 }
 
 impl World {
-    // A repository, and an image that holds nothing, of each of which the listed call fails.
-    fn new(
-        rt: &impl Abort,
-        alloc: Global,
-        tree: Tree,
-        source_fails: u64,
-        image_fails: u64,
-    ) -> World {
+    /// A repository that holds this, and an image that holds nothing.
+    pub fn new(alloc: Global, repo: Tree) -> World {
         World {
-            repo: MemSource::new(tree, vec![in alloc; source_fails].expect(rt, "memory")),
-            image: image(rt, alloc, Tree::new(alloc), image_fails),
+            repo,
+            image: Tree::new(alloc),
+            status: 0,
+            ran: String::new(alloc),
         }
-    }
-
-    // The repository of all packages.
-    pub fn whole(rt: &impl Abort, alloc: Global) -> World {
-        World::new(rt, alloc, whole_repository(rt, alloc), 0, 0)
-    }
-
-    // The repository of a manifest beyond the limit.
-    pub fn large(rt: &impl Abort, alloc: Global) -> World {
-        World::new(rt, alloc, large_repository(rt, alloc), 0, 0)
-    }
-
-    // The repository of the packages with links.
-    pub fn linked(rt: &impl Abort, alloc: Global) -> World {
-        World::new(rt, alloc, linked_repository(rt, alloc), 0, 0)
     }
 }
 
-fn image(rt: &impl Abort, alloc: Global, tree: Tree, fails: u64) -> MemFolder {
-    MemFolder::new(
-        alloc,
-        tree,
-        vec![in alloc; fails].expect(rt, "memory"),
-        None,
-    )
-    .expect(rt, "memory")
+/// What happens to a run: a call on the repository, on the image, on the sink or on the spawner fails, or the run is stopped.
+#[derive(Clone, Copy, Drop)]
+pub struct Mishap {
+    pub source: u64,
+    pub folder: u64,
+    pub spawner: u64,
+    pub sink: u64,
+    pub stop: Option<Stop>,
+}
+
+/// Nothing happens to a run.
+pub const NONE: Mishap = Mishap {
+    source: 0,
+    folder: 0,
+    spawner: 0,
+    sink: 0,
+    stop: None,
+};
+
+/// How a run ended, and what the sink took.
+#[derive(Drop)]
+pub struct Run {
+    pub number: u8,
+    pub is_told: bool,
+    pub taken: String,
 }
 
 // The words of a line, which blanks divide; `<empty>` is the word of no letters.
@@ -69,158 +76,155 @@ fn words_of(rt: &impl Abort, alloc: Global, line: &str) -> Vec<String> {
     words
 }
 
-// How a run ended, and what the sink took.
-#[derive(Drop)]
-struct Run {
-    number: u8,
-    is_told: bool,
-    outcome: &'static str,
-    taken: String,
+// The list of one call.
+fn one(rt: &impl Abort, alloc: Global, call: u64) -> Vec<u64> {
+    vec![in alloc; call].expect(rt, "memory")
 }
 
-// The number of a status, whether its report is told whole, and its outcome in a word: a clash by its rule, which isn't printed.
-fn ended(status: Status) -> (u8, bool, &'static str) {
-    let outcome = match &status.outcome {
-        Outcome::Done => "done",
-        Outcome::SourceFault => "source fault",
-        Outcome::Clash(clash) => rule_word(clash.rule),
-        _ => "no clash",
-    };
-    (status.number(), status.told, outcome)
+// How the top call ends, with one kind for each sort of step.
+fn status_of<S: Source, F: Folder, P: Spawner, O: Sink>(
+    alloc: Global,
+    words: &[String],
+    moment: u64,
+    repo: &mut S,
+    image: &mut F,
+    spawner: &mut P,
+    out: &mut O,
+) -> Result<Status, AllocError>
+    requires moment { moment < 253370764800 }
+{
+    let mut kinds: Vec<Box<dyn Kind>> = Vec::new(alloc);
+    kinds.push(Box::new(alloc, GoneKind::new())?)?;
+    kinds.push(Box::new(alloc, FreshKind::new())?)?;
+    kinds.push(Box::new(alloc, ModeKind::new())?)?;
+    kinds.push(Box::new(alloc, PutKind::new())?)?;
+    kinds.push(Box::new(alloc, LinkKind::new())?)?;
+    kinds.push(Box::new(alloc, HardKind::new())?)?;
+    let status = run(alloc, words, moment, repo, image, spawner, &mut kinds, out);
+    Ok(status)
 }
 
-// Runs the words of a line; the sink has room for so many bytes, and the listed call on it fails.
-fn run_into(
+// Runs the words over a folder.
+fn run_over(
     rt: &impl Abort,
     alloc: Global,
     world: &mut World,
-    line: &str,
-    room: usize,
-    fails: u64,
+    words: &[String],
+    mishap: Mishap,
+    folder: &mut MemFolder,
 ) -> Run {
-    let words = words_of(rt, alloc, line);
-    let fails = vec![in alloc; fails].expect(rt, "memory");
-    let mut out = MemSink::new(alloc, room, fails).expect(rt, "memory");
-    let status = run(alloc, &words, &mut world.repo, &mut world.image, &mut out);
-    let (number, is_told, outcome) = ended(status);
+    let tree = world.repo.copy(alloc).expect(rt, "memory");
+    let mut source = MemSource::new(tree, one(rt, alloc, mishap.source));
+    let statuses = vec![in alloc; world.status].expect(rt, "memory");
+    let mut spawner = MemSpawner::new(alloc, 1000, statuses, one(rt, alloc, mishap.spawner)).expect(
+        rt, "memory",
+    );
+    let mut out = MemSink::new(alloc, 5000, one(rt, alloc, mishap.sink)).expect(rt, "memory");
+    let status = status_of(
+        alloc,
+        words,
+        MOMENT,
+        &mut source,
+        folder,
+        &mut spawner,
+        &mut out,
+    )
+    .expect(rt, "memory");
+    world.ran = String::from_utf8_lossy(alloc, spawner.ran()).expect(rt, "memory");
     Run {
-        number,
-        is_told,
-        outcome,
+        number: status.number(),
+        is_told: status.told,
         taken: String::from_utf8_lossy(alloc, out.taken()).expect(rt, "memory"),
     }
 }
 
-fn run_line(rt: &impl Abort, alloc: Global, world: &mut World, line: &str) -> Run {
-    run_into(rt, alloc, world, line, 200, 0)
+/// Runs the words of a line, to which this happens. What it leaves is the image, or, where it was stopped, what a crash leaves of that.
+pub fn run_line(
+    rt: &impl Abort,
+    alloc: Global,
+    world: &mut World,
+    line: &str,
+    mishap: Mishap,
+) -> Run {
+    let words = words_of(rt, alloc, line);
+    let tree = world.image.copy(alloc).expect(rt, "memory");
+    let fails = one(rt, alloc, mishap.folder);
+    let mut folder = MemFolder::new(alloc, tree, fails, mishap.stop).expect(rt, "memory");
+    let ended = run_over(rt, alloc, world, &words, mishap, &mut folder);
+    world.image = match mishap.stop {
+        Some(_) => folder.crashed(alloc).ok().expect(rt, "memory"),
+        None => folder.tree().copy(alloc).expect(rt, "memory"),
+    };
+    ended
 }
 
-// The number of a run's status, and its report, which is told whole.
-pub fn run_told(rt: &impl Abort, alloc: Global, world: &mut World, line: &str) -> String {
-    let ended = run_line(rt, alloc, world, line);
-    assert!(rt; ended.is_told, "the report isn't told");
-    let (number, taken) = (ended.number, ended.taken.as_str());
-    format!(in alloc; "{number} {taken:?}").expect(rt, "memory")
-}
-
-// The rule of a clash, which isn't printed.
-pub fn rule_told(rt: &impl Abort, alloc: Global, world: &mut World, line: &str) -> String {
-    let ended = run_line(rt, alloc, world, line);
-    String::from_str(alloc, ended.outcome).expect(rt, "memory")
-}
-
-// What stands at a path of the image: the mode is in octal, and a file has its length behind it.
-pub fn look_told(rt: &impl Abort, alloc: Global, world: &World, path: &str) -> String {
-    let path = RelPath::parse(alloc, path.as_bytes())
+fn path_of(rt: &impl Abort, alloc: Global, path: &str) -> RelPath {
+    RelPath::parse(alloc, path.as_bytes())
         .ok()
-        .expect(rt, "what is spelled");
-    match world.image.tree().look(&path) {
+        .expect(rt, "a path")
+}
+
+/// What stands at a path of the image: the mode is in octal, and a file has its bytes behind it, a link its target.
+pub fn look_told(rt: &impl Abort, alloc: Global, world: &World, path: &str) -> String {
+    let path = path_of(rt, alloc, path);
+    match world.image.look(&path) {
         Look::Absent => String::from_str(alloc, "absent").expect(rt, "memory"),
         Look::Dir { mode } => format!(in alloc; "dir {mode:o}").expect(rt, "memory"),
-        Look::File { mode, size } => format!(in alloc; "file {mode:o} {size}").expect(rt, "memory"),
-        Look::Link => String::from_str(alloc, "link").expect(rt, "memory"),
+        Look::File { mode, .. } => file_told(rt, alloc, &world.image, &path, mode),
+        Look::Link => link_told(rt, alloc, &world.image, &path),
         Look::Other => String::from_str(alloc, "other").expect(rt, "memory"),
     }
 }
 
-// Where a link of the image leads.
-pub fn target_told(rt: &impl Abort, alloc: Global, world: &World, path: &str) -> String {
-    let path = RelPath::parse(alloc, path.as_bytes())
-        .ok()
-        .expect(rt, "what is spelled");
-    let target = world.image.tree().target(&path).unwrap_or(b"none");
-    String::from_utf8_lossy(alloc, target).expect(rt, "memory")
+fn file_told(rt: &impl Abort, alloc: Global, tree: &Tree, path: &RelPath, mode: u16) -> String {
+    let bytes = tree.bytes(path).unwrap_or(b"none");
+    let text = String::from_utf8_lossy(alloc, bytes).expect(rt, "memory");
+    format!(in alloc; "file {mode:o} {text:?}").expect(rt, "memory")
 }
 
-// Whether two names of the image are one file.
+fn link_told(rt: &impl Abort, alloc: Global, tree: &Tree, path: &RelPath) -> String {
+    let target = tree.target(path).unwrap_or(b"none");
+    let text = String::from_utf8_lossy(alloc, target).expect(rt, "memory");
+    format!(in alloc; "link {text:?}").expect(rt, "memory")
+}
+
+/// Whether two names of the image are one file.
 pub fn same_told(rt: &impl Abort, alloc: Global, world: &World, path: &str, other: &str) -> String {
-    let path = RelPath::parse(alloc, path.as_bytes())
-        .ok()
-        .expect(rt, "what is spelled");
-    let other = RelPath::parse(alloc, other.as_bytes())
-        .ok()
-        .expect(rt, "what is spelled");
-    let is_same = world.image.tree().same(&path, &other);
+    let is_same = world
+        .image
+        .same(&path_of(rt, alloc, path), &path_of(rt, alloc, other));
     format!(in alloc; "{is_same}").expect(rt, "memory")
 }
 
-const HELLO: &str = "-R i -s r install hello";
-
-// The report over a repository with this mark and this catalog.
-pub fn judged_told(rt: &impl Abort, alloc: Global, mark: &str, catalog: &str) -> String {
-    let mut world = World::new(rt, alloc, repository(rt, alloc, mark, catalog), 0, 0);
-    let ended = run_line(rt, alloc, &mut world, HELLO);
-    let taken = ended.taken.as_str();
-    format!(in alloc; "{taken:?}").expect(rt, "memory")
+/// What the last run ran.
+pub fn ran_told(rt: &impl Abort, alloc: Global, world: &World) -> String {
+    let ran = world.ran.as_str();
+    format!(in alloc; "{ran:?}").expect(rt, "memory")
 }
 
-// The report where a call on the repository fails, whether that is the outcome, and whether anything is changed.
-pub fn source_fault_told(rt: &impl Abort, alloc: Global, fails: u64) -> String {
-    let mut world = World::new(rt, alloc, whole_repository(rt, alloc), fails, 0);
-    let ended = run_line(rt, alloc, &mut world, HELLO);
-    let usr = look_told(rt, alloc, &world, "usr");
-    let (is_fault, taken) = (ended.outcome == "source fault", ended.taken.as_str());
-    format!(in alloc; "{taken:?} fault: {is_fault} usr: {usr}").expect(rt, "memory")
+/// Puts a file into the image, with the directories above it, in the place of what stands there.
+pub fn put(rt: &impl Abort, alloc: Global, world: &mut World, path: &str, bytes: &str) {
+    world.image.remove(&path_of(rt, alloc, path));
+    let bytes = bytes_of(rt, alloc, bytes);
+    add(rt, alloc, &mut world.image, path, &bytes);
 }
 
-// The number and the report where a call on the image fails.
-pub fn image_fault_told(rt: &impl Abort, alloc: Global, fails: u64) -> String {
-    let mut world = World::new(rt, alloc, whole_repository(rt, alloc), 0, fails);
-    let ended = run_line(rt, alloc, &mut world, HELLO);
-    let (number, taken) = (ended.number, ended.taken.as_str());
-    format!(in alloc; "{number} {taken:?}").expect(rt, "memory")
+/// Takes away what stands in the image at a path.
+pub fn remove(rt: &impl Abort, alloc: Global, world: &mut World, path: &str) {
+    world.image.remove(&path_of(rt, alloc, path));
 }
 
-// The number, what the sink takes, and whether the outcome is `Done`, where the sink has room for so many bytes and a call on
-// it fails.
-pub fn sink_fault_told(rt: &impl Abort, alloc: Global, room: usize, fails: u64) -> String {
-    let mut world = World::whole(rt, alloc);
-    let ended = run_into(rt, alloc, &mut world, HELLO, room, fails);
-    let (number, taken) = (ended.number, ended.taken.as_str());
-    let is_done = ended.outcome == "done";
-    format!(in alloc; "{number} {taken:?} done: {is_done}").expect(rt, "memory")
+/// Has the next actuator end with this status.
+pub fn set_status(world: &mut World, status: u8) {
+    world.status = status;
 }
 
-// The report where a file stands at this path, and the bytes that stand there behind it.
-pub fn standing_told(rt: &impl Abort, alloc: Global, standing: &str) -> String {
-    let mut tree = Tree::new(alloc);
-    add(rt, alloc, &mut tree, standing, b"mine");
-    let repo = MemSource::new(linked_repository(rt, alloc), Vec::new(alloc));
-    let mut world = World {
-        repo,
-        image: image(rt, alloc, tree, 0),
-    };
-    let ended = run_line(rt, alloc, &mut world, "-R i -s r install way");
-    let bytes = bytes_told(rt, alloc, &world, standing);
-    let taken = ended.taken.as_str();
-    format!(in alloc; "{taken:?} {bytes}").expect(rt, "memory")
+/// The image holds what this one holds.
+pub fn restore(rt: &impl Abort, alloc: Global, world: &mut World, image: &Tree) {
+    world.image = image.copy(alloc).expect(rt, "memory");
 }
 
-// The bytes of a file of the image.
-fn bytes_told(rt: &impl Abort, alloc: Global, world: &World, path: &str) -> String {
-    let path = RelPath::parse(alloc, path.as_bytes())
-        .ok()
-        .expect(rt, "a path");
-    let bytes = world.image.tree().bytes(&path).unwrap_or(b"none");
-    String::from_utf8_lossy(alloc, bytes).expect(rt, "memory")
+/// What the image holds.
+pub fn held(rt: &impl Abort, alloc: Global, world: &World) -> Tree {
+    world.image.copy(alloc).expect(rt, "memory")
 }

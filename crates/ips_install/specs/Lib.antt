@@ -1,5 +1,0 @@
-pub mod Layable
-pub mod Laid
-pub mod Fault
-pub mod Checking
-pub mod Laying

@@ -1,5 +1,0 @@
-use Rattle.ips_plan.proofs.Apart.{apart}
-use Rattle.ips_plan.proofs.law.meaning_or_fault.Goals as goal
-
-pub returns : goal.returns
-returns c = λ settings mediators packages entries why mean fail. apart settings mediators packages entries why mean fail

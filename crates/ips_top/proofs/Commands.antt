@@ -1,0 +1,32 @@
+-- What a run does, from what was carried out and told.
+use Rattle.std.proofs.Common.{◌≡◌, inl, inr, ℕ, List, Some, refl, sym, subst}
+use Rattle.std.proofs.lemmas.Option.{cond_some}
+use Rattle.ips_outside.specs.Outside.{Outside}
+use Rattle.ips_outside.specs.Running.{Running}
+use Rattle.ips_history.specs.declared.effect.Effect.TheVariants as effect
+use Rattle.ips_report.specs.declared.outcome.Outcome.{Outcome}
+use Rattle.ips_report.specs.declared.outcome.Outcome.TheVariants as outcome
+use Rattle.ips_telling.specs.Finishing.{IsToldFor}
+use Rattle.ips_words.specs.Command.{IsUsage}
+use Rattle.ips_words.specs.declared.command.Command.{Command}
+use Rattle.ips_words.specs.declared.what.Usage.{Usage}
+use Rattle.ips_changing.specs.Commands.{CommandAt, changing_at, is_changing}
+use Rattle.ips_changing.specs.Decides.{Decides, asked_of}
+use Rattle.ips_changing.specs.Leads.{LeadsWhere}
+use Rattle.ips_top.specs.Performed.{At, IsPerformed}
+use Rattle.ips_top.specs.Runs.{Does, Runs, Changes, Misworded, Starved}
+
+module _ {F S P : Type 0} (o : Outside F) (q : Outside S) (r : Running P) (old new : At F S P) (told : Outcome) where
+  -- A changing command at a moment is carried out as that command.
+  pub changes_so : (c : Command) (moment : ℕ) (a : CommandAt) → Some a ≡ changing_at c moment
+      → IsPerformed o q r effect.Changes (λ tells repository t d. Decides (asked_of a.command a.moment tells repository t) d) (λ tells repository before after. LeadsWhere a.command a.moment tells repository before after) old new told
+      → Does o q r c moment old new told
+  changes_so c moment a is performed =
+      let known = cond_some (is_changing c.what) (record { command = c; moment = moment }) a (sym is) in
+      Changes known.0 (subst (λ (x : CommandAt). IsPerformed o q r effect.Changes (λ tells repository t d. Decides (asked_of x.command x.moment tells repository t) d) (λ tells repository before after. LeadsWhere x.command x.moment tells repository before after) old new told) (sym known.1) performed)
+
+-- Words that are no command are told so, unless memory for that is wanted.
+pub misworded : {F S P : Type 0} (o : Outside F) (q : Outside S) (r : Running P) (words : List (List ℕ)) (moment : ℕ) (here : At F S P) (told : Outcome) (u : Usage)
+    → IsUsage words u → IsToldFor (outcome.Usage u.place u.why) told → Runs o q r words moment here here told
+misworded o q r words moment here told u is (inl same) = Misworded u is same refl
+misworded o q r words moment here told u is (inr early) = Starved early.1 refl

@@ -1,0 +1,33 @@
+use Rattle.std.proofs.Common.{Bool, IsTrue, sym, ◌∙◌, subst}
+use Rattle.ips_outside.specs.Outside.{HasCause, Reads}
+use Rattle.ips_report.specs.declared.outcome.Outcome.{Outcome}
+use Rattle.ips_told.specs.Told.{IsToldAs}
+use Rattle.ips_telling.specs.Finishing.{IsToldFor}
+use Rattle.ips_top.proofs.Endings.{early_comes, comes_as, run_told, folder_alike, source_alike, spawner_alike, unfinished_alike, refused_alike, says_less}
+use Rattle.ips_top.proofs.performing.performed.Goals as goal
+
+pub returns-clause-performed : goal.returns-clause-performed
+returns-clause-performed g c =
+    let o = g.F.Source.outside in
+    let q = g.S.Source.outside in
+    let r = g.P.Spawner.running in
+    let x = c.perform-ending.result in
+    let e = c.perform-ending.ensures in
+    let told = c.finish.result.outcome in
+    let says = says_less (g.C.Operation.says c.args.operation.now) IsToldAs c.requires.says x e.says in
+    let payload = e.payload in
+    let as_told = subst (λ (is : Outcome). IsToldFor is told) c.outcome_of.ensures c.finish.ensures.outcome in record {
+      run = λ tells. run_told o (g.C.Operation.means c.args.operation.now (q.tells c.args.repo.now) (q.state c.args.repo.now).held) (g.C.Operation.effect c.args.operation.now) x told says payload (λ early. (early_comes x (e.comes tells) early).0) as_told (e.run tells);
+      comes = λ tells. comes_as x told says payload (e.comes tells) as_told;
+      folder = subst (λ (b : Bool). HasCause (o.faults c.args.image.now) (o.faults c.perform-ending.new.folder) (IsTrue b)) (sym (folder_alike x told says payload as_told)) e.folder;
+      source = subst (λ (b : Bool). Reads q c.args.repo.now c.perform-ending.new.source (IsTrue b)) (sym (source_alike x told says payload as_told)) e.source;
+      spawner = subst (λ (b : Bool). HasCause (r.faults c.args.spawner.now) (r.faults c.perform-ending.new.spawner) (IsTrue b)) (sym (spawner_alike x told says payload as_told)) e.spawner;
+      shows_unasked = λ is. source_alike x told says payload as_told ∙ e.shows_unasked is;
+      shows_unspawned = λ is. spawner_alike x told says payload as_told ∙ e.shows_unspawned is;
+      begun = λ tells is. e.begun tells (sym (unfinished_alike x told says payload as_told) ∙ is);
+      shows_once = e.shows;
+      untouched_once = λ tells stands is. e.untouched tells stands (sym (refused_alike x told says payload as_told) ∙ is);
+      shows_kept = e.shows_kept;
+      untouched_kept = λ tells stands is. e.untouched_kept tells stands (sym (refused_alike x told says payload as_told) ∙ is);
+      same_kind = e.same_kind;
+    }

@@ -1,0 +1,54 @@
+-- What a run does, by its words.
+use Rattle.std.specs.Prelude.{◌≡◌, ℕ, Bool, true, false, List, Some, IsTrue}
+use Rattle.ips_outside.specs.Outside.{Outside}
+use Rattle.ips_outside.specs.Running.{Running}
+use Rattle.ips_records.specs.Lines.{ended}
+use Rattle.ips_history.specs.declared.effect.Effect.TheVariants as effect
+use Rattle.ips_report.specs.declared.outcome.Outcome.{Outcome}
+use Rattle.ips_report.specs.declared.outcome.Outcome.TheVariants as outcome
+use Rattle.ips_words.specs.Command.{IsCommand, IsUsage}
+use Rattle.ips_words.specs.Help.{help_text, version_text}
+use Rattle.ips_words.specs.declared.command.Command.{Command}
+use Rattle.ips_words.specs.declared.what.What.{What}
+use Rattle.ips_words.specs.declared.what.What.TheVariants as what
+use Rattle.ips_words.specs.declared.what.Usage.{Usage}
+use Rattle.ips_showing.specs.Asked.{Asked, asked_by}
+use Rattle.ips_showing.specs.Shows as showing
+use Rattle.ips_changing.specs.Commands.{is_changing}
+use Rattle.ips_changing.specs.Decides.{Decides, asked_of}
+use Rattle.ips_changing.specs.Leads.{LeadsWhere}
+use Rattle.ips_creating.specs.Creations.{Creation, creating_at}
+use Rattle.ips_creating.specs.Decides as creating
+use Rattle.ips_fixing.specs.Fixes.{Repairing, fixing_at}
+use Rattle.ips_fixing.specs.Decides as fixing
+use Rattle.ips_top.specs.Performed.{At, IsPerformed}
+
+-- The command goes by the image of the folder.
+abbrev pub goes_by_image : What → Bool
+goes_by_image (what.Gen number) = false
+goes_by_image (what.Help command) = false
+goes_by_image what.Version = false
+goes_by_image w = true
+
+-- What is answered without the image: the help, or the version, unless memory ran out.
+abbrev pub IsAnswered : What → Outcome → Type 0
+IsAnswered w outcome.OutOfMemory = Unit {0}
+IsAnswered (what.Help command) (outcome.Shown text) = text ≡ help_text command
+IsAnswered what.Version (outcome.Shown text) = text ≡ ended version_text
+IsAnswered w other = ⊥
+
+-- What is done for a command at a moment: something of the image is shown; it is changed to what the command leads it to; it is made; what was stopped is brought to its end, or
+-- what is damaged is repaired; or something is answered without it.
+pub data Does {F S P : Type 0} (o : Outside F) (q : Outside S) (r : Running P) (c : Command) (moment : ℕ) (old new : At F S P) (told : Outcome) : Type 0 where
+  Shows : (a : Asked) → asked_by c.what ≡ Some a → IsPerformed o q r effect.Shows (λ tells repository t d. showing.Shows t a d) (λ tells repository t u. u ≡ t) old new told → Does o q r c moment old new told
+  Changes : IsTrue (is_changing c.what) → IsPerformed o q r effect.Changes (λ tells repository t d. Decides (asked_of c moment tells repository t) d) (LeadsWhere c moment) old new told → Does o q r c moment old new told
+  Creates : (a : Creation) → creating_at c moment ≡ Some a → IsPerformed o q r effect.Creates (λ tells repository t d. creating.Decides a t d) (creating.makes_of a) old new told → Does o q r c moment old new told
+  Fixes : (a : Repairing) → fixing_at c moment ≡ Some a → IsPerformed o q r effect.Fixes (λ tells repository t d. fixing.Decides a t d) (fixing.repairs_of a) old new told → Does o q r c moment old new told
+  Answers : goes_by_image c.what ≡ false → IsAnswered c.what told → new ≡ old → Does o q r c moment old new told
+
+-- What a run does: words that are no command are told so, with the first word at fault; and else what the command asks for is done. Where memory for the words is refused,
+-- nothing is.
+pub data Runs {F S P : Type 0} (o : Outside F) (q : Outside S) (r : Running P) (words : List (List ℕ)) (moment : ℕ) (old new : At F S P) (told : Outcome) : Type 0 where
+  Misworded : (u : Usage) → IsUsage words u → told ≡ outcome.Usage u.place u.why → new ≡ old → Runs o q r words moment old new told
+  Starved : told ≡ outcome.OutOfMemory → new ≡ old → Runs o q r words moment old new told
+  Worded : (c : Command) → IsCommand words c → Does o q r c moment old new told → Runs o q r words moment old new told
