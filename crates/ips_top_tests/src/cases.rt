@@ -209,11 +209,12 @@ fn story(
 }
 
 // How a story may end.
-const ENDINGS: [&str; 4] = [
+const ENDINGS: [&str; 5] = [
     r#"file 644 "abc" file 644 "abc" version 1 "nothing to do\n" "nothing to do\n""#,
     r#"file 644 "abc" file 644 "abc" version 1 "recovered: leftovers cleared\n" "nothing to do\n""#,
     r#"file 644 "" file 644 "" version 2 "recovered: new image\n" "nothing to do\n""#,
     r#"file 644 "" file 644 "" version 2 "recovered: leftovers cleared\n" "nothing to do\n""#,
+    r#"file 644 "" file 644 "" version 2 "nothing to do\n" "nothing to do\n""#,
 ];
 
 // How many calls an update is stopped at. Each fifth call is stopped with one choice, and each second update has a fix that is stopped too.
