@@ -33,7 +33,9 @@ use Rattle.ips_request_plan.specs.declared.planning.Plan.{Plan}
 use Rattle.ips_request_plan.specs.Plans.{ComesOfPlan, given_of}
 use Rattle.ips_requested.specs.Meant.{ComesAt, IsMeant, IsPlanAt}
 use Rattle.ips_report.specs.declared.outcome.Outcome.{Outcome}
-use Rattle.ips_refusals.specs.Told.{Answer, unled_told, unplanned_told, unread_told}
+use Rattle.ips_refusals.specs.Told.{Answer, unread_told}
+use Rattle.ips_told.specs.Naming.{AreNamed}
+use Rattle.ips_changing.specs.Refusals.{unled_told, unplanned_told}
 use Rattle.ips_run.specs.declared.operation.Change.{Change}
 use Rattle.ips_run.specs.declared.operation.Decision.{Decision}
 use Rattle.ips_run.specs.declared.operation.Decision.TheVariants as decision
@@ -154,10 +156,11 @@ given_tells o p folder source c moment new tells = ap (λ (b : Bool). record { t
 
 -- ---- the change
 
-pub change_decided : (a : Asked) (led : Led a) (g : Given) (accept : Bool) (p : Plan) (publisher : List ℕ) (c : Change Outcome) → c ≡ change_of publisher p → publisher ≡ led.new.publisher
+pub change_decided : (a : Asked) (led : Led a) (g : Given) (accept : Bool) (p : Plan) (publisher : List ℕ) (c : Change Outcome) → c ≡ change_of publisher p → AreNamed p.planned.emitted.staged.items → publisher ≡ led.new.publisher
     → g ≡ given_for a led.new → accept ≡ accepts a.command.what → IsPlanAt g a.moment led.old led.new accept p → Decides a (decision.Change c)
-change_decided a led g accept p publisher c is same given accepted planned =
+change_decided a led g accept p publisher c is named same given accepted planned =
     subst (λ (x : Change Outcome). Decides a (decision.Change x)) (sym (is ∙ ap (λ (n : List ℕ). change_of n p) same)) (Changed led p (record {
+      named = named;
       planned = subst (λ (x : Given). IsPlanAt x a.moment led.old led.new (accepts a.command.what) p) given (subst (λ (b : Bool). IsPlanAt g a.moment led.old led.new b p) accepted planned);
     }))
 

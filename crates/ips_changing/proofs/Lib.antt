@@ -1,1 +1,2 @@
-mod Decided
+mod Payloads
+pub mod Decided

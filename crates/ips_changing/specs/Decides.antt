@@ -19,10 +19,12 @@ use Rattle.ips_request_plan.specs.declared.fault.PlanFault.{PlanFault}
 use Rattle.ips_request_plan.specs.declared.planning.Plan.{Plan}
 use Rattle.ips_requested.specs.Meant.{ComesAt, IsPlanAt}
 use Rattle.ips_report.specs.declared.outcome.Outcome.{Outcome}
-use Rattle.ips_refusals.specs.Told.{unled_told, unplanned_told, unread_told}
+use Rattle.ips_refusals.specs.Told.{unread_told}
+use Rattle.ips_told.specs.Naming.{AreNamed}
 use Rattle.ips_run.specs.declared.operation.Decision.{Decision}
 use Rattle.ips_run.specs.declared.operation.Decision.TheVariants as decision
 use Rattle.ips_changing.specs.Commands.{accepts}
+use Rattle.ips_changing.specs.Refusals.{unled_told, unplanned_told}
 use Rattle.ips_changing.specs.Plans.{change_of}
 
 -- A command at a moment, with what it goes by: a repository that tells what it holds or doesn't, and an image.
@@ -73,8 +75,9 @@ pub record IsUnplanned (a : Asked) (why : PlanFault) : Type 0 where
   pub led : Led a
   pub comes : ComesAt (given_for a led.new) a.moment led.old led.new (accepts a.command.what) why
 
--- It has this plan.
+-- It has this plan, whose payloads have names.
 pub record IsPlannedTo (a : Asked) (led : Led a) (p : Plan) : Type 0 where
+  pub named : AreNamed p.planned.emitted.staged.items
   pub planned : IsPlanAt (given_for a led.new) a.moment led.old led.new (accepts a.command.what) p
 
 -- What a changing command decides, in this order: the records can't be read; the command leads to no new state, or there is nothing to do; the request to

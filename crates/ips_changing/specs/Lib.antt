@@ -1,4 +1,5 @@
 pub mod Commands
 pub mod Plans
+pub mod Refusals
 pub mod Decides
 pub mod Leads

@@ -11,12 +11,15 @@ ghost use Rattle.ips_load.specs.Held.{Holds};
 ghost use Rattle.ips_asked.specs.Formed.{IsFormedCommand};
 ghost use Rattle.ips_run.specs.Planned.{CanBeListed, IfChange, IsOfEffect, IsPlanned};
 ghost use Rattle.ips_run.specs.declared.operation.DecideFault.TheVariants as fault;
+ghost use Rattle.ips_told.specs.Naming.{AreNamed};
 ghost use Rattle.ips_told.specs.Told.{IsToldAs};
 ghost use Rattle.ips_changing.specs.Decides.{Decides, LeadsOn, asked_of};
 ghost use Rattle.ips_changing.specs.Leads.{LeadsWhere};
 ghost use Rattle.ips_changing.specs.Plans as plans;
 
 use crate::changing::accepts;
+use crate::laws::plan_faults_are_told;
+use crate::refusing::{unled, unplanned};
 use ips_counts::Sorts;
 use ips_emit::Emitted;
 use ips_folder::Folder;
@@ -24,13 +27,14 @@ use ips_image::load;
 use ips_image_plan::Planned;
 use ips_next::next_state;
 use ips_outside::Source;
-use ips_refusals::{plan_faults_are_told, unled, unplanned, unread};
+use ips_refusals::unread;
 use ips_report::Outcome;
 use ips_request_plan::Plan;
 use ips_requested::plan;
 use ips_run::{Change, DecideFault, Decision};
 use ips_state::State;
 use ips_text::{Or, Text};
+use ips_told::payloads_are_named;
 use ips_words::Command;
 use std::alloc::{AllocError, Global};
 
@@ -127,9 +131,10 @@ fn led<S: Source, F: Folder>(
     }
 }
 
-// The change that the plan is.
+// The change that the plan is, whose payloads have names.
 fn change_of(publisher: Text, plan: Plan) -> Change<Outcome>
-    ensures { result ≡ plans.change_of publisher plan }
+    ensures is { result ≡ plans.change_of publisher plan }
+    ensures named { AreNamed plan.planned.emitted.staged.items }
 {
     let Plan {
         planned,
@@ -139,6 +144,7 @@ fn change_of(publisher: Text, plan: Plan) -> Change<Outcome>
     } = plan;
     let Planned { emitted, licenses } = planned;
     let Emitted { steps, staged } = emitted;
+    payloads_are_named(&staged);
     let sorts = Sorts::of(&steps);
     Change {
         publisher,

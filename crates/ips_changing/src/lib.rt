@@ -5,11 +5,13 @@
 //! records tell to the one that the command leads to (`specs/Decides`). Where the repository tells what it holds too, the image
 //! behind the change is the image after that request (`specs/Leads`).
 //!
-//! In reading order: the commands (`changing`), the steps of a decision (`deciding`), and the operation (`operation`).
+//! In reading order: the commands (`changing`), how faults are told (`refusing`, `laws`), the steps of a decision (`deciding`), and the operation (`operation`).
 #![tactic(auto)]
 
 mod changing;
 mod deciding;
+mod laws;
 mod operation;
+mod refusing;
 
 pub use changing::Changing;

@@ -31,6 +31,7 @@ use Rattle.ips_run.specs.declared.operation.Decision.TheVariants as decision
 use Rattle.ips_run.specs.declared.operation.DecideFault.{DecideFault}
 use Rattle.ips_run.specs.Planned.{IsPlanned}
 use Rattle.ips_told.specs.Laying.{IsChangeOfSteps}
+use Rattle.ips_plan_limits.specs.Limits.{first_excess}
 use Rattle.ips_creating.specs.Creations.{Creation, IsBegun}
 use Rattle.ips_creating.specs.Decides.{Decides, Exists, IsUnmade, Made, Unmade, makes_of}
 use Rattle.ips_creating.specs.Told.{unmade_told}
@@ -66,8 +67,8 @@ unmade_by X a t s told OutOfMemory r is tells none begun comes = decided_if a t 
 -- ---- the change
 
 module _ (a : Creation) (t : Image) (s : State) (e : Emitted) (c : Change Outcome) (publisher : List ℕ) (is : IsChangeOfSteps publisher e c) (begun : IsBegun a s) where
-  pub change_decided : publisher ≡ s.publisher → t.look image_path ≡ None → AreCreationSteps a.moment s t e → Decides a t (decision.Change c)
-  change_decided same none steps = Made s e c none begun steps (subst (λ (p : List ℕ). IsChangeOfSteps p e c) same is)
+  pub change_decided : publisher ≡ s.publisher → t.look image_path ≡ None → AreCreationSteps a.moment s t e → first_excess (map step_of e.steps.items) e.staged.items ≡ None → Decides a t (decision.Change c)
+  change_decided same none steps within = Made s e c none begun steps within (subst (λ (p : List ℕ). IsChangeOfSteps p e c) same is)
 
   -- what is promised of the steps
   abbrev pub MakesIt : Type 0

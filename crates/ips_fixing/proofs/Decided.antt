@@ -49,6 +49,7 @@ use Rattle.ips_run.specs.declared.operation.Decision.TheVariants as decision
 use Rattle.ips_run.specs.declared.operation.DecideFault.{DecideFault}
 use Rattle.ips_run.specs.Planned.{IsPlanned}
 use Rattle.ips_told.specs.Laying.{IsChangeOfSteps}
+use Rattle.ips_plan_limits.specs.Limits.{first_excess}
 use Rattle.ips_fixing.specs.Fixes.{IsNoted, Repairing, repairs}
 use Rattle.ips_fixing.specs.Told.{unrepaired_told}
 use Rattle.ips_fixing.specs.Decides.{Decides, IsDamaged, IsNewState, Told, repairs_of, Repaired, Unmeant, Unread, Unrepaired}
@@ -154,11 +155,12 @@ module _ (a : Repairing) (t : Image) (new : State) (is_new : IsNewState a t new)
 
   -- the image is repaired
   pub repaired_by : (moment : ℕ) (e : Emitted) (publisher : List ℕ) (c : Change Outcome) → a.moment ≡ moment → publisher ≡ new.publisher → IsChangeOfSteps publisher e c
-      → AreRepairSteps moment new.history.items want t e → Decides a t (decision.Change c)
-  repaired_by moment e publisher c at same change steps = Repaired new e c (record {
+      → AreRepairSteps moment new.history.items want t e → first_excess (map step_of e.steps.items) e.staged.items ≡ None → Decides a t (decision.Change c)
+  repaired_by moment e publisher c at same change steps within = Repaired new e c (record {
     is_new = is_new;
     damaged = damaged_by;
     steps = subst (λ (n : ℕ). AreRepairSteps n new.history.items want t e) (sym at) steps;
+    within = within;
   }) (subst (λ (p : List ℕ). IsChangeOfSteps p e c) same change)
 
 -- ---- the change

@@ -1,8 +1,9 @@
 -- What a command that repairs an image decides: each refusal under its cause, and the change that it means.
-use Rattle.std.specs.Prelude.{◌≡◌, ◌≢◌, ℕ, Bool, true, IsTrue, List, [], Ok}
+use Rattle.std.specs.Prelude.{◌≡◌, ◌≢◌, ℕ, Bool, true, IsTrue, List, [], None, Ok, map}
 use Rattle.ips_text.specs.declared.refusal.Or.TheVariants.{Bad}
 use Rattle.ips_outside.specs.Image.{Image}
 use Rattle.ips_steps.specs.Private.{visible}
+use Rattle.ips_steps.specs.View.{step_of}
 use Rattle.ips_state.specs.State.{recorded}
 use Rattle.ips_state.specs.declared.state.State.{State}
 use Rattle.ips_load.specs.Held.{Holds}
@@ -18,6 +19,7 @@ use Rattle.ips_emit.specs.declared.emitting.Emitted.{Emitted}
 use Rattle.ips_repaired.specs.Meant.{IsRepairedImage}
 use Rattle.ips_repaired.specs.Repairing.{AreRepairSteps, ComesOfRepairAt}
 use Rattle.ips_repaired.specs.declared.fault.RepairFault.{RepairFault}
+use Rattle.ips_plan_limits.specs.Limits.{first_excess}
 use Rattle.ips_report.specs.declared.outcome.Outcome.{Outcome}
 use Rattle.ips_report.specs.declared.outcome.Outcome.TheVariants as outcome
 use Rattle.ips_refusals.specs.Told.{unmeant_told, unread_told}
@@ -58,11 +60,12 @@ pub record IsUnrepaired (a : Repairing) (t : Image) (why : RepairFault) : Type 0
   pub damaged : IsDamaged t is_new.told.state
   pub comes : ComesOfRepairAt true t a.moment new.history.items damaged.want why
 
--- The image is damaged, and is repaired by these steps, which leave this state.
+-- The image is damaged, and is repaired by these steps, which leave this state and are no more than there may be.
 pub record IsRepairedBy (a : Repairing) (t : Image) (new : State) (e : Emitted) : Type 0 where
   pub is_new : IsNewState a t new
   pub damaged : IsDamaged t is_new.told.state
   pub steps : AreRepairSteps a.moment new.history.items damaged.want t e
+  pub within : first_excess (map step_of e.steps.items) e.staged.items ≡ None
 
 -- What is decided, in this order: the records can't be read; they are of the first format; the packages mean no image; nothing is found; the image can't be repaired, for a
 -- cause; it is repaired.

@@ -23,7 +23,7 @@ use Rattle.ips_meaning.proofs.Together.{entry_there}
 abbrev seen_placed : Installed → List Placed
 seen_placed q = map (λ line. record { stem = q.stem; line = line.number; action = line.action }) q.lines
 
-all_seen : (ps : List Package) → all_placed ps ≡ flat_map seen_placed (map installed ps)
+pub all_seen : (ps : List Package) → all_placed ps ≡ flat_map seen_placed (map installed ps)
 all_seen [] = refl
 all_seen (p ∷ ps) = ap (λ (l : List Placed). placed_of p ++ l) (all_seen ps)
 

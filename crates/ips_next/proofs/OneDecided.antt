@@ -37,10 +37,10 @@ use Rattle.ips_next.specs.Decided.{HasNoSolution, IsDecided, IsLookedAt, IsPosed
 
 -- ---- what patterns name
 
-one_known : (catalog : List Listed) (packages : List Installed) (a b : List (List ℕ)) → AreKnown catalog packages a → AreKnown catalog packages b → a ≡ b
+pub one_known : (catalog : List Listed) (packages : List Installed) (a b : List (List ℕ)) → AreKnown catalog packages a → AreKnown catalog packages b → a ≡ b
 one_known catalog packages a b x y = one_stems a b x.order y.order (λ z. x.each z ∙ sym (y.each z))
 
-one_matched : (publisher : List ℕ) (p : Pattern) (known a b : List (List ℕ)) → AreMatched publisher p known a → AreMatched publisher p known b → a ≡ b
+pub one_matched : (publisher : List ℕ) (p : Pattern) (known a b : List (List ℕ)) → AreMatched publisher p known a → AreMatched publisher p known b → a ≡ b
 one_matched publisher p [] a b h g = h ∙ sym g
 one_matched publisher p (stem ∷ known) a b (inl h) (inl g) =
     let rest = one_matched publisher p known h.1.0 g.1.0 h.1.2 g.1.2 in
@@ -49,12 +49,12 @@ one_matched publisher p (stem ∷ known) a b (inl h) (inr g) = absurd (g.0 h.0)
 one_matched publisher p (stem ∷ known) a b (inr h) (inl g) = absurd (h.0 g.0)
 one_matched publisher p (stem ∷ known) a b (inr h) (inr g) = one_matched publisher p known a b h.1 g.1
 
-one_named : (publisher : List ℕ) (known : List (List ℕ)) (p : Pattern) (a b : List (List ℕ)) → Names publisher known p a → Names publisher known p b → a ≡ b
+pub one_named : (publisher : List ℕ) (known : List (List ℕ)) (p : Pattern) (a b : List (List ℕ)) → Names publisher known p a → Names publisher known p b → a ≡ b
 one_named publisher known p a b h g =
     let matched = one_matched publisher p known h.0 g.0 h.1 g.1 in
     same_Some a b (sym h.2 ∙ ap (named_among p) matched ∙ g.2)
 
-all_named : (publisher : List ℕ) (known : List (List ℕ)) (ps : List Pattern) (a b : List (List (List ℕ))) → AreNamed publisher known ps a → AreNamed publisher known ps b → a ≡ b
+pub all_named : (publisher : List ℕ) (known : List (List ℕ)) (ps : List Pattern) (a b : List (List (List ℕ))) → AreNamed publisher known ps a → AreNamed publisher known ps b → a ≡ b
 all_named publisher known [] a b h g = h ∙ sym g
 all_named publisher known (p ∷ ps) [] b h g = absurd h
 all_named publisher known (p ∷ ps) (x ∷ a) [] h g = absurd g
@@ -78,7 +78,7 @@ module _ (q p : Request) (s : Recorded) (catalog : List Listed) (kinds : kind_of
 
 -- ---- the puzzle
 
-one_repository : (b : Bool) (publisher : List ℕ) (held : Image) (x y : Option Opened) → IsLookedAt b publisher held x → IsLookedAt b publisher held y → x ≡ y
+pub one_repository : (b : Bool) (publisher : List ℕ) (held : Image) (x y : Option Opened) → IsLookedAt b publisher held x → IsLookedAt b publisher held y → x ≡ y
 one_repository true publisher held None y h g = absurd h
 one_repository true publisher held (Some x) None h g = absurd g
 one_repository true publisher held (Some x) (Some y) h g =

@@ -27,10 +27,10 @@ clock_one a b same =
     let time = time_nanos_injective a.time b.time parts.1 in
     λ i. (unsigned_abs (date.0 i) * 10_000 + date.1 i * 100 + date.2 i) * 1_000_000 + (time.0 i * 10_000 + time.1 i * 100 + time.2 i)
 
-moment_one : (moment : ℕ) (a b : List ℕ) → IsMomentText moment a → IsMomentText moment b → a ≡ b
+pub moment_one : (moment : ℕ) (a b : List ℕ) → IsMomentText moment a → IsMomentText moment b → a ≡ b
 moment_one moment a b x y = x.written ∙ ap stamp_text (clock_one x.clock y.clock (x.shown ∙ sym y.shown)) ∙ sym y.written
 
-line_one : (moment : ℕ) (words a b : List ℕ) → IsLineOf moment words a → IsLineOf moment words b → a ≡ b
+pub line_one : (moment : ℕ) (words a b : List ℕ) → IsLineOf moment words a → IsLineOf moment words b → a ≡ b
 line_one moment words a b (s, x, at) (t, y, is) = at ∙ ap (λ (l : List ℕ). l ++ 32 ∷ words) (moment_one moment s t x y) ∙ sym is
 
 -- ---- the index

@@ -1,3 +1,3 @@
-mod Legacy
-mod Fitting
+pub mod Legacy
+pub mod Fitting
 mod Meant

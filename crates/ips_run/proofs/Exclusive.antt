@@ -32,7 +32,7 @@ use Rattle.ips_run.proofs.Opened.{creates_unfixed}
 over : (size count limit : ℕ) → size ≡ count → limit < count → size ≤ limit → ⊥
 over size count limit same many few = omega (arith, same, many, few)
 
-not_both : (name : PayloadName) (file : Option (List ℕ)) (why : RepoFault) → IsPayloadFileFault name file why → IsIntact name file → ⊥
+pub not_both : (name : PayloadName) (file : Option (List ℕ)) (why : RepoFault) → IsPayloadFileFault name file why → IsIntact name file → ⊥
 not_both name file fault.NoRepository is intact = is
 not_both name file (fault.BadCatalog why) is intact = is
 not_both name file fault.ManifestMissing is intact = is

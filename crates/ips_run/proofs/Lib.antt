@@ -7,4 +7,4 @@ mod Said
 mod Recoveries
 mod Nexts
 mod Performed
-mod Exclusive
+pub mod Exclusive

@@ -13,6 +13,7 @@ use Rattle.ips_emit.specs.declared.emitting.Emitted.{Emitted}
 use Rattle.ips_report.specs.declared.outcome.Outcome.{Outcome}
 use Rattle.ips_report.specs.declared.outcome.Outcome.TheVariants.{Done}
 use Rattle.ips_run.specs.declared.operation.Change.{Change}
+use Rattle.ips_told.specs.Naming.{AreNamed}
 
 -- How many of the steps are of each sort.
 abbrev pub sorts_among : List Step → Sorts
@@ -30,11 +31,12 @@ abbrev pub no_counts : Counts
 no_counts = record { installs = 0; updates = 0; removes = 0 }
 
 -- The change is that of these steps with what is staged for them, with payloads of this publisher: no actuator is run, and where it is done that is told, with the steps by their
--- sorts, no package counted and no license shown.
+-- sorts, no package counted and no license shown; and its payloads have names.
 pub record IsChangeOfSteps (publisher : List ℕ) (e : Emitted) (c : Change Outcome) : Type 0 where
   pub publisher_is : c.publisher ≡ publisher
   pub steps : c.steps ≡ e.steps
   pub staged : c.staged ≡ e.staged
+  pub named : AreNamed e.staged.items
   pub none_before : c.before.items ≡ []
   pub none_after : c.after.items ≡ []
   pub licenses : Vec Text Global

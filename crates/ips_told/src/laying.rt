@@ -5,6 +5,7 @@ ghost use Rattle.ips_steps.specs.View.{step_of};
 ghost use Rattle.ips_report.specs.declared.outcome.Outcome.TheVariants.{Done};
 ghost use Rattle.ips_told.specs.Laying.{IsChangeOfSteps, no_counts, sorts_among};
 
+use crate::naming::payloads_are_named;
 use ips_counts::{Counts, Sorts};
 use ips_emit::Emitted;
 use ips_report::Outcome;
@@ -17,6 +18,7 @@ use std::alloc::Global;
 pub fn change_of_steps(alloc: Global, publisher: Text, emitted: Emitted) -> Change<Outcome>
     ensures { IsChangeOfSteps publisher emitted result }
 {
+    payloads_are_named(&emitted.staged);
     let told = done(&emitted.steps, Vec::new(alloc));
     Change {
         publisher,

@@ -3,7 +3,7 @@ use Rattle.ips_outside.proofs.Reading.{reads_as}
 use Rattle.ips_request_plan.specs.Plans.{given_of}
 use Rattle.ips_request_plan.specs.declared.fault.PlanFault.TheVariants as plan
 use Rattle.ips_run.specs.declared.operation.DecideFault.TheVariants as decide
-use Rattle.ips_refusals.specs.Told.{unplanned_told}
+use Rattle.ips_changing.specs.Refusals.{unplanned_told}
 use Rattle.ips_request_plan.specs.declared.planning.Plan.{Plan}
 use Rattle.ips_state.specs.State.{recorded}
 use Rattle.ips_changing.specs.Decides.{Led, asked_of}
@@ -19,11 +19,11 @@ returns-in-Ok-plan-clause-decided g c = λ tells.
     let p = g.S.Source.outside in
     let a = asked_of c.args.command.now c.args.moment (p.tells c.args.source.now) (p.state c.args.source.now).held (o.state c.args.folder.now).held in
     let led : Led a = record { old = c.args.old.now; holds = c.requires.holds tells; new = c.args.new.now; leads = c.requires.leads } in
-    change_decided a led (given_of o p c.args.folder.now c.args.source.now c.args.new.now) c.accepts-accept.result c.in-Ok-plan.plan c.in-Ok.publisher c.change_of.result c.change_of.ensures c.in-Ok.ensures
+    change_decided a led (given_of o p c.args.folder.now c.args.source.now c.args.new.now) c.accepts-accept.result c.in-Ok-plan.plan c.in-Ok.publisher c.change_of.result c.change_of.ensures.is c.change_of.ensures.named c.in-Ok.ensures
     (given_tells o p c.args.folder.now c.args.source.now c.args.command.now c.args.moment c.args.new.now tells) c.accepts-accept.ensures c.in-Ok-plan.ensures.planned
 
 pub returns-in-Ok-plan-clause-lists : goal.returns-in-Ok-plan-clause-lists
-returns-in-Ok-plan-clause-lists g c = change_listed c.in-Ok-plan.plan c.in-Ok.publisher c.change_of.result c.change_of.ensures c.in-Ok-plan.ensures.lists c.in-Ok-plan.ensures.seen
+returns-in-Ok-plan-clause-lists g c = change_listed c.in-Ok-plan.plan c.in-Ok.publisher c.change_of.result c.change_of.ensures.is c.in-Ok-plan.ensures.lists c.in-Ok-plan.ensures.seen
 
 pub returns-in-Ok-plan-clause-planned : goal.returns-in-Ok-plan-clause-planned
 returns-in-Ok-plan-clause-planned g c = λ tells.
@@ -31,7 +31,7 @@ returns-in-Ok-plan-clause-planned g c = λ tells.
     let p = g.S.Source.outside in
     let a = asked_of c.args.command.now c.args.moment (p.tells c.args.source.now) (p.state c.args.source.now).held (o.state c.args.folder.now).held in
     let led : Led a = record { old = c.args.old.now; holds = c.requires.holds tells; new = c.args.new.now; leads = c.requires.leads } in
-    change_planned a led c.in-Ok-plan.plan c.in-Ok.publisher c.change_of.result c.change_of.ensures c.in-Ok.ensures (c.in-Ok-plan.ensures.stages tells) (c.in-Ok-plan.ensures.meant tells)
+    change_planned a led c.in-Ok-plan.plan c.in-Ok.publisher c.change_of.result c.change_of.ensures.is c.in-Ok.ensures (c.in-Ok-plan.ensures.stages tells) (c.in-Ok-plan.ensures.meant tells)
 
 pub returns-in-Ok-plan-clause-reads : goal.returns-in-Ok-plan-clause-reads
 returns-in-Ok-plan-clause-reads g c = reads_as g.F.Source.outside c.args.folder.now c.plan.new.folder _ _ c.plan.ensures.reads (λ failed. cc) (λ failed. cc)

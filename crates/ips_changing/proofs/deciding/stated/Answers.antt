@@ -2,7 +2,7 @@ use Rattle.std.proofs.Common.{refl}
 use Rattle.ips_outside.proofs.Reading.{reads_as}
 use Rattle.ips_next.specs.declared.fault.NextFault.TheVariants as next
 use Rattle.ips_run.specs.declared.operation.DecideFault.TheVariants as decide
-use Rattle.ips_refusals.specs.Told.{unled_told}
+use Rattle.ips_changing.specs.Refusals.{unled_told}
 use Rattle.ips_state.specs.declared.state.State.{State}
 use Rattle.ips_changing.specs.Decides.{asked_of}
 use Rattle.ips_changing.proofs.Decided.{failed_told, nowhere, told_failed, unled_by}

@@ -11,7 +11,7 @@ returns-in-Ok-create-clause-decided g c = λ told a at begun none.
     let t = (g.F.Source.outside.state c.args.folder.now).held in
     let e = c.in-Ok-create.emitted in
     change_decided a t c.args.state.now e c.change_of_steps.result c.in-Ok.publisher c.change_of_steps.ensures begun c.in-Ok.ensures none
-    (subst (λ (m : ℕ). AreCreationSteps m c.args.state.now t e) (sym at) (c.in-Ok-create.ensures.created told))
+    (subst (λ (m : ℕ). AreCreationSteps m c.args.state.now t e) (sym at) (c.in-Ok-create.ensures.created told)) c.in-Ok-create.ensures.within
 
 pub returns-in-Ok-create-clause-planned : goal.returns-in-Ok-create-clause-planned
 returns-in-Ok-create-clause-planned g c = λ told a tells repository begun.

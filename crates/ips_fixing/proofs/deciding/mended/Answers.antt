@@ -6,7 +6,7 @@ pub returns-in-Ok-repair-clause-decided : goal.returns-in-Ok-repair-clause-decid
 returns-in-Ok-repair-clause-decided g c = λ told a at is_new.
     let t = (g.F.Source.outside.state c.args.folder.now).held in
     repaired_by a t c.args.new.now is_new c.args.want.now c.requires.meant (some_found c.args.found.now _ (c.requires.found told) c.requires.some) c.args.moment c.in-Ok-repair.emitted
-    c.in-Ok.publisher c.change_of_steps.result at c.in-Ok.ensures c.change_of_steps.ensures (c.in-Ok-repair.ensures.repaired told)
+    c.in-Ok.publisher c.change_of_steps.result at c.in-Ok.ensures c.change_of_steps.ensures (c.in-Ok-repair.ensures.repaired told) c.in-Ok-repair.ensures.within
 
 pub returns-in-Ok-repair-clause-planned : goal.returns-in-Ok-repair-clause-planned
 returns-in-Ok-repair-clause-planned g c = λ told a tells repository at is_new.

@@ -2,22 +2,14 @@
 
 ghost use Rattle.std.specs.Prelude.{List, ℕ, Bool, IsTrue, is_some};
 ghost use Rattle.ips_text.specs.declared.refusal.Or.TheVariants.{Bad};
-ghost use Rattle.ips_digest.specs.declared.name.PayloadName.{PayloadName};
-ghost use Rattle.ips_repo.specs.declared.fault.RepoFault.{RepoFault};
-ghost use Rattle.ips_commit.specs.Contents.{IsPayloadFault};
 ghost use Rattle.ips_state.specs.declared.state.State.{State};
 ghost use Rattle.ips_image_plan.specs.Accounts.{Given};
 ghost use Rattle.ips_request_plan.specs.Plans.{ComesOfPlan};
 ghost use Rattle.ips_request_plan.specs.declared.fault.PlanFault.{PlanFault};
-ghost use Rattle.ips_refusals.specs.Told.{payload_told, unplanned_told};
+ghost use Rattle.ips_changing.specs.Refusals.{unplanned_told};
 
-/// Each fault of a payload that is staged is told as an outcome.
-pub fn payload_faults_are_told()
-    ensures { (name : PayloadName) (why : RepoFault) → IsPayloadFault name why → IsTrue (is_some (payload_told name why)) }
-{}
-
-/// Each fault for which a request has no plan is told.
-pub fn plan_faults_are_told()
+// Each fault for which a request has no plan is told.
+pub(crate) fn plan_faults_are_told()
     ensures { (g : Given) (moment : List ℕ) (old new : State) (accept : Bool) (why : PlanFault)
         → ComesOfPlan g moment old new accept why → IsTrue (is_some (unplanned_told (Bad why))) }
 {}

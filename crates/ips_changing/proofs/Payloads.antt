@@ -1,4 +1,4 @@
--- Faults of payloads are told, those of what is staged and those of a plan.
+-- Each fault for which a request has no plan is told.
 use Rattle.std.proofs.Common.{◌≡◌, ◌⊎◌, ℕ, Bool, true, false, IsTrue, List, Option, Some, None, is_some, Ok, Err, inl, inr, refl, sym, ap, ◌∙◌}
 use Rattle.std.specs.Option.{option_map}
 use Rattle.ips_text.specs.declared.refusal.Or.TheVariants.{Bad}
@@ -8,7 +8,6 @@ use Rattle.ips_outside.specs.Image.{Entry, Image}
 use Rattle.ips_repo.specs.Payload.{IsDamage, IsOpenFault}
 use Rattle.ips_repo.specs.declared.fault.RepoFault.{RepoFault}
 use Rattle.ips_repo.specs.declared.fault.RepoFault.TheVariants as repo
-use Rattle.ips_commit.specs.Contents as staging
 use Rattle.ips_meaning.specs.declared.entry.Entry as meaning
 use Rattle.ips_meaning.specs.declared.fault.WantFault.{WantFault}
 use Rattle.ips_meaning.specs.declared.fault.WantFault.TheVariants as want
@@ -33,25 +32,13 @@ use Rattle.ips_request_plan.specs.Plans as plans
 use Rattle.ips_request_plan.specs.Plans.{ComesBetween, ComesOfPlan}
 use Rattle.ips_request_plan.specs.declared.fault.PlanFault.{PlanFault}
 use Rattle.ips_request_plan.specs.declared.fault.PlanFault.TheVariants as plan
-use Rattle.ips_refusals.specs.Told.{as_refused, payload_told, unplanned_told}
+use Rattle.ips_refusals.specs.Told.{as_refused}
+use Rattle.ips_changing.specs.Refusals.{payload_told, unplanned_told}
 use Rattle.ips_report.specs.declared.outcome.Outcome.{Outcome}
 
 -- it is told
 abbrev IsToldOf : PayloadName → RepoFault → Type 0
 IsToldOf name why = is_some (payload_told name why) ≡ true
-
--- ---- of what is staged
-
-pub staged_told : (name : PayloadName) (why : RepoFault) → staging.IsPayloadFault name why → is_some (payload_told name why) ≡ true
-staged_told name repo.NoRepository h = absurd h
-staged_told name (repo.BadCatalog fault) h = absurd h
-staged_told name repo.ManifestMissing h = absurd h
-staged_told name (repo.BadManifest fault) h = absurd h
-staged_told name repo.PayloadMissing h = refl
-staged_told name (repo.PayloadDamaged found) h = refl
-staged_told name (repo.Compressed found) h = refl
-staged_told name (repo.TooLarge which count) h = refl
-staged_told name repo.SourceFault h = absurd h
 
 -- ---- of account files
 
