@@ -1,0 +1,10 @@
+pub mod OneCommand
+pub mod Manifests
+pub mod Fetched
+pub mod Walks
+pub mod Needs
+pub mod Patterns
+pub mod Same
+pub mod Avoided
+pub mod Problems
+pub mod OneCause
