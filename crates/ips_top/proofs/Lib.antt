@@ -1,5 +1,10 @@
+mod Numbers
+mod Trials
+mod Deciding
 mod Endings
 mod Wider
 mod Runs
+mod Asking
 mod Commands
+mod Resumed
 pub mod Takers

@@ -6,10 +6,11 @@ ghost use Rattle.ips_kinds.specs.Tallies.{seen_by, taken};
 ghost use Rattle.ips_report.specs.Report.{report_text};
 ghost use Rattle.ips_asked.specs.Formed.{IsFormedCommand};
 ghost use Rattle.ips_telling.specs.Telling.{Tells};
-ghost use Rattle.ips_top.specs.Runs.{Does, Runs};
+ghost use Rattle.ips_top.specs.Runs.{Does, HasNumber, Runs};
 
 use crate::answering::answered;
 use crate::performing::performed;
+use crate::summing::tried;
 use ips_asked::commands_are_formed;
 use ips_changing::Changing;
 use ips_creating::Creating;
@@ -21,7 +22,7 @@ use ips_report::{Outcome, Status};
 use ips_showing::Showing;
 use ips_telling::finish;
 use ips_text::Or;
-use ips_words::{Command, Usage};
+use ips_words::{Command, Usage, What};
 use std::alloc::Global;
 
 /// Does what the words ask for at a moment, so many seconds after the first of January 1970, with the repository, the folder of the image and the spawner that are handed
@@ -66,6 +67,7 @@ pub fn perform<S: Source, F: Folder, P: Spawner, O: Sink>(
 ) -> Status
     requires moment { moment < 253370764800 }
     requires formed { IsFormedCommand command.now }
+    requires number { HasNumber command.now.what }
     requires takers { (s : Sort) → IsTrue (taken (seen_by sorts finished kinds.old.items) s) }
     ensures does { Does F.outside S.outside P.running command.now moment
         (record { folder = image.old; source = repo.old; spawner = spawner.old; counted = seen_by sorts finished kinds.old.items })
@@ -84,5 +86,8 @@ pub fn perform<S: Source, F: Folder, P: Spawner, O: Sink>(
     if let Some(fixing) = Fixing::of(command, moment) {
         return performed(alloc, &fixing, repo, image, spawner, kinds, out);
     }
-    finish(alloc, answered(alloc, &command.what), out)
+    match &command.what {
+        What::Gen { number } => finish(alloc, tried(alloc, *number, kinds), out),
+        what => finish(alloc, answered(alloc, what), out),
+    }
 }

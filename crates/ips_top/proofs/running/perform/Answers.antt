@@ -1,7 +1,7 @@
-use Rattle.std.proofs.Common.{sym}
+use Rattle.std.proofs.Common.{refl, sym}
 use Rattle.ips_showing.specs.Asked.{asked}
 use Rattle.ips_top.specs.Runs as does
-use Rattle.ips_top.proofs.Commands.{changes_so}
+use Rattle.ips_top.proofs.Commands.{changes_so, tried_told}
 use Rattle.ips_top.proofs.running.perform.Goals as goal
 
 pub returns-in-Some-clause-does : goal.returns-in-Some-clause-does
@@ -15,3 +15,8 @@ returns-in-Some-of-2-clause-does g c = does.Creates _ (sym c.in-Some-of-2.ensure
 
 pub returns-in-Some-of-3-clause-does : goal.returns-in-Some-of-3-clause-does
 returns-in-Some-of-3-clause-does g c = does.Fixes _ (sym c.in-Some-of-3.ensures) c.performed-in-Some-of-3.ensures.performed
+
+pub returns-in-Gen-clause-does : goal.returns-in-Gen-clause-does
+returns-in-Gen-clause-does g c =
+    does.Tries c.in-Gen.number c.in-Gen.is (tried_told c.in-Gen.number _ _ c.tried.result c.finish.result.outcome c.tried.ensures c.finish.ensures.outcome)
+    (record { folder = refl; source = refl; spawner = refl })

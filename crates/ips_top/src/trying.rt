@@ -1,0 +1,125 @@
+//! What each command comes to.
+
+ghost use Rattle.std.specs.Prelude.{◌≡◌, Bool, IfSome, IsTrue};
+ghost use Rattle.ips_outside.specs.Image.{Image};
+ghost use Rattle.ips_steps.specs.declared.step.Sort.{Sort};
+ghost use Rattle.ips_kinds.specs.Tallies.{seen_by, taken};
+ghost use Rattle.ips_report.specs.declared.outcome.Outcome.{Outcome as OutcomeMeant};
+ghost use Rattle.ips_run.specs.declared.operation.Decision.{Decision};
+ghost use Rattle.ips_top.specs.Carried.{AreFinished, TellsItsSteps, number_in};
+
+use crate::worded::command_of;
+use crate::world::World;
+use ips_changing::Changing;
+use ips_counts::Sorts;
+use ips_creating::Creating;
+use ips_kinds::Kind;
+use ips_report::Outcome;
+use ips_run::{Ending, Operation, perform};
+use ips_showing::Showing;
+use std::alloc::Global;
+
+/// The moment of each command: the beginning of the year 2024.
+const MOMENT: u64 = 1_704_067_200;
+
+/// A change that is done: how many packages it installs, and how many steps it has.
+#[derive(Clone, Copy, Drop)]
+pub(crate) struct Carried {
+    pub packages: u64,
+    pub steps: u64,
+}
+
+/// Makes an image; None where that isn't done.
+pub(crate) fn created(
+    alloc: Global,
+    world: &mut World,
+    kinds: &mut Vec<Box<dyn Kind>>,
+) -> Option<Carried>
+    requires takers { (s : Sort) → IsTrue (taken (seen_by sorts finished kinds.old.items) s) }
+    ensures { IfSome result (λ x. AreFinished x.steps (seen_by sorts finished kinds.old.items) (seen_by sorts finished kinds.new.items)) }
+{
+    let command = command_of(alloc, "-R image -s repository image-create -p gen")?;
+    match Creating::of(&command, MOMENT) {
+        Some(creating) => carry_out(alloc, &creating, world, kinds),
+        None => None,
+    }
+}
+
+/// Installs the package that requires all others; None where that isn't done.
+pub(crate) fn installed(
+    alloc: Global,
+    world: &mut World,
+    kinds: &mut Vec<Box<dyn Kind>>,
+) -> Option<Carried>
+    requires takers { (s : Sort) → IsTrue (taken (seen_by sorts finished kinds.old.items) s) }
+    ensures { IfSome result (λ x. AreFinished x.steps (seen_by sorts finished kinds.old.items) (seen_by sorts finished kinds.new.items)) }
+{
+    let command = command_of(alloc, "-R image -s repository install all")?;
+    match Changing::of(&command, MOMENT) {
+        Some(changing) => carry_out(alloc, &changing, world, kinds),
+        None => None,
+    }
+}
+
+// Carries out a change that tells its steps; None where it isn't done.
+fn carry_out<C: Operation<Outcome>>(
+    alloc: Global,
+    change: &C,
+    world: &mut World,
+    kinds: &mut Vec<Box<dyn Kind>>,
+) -> Option<Carried>
+    requires takers { (s : Sort) → IsTrue (taken (seen_by sorts finished kinds.old.items) s) }
+    requires tells { (tells : Bool) (repository t : Image) (d : Decision OutcomeMeant) → C.decides change.now tells repository t d → TellsItsSteps d }
+    ensures { IfSome result (λ x. AreFinished x.steps (seen_by sorts finished kinds.old.items) (seen_by sorts finished kinds.new.items)) }
+{
+    match perform(
+        alloc,
+        change,
+        &mut world.repository,
+        &mut world.folder,
+        &mut world.spawner,
+        kinds,
+    ) {
+        Ending::Done(Outcome::Done { counts, steps, .. }) => Some(Carried {
+            packages: counts.installs,
+            steps: number_of(&steps),
+        }),
+        _ => None,
+    }
+}
+
+// How many steps there are of all sorts together, as far as a number goes.
+fn number_of(steps: &Sorts) -> u64
+    ensures { result ≡ number_in steps.now }
+{
+    steps
+        .gone
+        .saturating_add(steps.fresh)
+        .saturating_add(steps.mode)
+        .saturating_add(steps.put)
+        .saturating_add(steps.link)
+        .saturating_add(steps.hard)
+}
+
+/// How much of the image isn't as its packages say; None where that isn't told.
+pub(crate) fn findings(
+    alloc: Global,
+    world: &mut World,
+    kinds: &mut Vec<Box<dyn Kind>>,
+) -> Option<u64>
+    requires takers { (s : Sort) → IsTrue (taken (seen_by sorts finished kinds.old.items) s) }
+    ensures { IfSome result (λ _. seen_by sorts finished kinds.new.items ≡ seen_by sorts finished kinds.old.items) }
+{
+    match perform(
+        alloc,
+        &Showing::Verify,
+        &mut world.repository,
+        &mut world.folder,
+        &mut world.spawner,
+        kinds,
+    ) {
+        Ending::Shown(_) => Some(0),
+        Ending::Refused(Outcome::Damaged { findings }) => Some(findings.len() as u64),
+        _ => None,
+    }
+}
