@@ -1,0 +1,9 @@
+mod Runs
+mod Told
+mod Changes
+mod Changing
+mod Creating
+mod Fixing
+mod Showing
+mod Meaning
+mod Answers
