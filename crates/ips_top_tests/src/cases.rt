@@ -2,10 +2,7 @@
 
 use crate::packages::repository;
 use crate::runs::rows_told;
-use crate::world::{Mishap, NONE, World, held, look_told, restore, run_line};
-use ips_folder::{Choice, Stop};
-use std::alloc::Global;
-use std::process::Abort;
+use crate::world::World;
 
 // An image that is made, and changed by commands, and what then stands in it.
 const COMMANDS: &str = r#"
@@ -136,10 +133,6 @@ put | var/pkg/avoid | =%0a ->
 run | -R i -s r list -> 1 "bad image var/pkg/avoid line 1\n"
 "#;
 
-fn world(rt: &impl Abort, alloc: Global) -> World {
-    World::new(alloc, repository(rt, alloc, "mark", "catalog"))
-}
-
 #[test]
 fn each_command_does_what_it_says(rt: HostRuntime) {
     let alloc = rt.alloc();
@@ -150,102 +143,8 @@ fn each_command_does_what_it_says(rt: HostRuntime) {
         (16u32, ACTIONS),
         (18u32, REFUSALS),
     ] {
-        let mut world = world(&rt, alloc);
+        let mut world = World::new(alloc, repository(&rt, alloc));
         let rows = rows_told(&rt, alloc, &mut world, table);
         assert!(rt; rows == count, "{rows} rows in place of {count}");
     }
-}
-
-// What is left of the names that a stop at this call touches.
-fn choice_at(call: u64) -> Choice {
-    match call % 5 {
-        0 => Choice::Before,
-        1 => Choice::After,
-        2 => Choice::Gone,
-        3 => Choice::Junk,
-        _ => Choice::Torn,
-    }
-}
-
-const FIX: &str = "-R i -s r fix";
-
-// What is seen of `x`: its file, one more name of it, and its record.
-fn seen(rt: &impl Abort, alloc: Global, world: &World) -> String {
-    let file = look_told(rt, alloc, world, "bin/a");
-    let other = look_told(rt, alloc, world, "bin/b");
-    let record = look_told(rt, alloc, world, "var/pkg/packages/x");
-    let front = record.as_str().split("\\n").nth(1).unwrap_or("none");
-    format!(in alloc; "{file} {other} {front}").expect(rt, "memory")
-}
-
-// An update that is stopped at this call, and the fixes behind it, of which so many are stopped too: how the last one ends, and what is then seen. None where the
-// update wasn't stopped.
-fn story(
-    rt: &impl Abort,
-    alloc: Global,
-    world: &mut World,
-    stop: Stop,
-    stops: u64,
-) -> Option<String> {
-    let stopped = Mishap {
-        stop: Some(stop),
-        ..NONE
-    };
-    let update = run_line(rt, alloc, world, "-R i -s r update", stopped);
-    if update.number == 0 {
-        return None;
-    }
-    for _ in 0..stops {
-        let _ = run_line(rt, alloc, world, FIX, stopped);
-    }
-    let fix = run_line(rt, alloc, world, FIX, NONE);
-    let again = run_line(rt, alloc, world, FIX, NONE);
-    let (seen, first, last) = (
-        seen(rt, alloc, world),
-        fix.taken.as_str(),
-        again.taken.as_str(),
-    );
-    Some(format!(in alloc; "{seen} {first:?} {last:?}").expect(rt, "memory"))
-}
-
-// How a story may end.
-const ENDINGS: [&str; 5] = [
-    r#"file 644 "abc" file 644 "abc" version 1 "nothing to do\n" "nothing to do\n""#,
-    r#"file 644 "abc" file 644 "abc" version 1 "recovered: leftovers cleared\n" "nothing to do\n""#,
-    r#"file 644 "" file 644 "" version 2 "recovered: new image\n" "nothing to do\n""#,
-    r#"file 644 "" file 644 "" version 2 "recovered: leftovers cleared\n" "nothing to do\n""#,
-    r#"file 644 "" file 644 "" version 2 "nothing to do\n" "nothing to do\n""#,
-];
-
-// How many calls an update is stopped at. Each fifth call is stopped with one choice, and each second update has a fix that is stopped too.
-fn stopped_at(rt: &impl Abort, alloc: Global, world: &mut World) -> u64 {
-    let before = held(rt, alloc, world);
-    for call in 1..200u64 {
-        restore(rt, alloc, world, &before);
-        let choice = choice_at(call);
-        match story(rt, alloc, world, Stop { call, choice }, call % 2) {
-            Some(ended) => {
-                let is_known = ENDINGS.iter().any(|ending| ended.as_str() == *ending);
-                assert!(rt; is_known, "{call}: {ended}");
-            }
-            None => return call,
-        }
-    }
-    0
-}
-
-#[test]
-fn a_stopped_update_is_undone_or_done(rt: HostRuntime) {
-    let alloc = rt.alloc();
-    let mut world = world(&rt, alloc);
-    let _ = run_line(
-        &rt,
-        alloc,
-        &mut world,
-        "-R i -s r image-create -p test",
-        NONE,
-    );
-    let _ = run_line(&rt, alloc, &mut world, "-R i -s r install x@1", NONE);
-    let calls = stopped_at(&rt, alloc, &mut world);
-    assert!(rt; calls > 20, "{calls} calls");
 }

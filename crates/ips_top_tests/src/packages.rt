@@ -1,8 +1,8 @@
 //! The repositories of the runs.
 
-use crate::rows::{bytes_of, column};
+use crate::rows::{bytes_of, column, text_named};
 use ips_outside::Tree;
-use ips_text::RelPath;
+use ips_text::{RelPath, quote};
 use std::alloc::Global;
 use std::process::Abort;
 
@@ -96,11 +96,27 @@ dir group=bin mode=0755 owner=root path=bad
 frob a=b
 "#;
 
+// Words of the rows: payloads, each named by its bytes, and who has a path.
+const WORDS: &str = "
+$old = c00dbbc9dadfbe1e232e93a729dd4752fade0abf
+$new = c2a6b03f190dfb2b4aa91f8af8d477a9bc3401dc
+$abc = a9993e364706816aba3e25717850c26c9cd0d89d
+$long_abc = ba7816bf8f01cfea414140de5dae2223b00361a396177a9cb410ff61f20015ad
+$none = da39a3ee5e6b4b0d3255bfef95601890afd80709
+$damaged = cb4cc28df0fdbe0ecf9d9662e294b118092a5735
+$gzip = 2222222222222222222222222222222222222222
+$lost = 3333333333333333333333333333333333333333
+$dir = group=bin mode=0755 owner=root
+$file = group=bin mode=0644 owner=root";
+
 // The payloads: the place of each, and its bytes as they are spelled.
 const PAYLOADS: &str = "
 publisher/test/file/a9/a9993e364706816aba3e25717850c26c9cd0d89d | abc
 publisher/test/file/cb/cb4cc28df0fdbe0ecf9d9662e294b118092a5735 | abe
 publisher/test/file/22/2222222222222222222222222222222222222222 | %1f%8b%08
+publisher/test/file/c0/c00dbbc9dadfbe1e232e93a729dd4752fade0abf | old
+publisher/test/file/c2/c2a6b03f190dfb2b4aa91f8af8d477a9bc3401dc | new
+publisher/test/file/ba/ba7816bf8f01cfea414140de5dae2223b00361a396177a9cb410ff61f20015ad | abc
 publisher/test/file/da/da39a3ee5e6b4b0d3255bfef95601890afd80709 |";
 
 // Adds a directory; one that stands already is left.
@@ -152,25 +168,79 @@ fn add_payloads(rt: &impl Abort, alloc: Global, tree: &mut Tree) {
     }
 }
 
-/// A repository with this mark and this catalog, as they are spelled; `mark` and `catalog` are those above.
-pub fn repository(rt: &impl Abort, alloc: Global, mark: &str, catalog: &str) -> Tree {
-    let mark = if mark == "mark" { MARK } else { mark };
-    let catalog = if catalog == "catalog" {
-        CATALOG
-    } else {
-        catalog
-    };
-    let mut tree = Tree::new(alloc);
-    add(
-        rt,
-        alloc,
-        &mut tree,
-        "pkg5.repository",
-        &bytes_of(rt, alloc, mark),
-    );
-    let place = "publisher/test/catalog/catalog.base.C";
-    add(rt, alloc, &mut tree, place, catalog.as_bytes());
+const CATALOG_PLACE: &str = "publisher/test/catalog/catalog.base.C";
+
+/// A repository of the packages above.
+pub fn repository(rt: &impl Abort, alloc: Global) -> Tree {
+    let mut tree = bare(rt, alloc);
+    add(rt, alloc, &mut tree, CATALOG_PLACE, CATALOG.as_bytes());
     add_manifests(rt, alloc, &mut tree, MANIFESTS);
+    tree
+}
+
+/// A repository of payloads, without a catalog.
+pub fn bare(rt: &impl Abort, alloc: Global) -> Tree {
+    let mut tree = Tree::new(alloc);
+    add(rt, alloc, &mut tree, "pkg5.repository", MARK.as_bytes());
     add_payloads(rt, alloc, &mut tree);
     tree
+}
+
+/// Takes away what stands at a place, and adds a file there.
+pub fn set(rt: &impl Abort, alloc: Global, tree: &mut Tree, place: &str, bytes: &[u8]) {
+    let path = RelPath::parse(alloc, place.as_bytes())
+        .ok()
+        .expect(rt, "what is spelled");
+    tree.remove(&path);
+    add(rt, alloc, tree, place, bytes);
+}
+
+/// Has the catalog offer these: a stem and its versions, which blanks divide, and `;` between stems.
+pub fn offer(rt: &impl Abort, alloc: Global, tree: &mut Tree, offered: &str) {
+    let mut text = String::from_str(alloc, "{\"test\": {").expect(rt, "memory");
+    for (number, stem) in offered.split(';').enumerate() {
+        if number > 0 {
+            text.push_str(", ").expect(rt, "memory");
+        }
+        write_stem(rt, &mut text, stem.trim());
+    }
+    text.push_str("}}").expect(rt, "memory");
+    set(rt, alloc, tree, CATALOG_PLACE, text.as_bytes());
+}
+
+// Writes what the catalog says of a stem.
+fn write_stem(rt: &impl Abort, text: &mut String, offered: &str) {
+    for (number, word) in offered.split(' ').enumerate() {
+        match number {
+            0 => write!(text, "\"{word}\": ["),
+            1 => write!(text, "{{\"version\": \"{word}\"}}"),
+            _ => write!(text, ", {{\"version\": \"{word}\"}}"),
+        }
+        .expect(rt, "memory");
+    }
+    text.push_str("]").expect(rt, "memory");
+}
+
+/// Adds the manifest of a package: its stem and version, which `@` divides, and its lines, which `;` divides. A word that begins with
+/// `$` is one of those above.
+pub fn publish(rt: &impl Abort, alloc: Global, tree: &mut Tree, named: &str, lines: &str) {
+    let (stem, version) = named.split_once('@').expect(rt, "a version");
+    let stem = quote(alloc, stem.as_bytes()).expect(rt, "memory");
+    let stem = stem.as_str();
+    let place = format!(in alloc; "publisher/test/pkg/{stem}/{version}").expect(rt, "memory");
+    let text = manifest_of(rt, alloc, lines);
+    set(rt, alloc, tree, place.as_str(), text.as_bytes());
+}
+
+// The lines of a manifest.
+fn manifest_of(rt: &impl Abort, alloc: Global, lines: &str) -> String {
+    let mut text = String::new(alloc);
+    for line in lines.split(';') {
+        for word in line.trim().split(' ') {
+            let word = text_named(WORDS, word).unwrap_or(word);
+            write!(text, "{word} ").expect(rt, "memory");
+        }
+        text.push_str("\n").expect(rt, "memory");
+    }
+    text
 }

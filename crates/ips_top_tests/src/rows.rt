@@ -34,16 +34,22 @@ pub fn text_named<'a>(table: &'a str, name: &str) -> Option<&'a str> {
     None
 }
 
-// A manifest's lines, which `;` divides in a column.
-pub fn lines_of(rt: &impl Abort, alloc: Global, column: &str) -> String {
-    let mut lines = String::new(alloc);
-    for (number, line) in column.split(';').enumerate() {
-        if number > 0 {
-            lines.push_str("\n").expect(rt, "memory");
+// The text that is spelled so: `(d*300)` is `d`, three hundred times.
+pub fn expanded(rt: &impl Abort, alloc: Global, spelled: &str) -> String {
+    let mut text = String::new(alloc);
+    for (part, spelled) in spelled.split('(').enumerate() {
+        let mut plain = spelled;
+        if part > 0 {
+            let (repeated, behind) = spelled.split_once(')').expect(rt, "an end");
+            let (piece, times) = repeated.split_once('*').expect(rt, "a number of times");
+            for _ in 0..number(rt, times) {
+                text.push_str(piece).expect(rt, "memory");
+            }
+            plain = behind;
         }
-        lines.push_str(line.trim()).expect(rt, "memory");
+        text.push_str(plain).expect(rt, "memory");
     }
-    lines
+    text
 }
 
 // The bytes that are spelled so: each `%` with two digits is one byte.

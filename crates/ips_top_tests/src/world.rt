@@ -2,13 +2,14 @@
 
 ghost use Rattle.std.specs.Prelude.{◌<◌};
 
-use crate::packages::add;
+use crate::outcomes::ending_of;
+use crate::packages::{add, bare, offer, publish, set};
 use crate::rows::bytes_of;
 use ips_folder::{Folder, MemFolder, Stop};
 use ips_kinds::{FreshKind, GoneKind, HardKind, Kind, LinkKind, ModeKind, PutKind};
 use ips_outside::{Look, MemSink, MemSource, MemSpawner, Sink, Source, Spawner, Tree};
 use ips_report::Status;
-use ips_text::RelPath;
+use ips_text::{RelPath, octal};
 use ips_top::run;
 use std::alloc::{AllocError, Global};
 use std::process::Abort;
@@ -16,13 +17,16 @@ use std::process::Abort;
 /// The moment of each run: 20240102T030405Z.
 const MOMENT: u64 = 1704164645;
 
-/// What a repository and an image hold, how the next actuator ends, and what the last run ran.
+/// What a repository and an image hold, how the next actuator ends, what the last run ran and how many steps it laid, and in which ways the runs ended: bit by bit, by
+/// the numbers of `outcomes`.
 #[derive(Drop)]
 pub struct World {
     repo: Tree,
     image: Tree,
     status: u8,
     ran: String,
+    laid: u64,
+    ended: u64,
 }
 
 impl World {
@@ -33,8 +37,25 @@ impl World {
             image: Tree::new(alloc),
             status: 0,
             ran: String::new(alloc),
+            laid: 0,
+            ended: 0,
         }
     }
+
+    /// Whether a run ended in the way of this number.
+    pub fn has_ended(&self, ending: u32) -> bool {
+        self.ended & bit_of(ending) != 0
+    }
+
+    /// How many steps the last run laid.
+    pub fn laid(&self) -> u64 {
+        self.laid
+    }
+}
+
+// The bit of a number.
+fn bit_of(number: u32) -> u64 {
+    1u64.checked_shl(number).unwrap_or(0)
 }
 
 /// What happens to a run: a call on the repository, on the image, on the sink or on the spawner fails, or the run is stopped.
@@ -67,6 +88,9 @@ pub struct Run {
 // The words of a line, which blanks divide; `<empty>` is the word of no letters.
 fn words_of(rt: &impl Abort, alloc: Global, line: &str) -> Vec<String> {
     let mut words = Vec::new(alloc);
+    if line.is_empty() {
+        return words;
+    }
     for word in line.split(' ') {
         let word = if word == "<empty>" { "" } else { word };
         words
@@ -81,7 +105,7 @@ fn one(rt: &impl Abort, alloc: Global, call: u64) -> Vec<u64> {
     vec![in alloc; call].expect(rt, "memory")
 }
 
-// How the top call ends, with one kind for each sort of step.
+// How the top call ends, with one kind for each sort of step, and how many steps these laid.
 fn status_of<S: Source, F: Folder, P: Spawner, O: Sink>(
     alloc: Global,
     words: &[String],
@@ -90,7 +114,7 @@ fn status_of<S: Source, F: Folder, P: Spawner, O: Sink>(
     image: &mut F,
     spawner: &mut P,
     out: &mut O,
-) -> Result<Status, AllocError>
+) -> Result<(Status, u64), AllocError>
     requires moment { moment < 253370764800 }
 {
     let mut kinds: Vec<Box<dyn Kind>> = Vec::new(alloc);
@@ -101,7 +125,17 @@ fn status_of<S: Source, F: Folder, P: Spawner, O: Sink>(
     kinds.push(Box::new(alloc, LinkKind::new())?)?;
     kinds.push(Box::new(alloc, HardKind::new())?)?;
     let status = run(alloc, words, moment, repo, image, spawner, &mut kinds, out);
-    Ok(status)
+    let laid = laid_by(&kinds);
+    Ok((status, laid))
+}
+
+// How many steps were laid by these kinds.
+fn laid_by(kinds: &[Box<dyn Kind>]) -> u64 {
+    let mut laid = 0u64;
+    for kind in kinds {
+        laid = laid.saturating_add(kind.tally());
+    }
+    laid
 }
 
 // Runs the words over a folder.
@@ -120,7 +154,7 @@ fn run_over(
         rt, "memory",
     );
     let mut out = MemSink::new(alloc, 5000, one(rt, alloc, mishap.sink)).expect(rt, "memory");
-    let status = status_of(
+    let (status, laid) = status_of(
         alloc,
         words,
         MOMENT,
@@ -130,6 +164,8 @@ fn run_over(
         &mut out,
     )
     .expect(rt, "memory");
+    world.laid = laid;
+    world.ended |= bit_of(ending_of(&status.outcome));
     world.ran = String::from_utf8_lossy(alloc, spawner.ran()).expect(rt, "memory");
     Run {
         number: status.number(),
@@ -207,6 +243,101 @@ pub fn put(rt: &impl Abort, alloc: Global, world: &mut World, path: &str, bytes:
     world.image.remove(&path_of(rt, alloc, path));
     let bytes = bytes_of(rt, alloc, bytes);
     add(rt, alloc, &mut world.image, path, &bytes);
+}
+
+/// Begins anew: an image that holds nothing, and a repository that offers nothing.
+pub fn begin(rt: &impl Abort, alloc: Global, world: &mut World) {
+    world.repo = bare(rt, alloc);
+    world.image = Tree::new(alloc);
+}
+
+/// Adds a symbolic link, in the place of what stands there.
+pub fn put_link(rt: &impl Abort, alloc: Global, world: &mut World, path: &str, target: &str) {
+    let path = path_of(rt, alloc, path);
+    world.image.remove(&path);
+    world
+        .image
+        .link(alloc, &path, target.as_bytes())
+        .ok()
+        .expect(rt, "a link");
+}
+
+/// Adds what is neither a directory nor a file nor a link.
+pub fn put_other(rt: &impl Abort, alloc: Global, world: &mut World, path: &str) {
+    let path = path_of(rt, alloc, path);
+    world.image.other(alloc, &path).ok().expect(rt, "no fault");
+}
+
+/// Adds a directory, in the place of what stands there.
+pub fn put_dir(rt: &impl Abort, alloc: Global, world: &mut World, path: &str) {
+    let path = path_of(rt, alloc, path);
+    world.image.remove(&path);
+    world
+        .image
+        .dir(alloc, &path, 0o755)
+        .ok()
+        .expect(rt, "a directory");
+}
+
+/// Adds a further name of a file, in the place of what stands there.
+pub fn put_hard(rt: &impl Abort, alloc: Global, world: &mut World, path: &str, to: &str) {
+    let path = path_of(rt, alloc, path);
+    world.image.remove(&path);
+    let to = path_of(rt, alloc, to);
+    world
+        .image
+        .hard(alloc, &path, &to)
+        .ok()
+        .expect(rt, "a file");
+}
+
+/// Sets the mode of what stands at a path: its digits are octal.
+pub fn put_mode(rt: &impl Abort, alloc: Global, world: &mut World, path: &str, digits: &str) {
+    let mode = octal(digits.as_bytes()).expect(rt, "a mode") % 4096;
+    world.image.set_mode(&path_of(rt, alloc, path), mode);
+}
+
+/// Marks a directory as one that holds names that are no paths.
+pub fn mark(rt: &impl Abort, alloc: Global, world: &mut World, path: &str) {
+    let is_dir = world.image.mark_foreign(&path_of(rt, alloc, path));
+    assert!(rt; is_dir, "{path} is no directory");
+}
+
+/// Puts a file into the repository, in the place of what stands there.
+pub fn stock(rt: &impl Abort, alloc: Global, world: &mut World, place: &str, bytes: &str) {
+    let bytes = bytes_of(rt, alloc, bytes);
+    set(rt, alloc, &mut world.repo, place, &bytes);
+}
+
+/// Puts a file of so many bytes into the repository, in the place of what stands there.
+pub fn swell(rt: &impl Abort, alloc: Global, world: &mut World, place: &str, count: u64) {
+    let count = usize::try_from(count).ok().expect(rt, "a size");
+    let bytes = vec![in alloc; b'#'; count].expect(rt, "memory");
+    set(rt, alloc, &mut world.repo, place, &bytes);
+}
+
+/// Takes a file out of the repository.
+pub fn lose(rt: &impl Abort, alloc: Global, world: &mut World, place: &str) {
+    world.repo.remove(&path_of(rt, alloc, place));
+}
+
+/// Adds the manifest of a package to the repository.
+pub fn put_package(rt: &impl Abort, alloc: Global, world: &mut World, named: &str, lines: &str) {
+    publish(rt, alloc, &mut world.repo, named, lines);
+}
+
+/// Adds the manifest of a package of a directory and so many in it.
+pub fn put_many(rt: &impl Abort, alloc: Global, world: &mut World, named: &str, count: u64) {
+    let mut lines = String::from_str(alloc, "dir path=d $dir").expect(rt, "memory");
+    for number in 0..count {
+        write!(lines, "; dir path=d/{number} $dir").expect(rt, "memory");
+    }
+    publish(rt, alloc, &mut world.repo, named, lines.as_str());
+}
+
+/// Has the catalog of the repository offer these.
+pub fn put_catalog(rt: &impl Abort, alloc: Global, world: &mut World, offered: &str) {
+    offer(rt, alloc, &mut world.repo, offered);
 }
 
 /// Takes away what stands in the image at a path.

@@ -1,0 +1,327 @@
+//! Runs that are stopped, and runs in which a call fails, and the fixes behind them.
+
+use crate::packages::{bare, repository};
+use crate::runs::{mishap_of, rows_told};
+use crate::world::*;
+use ips_folder::{Choice, Stop};
+use std::alloc::Global;
+use std::process::Abort;
+
+const FIX: &str = "-R i -s r fix";
+
+const UPDATE: &str = "-R i -s r update";
+
+// An image with the first version of `x`, where the second is offered.
+fn before(rt: &impl Abort, alloc: Global) -> World {
+    let mut world = World::new(alloc, repository(rt, alloc));
+    let _ = run_line(
+        rt,
+        alloc,
+        &mut world,
+        "-R i -s r image-create -p test",
+        NONE,
+    );
+    let _ = run_line(rt, alloc, &mut world, "-R i -s r install x@1", NONE);
+    world
+}
+
+// What is left of the names that a stop at this call touches.
+fn choice_at(call: u64) -> Choice {
+    match call % 5 {
+        0 => Choice::Before,
+        1 => Choice::After,
+        2 => Choice::Gone,
+        3 => Choice::Junk,
+        _ => Choice::Torn,
+    }
+}
+
+// A stop at this call.
+fn stopped(call: u64, choice: Choice) -> Mishap {
+    Mishap {
+        stop: Some(Stop { call, choice }),
+        ..NONE
+    }
+}
+
+// What is seen of `x`: its file, one more name of it, and its record.
+fn seen(rt: &impl Abort, alloc: Global, world: &World) -> String {
+    let file = look_told(rt, alloc, world, "bin/a");
+    let other = look_told(rt, alloc, world, "bin/b");
+    let record = look_told(rt, alloc, world, "var/pkg/packages/x");
+    let front = record.as_str().split("\\n").nth(1).unwrap_or("none");
+    format!(in alloc; "{file} {other} {front}").expect(rt, "memory")
+}
+
+// A fix, and one more: how they end, and what is then seen.
+fn fixed(rt: &impl Abort, alloc: Global, world: &mut World) -> String {
+    let fix = run_line(rt, alloc, world, FIX, NONE);
+    let again = run_line(rt, alloc, world, FIX, NONE);
+    let (seen, first, last) = (
+        seen(rt, alloc, world),
+        fix.taken.as_str(),
+        again.taken.as_str(),
+    );
+    format!(in alloc; "{seen} {first:?} {last:?}").expect(rt, "memory")
+}
+
+// How a story may end.
+const ENDINGS: [&str; 5] = [
+    r#"file 644 "abc" file 644 "abc" version 1 "nothing to do\n" "nothing to do\n""#,
+    r#"file 644 "abc" file 644 "abc" version 1 "recovered: leftovers cleared\n" "nothing to do\n""#,
+    r#"file 644 "" file 644 "" version 2 "recovered: new image\n" "nothing to do\n""#,
+    r#"file 644 "" file 644 "" version 2 "recovered: leftovers cleared\n" "nothing to do\n""#,
+    r#"file 644 "" file 644 "" version 2 "nothing to do\n" "nothing to do\n""#,
+];
+
+// An update that is stopped at this call, and the fixes behind it, of which so many are stopped too. False where the update wasn't stopped.
+fn is_stopped_at(rt: &impl Abort, alloc: Global, world: &mut World, call: u64, stops: u64) -> bool {
+    let stop = stopped(call, choice_at(call));
+    let update = run_line(rt, alloc, world, UPDATE, stop);
+    if update.number == 0 {
+        return false;
+    }
+    for _ in 0..stops {
+        let _ = run_line(rt, alloc, world, FIX, stop);
+    }
+    let ended = fixed(rt, alloc, world);
+    let is_known = ENDINGS.iter().any(|ending| ended.as_str() == *ending);
+    assert!(rt; is_known, "{call}: {ended}");
+    true
+}
+
+// Each fifth call is stopped with one choice, and each second update has a fix that is stopped too.
+#[test]
+fn a_stopped_update_is_undone_or_done(rt: HostRuntime) {
+    let alloc = rt.alloc();
+    let mut world = before(&rt, alloc);
+    let image = held(&rt, alloc, &world);
+    for call in 1..200u64 {
+        restore(&rt, alloc, &mut world, &image);
+        if !is_stopped_at(&rt, alloc, &mut world, call, call % 2) {
+            assert!(rt; call > 60, "{call} calls");
+            return;
+        }
+    }
+    panic!(rt; "each call is stopped");
+}
+
+// Three fixes of an open gate are stopped at one call, each with another choice, and the fourth isn't. False where the first wasn't stopped.
+fn is_fix_stopped_at(rt: &impl Abort, alloc: Global, world: &mut World, call: u64) -> bool {
+    let fix = run_line(rt, alloc, world, FIX, stopped(call, Choice::Gone));
+    if fix.number == 0 {
+        return false;
+    }
+    let _ = run_line(rt, alloc, world, FIX, stopped(call, Choice::Torn));
+    let _ = run_line(rt, alloc, world, FIX, stopped(call, Choice::Junk));
+    let ended = fixed(rt, alloc, world);
+    let is_new = ENDINGS
+        .iter()
+        .skip(2)
+        .any(|ending| ended.as_str() == *ending);
+    assert!(rt; is_new, "{call}: {ended}");
+    true
+}
+
+// The update is stopped behind the second of its four steps.
+#[test]
+fn a_fix_may_be_stopped_too(rt: HostRuntime) {
+    let alloc = rt.alloc();
+    let mut world = before(&rt, alloc);
+    let _ = run_line(&rt, alloc, &mut world, UPDATE, stopped(70, Choice::Junk));
+    assert!(rt; world.laid() == 2, "two steps");
+    let image = held(&rt, alloc, &world);
+    for call in 1..200u64 {
+        restore(&rt, alloc, &mut world, &image);
+        if !is_fix_stopped_at(&rt, alloc, &mut world, call) {
+            assert!(rt; call > 30, "{call} calls");
+            return;
+        }
+    }
+    panic!(rt; "each call is stopped");
+}
+
+// What an update may tell in which a call fails, `part` where the report isn't told whole, and how the fixes behind it end.
+const TOLD: [&str; 8] = [
+    r#""source fault\n" file 644 "abc" file 644 "abc" version 1 "nothing to do\n" "nothing to do\n""#,
+    r#""source fault\n" file 644 "abc" file 644 "abc" version 1 "recovered: leftovers cleared\n" "nothing to do\n""#,
+    r#""folder fault: unchanged\n" file 644 "abc" file 644 "abc" version 1 "nothing to do\n" "nothing to do\n""#,
+    r#""folder fault: unchanged\n" file 644 "abc" file 644 "abc" version 1 "recovered: leftovers cleared\n" "nothing to do\n""#,
+    r#""folder fault: unfinished\n" file 644 "" file 644 "" version 2 "recovered: new image\n" "nothing to do\n""#,
+    r#""folder fault: unfinished\n" file 644 "" file 644 "" version 2 "recovered: leftovers cleared\n" "nothing to do\n""#,
+    r#""folder fault: unfinished\n" file 644 "" file 644 "" version 2 "nothing to do\n" "nothing to do\n""#,
+    r#""part" file 644 "" file 644 "" version 2 "nothing to do\n" "nothing to do\n""#,
+];
+
+// What a run reported, or `part`.
+fn report_of(run: &Run) -> &str {
+    if run.is_told {
+        return run.taken.as_str();
+    }
+    "part"
+}
+
+// Whether the call of this mishap was made by the update, and failed.
+fn is_failed_by(rt: &impl Abort, alloc: Global, world: &mut World, mishap: Mishap) -> bool {
+    let update = run_line(rt, alloc, world, UPDATE, mishap);
+    if update.number == 0 {
+        return false;
+    }
+    let taken = report_of(&update);
+    let ended = fixed(rt, alloc, world);
+    let ended = ended.as_str();
+    let told = format!(in alloc; "{taken:?} {ended}").expect(rt, "memory");
+    let is_known = TOLD.iter().any(|known| told.as_str() == *known);
+    assert!(rt; is_known, "{told}");
+    true
+}
+
+// The first call on this thing that an update doesn't make; each before it is made to fail, alone.
+fn failed(rt: &impl Abort, alloc: Global, thing: &str) -> u64 {
+    let mut world = before(rt, alloc);
+    let image = held(rt, alloc, &world);
+    for call in 1..200u64 {
+        restore(rt, alloc, &mut world, &image);
+        if !is_failed_by(rt, alloc, &mut world, mishap_of(rt, thing, call)) {
+            return call;
+        }
+    }
+    0
+}
+
+#[test]
+fn each_call_on_the_image_that_fails_is_told(rt: HostRuntime) {
+    let alloc = rt.alloc();
+    let calls = failed(&rt, alloc, "folder");
+    assert!(rt; calls > 60, "{calls} calls");
+}
+
+#[test]
+fn each_other_call_that_fails_is_told(rt: HostRuntime) {
+    let alloc = rt.alloc();
+    for (thing, least) in [("source", 5u64), ("sink", 1u64)] {
+        let calls = failed(&rt, alloc, thing);
+        assert!(rt; calls > least, "{calls} calls on the {thing}");
+    }
+}
+
+// An image whose records are of the first format.
+const FIRST_FORMAT: &str = "
+put | var/pkg/image | image 1%0apublisher test%0a ->
+put | var/pkg/installed | a@1%0a ->
+put | var/pkg/manifests/a | dir group=bin mode=0755 owner=root path=a%0a ->
+put | var/pkg/avoid | ->
+put | var/pkg/freeze | ->
+put | var/pkg/mediators | ->
+put | var/pkg/history | ->
+put | var/pkg/owners | 0 2 root bin a%0a ->
+put | var/pkg/drivers | ->
+dir | a ->";
+
+// The change of format is stopped at this call, and then fixed, where a fix can be: what is then the first line of the image's record, and whether all is there.
+// False where it wasn't stopped.
+fn is_format_stopped_at(rt: &impl Abort, alloc: Global, world: &mut World, call: u64) -> bool {
+    let stop = stopped(call, choice_at(call));
+    let run = run_line(rt, alloc, world, "-R i -s r update-format", stop);
+    if run.number == 0 {
+        return false;
+    }
+    let _ = run_line(rt, alloc, world, FIX, NONE);
+    let list = run_line(rt, alloc, world, "-R i -s r list", NONE);
+    let verify = run_line(rt, alloc, world, "-R i -s r verify", NONE);
+    let image = look_told(rt, alloc, world, "var/pkg/image");
+    let (list, verify, image) = (list.taken.as_str(), verify.taken.as_str(), image.as_str());
+    assert!(rt;
+        list == "a@1\n" && verify == "ok\n",
+        "{call}: {list} {verify}"
+    );
+    let is_first = image == r#"file 644 "image 1\npublisher test\n""#;
+    let is_second = image == r#"file 644 "image 2\npublisher test\n""#;
+    assert!(rt; is_first || is_second, "{call}: {image}");
+    true
+}
+
+#[test]
+fn a_stopped_change_of_format_is_undone_or_done(rt: HostRuntime) {
+    let alloc = rt.alloc();
+    let mut world = World::new(alloc, bare(&rt, alloc));
+    let rows = rows_told(&rt, alloc, &mut world, FIRST_FORMAT);
+    assert!(rt; rows == 10, "{rows} rows");
+    let image = held(&rt, alloc, &world);
+    for call in 1..200u64 {
+        restore(&rt, alloc, &mut world, &image);
+        if !is_format_stopped_at(&rt, alloc, &mut world, call) {
+            assert!(rt; call > 60, "{call} calls");
+            return;
+        }
+    }
+    panic!(rt; "each call is stopped");
+}
+
+// A package of three thousand directories, in three thousand and four steps. After each thousand a mark is made.
+
+// An installation that is stopped at the first call on step 2,301, or as the third mark is made, which is left.
+const MARKED: &str = r#"
+does | image-create -p test -> 0 done
+catalog | many 1 ->
+many | many@1 | 3000 ->
+with | -R i -s r install many | before 7664 -> 1 "folder fault: unfinished\n"
+laid -> 2300
+look | var/pkg/done.2 -> file 600 ""
+look | var/pkg/done.3 -> absent
+does | fix -> 0 recovered: new image
+laid -> 1004
+look | var/pkg/done.1 -> absent
+look | var/pkg/done.2 -> absent
+look | d/2999 -> dir 755
+begin ->
+does | image-create -p test -> 0 done
+catalog | many 1 ->
+many | many@1 | 3000 ->
+with | -R i -s r install many | after 9067 -> 1 "folder fault: unfinished\n"
+laid -> 3000
+look | var/pkg/done.3 -> file 600 ""
+does | fix -> 0 recovered: new image
+laid -> 4
+"#;
+
+// One of which the third mark isn't left, and one where another mark is found that doesn't follow the first.
+const UNMARKED: &str = r#"
+does | image-create -p test -> 0 done
+catalog | many 1 ->
+many | many@1 | 3000 ->
+with | -R i -s r install many | gone 9067 -> 1 "folder fault: unfinished\n"
+laid -> 3000
+look | var/pkg/done.2 -> file 600 ""
+look | var/pkg/done.3 -> absent
+does | fix -> 0 recovered: new image
+laid -> 1004
+begin ->
+does | image-create -p test -> 0 done
+catalog | many 1 ->
+many | many@1 | 3000 ->
+with | -R i -s r install many | before 6060 -> 1 "folder fault: unfinished\n"
+laid -> 1500
+look | var/pkg/done.1 -> file 600 ""
+put | var/pkg/done.3 | ->
+does | fix -> 0 recovered: new image
+laid -> 2004
+look | var/pkg/done.3 -> absent
+look | d/2999 -> dir 755
+"#;
+
+#[test]
+fn a_fix_goes_on_behind_the_marks(rt: HostRuntime) {
+    let alloc = rt.alloc();
+    let mut world = World::new(alloc, bare(&rt, alloc));
+    let rows = rows_told(&rt, alloc, &mut world, MARKED);
+    assert!(rt; rows == 21, "{rows} rows");
+}
+
+#[test]
+fn a_fix_goes_by_the_marks_that_stand(rt: HostRuntime) {
+    let alloc = rt.alloc();
+    let mut world = World::new(alloc, bare(&rt, alloc));
+    let rows = rows_told(&rt, alloc, &mut world, UNMARKED);
+    assert!(rt; rows == 21, "{rows} rows");
+}
