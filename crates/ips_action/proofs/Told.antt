@@ -31,13 +31,13 @@ use Rattle.ips_action.proofs.ReadBack.{are_words, said_back, one_action}
 abbrev read : Line → Result Line (Stop Part)
 read line = Ok line
 
-line_same : (a b : Line) → read a ≡ read b → a ≡ b
+pub line_same : (a b : Line) → read a ≡ read b → a ≡ b
 line_same a b e = cc
 
-one_written : (a b : Line) → IsWrittenLine a → IsWrittenLine b → line_written a ≡ line_written b → a ≡ b
+pub one_written : (a b : Line) → IsWrittenLine a → IsWrittenLine b → line_written a ≡ line_written b → a ≡ b
 one_written a b ha hb e = line_same a b (sym (line_only a ha) ∙ ap read_line e ∙ line_only b hb)
 
-one_says : (s t : Said) (text : List ℕ) → Says s text → Says t text → s ≡ t
+pub one_says : (s t : Said) (text : List ℕ) → Says s text → Says t text → s ≡ t
 one_says s t text a b = sym a.2 ∙ ap words_of (one_written a.0 b.0 a.1 b.1 (sym a.3 ∙ b.3)) ∙ b.2
 
 pub one_meaning : (text : List ℕ) (a b : Fields) → Means text a → Means text b → a ≡ b
@@ -97,7 +97,7 @@ fault_only text (words.BadWord place) h = go (read_line text) refl
 line_of : (said : Said) (text : List ℕ) → Says said text → IsLine text
 line_of said text says = (says.0, says.1, says.3)
 
-no_line_at : (text : List ℕ) (fault : WordFault) → IsFault text fault → IsLine text → ⊥
+pub no_line_at : (text : List ℕ) (fault : WordFault) → IsFault text fault → IsLine text → ⊥
 no_line_at text (words.OpenQuote place) h = h.2
 no_line_at text (words.BadWord place) h = h.2
 

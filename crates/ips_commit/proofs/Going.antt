@@ -32,7 +32,7 @@ use Rattle.ips_commit.proofs.Owing.{nodes, ready_text, safe_left}
 
 -- ---- steps in two parts
 
-counted_on : (first second : List Step) (kinds : List Carrier) → all_counted (first ++ second) kinds ≡ all_counted second (all_counted first kinds)
+pub counted_on : (first second : List Step) (kinds : List Carrier) → all_counted (first ++ second) kinds ≡ all_counted second (all_counted first kinds)
 counted_on [] second kinds = refl
 counted_on (s ∷ first) second kinds = counted_on first second (counted (sort_of s) kinds)
 

@@ -53,7 +53,7 @@ rule_is Deliverers = refl
 rule_is Below = refl
 rule_is Target = refl
 
-same_rule : (r s : Rule) → rule_rank r ≡ rule_rank s → r ≡ s
+pub same_rule : (r s : Rule) → rule_rank r ≡ rule_rank s → r ≡ s
 same_rule r s e = sym (rule_is r) ∙ ap rule_at e ∙ rule_is s
 
 sort_at : ℕ → Sort
@@ -79,7 +79,7 @@ same_sort r s e = sym (sort_is r) ∙ ap sort_at e ∙ sort_is s
 rank_le : (r s : ℕ) → (s < r → ⊥) → nat_cmp r s ≢ Greater
 rank_le r s above e = above (subst (λ (o : Ordering). MatchOrdering o (r < s) (r ≡ s) (s < r)) e (ranks r s))
 
-key_total : IsTotalOrder key_cmp
+pub key_total : IsTotalOrder key_cmp
 key_total = then_total (on_total (λ (k : Key). k.text) nat_list_cmp_total) (on_total (λ (k : Key). sort_rank k.sort) nat_cmp_total)
 
 key_tie : (k l : Key) → l ≡ k → key_cmp k l ≡ Equal

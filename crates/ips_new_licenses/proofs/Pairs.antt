@@ -20,7 +20,7 @@ Pair = Bor (List ℕ) × Bor (List ℕ)
 abbrev pair_cmp : Pair → Pair → Ordering
 pair_cmp a b = ordering_then (slice_cmp nat_cmp a.0.now b.0.now) (slice_cmp nat_cmp a.1.now b.1.now)
 
-both_equal : (a b : Ordering) → ordering_then a b ≡ Equal → (a ≡ Equal) × (b ≡ Equal)
+pub both_equal : (a b : Ordering) → ordering_then a b ≡ Equal → (a ≡ Equal) × (b ≡ Equal)
 both_equal Less b is = cc
 both_equal Equal b is = (refl, is)
 both_equal Greater b is = cc

@@ -6,16 +6,14 @@ use Rattle.ips_text.specs.declared.refusal.Stop.{Stop}
 use Rattle.ips_line.specs.declared.fault.Part.{Part}
 use Rattle.ips_line.specs.declared.fault.WordFault.{WordFault}
 use Rattle.ips_line.specs.declared.fault.WordFault.TheVariants as words
-use Rattle.ips_line.specs.Line.{Line, IsFault, IsLine, IsWrittenLine, Said, Says, line_written, words_of}
-use Rattle.ips_line.specs.Reading.{read_line}
-use Rattle.ips_line.proofs.Whole.{line_only}
+use Rattle.ips_line.specs.Line.{Line, IsFault, IsLine, Said}
 use Rattle.ips_action.specs.Action.{Fields}
 use Rattle.ips_action.specs.Meaning.{FaultOf, HasFault, IsFirstFault, Means, word_fault}
 use Rattle.ips_action.specs.declared.fault.ActionFault.{ActionFault}
 use Rattle.ips_action.specs.declared.fault.ActionFault.TheVariants.{UnknownAction, BadWord, OpenQuote, MissingKey, BadValue}
 use Rattle.ips_action.proofs.Lines.{same_fault}
 use Rattle.ips_action.proofs.One.{one_fault}
-use Rattle.ips_action.proofs.Told.{fault_only, one_meaning}
+use Rattle.ips_action.proofs.Told.{fault_only, no_line_at, one_meaning, one_says}
 use Rattle.ips_manifest.specs.declared.line.Line as manifest
 use Rattle.ips_manifest.specs.declared.fault.LineFault.{LineFault}
 use Rattle.ips_manifest.specs.declared.fault.LineFault.TheVariants as fault
@@ -31,15 +29,6 @@ use Rattle.ips_depend.specs.Dependency.{Dependency}
 abbrev read : Line → Result Line (Stop Part)
 read line = Ok line
 
-line_same : (a b : Line) → read a ≡ read b → a ≡ b
-line_same a b e = cc
-
-line_once : (a b : Line) → IsWrittenLine a → IsWrittenLine b → line_written a ≡ line_written b → a ≡ b
-line_once a b x y e = line_same a b (sym (line_only a x) ∙ ap read_line e ∙ line_only b y)
-
-says_once : (s t : Said) (text : List ℕ) → Says s text → Says t text → s ≡ t
-says_once s t text a b = sym a.2 ∙ ap words_of (line_once a.0 b.0 a.1 b.1 (sym a.3 ∙ b.3)) ∙ b.2
-
 -- ---- the fault of a text that is no action
 
 -- it is one of its words, or one of what they say
@@ -54,18 +43,14 @@ split text (OpenQuote place) h = inl (words.OpenQuote place, h, refl)
 split text (MissingKey name) h = inr h
 split text (BadValue name) h = inr h
 
-no_line : (text : List ℕ) (w : WordFault) → IsFault text w → IsLine text → ⊥
-no_line text (words.OpenQuote place) h = h.2
-no_line text (words.BadWord place) h = h.2
-
 is_line : (text : List ℕ) (f : ActionFault) → HasFault text f → IsLine text
 is_line text f h = (h.1.0, h.1.1, h.1.3)
 
 split_once : (text : List ℕ) (f g : ActionFault) → Split text f → Split text g → f ≡ g
 split_once text f g (inl a) (inl b) = a.2 ∙ ap word_fault (sym (same_fault text a.0 b.0 (fault_only text a.0 a.1) (fault_only text b.0 b.1))) ∙ sym b.2
-split_once text f g (inl a) (inr b) = absurd (no_line text a.0 a.1 (is_line text g b))
-split_once text f g (inr a) (inl b) = absurd (no_line text b.0 b.1 (is_line text f a))
-split_once text f g (inr a) (inr b) = one_fault b.0 f g (subst (λ (s : Said). FaultOf s f) (says_once a.0 b.0 text a.1 b.1) a.2) b.2
+split_once text f g (inl a) (inr b) = absurd (no_line_at text a.0 a.1 (is_line text g b))
+split_once text f g (inr a) (inl b) = absurd (no_line_at text b.0 b.1 (is_line text f a))
+split_once text f g (inr a) (inr b) = one_fault b.0 f g (subst (λ (s : Said). FaultOf s f) (one_says a.0 b.0 text a.1 b.1) a.2) b.2
 
 text_fault_once : (text : List ℕ) (f g : LineFault) → IsActionFault text f → IsActionFault text g → f ≡ g
 text_fault_once text fault.NotText g a b = absurd a

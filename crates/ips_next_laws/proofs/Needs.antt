@@ -1,6 +1,5 @@
 -- The first fault of needed manifests is one, and where a puzzle is posed there is none.
 use Rattle.std.proofs.Common.{◌≡◌, ℕ, ◌+◌, ◌<◌, ◌≤◌, true, List, [], ◌∷◌, ◌++◌, take, drop, length, slice_get, is_some, refl, sym, ap, subst, ◌∙◌, inl, inr, arith, append_assoc, append-nil}
-use Rattle.std.specs.List.{AllByRecursion}
 use Rattle.std.proofs.lemmas.Bool.{cases_lt}
 use Rattle.std.proofs.lemmas.List.{map-append, take_all, take-append-drop}
 use Rattle.std.proofs.lemmas.List.Concat.{flat_map-append}
@@ -16,6 +15,7 @@ use Rattle.ips_problem.specs.Fault.{AreRead, IsFirstFault, all_bytes, manifests_
 use Rattle.ips_problem.specs.Gathered.{IsPosedBy}
 use Rattle.ips_problem.specs.Posed.{Posed}
 use Rattle.ips_problem.specs.Reach.{grown}
+use Rattle.ips_aside.proofs.Ordered.{at_middle}
 use Rattle.ips_next_laws.proofs.Fetched.{IsTold, fault_once, fault_or_read}
 use Rattle.ips_next_laws.proofs.Walks.{IsWalk, grown_alike, take_fewer, turn_alike, whole_walk}
 
@@ -41,18 +41,14 @@ places (z ∷ xs) x behind (w ∷ ys) y after e = further (first_item z w (xs ++
     further first (sooner more e) = sooner more (λ i. sym first i ∷ e i)
     further first (later more e) = later more (λ i. first i ∷ e i)
 
-item_of : {A : Type 0} (P : A → Type 0) (xs : List A) (x : A) (ys : List A) → AllByRecursion P (xs ++ x ∷ ys) → P x
-item_of P [] x ys all = all.0
-item_of P (z ∷ xs) x ys all = item_of P xs x ys all.1
-
 -- ---- what was read
 
 -- the manifest in a list of those that were read has no fault
 read_faultless : (settings : Set) (c : Case) (before : List Needed) (n : Needed) (behind : List Needed) (why : ProblemFault) → IsReading settings c.reading → IsTold why → AreRead c (before ++ n ∷ behind)
     → IsManifestFault settings c (all_bytes c before) n why → ⊥
 read_faultless settings c before n behind why reading told read bad =
-    let said = item_of (λ (n : Needed). is_some (manifest_facts c n.stem n.version) ≡ true) before n behind read.said in
-    let alone = item_of (λ (n : Needed). bytes_read c n ≤ manifest_limit) before n behind read.each in
+    let said = at_middle (λ (n : Needed). is_some (manifest_facts c n.stem n.version) ≡ true) before n behind read.said in
+    let alone = at_middle (λ (n : Needed). bytes_read c n ≤ manifest_limit) before n behind read.each in
     let all = read.all in
     let sum = sum_by-append (bytes_read c) before (n ∷ behind) in
     let rest = sum_by-cons (bytes_read c) n behind in

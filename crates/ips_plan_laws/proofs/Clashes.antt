@@ -1,46 +1,29 @@
 -- The first clash is told in one way.
-use Rattle.std.proofs.Common.{◌≡◌, ℕ, ◌==◌, cond, List, Option, Some, None, refl, sym, ap, ◌∙◌}
+use Rattle.std.proofs.Common.{◌≡◌, ℕ, List, Option, Some, None, refl, ap}
 use Rattle.std.specs.Cmp.{IsTotalOrder, on_total, then_total}
 use Rattle.std.specs.Cmp.Lexicographic.{options_total, slice_cmp}
 use Rattle.std.specs.Option.{option_cmp}
 use Rattle.std.specs.Ordering.{nat_cmp, ordering_then}
 use Rattle.std.specs.declared.cmp.Ordering.TheVariants.{Equal}
-use Rattle.std.proofs.lemmas.Cmp.{nat_cmp_total, nat_list_cmp_total}
+use Rattle.std.proofs.lemmas.Cmp.{nat_cmp_total}
 use Rattle.ips_text.proofs.Orders.{number_tie}
 use Rattle.ips_action.proofs.KeyOrder.{equal_is}
 use Rattle.ips_conflict.specs.declared.placed.Placed.{Placed}
-use Rattle.ips_conflict.specs.declared.clashing.Rule.{Rule}
-use Rattle.ips_conflict.specs.declared.clashing.Rule.TheVariants.{Mediator, Kinds, Attributes, Deliverers, Below, Target}
-use Rattle.ips_conflict.specs.Key.{Key, sort_rank}
+use Rattle.ips_conflict.specs.Key.{sort_rank}
 use Rattle.ips_conflict.specs.Order.{place_cmp}
 use Rattle.ips_conflict.specs.Verdict.{rule_rank}
 use Rattle.ips_conflict.specs.Clash.{Conflict, IsFirst, conflict_cmp, key_cmp, name_at, pair_cmp, told}
+use Rattle.ips_conflict.proofs.FirstOver.{key_total, same_rule}
 use Rattle.ips_conflict.proofs.FirstPair.{place_tie}
 use Rattle.ips_conflict.proofs.Ordered.{place_total}
-use Rattle.ips_plan_laws.proofs.Ties.{both_equal, tie}
-
-key_total : IsTotalOrder key_cmp
-key_total = then_total (on_total (λ (k : Key). k.text) nat_list_cmp_total) (on_total (λ (k : Key). sort_rank k.sort) nat_cmp_total)
+use Rattle.ips_new_licenses.proofs.Pairs.{both_equal}
+use Rattle.ips_plan_laws.proofs.Ties.{tie}
 
 pair_total : (placed : List Placed) → IsTotalOrder (pair_cmp placed)
 pair_total placed = then_total (on_total (λ (c : Conflict). c.first) (place_total placed)) (on_total (λ (c : Conflict). c.second) (options_total (place_total placed)))
 
 conflict_total : (placed : List Placed) → IsTotalOrder (conflict_cmp placed)
 conflict_total placed = then_total (then_total (on_total (λ (c : Conflict). c.key) key_total) (on_total (λ (c : Conflict). rule_rank c.rule) nat_cmp_total)) (pair_total placed)
-
-abbrev rule_of : ℕ → Rule
-rule_of n = cond (n == 0) Mediator (cond (n == 1) Kinds (cond (n == 2) Attributes (cond (n == 3) Deliverers (cond (n == 4) Below Target))))
-
-read_back : (r : Rule) → rule_of (rule_rank r) ≡ r
-read_back Mediator = refl
-read_back Kinds = refl
-read_back Attributes = refl
-read_back Deliverers = refl
-read_back Below = refl
-read_back Target = refl
-
-rule_one : (r s : Rule) → rule_rank r ≡ rule_rank s → r ≡ s
-rule_one r s e = sym (read_back r) ∙ ap rule_of e ∙ read_back s
 
 second_one : (placed : List Placed) (o p : Option ℕ) → option_cmp (place_cmp placed) o p ≡ Equal → o ≡ p
 second_one placed None None e = refl
@@ -55,7 +38,7 @@ told_one placed c d e =
     let key = both_equal (slice_cmp nat_cmp c.key.text d.key.text) (nat_cmp (sort_rank c.key.sort) (sort_rank d.key.sort)) front.0 in
     let pair = both_equal (place_cmp placed c.first d.first) (option_cmp (place_cmp placed) c.second d.second) whole.1 in
     let text : c.key.text ≡ d.key.text = equal_is c.key.text d.key.text key.0 in
-    let rule : c.rule ≡ d.rule = rule_one c.rule d.rule (number_tie (rule_rank c.rule) (rule_rank d.rule) front.1) in
+    let rule : c.rule ≡ d.rule = same_rule c.rule d.rule (number_tie (rule_rank c.rule) (rule_rank d.rule) front.1) in
     let first : c.first ≡ d.first = place_tie placed c.first d.first pair.0 in
     let second : c.second ≡ d.second = second_one placed c.second d.second pair.1 in
     λ i. record { key = text i; first = name_at placed (Some (first i)); second = name_at placed (second i); rule = rule i }

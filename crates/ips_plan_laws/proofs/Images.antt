@@ -10,7 +10,7 @@ use Rattle.ips_after.specs.Change.{Changes, changed}
 use Rattle.ips_after.specs.Lists.{listed}
 use Rattle.ips_after.specs.Request.{Request}
 use Rattle.ips_after.specs.Salvage.{IsImageAfter}
-use Rattle.ips_after.proofs.Names.{root_under}
+use Rattle.ips_after.proofs.Names.{root_one, root_under}
 use Rattle.ips_wanted.specs.Named.{is_payload_of}
 use Rattle.ips_wanted.specs.Wanted.{want_of}
 use Rattle.ips_due.specs.Asked.{request_between}
@@ -23,7 +23,7 @@ use Rattle.ips_requested.specs.Meant.{IsMeant, accounts_in, given_telling}
 use Rattle.ips_plan_laws.proofs.Dues.{due_one, over_one}
 use Rattle.ips_plan_laws.proofs.Ledgers.{AnswersAreOne, files_one}
 use Rattle.ips_next.proofs.OneNext.{moment_one}
-use Rattle.ips_plan_laws.proofs.Searches.{changes_same, root_one}
+use Rattle.ips_plan_laws.proofs.Searches.{changes_same}
 use Rattle.ips_plan_laws.proofs.States.{meaning_same, publisher_same}
 use Rattle.ips_plan_laws.proofs.Wants.{want_bare, want_keyed, want_like}
 

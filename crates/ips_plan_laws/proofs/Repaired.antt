@@ -10,6 +10,7 @@ use Rattle.ips_state.specs.State.{Recorded, recorded}
 use Rattle.ips_after.specs.Repaired.{IsRepaired, Repair, SparedBelow, image_sparing, request_of}
 use Rattle.ips_after.specs.Request.{Over, Request}
 use Rattle.ips_after.proofs.Changed.{both_ways}
+use Rattle.ips_after.proofs.Names.{root_one}
 use Rattle.ips_wanted.specs.Named.{is_payload_of}
 use Rattle.ips_wanted.specs.Wanted.{want_of}
 use Rattle.ips_due.specs.Due.{IsOverOf}
@@ -26,7 +27,6 @@ use Rattle.ips_repaired.specs.declared.fault.RepairFault.TheVariants as fault
 use Rattle.ips_plan_laws.specs.Alike.{AreLikeSteps, IsSameRepairFault}
 use Rattle.ips_plan_laws.proofs.Dues.{over_alike}
 use Rattle.ips_next.proofs.OneNext.{moment_one}
-use Rattle.ips_plan_laws.proofs.Searches.{root_one}
 use Rattle.ips_plan_laws.proofs.States.{meaning_same, publisher_same}
 use Rattle.ips_plan_laws.proofs.Steps.{IsPlain, excess_one, hindered_one, like_steps, no_bytes, steps_or_hindered}
 use Rattle.ips_plan_laws.proofs.Wants.{want_bare, want_keyed, want_like}

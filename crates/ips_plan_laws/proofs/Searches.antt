@@ -9,29 +9,12 @@ use Rattle.ips_after.specs.Change.{cleared}
 use Rattle.ips_after.specs.Extra.{extra_or}
 use Rattle.ips_after.specs.Lists.{listed}
 use Rattle.ips_after.specs.Request.{Request}
-use Rattle.ips_after.specs.Salvage.{Aside, Beside, GoesTo, IsAside, IsAsides, IsLostName, IsRoot, NameTaken, Salvage, Side, change_saving, has_foreign, has_long_side, inside, is_long_path, is_lost, is_unmovable, movable, moved_inside, put_beside, root_name, salvaged, salvaged_inside, saved, side_at, side_entry, side_is, side_name, way_entry, with_suffix}
+use Rattle.ips_after.specs.Salvage.{Aside, Beside, GoesTo, IsAside, IsAsides, IsLostName, NameTaken, Salvage, Side, change_saving, has_foreign, has_long_side, inside, is_long_path, is_lost, is_unmovable, movable, moved_inside, put_beside, salvaged, salvaged_inside, saved, side_at, side_entry, side_is, side_name, way_entry, with_suffix}
 use Rattle.ips_after.proofs.Changed.{both_ways}
 use Rattle.ips_after.proofs.Emptied.{emptied_one}
 use Rattle.ips_after.proofs.Names.{AllTried, Before, comes, count, count_before, side_facts, taken_over, tried}
 use Rattle.ips_after.proofs.Saved.{no_slash}
 use Rattle.ips_outstanding.proofs.Answered.{one_order}
-
--- ---- the salvage folder
-
-pub root_one : (t : Image) (moment x y : List ℕ) → IsRoot t moment x → IsRoot t moment y → x ≡ y
-root_one t moment x y h k = go (nat_lt h.times k.times) refl (nat_lt k.times h.times) refl
-  where
-    stands : (x y : List ℕ) (h : IsRoot t moment x) (k : IsRoot t moment y) → h.times < k.times → ⊥
-    stands x y h k less = k.first h.times less (ap t.look (sym h.name) ∙ h.free)
-
-    go : (l : Bool) → nat_lt h.times k.times ≡ l → (g : Bool) → nat_lt k.times h.times ≡ g → x ≡ y
-    go true l g e = absurd (stands x y h k (ltb-true h.times k.times l))
-    go false l true e = absurd (stands y x k h (ltb-true k.times h.times e))
-    go false l false e =
-        let up = ltb-false h.times k.times l in
-        let down = ltb-false k.times h.times e in
-        let times : h.times ≡ k.times = omega (arith, up, down) in
-        h.name ∙ ap (root_name moment) times ∙ sym k.name
 
 -- ---- two findings for one request, with one salvage folder
 

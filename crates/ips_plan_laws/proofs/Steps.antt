@@ -11,7 +11,7 @@ use Rattle.ips_after.specs.Lists.{listed}
 use Rattle.ips_after.specs.Planned.{contents_of, plan_order, steps_of}
 use Rattle.ips_after.specs.Request.{Request}
 use Rattle.ips_after.specs.Salvage.{Aside, IsAside, IsRoot, change_saving, is_unmovable, lesser}
-use Rattle.ips_after.proofs.Names.{root_under}
+use Rattle.ips_after.proofs.Names.{root_one, root_under}
 use Rattle.ips_aside.proofs.Ordered.{less_or}
 use Rattle.ips_change.specs.Told.{naming}
 use Rattle.ips_emit.specs.declared.emitting.Emitted.{Emitted}
@@ -21,7 +21,7 @@ use Rattle.ips_saving.specs.Saving.{IsSavedFrom}
 use Rattle.ips_image_steps.specs.Answers.{HasSteps, IsHindered}
 use Rattle.ips_plan_limits.specs.Limits.{first_excess}
 use Rattle.ips_plan_laws.specs.Alike.{AreLikeSources, AreLikeSteps}
-use Rattle.ips_plan_laws.proofs.Searches.{asides_same, changes_same, root_one, unmovable_same}
+use Rattle.ips_plan_laws.proofs.Searches.{asides_same, changes_same, unmovable_same}
 use Rattle.ips_plan_laws.proofs.Sources.{HaveOneContents, IsTaken, all_from, bytes_from, excess_like, sources_like}
 
 -- the bytes of each payload, where none are known

@@ -2,7 +2,6 @@
 use Rattle.std.proofs.Common.{◌≡◌, ℕ, suc, ◌+◌, ◌*◌, ◌-◌, ◌^◌, ◌<◌, ◌≤◌, min, cond, List, [], ◌∷◌, ◌++◌, length, IsTrue, refl, sym, ap, ap₂, subst, ◌∙◌, arith}
 use Rattle.std.specs.List.{All}
 use Rattle.std.proofs.lemmas.List.{length-append}
-use Rattle.ips_counts.specs.declared.sorts.Sorts.{Sorts}
 use Rattle.ips_steps.specs.Steps.{Step}
 use Rattle.ips_steps.specs.View.{sort_of}
 use Rattle.ips_steps.specs.declared.step.Sort.{Sort}
@@ -10,6 +9,7 @@ use Rattle.ips_steps.specs.declared.step.Sort.TheVariants as sort
 use Rattle.ips_kinds.specs.Acts.{same_sort}
 use Rattle.ips_kinds.specs.Tallies.{Carrier, all_counted, counted, taken, tally_of_all}
 use Rattle.ips_kinds.proofs.Counting.{taken_stays, room_of, steps_together}
+use Rattle.ips_commit.proofs.Going.{counted_on}
 use Rattle.ips_told.specs.Laying.{sorts_among}
 use Rattle.ips_top.specs.Carried.{AreFinished, number_in}
 use Rattle.ips_text.specs.declared.text.Text.{Text}
@@ -40,10 +40,6 @@ number_among steps = ap (λ (n : ℕ). min n (2 ^ 64 - 1)) (all_sorts steps)
 
 -- ---- steps behind others
 
-counted_behind : (first second : List Step) (kinds : List Carrier) → all_counted (first ++ second) kinds ≡ all_counted second (all_counted first kinds)
-counted_behind [] second kinds = refl
-counted_behind (x ∷ first) second kinds = counted_behind first second (counted (sort_of x) kinds)
-
 -- each sort is still taken
 pub still_taken : (count : ℕ) (old new : List Carrier) → AreFinished count old new → ((s : Sort) → IsTrue (taken old s)) → (s : Sort) → IsTrue (taken new s)
 still_taken count old new are takes s = subst (λ (kinds : List Carrier). IsTrue (taken kinds s)) (sym are.counted) (taken_stays are.steps s old ∙ takes s)
@@ -57,7 +53,7 @@ pub both_finished : (first second : ℕ) (old mid new : List Carrier) → AreFin
 both_finished first second old mid new a b few_first few_second takes = λ room.
     let steps = a.steps ++ b.steps in
     let many : length steps ≡ first + second = length-append a.steps b.steps ∙ ap₂ (λ (x y : ℕ). x + y) (exact first (length a.steps) a.many few_first) (exact second (length b.steps) b.many few_second) in
-    let is : new ≡ all_counted steps old = b.counted ∙ ap (all_counted b.steps) a.counted ∙ sym (counted_behind a.steps b.steps old) in
+    let is : new ≡ all_counted steps old = b.counted ∙ ap (all_counted b.steps) a.counted ∙ sym (counted_on a.steps b.steps old) in
     ap tally_of_all is ∙ subst (λ (n : ℕ). tally_of_all (all_counted steps old) ≡ tally_of_all old + n) many
     (steps_together steps old takes (room_of (length steps) old (subst (λ (n : ℕ). All (λ k. k.finished + n < 2 ^ 64) old) (sym many) room)))
 
