@@ -1,2 +1,3 @@
 mod Payloads
 pub mod Decided
+pub mod Telling

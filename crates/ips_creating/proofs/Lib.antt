@@ -1,2 +1,3 @@
 mod Founding
 mod Decided
+pub mod Telling

@@ -13,6 +13,8 @@ use Rattle.ips_emit.specs.declared.emitting.Emitted.{Emitted}
 use Rattle.ips_report.specs.declared.outcome.Outcome.{Outcome}
 use Rattle.ips_report.specs.declared.outcome.Outcome.TheVariants.{Done}
 use Rattle.ips_run.specs.declared.operation.Change.{Change}
+use Rattle.ips_run.specs.declared.operation.Decision.{Decision}
+use Rattle.ips_run.specs.declared.operation.Decision.TheVariants as decision
 use Rattle.ips_told.specs.Naming.{AreNamed}
 
 -- How many of the steps are of each sort.
@@ -42,3 +44,8 @@ pub record IsChangeOfSteps (publisher : List ℕ) (e : Emitted) (c : Change Outc
   pub licenses : Vec Text Global
   pub none_shown : licenses.items ≡ []
   pub told : c.told ≡ Done no_counts (sorts_among (map step_of e.steps.items)) licenses
+
+-- A change that is decided on tells its steps by their sorts, where it is done.
+abbrev pub TellsItsSteps : Decision Outcome → Type 0
+TellsItsSteps (decision.Change c) = (counts : Counts) × (licenses : Vec Text Global) × (c.told ≡ Done counts (sorts_among (map step_of c.steps.items)) licenses)
+TellsItsSteps other = Unit {0}

@@ -1,6 +1,5 @@
 mod Numbers
 mod Trials
-mod Deciding
 mod Endings
 mod Wider
 mod Runs

@@ -18,8 +18,8 @@ use Rattle.ips_run.specs.declared.operation.Decision.TheVariants as decision
 use Rattle.ips_run.specs.declared.ending.Ending.{Ending}
 use Rattle.ips_run.specs.declared.ending.Ending.TheVariants as ending
 use Rattle.ips_run.specs.Comes.{Comes, IsBackTo, IsCarriedTo, IsUnopened, IsUnready, Unopened, Unfinished, Back, NotDirectory, Unready, Carried}
-use Rattle.ips_told.specs.Laying.{sorts_among}
-use Rattle.ips_top.specs.Carried.{AreFinished, TellsItsSteps, number_in}
+use Rattle.ips_told.specs.Laying.{TellsItsSteps, sorts_among}
+use Rattle.ips_top.specs.Carried.{AreFinished, number_in}
 use Rattle.ips_top.proofs.Numbers.{number_among}
 
 module _ (effect : Effect) (decides : Decision Outcome → Type 0) (tells : Bool) (repository held left : Image) (old now : List Carrier) (Ran : List Run → Type 0) where

@@ -6,7 +6,8 @@ ghost use Rattle.ips_steps.specs.declared.step.Sort.{Sort};
 ghost use Rattle.ips_kinds.specs.Tallies.{seen_by, taken};
 ghost use Rattle.ips_report.specs.declared.outcome.Outcome.{Outcome as OutcomeMeant};
 ghost use Rattle.ips_run.specs.declared.operation.Decision.{Decision};
-ghost use Rattle.ips_top.specs.Carried.{AreFinished, TellsItsSteps, number_in};
+ghost use Rattle.ips_told.specs.Laying.{TellsItsSteps};
+ghost use Rattle.ips_top.specs.Carried.{AreFinished, number_in};
 
 use crate::worded::command_of;
 use crate::world::World;
