@@ -1,7 +1,8 @@
 //! The program `pkg`: it makes the objects of the host and calls the top call, which does everything else.
 #![tactic(auto)]
 
-ghost use Rattle.std.specs.Prelude.{◌≡◌, ◌<◌, ◌∷◌, ℕ, List, IfOk, codes, map, string_bytes};
+ghost use Rattle.std.specs.Prelude.{◌≡◌, ◌<◌, ◌∷◌, ℕ, List, IfOk, OnErr, codes, map, string_bytes};
+ghost use Rattle.ips_pkg.specs.Ended.{EndsWith};
 
 use ips_folder::Folder;
 use ips_host::{HostFolder, HostSink, HostSource, HostSpawner};
@@ -70,7 +71,7 @@ fn moment_of(clock: &impl Clock) -> io::Result<u64>
     }
 }
 
-// The number of the run, with one kind for each sort of step.
+// The exit status of a run for the words, with one kind for each sort of step. Where memory for the kinds is refused nothing is done.
 fn number_of<S: Source, F: Folder, P: Spawner, O: Sink>(
     alloc: Global,
     words: &[String],
@@ -81,6 +82,8 @@ fn number_of<S: Source, F: Folder, P: Spawner, O: Sink>(
     out: &mut O,
 ) -> Result<u8, AllocError>
     requires moment { moment < 253370764800 }
+    ensures ended { IfOk result (λ number. EndsWith F.outside S.outside P.running O.taking (map string_bytes words.now) moment image.old image.new repo.old repo.new spawner.old spawner.new out.old out.new number) }
+    ensures undone { OnErr result (image.new ≡ image.old) }
 {
     let mut kinds: Vec<Box<dyn Kind>> = Vec::new(alloc);
     kinds.push(Box::new(alloc, GoneKind::new())?)?;

@@ -1,4 +1,4 @@
-//! Ways in which a run may end. None ends for want of memory here.
+//! Each way in which a run may end, but for want of memory, which no run meets here.
 
 use crate::packages::bare;
 use crate::runs::rows_told;
@@ -117,6 +117,8 @@ package | p1@1 | depend type=require fmri=x predicate=y ->
 does | install p1 -> 1 bad depend p1@1 line 1
 package | p1@1 | depend type=require fmri=x@01 ->
 does | install p1 -> 1 bad depend p1@1 line 1
+swell | publisher/test/pkg/p1/1 | 16777217 ->
+does | install p1 -> 1 too large: 16777217
 # choices
 package | x@1 | file $abc path=x $file ->
 package | y@1 | set name=info value=x ->
@@ -192,13 +194,30 @@ put | var/pkg/journal | journal 1%0aput 0 0644 opt/a%0aend 1%0a ->
 does | fix -> 1 bad journal line 2
 remove | var/pkg/gate ->
 does | fix -> 0 recovered: leftovers cleared
+# an image that is damaged, an image without an index, records that are none, and those of the first format
+remove | x ->
+does | verify -> 1 damaged 1
+does | fix -> 0 done
+does | verify -> 0 ok
+does | search x -> 1 no index
+put | var/pkg/avoid | =%0a ->
+does | list -> 1 bad image var/pkg/avoid line 1
+put | var/pkg/avoid | ->
+put | var/pkg/image | image 9%0a ->
+does | list -> 1 bad image var/pkg/image line 1
+put | var/pkg/image | image 1%0apublisher test%0a ->
+put | var/pkg/installed | ->
+does | fix -> 1 old format: run update-format
 "#;
 
 #[test]
-fn outcomes_are_told(rt: HostRuntime) {
+fn each_outcome_is_reached(rt: HostRuntime) {
     let alloc = rt.alloc();
     let mut world = World::new(alloc, bare(&rt, alloc));
     let rows = rows_told(&rt, alloc, &mut world, OUTCOMES);
-    assert!(rt; rows == 122, "{rows} rows");
+    assert!(rt; rows == 137, "{rows} rows");
+    for ending in 0..ENDINGS - 1 {
+        assert!(rt; world.has_ended(ending), "no run ended in the way {ending}");
+    }
     assert!(rt; !world.has_ended(ENDINGS - 1), "want of memory");
 }
