@@ -10,6 +10,7 @@ use Rattle.ips_text.specs.declared.refusal.Or.TheVariants.{Bad, OutOfMemory}
 use Rattle.ips_text.proofs.Ancestry.{same_path-true, covers_trans, parent_cut, parent_on}
 use Rattle.ips_outside.specs.Image.{Entry, File, Image, IsImage, Agrees, is_file, is_dir, file_bytes, has_parent, dir_or_none}
 use Rattle.ips_outside.specs.State.{nowhere}
+use Rattle.ips_outside.specs.Outside.{HasCause}
 use Rattle.ips_folder.specs.Calls.{CanMake}
 use Rattle.ips_steps.specs.Steps.{stage_name, stage_path, stage_of}
 use Rattle.ips_steps.specs.Private.{is_private}
@@ -154,6 +155,10 @@ module _ (staged : List Staged) (i : ℕ) (s : Staged) (lt : i < length staged) 
     empty_more before n le small = wrote.look (stage_path n) (contents_apart i n (omega arith) small (λ same. omega (arith, same))) refl ∙ before n (omega arith) small
 
 -- ---- a fault of one content is one of staging
+
+-- a cause, behind calls that didn't fail
+pub cause_since : (a b c : ℕ) (R : Type 0) → b ≡ a → HasCause b c R → HasCause a c R
+cause_since a b c R same cause = subst (λ (x : ℕ). HasCause x c R) same cause
 
 pub as_bad : (T : Type 0) {E : Type 0} (e : Or E) (P Q : E → Type 0) → ((why : E) → P why → Q why) → IfBad {X = T} (Err e) P → IfBad {X = T} (Err e) Q
 as_bad T (Bad why) P Q change p = change why p

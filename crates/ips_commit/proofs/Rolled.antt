@@ -65,11 +65,14 @@ module _ {T U : Type 0} (e : Or CommitFault) (from : Result U (Or CommitFault)) 
   handed : from ≡ Err (Bad fault.Unchanged) → (answer ≡ Err (Bad fault.Unchanged)) ⊎ (answer ≡ Err (Bad fault.Unfinished))
   handed failed = inl cc
 
+  pub never_begun : IfBad {X = U} (Err e) (λ why. why ≡ fault.Unfinished → ⊥) → answer ≡ Err (Bad fault.Unfinished) → ⊥
+  never_begun never un =
+      let same : e ≡ Bad fault.Unfinished = cc in
+      subst (λ (x : Or CommitFault). IfBad {X = U} (Err x) (λ why. why ≡ fault.Unfinished → ⊥)) same never refl
+
   handed_back : IfBad {X = U} (Err e) (λ why. why ≡ fault.Unfinished → ⊥) → (answer ≡ Err (Bad fault.Unchanged)) ⊎ (answer ≡ Err (Bad fault.Unfinished)) → from ≡ Err (Bad fault.Unchanged)
   handed_back never (inl un) = cc
-  handed_back never (inr un) =
-      let same : e ≡ Bad fault.Unfinished = cc in
-      absurd (subst (λ (x : Or CommitFault). IfBad {X = U} (Err x) (λ why. why ≡ fault.Unfinished → ⊥)) same never refl)
+  handed_back never (inr un) = absurd (never_begun never un)
 
   pub read_cause : (a b : ℕ) → IfBad {X = U} (Err e) (λ why. why ≡ fault.Unfinished → ⊥) → HasCause a b (from ≡ Err (Bad fault.Unchanged)) → HasCause a b ((answer ≡ Err (Bad fault.Unchanged)) ⊎ (answer ≡ Err (Bad fault.Unfinished)))
   read_cause a b never cause = cause_as a b (from ≡ Err (Bad fault.Unchanged)) ((answer ≡ Err (Bad fault.Unchanged)) ⊎ (answer ≡ Err (Bad fault.Unfinished))) cause handed (handed_back never)
@@ -101,6 +104,10 @@ calm_cause a b c P Q R first no_first last no_last none = cause_behind a b c P Q
 pub no_answer : {T : Type 0} (answer : Result T (Or CommitFault)) (x : T) → answer ≡ Ok x → (answer ≡ Err (Bad fault.Unchanged)) ⊎ (answer ≡ Err (Bad fault.Unfinished)) → ⊥
 no_answer answer x is (inl un) = cc
 no_answer answer x is (inr un) = cc
+
+pub starved_only : {T : Type 0} (answer : Result T (Or CommitFault)) → answer ≡ Err OutOfMemory → (answer ≡ Err (Bad fault.Unchanged)) ⊎ (answer ≡ Err (Bad fault.Unfinished)) → ⊥
+starved_only answer is (inl un) = cc
+starved_only answer is (inr un) = cc
 
 pub never_refused : (why : CommitFault) (P : Type 0) (T : Type 0) → why ≡ fault.Unfinished → IfBadJournal {T = T} (Err (Bad why)) (λ line. P)
 never_refused why P T is = subst (λ (x : CommitFault). IfBadJournal {T = T} (Err (Bad x)) (λ line. P)) (sym is) tt

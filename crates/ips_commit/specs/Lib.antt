@@ -5,3 +5,4 @@ pub mod Contents
 pub mod Staging
 pub mod Phases
 pub mod Recovering
+pub mod Calls

@@ -1,20 +1,12 @@
 //! A staged change committed.
 
-ghost use Rattle.std.specs.Prelude.{◌≡◌, ◌≢◌, ◌<◌, ◌≤◌, ℕ, List, [], false, None, Some, Err, IsTrue, IfOk, IfErr, OnOk, length, take};
-ghost use Rattle.ips_outside.specs.Image.{Image};
-ghost use Rattle.ips_outside.specs.Outside.{HasCause, Rose};
-ghost use Rattle.ips_folder.specs.Calls.{CanMake, Throughout};
-ghost use Rattle.ips_steps.specs.Steps.{Step};
-ghost use Rattle.ips_steps.specs.Private.{gate_name, visible};
-ghost use Rattle.ips_steps.specs.Owed.{FolderOwes};
+ghost use Rattle.std.specs.Prelude.{◌<◌, ◌≤◌, [], IsTrue, length};
+ghost use Rattle.ips_folder.specs.Calls.{CanMake};
+ghost use Rattle.ips_steps.specs.Private.{gate_name};
 ghost use Rattle.ips_steps.specs.declared.step.Sort.{Sort};
-ghost use Rattle.ips_kinds.specs.Tallies.{seen_by, taken, all_counted};
-ghost use Rattle.ips_journal.specs.Text.{journal_text};
-ghost use Rattle.ips_commit.specs.Pending.{HasNoOtherMark, HasCommitted};
-ghost use Rattle.ips_commit.specs.Due.{DueOnceOpen};
-ghost use Rattle.ips_commit.specs.Recovering.{AreLaidTo, CanResume};
-ghost use Rattle.ips_commit.specs.Staging.{IsStaged};
-ghost use Rattle.ips_commit.specs.declared.fault.CommitFault.TheVariants as fault;
+ghost use Rattle.ips_kinds.specs.Tallies.{seen_by, taken};
+ghost use Rattle.ips_commit.specs.Pending.{HasNoOtherMark};
+ghost use Rattle.ips_commit.specs.Calls.{Commits};
 
 use crate::fault::CommitFault;
 use crate::gate::open;
@@ -43,35 +35,8 @@ pub fn commit<F: Folder>(
     requires unmarked { IsTrue (F.outside.tells folder.old) → HasNoOtherMark (F.outside.state folder.old).held [] }
     requires takers { (s : Sort) → IsTrue (taken (seen_by sorts finished kinds.old.items) s) }
 
-    // At every moment the image from before is owed, or the one that is meant; and the latter since the gate is safely open.
-    ensures owed { IsTrue (F.outside.tells folder.old) → (steps : List Step) (a : Image) → IsStaged steps a (F.outside.state folder.old)
-        → Throughout F.outside folder.old folder.new (FolderOwes journal_text (visible (F.outside.state folder.old).held) (Some a) false) }
-    ensures due { IsTrue (F.outside.tells folder.old) → (steps : List Step) (a : Image) → IsStaged steps a (F.outside.state folder.old)
-        → DueOnceOpen F.outside (visible (F.outside.state folder.old).held) a folder.old folder.new }
-
-    // Done: the image that is meant is seen, nothing is left, nothing is touched, and each step was counted.
-    ensures done { IsTrue (F.outside.tells folder.old) → (steps : List Step) (a : Image) → IsStaged steps a (F.outside.state folder.old)
-        → IfOk result (λ count. (count ≡ length steps) × HasCommitted a (F.outside.state folder.new)) }
-    ensures counted { IsTrue (F.outside.tells folder.old) → (steps : List Step) (a : Image) → IsStaged steps a (F.outside.state folder.old)
-        → OnOk result (seen_by sorts finished kinds.new.items ≡ all_counted steps (seen_by sorts finished kinds.old.items)) }
-
-    // Unfinished: a front of the list is laid and counted, and one step more at most was begun; where some of the steps are laid
-    // but not all, the gate stands open. Whatever a crash leaves now, the gate is closed, or the marks leave at most a thousand
-    // of those steps to be laid again.
-    ensures stopped { IsTrue (F.outside.tells folder.old) → (steps : List Step) (a : Image) → IsStaged steps a (F.outside.state folder.old)
-        → IfErr result (λ why. (laid : ℕ)
-        × AreLaidTo steps laid (F.outside.state folder.old).held (F.outside.state folder.new).held (seen_by sorts finished kinds.old.items) (seen_by sorts finished kinds.new.items)
-        × (0 < laid → laid < length steps → (F.outside.state folder.new).held.look gate_name ≢ None)
-        × CanResume (F.outside.state folder.new) 0 laid) }
-
-    // Behind `stage` a failed call is the only cause of a fault; the first call is the gate's, so nothing fails before it.
-    ensures faults { IsTrue (F.outside.tells folder.old) → (steps : List Step) (a : Image) → IsStaged steps a (F.outside.state folder.old)
-        → IfErr result (λ why. why ≡ fault.Unfinished) }
-    ensures begun { IfErr result (λ why. why ≡ fault.Unchanged → ⊥) }
-    ensures cause { HasCause (F.outside.faults folder.old) (F.outside.faults folder.new) (result ≡ Err fault.Unfinished) }
-    ensures same_kind { F.outside.tells folder.new ≡ F.outside.tells folder.old }
-    ensures changes { F.outside.changes folder.old ≤ F.outside.changes folder.new }
-    ensures changed { Rose (F.outside.changes folder.old) (F.outside.changes folder.new) }
+    // The image from before is owed, or the one that is meant, and the latter since the gate is safely open.
+    ensures commits { Commits F.outside folder.old folder.new (seen_by sorts finished kinds.old.items) (seen_by sorts finished kinds.new.items) result }
 {
     let memory = &mut ready;
     run(
@@ -99,26 +64,7 @@ fn run<F: Folder>(
     requires room { 0 < length buffer.old }
     requires path { 1023 ≤ mark.old.room }
     ensures path { 1023 ≤ mark.new.room }
-    ensures owed { IsTrue (F.outside.tells folder.old) → (steps : List Step) (a : Image) → IsStaged steps a (F.outside.state folder.old)
-        → Throughout F.outside folder.old folder.new (FolderOwes journal_text (visible (F.outside.state folder.old).held) (Some a) false) }
-    ensures due { IsTrue (F.outside.tells folder.old) → (steps : List Step) (a : Image) → IsStaged steps a (F.outside.state folder.old)
-        → DueOnceOpen F.outside (visible (F.outside.state folder.old).held) a folder.old folder.new }
-    ensures done { IsTrue (F.outside.tells folder.old) → (steps : List Step) (a : Image) → IsStaged steps a (F.outside.state folder.old)
-        → IfOk result (λ count. (count ≡ length steps) × HasCommitted a (F.outside.state folder.new)) }
-    ensures counted { IsTrue (F.outside.tells folder.old) → (steps : List Step) (a : Image) → IsStaged steps a (F.outside.state folder.old)
-        → OnOk result (seen_by sorts finished kinds.new.items ≡ all_counted steps (seen_by sorts finished kinds.old.items)) }
-    ensures stopped { IsTrue (F.outside.tells folder.old) → (steps : List Step) (a : Image) → IsStaged steps a (F.outside.state folder.old)
-        → IfErr result (λ why. (laid : ℕ)
-        × AreLaidTo steps laid (F.outside.state folder.old).held (F.outside.state folder.new).held (seen_by sorts finished kinds.old.items) (seen_by sorts finished kinds.new.items)
-        × (0 < laid → laid < length steps → (F.outside.state folder.new).held.look gate_name ≢ None)
-        × CanResume (F.outside.state folder.new) 0 laid) }
-    ensures faults { IsTrue (F.outside.tells folder.old) → (steps : List Step) (a : Image) → IsStaged steps a (F.outside.state folder.old)
-        → IfErr result (λ why. why ≡ fault.Unfinished) }
-    ensures begun { IfErr result (λ why. why ≡ fault.Unchanged → ⊥) }
-    ensures cause { HasCause (F.outside.faults folder.old) (F.outside.faults folder.new) (result ≡ Err fault.Unfinished) }
-    ensures same_kind { F.outside.tells folder.new ≡ F.outside.tells folder.old }
-    ensures changes { F.outside.changes folder.old ≤ F.outside.changes folder.new }
-    ensures changed { Rose (F.outside.changes folder.old) (F.outside.changes folder.new) }
+    ensures commits { Commits F.outside folder.old folder.new (seen_by sorts finished kinds.old.items) (seen_by sorts finished kinds.new.items) result }
 {
     let Ok(()) = open(folder, names) else {
         return Err(CommitFault::Unfinished);

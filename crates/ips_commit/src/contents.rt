@@ -12,8 +12,9 @@ ghost use Rattle.ips_steps.specs.Steps.{stage_name, stage_of};
 ghost use Rattle.ips_repo.specs.Files.{file_at};
 ghost use Rattle.ips_repo.specs.Places.{payload_place};
 ghost use Rattle.ips_repo.specs.Payload.{IsOpened, IsFrontOf};
-ghost use Rattle.ips_commit.specs.Contents.{IsContent, StagedContents, IsStanding, AreStanding, IsApart, AreSeen, IsIntact, IsIntactContent, AreIntactContents, IsPayload, SaysOfPayload, SaysOfContent, SaysOfStage, HoldsAlone};
+ghost use Rattle.ips_commit.specs.Contents.{IsContent, StagedContents, IsStanding, AreStanding, IsApart, AreSeen, IsIntact, IsIntactContent, IsPayload, SaysOfPayload, SaysOfContent, HoldsAlone};
 ghost use Rattle.ips_commit.specs.Staging.{HoldsOnly};
+ghost use Rattle.ips_commit.specs.Calls.{Stages, WritesAt};
 ghost use Rattle.ips_commit.specs.declared.fault.StageFault.TheVariants as fault;
 
 use crate::fault::StageFault;
@@ -45,13 +46,8 @@ pub(crate) fn write_contents<S: Source, F: Folder>(
         (StagedContents (S.outside.tells source.old) (S.outside.state source.old).held publisher.now (F.outside.state folder.old).held staged.now (stage_of (F.outside.state folder.new).held)) }
     ensures stands { IsTrue (F.outside.tells folder.old) → OnOk result ((F.outside.state folder.new).held.look stage_name ≡ (F.outside.state folder.old).held.look stage_name) }
     ensures only { IsTrue (F.outside.tells folder.old) → OnOk result (HoldsOnly (length staged.now) (F.outside.state folder.new).held) }
-    ensures intact { IsTrue (S.outside.tells source.old) → OnOk result (AreIntactContents (S.outside.state source.old).held publisher.now staged.now) }
-    ensures refused { IfBad result (SaysOfStage (S.outside.tells source.old) (S.outside.state source.old).held publisher.now staged.now) }
     ensures any_moment { IsTrue (F.outside.tells folder.old) → ChangesOnly F.outside (covers stage_name) nowhere folder.old folder.new }
-    ensures reads { Reads S.outside source.old source.new (result ≡ Err (Bad fault.SourceFault)) }
-    ensures cause { HasCause (F.outside.faults folder.old) (F.outside.faults folder.new) (result ≡ Err (Bad fault.FolderFault)) }
-    ensures same_kind { F.outside.tells folder.new ≡ F.outside.tells folder.old }
-    ensures changes { F.outside.changes folder.old ≤ F.outside.changes folder.new }
+    ensures stages { Stages S.outside F.outside publisher.now staged.now source.old source.new folder.old folder.new result }
 {
     for (number, content) in staged.iter().enumerate() {
         let path = content_path(alloc, number as u64)?;
@@ -82,11 +78,7 @@ fn write_content<S: Source, F: Folder>(
         × IsContent (S.outside.tells source.old) (S.outside.state source.old).held publisher.now (F.outside.state folder.old).held content.now bytes) }
     ensures intact { IsTrue (S.outside.tells source.old) → OnOk result (IsIntactContent (S.outside.state source.old).held publisher.now content.now) }
     ensures refused { IfBad result (SaysOfContent (S.outside.tells source.old) (S.outside.state source.old).held publisher.now content.now) }
-    ensures any_moment { IsTrue (F.outside.tells folder.old) → ChangesOnly F.outside (covers path.now.bytes) nowhere folder.old folder.new }
-    ensures reads { Reads S.outside source.old source.new (result ≡ Err (Bad fault.SourceFault)) }
-    ensures cause { HasCause (F.outside.faults folder.old) (F.outside.faults folder.new) (result ≡ Err (Bad fault.FolderFault)) }
-    ensures same_kind { F.outside.tells folder.new ≡ F.outside.tells folder.old }
-    ensures changes { F.outside.changes folder.old ≤ F.outside.changes folder.new }
+    ensures writes { WritesAt S.outside F.outside path.now.bytes source.old source.new folder.old folder.new result }
 {
     match content {
         Staged::Payload(name) => write_payload(
@@ -158,11 +150,7 @@ fn write_payload<S: Source, F: Folder>(
         × IsPayload (S.outside.tells source.old) (S.outside.state source.old).held publisher.now name.now bytes) }
     ensures intact { IsTrue (S.outside.tells source.old) → OnOk result (IsIntact name.now (file_at (S.outside.state source.old).held (payload_place publisher.now name.now))) }
     ensures refused { IfBad result (SaysOfPayload (S.outside.tells source.old) (S.outside.state source.old).held publisher.now name.now) }
-    ensures any_moment { IsTrue (F.outside.tells folder.old) → ChangesOnly F.outside (covers path.now.bytes) nowhere folder.old folder.new }
-    ensures reads { Reads S.outside source.old source.new (result ≡ Err (Bad fault.SourceFault)) }
-    ensures cause { HasCause (F.outside.faults folder.old) (F.outside.faults folder.new) (result ≡ Err (Bad fault.FolderFault)) }
-    ensures same_kind { F.outside.tells folder.new ≡ F.outside.tells folder.old }
-    ensures changes { F.outside.changes folder.old ≤ F.outside.changes folder.new }
+    ensures writes { WritesAt S.outside F.outside path.now.bytes source.old source.new folder.old folder.new result }
 {
     let mut payload = open_payload(alloc, publisher, name, source)?;
     let Ok(()) = folder.make_file(path) else {

@@ -6,7 +6,7 @@
 //! it about: it lays the steps again where the gate stands open, and else takes away what was left.
 //!
 //! `specs/Pending` says what a stop may leave, `specs/Staging` what stands ready, `specs/Due` from when on the new image is
-//! due. Read on with `finding`, `staging`, `committing` and `recovering`.
+//! due, and `specs/Calls` what each call promises. Read on with `finding`, `staging`, `committing` and `recovering`.
 #![tactic(auto)]
 
 mod committing;

@@ -1,25 +1,21 @@
 //! What a run that was stopped left, brought to an end.
 
-ghost use Rattle.std.specs.Prelude.{◌≡◌, ◌≢◌, ◌⊎◌, ◌<◌, ◌≤◌, ℕ, List, Option, Bool, Some, None, Err, IsTrue, IfOk, IfErr, OnOk, length, is_some, take};
+ghost use Rattle.std.specs.Prelude.{◌≡◌, ◌≢◌, ◌<◌, ◌≤◌, ℕ, List, Option, Bool, None, Err, IsTrue, IfErr, OnOk, length};
 ghost use Rattle.std.specs.List.{list_all};
-ghost use Rattle.ips_text.specs.Reading.{IfBad};
-ghost use Rattle.ips_text.specs.declared.refusal.Or.TheVariants.{Bad};
 ghost use Rattle.ips_outside.specs.Image.{Image};
-ghost use Rattle.ips_outside.specs.State.{IsSettled, nowhere};
+ghost use Rattle.ips_outside.specs.State.{IsSettled};
 ghost use Rattle.ips_outside.specs.Outside.{HasCause, Rose};
 ghost use Rattle.ips_outside.specs.Children.{path_bytes};
-ghost use Rattle.ips_folder.specs.Calls.{ChangesOnly, Throughout};
+ghost use Rattle.ips_folder.specs.Calls.{Throughout};
 ghost use Rattle.ips_steps.specs.Steps.{Step, after};
 ghost use Rattle.ips_steps.specs.Private.{gate_name, mark_front, begins, visible};
-ghost use Rattle.ips_steps.specs.Journal.{IsJournal};
 ghost use Rattle.ips_steps.specs.Owed.{steps_left, IsOpen, FolderOwes};
 ghost use Rattle.ips_steps.specs.declared.step.Sort.{Sort};
 ghost use Rattle.ips_kinds.specs.Tallies.{seen_by, taken, all_counted};
 ghost use Rattle.ips_journal.specs.Text.{journal_text};
-ghost use Rattle.ips_journal.specs.Reading.{journal_of};
-ghost use Rattle.ips_commit.specs.Answers.{IfStarved};
-ghost use Rattle.ips_commit.specs.Pending.{is_swept, AreMarkNames, HasCommitted};
-ghost use Rattle.ips_commit.specs.Recovering.{CanRollForward, IfBadJournal, IsJournalled, IsPlaced, IsUnfinished, SaysOfLaying, SaysOfRecovery};
+ghost use Rattle.ips_commit.specs.Pending.{AreMarkNames, HasCommitted};
+ghost use Rattle.ips_commit.specs.Calls.{Recovers};
+ghost use Rattle.ips_commit.specs.Recovering.{CanRollForward, IsJournalled, IsPlaced, IsUnfinished, SaysOfLaying};
 ghost use Rattle.ips_commit.specs.declared.fault.CommitFault.TheVariants as fault;
 
 use crate::fault::CommitFault;
@@ -49,52 +45,8 @@ pub fn recover<F: Folder>(
     requires safe { IsTrue (F.outside.tells folder.old) → IsSettled (F.outside.state folder.old) }
     requires takers { (s : Sort) → IsTrue (taken (seen_by sorts finished kinds.old.items) s) }
 
-    // At every moment the folder owes what it owed; behind a closed gate only what is swept is changed.
-    ensures owed { IsTrue (F.outside.tells folder.old) → (b : Image) (a : Option Image) (due : Bool) → FolderOwes journal_text b a due (F.outside.state folder.old)
-        → Throughout F.outside folder.old folder.new (FolderOwes journal_text b a due) }
-    ensures closed { IsTrue (F.outside.tells folder.old) → (F.outside.state folder.old).held.look gate_name ≡ None → ChangesOnly F.outside is_swept nowhere folder.old folder.new }
-
-    // Done: whether something stood at the gate; then the image that the steps mean is seen, and else the same as before.
-    ensures forward { IsTrue (F.outside.tells folder.old) → IfOk result (λ forward. forward ≡ is_some ((F.outside.state folder.old).held.look gate_name)) }
-    ensures done { IsTrue (F.outside.tells folder.old) → (F.outside.state folder.old).held.look gate_name ≢ None
-        → OnOk result ((steps : List Step) × (count : ℕ) × CanRollForward (F.outside.state folder.old).held steps count
-        × HasCommitted (visible (after (steps_left count steps) (F.outside.state folder.old).held)) (F.outside.state folder.new)
-        × (seen_by sorts finished kinds.new.items ≡ all_counted (steps_left count steps) (seen_by sorts finished kinds.old.items))) }
-    ensures cleared { IsTrue (F.outside.tells folder.old) → (F.outside.state folder.old).held.look gate_name ≡ None
-        → OnOk result (HasCommitted (visible (F.outside.state folder.old).held) (F.outside.state folder.new)) }
-
-    // An open gate on which something is owed leads to just that.
-    ensures meant { IsTrue (F.outside.tells folder.old) → (steps : List Step) (count : ℕ) (a : Image) → IsOpen journal_text steps count a (F.outside.state folder.old).held
-        → OnOk result (HasCommitted a (F.outside.state folder.new)) × IfBadJournal result (λ line. ⊥) }
-
-    // Each refusal has its cause, and before the first change none changes anything. The whole journal is read first: where
-    // it is none, no call is made that may change something.
-    ensures refused { IsTrue (F.outside.tells folder.old) → IfBad result (SaysOfRecovery (F.outside.state folder.old) (F.outside.state folder.new) (seen_by sorts finished kinds.old.items) (seen_by sorts finished kinds.new.items)) }
-    ensures starved { IfStarved result ((F.outside.state folder.new ≡ F.outside.state folder.old) × (F.outside.changes folder.new ≡ F.outside.changes folder.old)
-        × (seen_by sorts finished kinds.new.items ≡ seen_by sorts finished kinds.old.items)) }
-    ensures read_first { IsTrue (F.outside.tells folder.old) → ((steps : List Step) → IsJournal steps → journal_of (F.outside.state folder.old).held ≡ journal_text steps → ⊥)
-        → (F.outside.state folder.old).held.look gate_name ≢ None → (F.outside.state folder.new ≡ F.outside.state folder.old)
-        × (F.outside.changes folder.new ≡ F.outside.changes folder.old) × (seen_by sorts finished kinds.new.items ≡ seen_by sorts finished kinds.old.items) }
-    ensures cause { HasCause (F.outside.faults folder.old) (F.outside.faults folder.new) ((result ≡ Err (Bad fault.Unchanged)) ⊎ (result ≡ Err (Bad fault.Unfinished))) }
-    ensures same_kind { F.outside.tells folder.new ≡ F.outside.tells folder.old }
-
-    // `Unfinished` comes only where a call was made that may change something, and at an open gate `Unchanged` only where none was.
-    ensures changes { F.outside.changes folder.old ≤ F.outside.changes folder.new }
-    ensures changed { result ≡ Err (Bad fault.Unfinished) → Rose (F.outside.changes folder.old) (F.outside.changes folder.new) }
-    ensures untouched { IsTrue (F.outside.tells folder.old) → (F.outside.state folder.old).held.look gate_name ≢ None
-        → result ≡ Err (Bad fault.Unchanged) → F.outside.changes folder.new ≡ F.outside.changes folder.old }
-
-    // Nothing is counted where nothing was begun or the gate was closed.
-    ensures unlaid { result ≡ Err (Bad fault.Unchanged) → seen_by sorts finished kinds.new.items ≡ seen_by sorts finished kinds.old.items }
-    ensures uncounted { IsTrue (F.outside.tells folder.old) → (F.outside.state folder.old).held.look gate_name ≡ None
-        → seen_by sorts finished kinds.new.items ≡ seen_by sorts finished kinds.old.items }
-
-    // Unfinished: a front of the steps that the marks leave is laid and counted, and one more at most was begun; the gate stands
-    // open unless all are laid. Whatever a crash leaves now, the gate is closed, or the marks leave at most a thousand of those
-    // steps to be laid again.
-    ensures stopped { IsTrue (F.outside.tells folder.old) → (steps : List Step) (count : ℕ) → IsJournalled (F.outside.state folder.old).held steps count
-        → IfBad result (λ why. why ≡ fault.Unfinished
-        → IsUnfinished (F.outside.state folder.old).held (F.outside.state folder.new) steps count (seen_by sorts finished kinds.old.items) (seen_by sorts finished kinds.new.items)) }
+    // What was owed is owed at every moment, an open gate is rolled forward and a closed one swept, and each refusal has its cause.
+    ensures recovers { Recovers F.outside folder.old folder.new (seen_by sorts finished kinds.old.items) (seen_by sorts finished kinds.new.items) result }
 {
     let Ok(mut ready) = Ready::new(alloc) else {
         return Err(Or::OutOfMemory);
@@ -126,36 +78,7 @@ fn restore<F: Folder>(
     requires safe { IsTrue (F.outside.tells folder.old) → IsSettled (F.outside.state folder.old) }
     requires takers { (s : Sort) → IsTrue (taken (seen_by sorts finished kinds.old.items) s) }
     ensures path { 1023 ≤ mark.new.room }
-    ensures owed { IsTrue (F.outside.tells folder.old) → (b : Image) (a : Option Image) (due : Bool) → FolderOwes journal_text b a due (F.outside.state folder.old)
-        → Throughout F.outside folder.old folder.new (FolderOwes journal_text b a due) }
-    ensures closed { IsTrue (F.outside.tells folder.old) → (F.outside.state folder.old).held.look gate_name ≡ None → ChangesOnly F.outside is_swept nowhere folder.old folder.new }
-    ensures forward { IsTrue (F.outside.tells folder.old) → IfOk result (λ forward. forward ≡ is_some ((F.outside.state folder.old).held.look gate_name)) }
-    ensures done { IsTrue (F.outside.tells folder.old) → (F.outside.state folder.old).held.look gate_name ≢ None
-        → OnOk result ((steps : List Step) × (count : ℕ) × CanRollForward (F.outside.state folder.old).held steps count
-        × HasCommitted (visible (after (steps_left count steps) (F.outside.state folder.old).held)) (F.outside.state folder.new)
-        × (seen_by sorts finished kinds.new.items ≡ all_counted (steps_left count steps) (seen_by sorts finished kinds.old.items))) }
-    ensures cleared { IsTrue (F.outside.tells folder.old) → (F.outside.state folder.old).held.look gate_name ≡ None
-        → OnOk result (HasCommitted (visible (F.outside.state folder.old).held) (F.outside.state folder.new)) }
-    ensures meant { IsTrue (F.outside.tells folder.old) → (steps : List Step) (count : ℕ) (a : Image) → IsOpen journal_text steps count a (F.outside.state folder.old).held
-        → OnOk result (HasCommitted a (F.outside.state folder.new)) × IfBadJournal result (λ line. ⊥) }
-    ensures refused { IsTrue (F.outside.tells folder.old) → IfBad result (SaysOfRecovery (F.outside.state folder.old) (F.outside.state folder.new) (seen_by sorts finished kinds.old.items) (seen_by sorts finished kinds.new.items)) }
-    ensures starved { IfStarved result ((F.outside.state folder.new ≡ F.outside.state folder.old) × (F.outside.changes folder.new ≡ F.outside.changes folder.old)
-        × (seen_by sorts finished kinds.new.items ≡ seen_by sorts finished kinds.old.items)) }
-    ensures read_first { IsTrue (F.outside.tells folder.old) → ((steps : List Step) → IsJournal steps → journal_of (F.outside.state folder.old).held ≡ journal_text steps → ⊥)
-        → (F.outside.state folder.old).held.look gate_name ≢ None → (F.outside.state folder.new ≡ F.outside.state folder.old)
-        × (F.outside.changes folder.new ≡ F.outside.changes folder.old) × (seen_by sorts finished kinds.new.items ≡ seen_by sorts finished kinds.old.items) }
-    ensures cause { HasCause (F.outside.faults folder.old) (F.outside.faults folder.new) ((result ≡ Err (Bad fault.Unchanged)) ⊎ (result ≡ Err (Bad fault.Unfinished))) }
-    ensures same_kind { F.outside.tells folder.new ≡ F.outside.tells folder.old }
-    ensures changes { F.outside.changes folder.old ≤ F.outside.changes folder.new }
-    ensures changed { result ≡ Err (Bad fault.Unfinished) → Rose (F.outside.changes folder.old) (F.outside.changes folder.new) }
-    ensures untouched { IsTrue (F.outside.tells folder.old) → (F.outside.state folder.old).held.look gate_name ≢ None
-        → result ≡ Err (Bad fault.Unchanged) → F.outside.changes folder.new ≡ F.outside.changes folder.old }
-    ensures stopped { IsTrue (F.outside.tells folder.old) → (steps : List Step) (count : ℕ) → IsJournalled (F.outside.state folder.old).held steps count
-        → IfBad result (λ why. why ≡ fault.Unfinished
-        → IsUnfinished (F.outside.state folder.old).held (F.outside.state folder.new) steps count (seen_by sorts finished kinds.old.items) (seen_by sorts finished kinds.new.items)) }
-    ensures unlaid { result ≡ Err (Bad fault.Unchanged) → seen_by sorts finished kinds.new.items ≡ seen_by sorts finished kinds.old.items }
-    ensures uncounted { IsTrue (F.outside.tells folder.old) → (F.outside.state folder.old).held.look gate_name ≡ None
-        → seen_by sorts finished kinds.new.items ≡ seen_by sorts finished kinds.old.items }
+    ensures recovers { Recovers F.outside folder.old folder.new (seen_by sorts finished kinds.old.items) (seen_by sorts finished kinds.new.items) result }
 {
     let Left {
         is_open,

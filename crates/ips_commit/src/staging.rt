@@ -1,12 +1,10 @@
 //! A list of steps staged, with all that it puts.
 
-ghost use Rattle.std.specs.Prelude.{◌≡◌, ◌⊎◌, ◌<◌, ◌≤◌, [], Option, false, Some, Err, IsTrue, IsErr, OnOk, length, map};
-ghost use Rattle.ips_text.specs.Reading.{IfBad};
-ghost use Rattle.ips_text.specs.declared.refusal.Or.TheVariants.{Bad};
+ghost use Rattle.std.specs.Prelude.{◌≡◌, ◌⊎◌, ◌<◌, ◌≤◌, [], Option, false, Some, IsTrue, IsErr, OnOk, length, map};
 ghost use Rattle.ips_text.specs.Ancestry.{covers};
 ghost use Rattle.ips_outside.specs.Image.{Image, is_dir, file_bytes};
 ghost use Rattle.ips_outside.specs.State.{IsSettled, ChangedWithin, nowhere, settled};
-ghost use Rattle.ips_outside.specs.Outside.{HasCause, Reads, Rose, risen};
+ghost use Rattle.ips_outside.specs.Outside.{HasCause, Rose, risen};
 ghost use Rattle.ips_folder.specs.Calls.{CanMake, IsSole, ChangesOnly, Throughout};
 ghost use Rattle.ips_steps.specs.Private.{records_name, journal_name, visible};
 ghost use Rattle.ips_steps.specs.Journal.{IsJournal};
@@ -16,9 +14,9 @@ ghost use Rattle.ips_journal.specs.Text.{journal_text};
 ghost use Rattle.ips_journal.specs.Writing.{IsWritten};
 ghost use Rattle.ips_commit.specs.Answers.{IsBad};
 ghost use Rattle.ips_commit.specs.Pending.{IsBehindGate, is_swept};
-ghost use Rattle.ips_commit.specs.Contents.{AreStanding, AreSeen, AreIntactContents, SaysOfStage};
+ghost use Rattle.ips_commit.specs.Contents.{AreStanding, AreSeen};
 ghost use Rattle.ips_commit.specs.Staging.{CanStage, HasStaged, IsCleared, IsFilled};
-ghost use Rattle.ips_commit.specs.declared.fault.StageFault.TheVariants as fault;
+ghost use Rattle.ips_commit.specs.Calls.{Stages};
 
 use crate::contents::write_contents;
 use crate::fault::StageFault;
@@ -56,14 +54,9 @@ pub fn stage<S: Source, F: Folder>(
     // Done: the list stands ready with its contents.
     ensures staged { IsTrue (F.outside.tells folder.old) → OnOk result
         (HasStaged (S.outside.tells source.old) (S.outside.state source.old).held publisher.now (map step_of steps.now) staged.now (F.outside.state folder.old).held (F.outside.state folder.new)) }
-    ensures intact { IsTrue (S.outside.tells source.old) → OnOk result (AreIntactContents (S.outside.state source.old).held publisher.now staged.now) }
 
-    // Each refusal has its cause.
-    ensures refused { IfBad result (SaysOfStage (S.outside.tells source.old) (S.outside.state source.old).held publisher.now staged.now) }
-    ensures reads { Reads S.outside source.old source.new (result ≡ Err (Bad fault.SourceFault)) }
-    ensures cause { HasCause (F.outside.faults folder.old) (F.outside.faults folder.new) (result ≡ Err (Bad fault.FolderFault)) }
-    ensures same_kind { F.outside.tells folder.new ≡ F.outside.tells folder.old }
-    ensures changes { F.outside.changes folder.old ≤ F.outside.changes folder.new }
+    // Each payload is intact, and each refusal has its cause.
+    ensures stages { Stages S.outside F.outside publisher.now staged.now source.old source.new folder.old folder.new result }
 
     // Either a call was made that may change something, or none was and the folder is as it was.
     ensures begun { Rose (F.outside.changes folder.old) (F.outside.changes folder.new)
@@ -108,12 +101,7 @@ fn write_stage<S: Source, F: Folder>(
     ensures within { IsTrue (F.outside.tells folder.old) → OnOk result (ChangedWithin is_swept nowhere (settled (F.outside.state folder.old)) (F.outside.state folder.new)) }
     ensures filled { IsTrue (F.outside.tells folder.old) → OnOk result
         (IsFilled (S.outside.tells source.old) (S.outside.state source.old).held publisher.now (journal_text (map step_of steps.now)) staged.now (F.outside.state folder.old).held (F.outside.state folder.new)) }
-    ensures intact { IsTrue (S.outside.tells source.old) → OnOk result (AreIntactContents (S.outside.state source.old).held publisher.now staged.now) }
-    ensures refused { IfBad result (SaysOfStage (S.outside.tells source.old) (S.outside.state source.old).held publisher.now staged.now) }
-    ensures reads { Reads S.outside source.old source.new (result ≡ Err (Bad fault.SourceFault)) }
-    ensures cause { HasCause (F.outside.faults folder.old) (F.outside.faults folder.new) (result ≡ Err (Bad fault.FolderFault)) }
-    ensures same_kind { F.outside.tells folder.new ≡ F.outside.tells folder.old }
-    ensures changes { F.outside.changes folder.old ≤ F.outside.changes folder.new }
+    ensures stages { Stages S.outside F.outside publisher.now staged.now source.old source.new folder.old folder.new result }
     ensures changed { risen (F.outside.changes folder.old) ≤ F.outside.changes folder.new }
 {
     match settle(alloc, folder, names) {
@@ -166,13 +154,8 @@ fn fill<S: Source, F: Folder>(
     requires seen { AreSeen staged.now }
     ensures filled { IsTrue (F.outside.tells folder.old) → OnOk result
         (IsFilled (S.outside.tells source.old) (S.outside.state source.old).held publisher.now (journal_text (map step_of steps.now)) staged.now (F.outside.state folder.old).held (F.outside.state folder.new)) }
-    ensures intact { IsTrue (S.outside.tells source.old) → OnOk result (AreIntactContents (S.outside.state source.old).held publisher.now staged.now) }
-    ensures refused { IfBad result (SaysOfStage (S.outside.tells source.old) (S.outside.state source.old).held publisher.now staged.now) }
     ensures any_moment { IsTrue (F.outside.tells folder.old) → ChangesOnly F.outside is_swept nowhere folder.old folder.new }
-    ensures reads { Reads S.outside source.old source.new (result ≡ Err (Bad fault.SourceFault)) }
-    ensures cause { HasCause (F.outside.faults folder.old) (F.outside.faults folder.new) (result ≡ Err (Bad fault.FolderFault)) }
-    ensures same_kind { F.outside.tells folder.new ≡ F.outside.tells folder.old }
-    ensures changes { F.outside.changes folder.old ≤ F.outside.changes folder.new }
+    ensures stages { Stages S.outside F.outside publisher.now staged.now source.old source.new folder.old folder.new result }
 {
     let Ok(()) = folder.make_dir(&names.stage, 0o700) else {
         return Err(Or::Bad(StageFault::FolderFault));

@@ -5,9 +5,10 @@ use Rattle.ips_outside.specs.Image.{Image, is_dir}
 use Rattle.ips_outside.specs.State.{State, nowhere}
 use Rattle.ips_folder.proofs.Runs.{begun, keeps_then, keeps_wider}
 use Rattle.ips_steps.specs.Steps.{stage_name, stage_path}
-use Rattle.ips_outside.proofs.Reading.{reads_none, reads_then}
+use Rattle.ips_outside.proofs.Faults.{no_cause}
+use Rattle.ips_outside.proofs.Reading.{reads_none, reads_then, reads_as}
 use Rattle.ips_commit.specs.Contents.{IsIntactContent, SaysOfContent, SaysOfStage}
-use Rattle.ips_commit.proofs.AllWritten.{IsIntactAt, can_put, standing_in_stage, content_then, content_apart, content_in_stage, wrote_at, here, stage_apart, written_more, empty_more, only_more, content_below, each_more, says_of_stage, as_bad}
+use Rattle.ips_commit.proofs.AllWritten.{IsIntactAt, can_put, standing_in_stage, content_then, content_apart, content_in_stage, wrote_at, here, stage_apart, written_more, empty_more, only_more, content_below, each_more, says_of_stage, cause_since, as_bad}
 use Rattle.ips_commit.proofs.contents.write_contents.Goals as goal
 
 pub loop-number-init : goal.loop-number-init
@@ -44,25 +45,36 @@ write_content-requires-clause-apart g c =
     content_apart c.loop-number.number c.in_ok-path.path.bytes c.in_ok-path.ensures c.index-staged-number.result
     (c.requires.seen c.loop-number.number c.index-staged-number.result (here c.args.staged.now c.loop-number.number c.index-staged-number.result c.loop-number-test.true c.index-staged-number.is))
 
-pub returns-in-Err-clause-refused : goal.returns-in-Err-clause-refused
-returns-in-Err-clause-refused g c =
-    let o = g.S.Source.outside in
+pub returns-in-Err-clause-stages : goal.returns-in-Err-clause-stages
+returns-in-Err-clause-stages g c =
+    let o = g.F.Source.outside in
+    let q = g.S.Source.outside in
     let inv = c.loop-number.invariant in
+    let source = c.args.source.now in
+    let staged = c.args.staged.now in
+    let publisher = c.args.publisher.now in
     let s = c.index-staged-number.result in
-    let kind : o.tells c.loop-number.source ≡ o.tells c.args.source.now = inv.reads.call.same_kind in
-    let same : (o.state c.loop-number.source).held ≡ (o.state c.args.source.now).held = ap (λ (x : State). x.held) inv.reads.kept in
-    as_bad (Unit {0}) c.in-Err.fault (SaysOfContent (o.tells c.loop-number.source) (o.state c.loop-number.source).held c.args.publisher.now s) (SaysOfStage (o.tells c.args.source.now) (o.state c.args.source.now).held c.args.publisher.now c.args.staged.now)
-    (λ why says. says_of_stage (o.tells c.args.source.now) (o.state c.args.source.now).held c.args.publisher.now c.args.staged.now c.loop-number.number s
-    (here c.args.staged.now c.loop-number.number s c.loop-number-test.true c.index-staged-number.is) inv.intact why
-    (subst (λ (b : Bool). SaysOfContent b (o.state c.args.source.now).held c.args.publisher.now s why) kind (subst (λ (t : Image). SaysOfContent (o.tells c.loop-number.source) t c.args.publisher.now s why) same says)))
-    c.in-Err.ensures.refused
+    let why = c.in-Err.fault in
+    let writes = c.in-Err.ensures.writes in
+    let kind : q.tells c.loop-number.source ≡ q.tells source = inv.reads.call.same_kind in
+    let same : (q.state c.loop-number.source).held ≡ (q.state source).held = ap (λ (x : State). x.held) inv.reads.kept in record {
+      intact = λ told. tt;
+      refused = as_bad (Unit {0}) why (SaysOfContent (q.tells c.loop-number.source) (q.state c.loop-number.source).held publisher s) (SaysOfStage (q.tells source) (q.state source).held publisher staged)
+          (λ why says. says_of_stage (q.tells source) (q.state source).held publisher staged c.loop-number.number s (here staged c.loop-number.number s c.loop-number-test.true c.index-staged-number.is) inv.intact why
+          (subst (λ (b : Bool). SaysOfContent b (q.state source).held publisher s why) kind (subst (λ (t : Image). SaysOfContent (q.tells c.loop-number.source) t publisher s why) same says)))
+          c.in-Err.ensures.refused;
+      reads = reads_then q source c.loop-number.source c.write_content.new.source _ _ inv.reads writes.reads (λ is. is) (λ is. is);
+      cause = cause_since (o.faults c.args.folder.now) (o.faults c.loop-number.folder) (o.faults c.write_content.new.folder) _ inv.faults writes.cause;
+      same_kind = writes.same_kind ∙ inv.kind;
+      changes = omega (arith, inv.changes, writes.changes);
+    }
 
 pub returns-in-Err-clause-any_moment : goal.returns-in-Err-clause-any_moment
 returns-in-Err-clause-any_moment g c = λ told.
     let inv = c.loop-number.invariant in
     keeps_then g.F.Source.outside (covers stage_name) nowhere c.args.folder.now c.loop-number.folder c.write_content.new.folder (inv.moments told)
     (keeps_wider g.F.Source.outside (covers c.in_ok-path.path.bytes) nowhere (covers stage_name) nowhere c.loop-number.folder c.write_content.new.folder (content_in_stage c.loop-number.number c.in_ok-path.path.bytes c.in_ok-path.ensures) (λ q n. n)
-    (c.write_content.ensures.any_moment (inv.kind ∙ told)))
+    (c.write_content.ensures.writes.any_moment (inv.kind ∙ told)))
 
 pub loop-number-preserved : goal.loop-number-preserved
 loop-number-preserved g c =
@@ -81,22 +93,22 @@ loop-number-preserved g c =
     let kind : so.tells c.loop-number.source ≡ so.tells c.args.source.now = inv.reads.call.same_kind in
     let same : (so.state c.loop-number.source).held ≡ (so.state c.args.source.now).held = ap (λ (x : State). x.held) inv.reads.kept in
     record {
-      kind = c.write_content.ensures.same_kind ∙ inv.kind;
-      changes = omega (arith, inv.changes, c.write_content.ensures.changes);
-      faults = c.write_content.ensures.cause.steady (λ failed. let bad = sym c.in-Ok.is ∙ failed in cc) ∙ inv.faults;
-      reads = reads_then so c.args.source.now c.loop-number.source c.write_content.new.source _ ⊥ inv.reads c.write_content.ensures.reads (λ failed. let bad = sym c.in-Ok.is ∙ failed in cc) (λ f. absurd f);
-      stage = λ told. ap is_dir ((c.write_content.ensures.any_moment (inv.kind ∙ told)).now.agrees.look stage_name (ap (λ (x : List ℕ). covers x stage_name) c.in_ok-path.ensures ∙ stage_apart i) refl) ∙ inv.stage told;
-      stands = λ told. (c.write_content.ensures.any_moment (inv.kind ∙ told)).now.agrees.look stage_name (ap (λ (x : List ℕ). covers x stage_name) c.in_ok-path.ensures ∙ stage_apart i) refl ∙ inv.stands told;
+      kind = c.write_content.ensures.writes.same_kind ∙ inv.kind;
+      changes = omega (arith, inv.changes, c.write_content.ensures.writes.changes);
+      faults = c.write_content.ensures.writes.cause.steady (λ failed. let bad = sym c.in-Ok.is ∙ failed in cc) ∙ inv.faults;
+      reads = reads_then so c.args.source.now c.loop-number.source c.write_content.new.source _ ⊥ inv.reads c.write_content.ensures.writes.reads (λ failed. let bad = sym c.in-Ok.is ∙ failed in cc) (λ f. absurd f);
+      stage = λ told. ap is_dir ((c.write_content.ensures.writes.any_moment (inv.kind ∙ told)).now.agrees.look stage_name (ap (λ (x : List ℕ). covers x stage_name) c.in_ok-path.ensures ∙ stage_apart i) refl) ∙ inv.stage told;
+      stands = λ told. (c.write_content.ensures.writes.any_moment (inv.kind ∙ told)).now.agrees.look stage_name (ap (λ (x : List ℕ). covers x stage_name) c.in_ok-path.ensures ∙ stage_apart i) refl ∙ inv.stands told;
       empty = λ told.
-          let wrote = wrote_at i p c.in_ok-path.ensures t u (c.write_content.ensures.any_moment (inv.kind ∙ told)).now.agrees in
+          let wrote = wrote_at i p c.in_ok-path.ensures t u (c.write_content.ensures.writes.any_moment (inv.kind ∙ told)).now.agrees in
           empty_more staged i s c.loop-number-test.true c.index-staged-number.is (so.tells c.args.source.now) (so.state c.args.source.now).held publisher t0 t u (omega arith) wrote (inv.empty told);
       only = λ told.
           let told_1 = inv.kind ∙ told in
-          let wrote = wrote_at i p c.in_ok-path.ensures t u (c.write_content.ensures.any_moment told_1).now.agrees in
+          let wrote = wrote_at i p c.in_ok-path.ensures t u (c.write_content.ensures.writes.any_moment told_1).now.agrees in
           let made = c.in-Ok.ensures.written told_1 in
-          only_more i t u wrote (o_sane.formed c.write_content.new.folder (c.write_content.ensures.same_kind ∙ told_1)) made.0 (ap u.look (sym c.in_ok-path.ensures) ∙ made.1) (inv.only told);
+          only_more i t u wrote (o_sane.formed c.write_content.new.folder (c.write_content.ensures.writes.same_kind ∙ told_1)) made.0 (ap u.look (sym c.in_ok-path.ensures) ∙ made.1) (inv.only told);
       written = λ told.
-          let wrote = wrote_at i p c.in_ok-path.ensures t u (c.write_content.ensures.any_moment (inv.kind ∙ told)).now.agrees in
+          let wrote = wrote_at i p c.in_ok-path.ensures t u (c.write_content.ensures.writes.any_moment (inv.kind ∙ told)).now.agrees in
           let made = c.in-Ok.ensures.written (inv.kind ∙ told) in
           let at = here staged i s c.loop-number-test.true c.index-staged-number.is in
           written_more staged i s c.loop-number-test.true c.index-staged-number.is (so.tells c.args.source.now) (so.state c.args.source.now).held publisher t0 t u (omega arith) wrote made.0
@@ -106,16 +118,24 @@ loop-number-preserved g c =
       intact = λ told. each_more staged i s c.loop-number-test.true c.index-staged-number.is (IsIntactAt (so.state c.args.source.now).held publisher)
           (subst (λ (r : Image). IsIntactContent r publisher s) same (c.in-Ok.ensures.intact (kind ∙ told))) (inv.intact told);
       moments = λ told. keeps_then o (covers stage_name) nowhere c.args.folder.now c.loop-number.folder c.write_content.new.folder (inv.moments told)
-          (keeps_wider o (covers p) nowhere (covers stage_name) nowhere c.loop-number.folder c.write_content.new.folder (content_in_stage i p c.in_ok-path.ensures) (λ q n. n) (c.write_content.ensures.any_moment (inv.kind ∙ told)));
+          (keeps_wider o (covers p) nowhere (covers stage_name) nowhere c.loop-number.folder c.write_content.new.folder (content_in_stage i p c.in_ok-path.ensures) (λ q n. n) (c.write_content.ensures.writes.any_moment (inv.kind ∙ told)));
     }
 
 pub returns-clause-written : goal.returns-clause-written
 returns-clause-written g c = λ told n s at.
     c.loop-number.invariant.written told n s (omega (arith, slice_get_within c.args.staged.now n s at)) at
 
-pub returns-clause-intact : goal.returns-clause-intact
-returns-clause-intact g c = λ told n s at.
-    c.loop-number.invariant.intact told n s (omega (arith, slice_get_within c.args.staged.now n s at)) at
+pub returns-clause-stages : goal.returns-clause-stages
+returns-clause-stages g c =
+    let o = g.F.Source.outside in
+    let inv = c.loop-number.invariant in record {
+      intact = λ told n s at. inv.intact told n s (omega (arith, slice_get_within c.args.staged.now n s at)) at;
+      refused = tt;
+      reads = reads_as g.S.Source.outside c.args.source.now c.loop-number.source ⊥ _ inv.reads (λ f. absurd f) (λ is. cc);
+      cause = cause_since (o.faults c.args.folder.now) (o.faults c.loop-number.folder) (o.faults c.loop-number.folder) _ inv.faults (no_cause _ _ (λ is. cc));
+      same_kind = inv.kind;
+      changes = inv.changes;
+    }
 
 pub returns-clause-only : goal.returns-clause-only
 returns-clause-only g c = λ told q below there.

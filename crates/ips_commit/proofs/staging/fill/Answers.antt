@@ -50,7 +50,7 @@ returns-in_err-write_contents-clause-any_moment g c = λ told.
 pub write_journal-requires-clause-can : goal.write_journal-requires-clause-can
 write_journal-requires-clause-can g c = λ told_now.
     let o = g.F.Source.outside in
-    let told = sym c.make_dir.ensures.call.same_kind ∙ sym c.write_contents.ensures.same_kind ∙ told_now in
+    let told = sym c.make_dir.ensures.call.same_kind ∙ sym c.write_contents.ensures.stages.same_kind ∙ told_now in
     let run : ChangesOnly o (covers stage_name) nowhere c.args.folder.now c.write_contents.new.folder =
     keeps_then o (covers stage_name) nowhere c.args.folder.now c.make_dir.new.self c.write_contents.new.folder
     (stage_made o g.met.F.Source.sane c.args.names.now.stage.bytes c.args.names.now.stage_is c.args.folder.now c.make_dir.new.self _ c.make_dir.result told c.make_dir.ensures)
@@ -65,7 +65,7 @@ returns-in-Err-OutOfMemory-clause-any_moment g c = λ told.
     (stage_made o g.met.F.Source.sane c.args.names.now.stage.bytes c.args.names.now.stage_is c.args.folder.now c.make_dir.new.self _ c.make_dir.result told c.make_dir.ensures)
     (c.write_contents.ensures.any_moment (c.make_dir.ensures.call.same_kind ∙ told)) in
     journal_kept o g.met.F.Source.sane journal_name refl c.args.folder.now c.write_contents.new.folder c.write_journal.new.folder run
-    (c.write_journal.ensures.any_moment (c.write_contents.ensures.same_kind ∙ c.make_dir.ensures.call.same_kind ∙ told))
+    (c.write_journal.ensures.any_moment (c.write_contents.ensures.stages.same_kind ∙ c.make_dir.ensures.call.same_kind ∙ told))
 
 pub returns-in-Err-Bad-clause-any_moment : goal.returns-in-Err-Bad-clause-any_moment
 returns-in-Err-Bad-clause-any_moment g c = λ told.
@@ -75,7 +75,7 @@ returns-in-Err-Bad-clause-any_moment g c = λ told.
     (stage_made o g.met.F.Source.sane c.args.names.now.stage.bytes c.args.names.now.stage_is c.args.folder.now c.make_dir.new.self _ c.make_dir.result told c.make_dir.ensures)
     (c.write_contents.ensures.any_moment (c.make_dir.ensures.call.same_kind ∙ told)) in
     journal_kept o g.met.F.Source.sane journal_name refl c.args.folder.now c.write_contents.new.folder c.write_journal.new.folder run
-    (c.write_journal.ensures.any_moment (c.write_contents.ensures.same_kind ∙ c.make_dir.ensures.call.same_kind ∙ told))
+    (c.write_journal.ensures.any_moment (c.write_contents.ensures.stages.same_kind ∙ c.make_dir.ensures.call.same_kind ∙ told))
 
 pub returns-in-Ok-write_journal-clause-any_moment : goal.returns-in-Ok-write_journal-clause-any_moment
 returns-in-Ok-write_journal-clause-any_moment g c = λ told.
@@ -85,13 +85,13 @@ returns-in-Ok-write_journal-clause-any_moment g c = λ told.
     (stage_made o g.met.F.Source.sane c.args.names.now.stage.bytes c.args.names.now.stage_is c.args.folder.now c.make_dir.new.self _ c.make_dir.result told c.make_dir.ensures)
     (c.write_contents.ensures.any_moment (c.make_dir.ensures.call.same_kind ∙ told)) in
     journal_kept o g.met.F.Source.sane journal_name refl c.args.folder.now c.write_contents.new.folder c.write_journal.new.folder run
-    (c.write_journal.ensures.any_moment (c.write_contents.ensures.same_kind ∙ c.make_dir.ensures.call.same_kind ∙ told))
+    (c.write_journal.ensures.any_moment (c.write_contents.ensures.stages.same_kind ∙ c.make_dir.ensures.call.same_kind ∙ told))
 
 pub returns-in-Ok-write_journal-clause-filled : goal.returns-in-Ok-write_journal-clause-filled
 returns-in-Ok-write_journal-clause-filled g c = λ told.
     let o = g.F.Source.outside in
     let told_1 = c.make_dir.ensures.call.same_kind ∙ told in
-    let told_2 = c.write_contents.ensures.same_kind ∙ told_1 in
+    let told_2 = c.write_contents.ensures.stages.same_kind ∙ told_1 in
     let made : ChangesOnly o (covers stage_name) nowhere c.args.folder.now c.make_dir.new.self =
     stage_made o g.met.F.Source.sane c.args.names.now.stage.bytes c.args.names.now.stage_is c.args.folder.now c.make_dir.new.self _ c.make_dir.result told c.make_dir.ensures in
     let run : ChangesOnly o (covers stage_name) nowhere c.args.folder.now c.write_contents.new.folder =

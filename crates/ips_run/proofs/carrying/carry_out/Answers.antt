@@ -25,38 +25,38 @@ returns-in-Err-clause-spawner g c = unrun_cause _ _ _ _ _ _ c.unrun.ensures c.in
 
 pub returns-in-Err-commit-clause-carried : goal.returns-in-Err-commit-clause-carried
 returns-in-Err-commit-clause-carried g c = λ told steps a staged.
-    let (laid, are, gate, resume) = c.in-Err-commit.ensures.stopped told steps a staged in
-    carried_part g.F.Source.outside g.met.F.Source.sane steps a c.args.folder.now staged _ c.commit.new.folder _ (c.commit.ensures.owed told steps a staged) (c.commit.ensures.due told steps a staged)
-    c.in-Err-commit.fault c.uncommitted.result (c.in-Err-commit.ensures.faults told steps a staged) c.uncommitted.ensures (steps, laid, are.few, are.tallies, resume)
+    let (laid, are, gate, resume) = c.in-Err-commit.ensures.commits.stopped told steps a staged in
+    carried_part g.F.Source.outside g.met.F.Source.sane steps a c.args.folder.now staged _ c.commit.new.folder _ (c.commit.ensures.commits.owed told steps a staged) (c.commit.ensures.commits.due told steps a staged)
+    c.in-Err-commit.fault c.uncommitted.result (c.in-Err-commit.ensures.commits.faults told steps a staged) c.uncommitted.ensures (steps, laid, are.few, are.tallies, resume)
 
 pub returns-in-Err-commit-clause-told : goal.returns-in-Err-commit-clause-told
 returns-in-Err-commit-clause-told g c = λ told steps a staged.
-    let (laid, are, gate, resume) = c.in-Err-commit.ensures.stopped told steps a staged in
+    let (laid, are, gate, resume) = c.in-Err-commit.ensures.commits.stopped told steps a staged in
     told_part g.P.Spawner.running steps _ _ _ _ c.args.spawner.now c.run_all.new.spawner c.deref.result.now c.deref.ensures.value _ c.in-Err-commit.fault c.uncommitted.result laid c.in-Ok.ensures.ran
-    (c.in-Err-commit.ensures.faults told steps a staged) c.uncommitted.ensures are.few are.tallies
+    (c.in-Err-commit.ensures.commits.faults told steps a staged) c.uncommitted.ensures are.few are.tallies
 
 pub returns-in-Ok-run_all-clause-carried : goal.returns-in-Ok-run_all-clause-carried
 returns-in-Ok-run_all-clause-carried g c = λ told steps a staged.
-    carried_all g.F.Source.outside g.met.F.Source.sane steps a c.args.folder.now staged _ c.commit.new.folder _ (c.commit.ensures.owed told steps a staged) (c.commit.ensures.due told steps a staged)
-    (c.in-Ok-commit.ensures.done told steps a staged).1 _
+    carried_all g.F.Source.outside g.met.F.Source.sane steps a c.args.folder.now staged _ c.commit.new.folder _ (c.commit.ensures.commits.owed told steps a staged) (c.commit.ensures.commits.due told steps a staged)
+    (c.in-Ok-commit.ensures.commits.done told steps a staged).1 _
 
 pub returns-in-Ok-run_all-clause-told : goal.returns-in-Ok-run_all-clause-told
 returns-in-Ok-run_all-clause-told g c = λ told steps a staged.
     told_done g.P.Spawner.running steps _ _ _ _ c.args.spawner.now c.run_all.new.spawner c.run_all-2.new.spawner c.run_all.ensures.same_kind c.deref.result.now c.deref.ensures.value c.in-Ok.ensures.ran
-    _ (c.in-Ok-commit.ensures.counted told steps a staged) c.deref-2.result.now c.deref-2.ensures.value c.in-Ok-run_all.ensures.ran
+    _ (c.in-Ok-commit.ensures.commits.counted told steps a staged) c.deref-2.result.now c.deref-2.ensures.value c.in-Ok-run_all.ensures.ran
 
 pub returns-clause-carried : goal.returns-clause-carried
 returns-clause-carried g c = λ told steps a staged.
-    carried_but g.F.Source.outside g.met.F.Source.sane steps a c.args.folder.now staged _ c.commit.new.folder _ (c.commit.ensures.owed told steps a staged) (c.commit.ensures.due told steps a staged)
-    (c.in-Ok-commit.ensures.done told steps a staged).1 _ c.in-Err-run_all.fault c.unrun-in-Err-run_all.result c.unrun-in-Err-run_all.ensures
+    carried_but g.F.Source.outside g.met.F.Source.sane steps a c.args.folder.now staged _ c.commit.new.folder _ (c.commit.ensures.commits.owed told steps a staged) (c.commit.ensures.commits.due told steps a staged)
+    (c.in-Ok-commit.ensures.commits.done told steps a staged).1 _ c.in-Err-run_all.fault c.unrun-in-Err-run_all.result c.unrun-in-Err-run_all.ensures
 
 pub returns-clause-told : goal.returns-clause-told
 returns-clause-told g c = λ told steps a staged.
     told_but g.P.Spawner.running steps _ _ _ _ c.args.spawner.now c.run_all.new.spawner c.run_all-2.new.spawner c.run_all.ensures.same_kind c.deref.result.now c.deref.ensures.value c.in-Ok.ensures.ran
-    _ (c.in-Ok-commit.ensures.counted told steps a staged) c.deref-2.result.now c.deref-2.ensures.value c.in-Err-run_all.fault c.unrun-in-Err-run_all.result c.in-Err-run_all.ensures.fault c.unrun-in-Err-run_all.ensures c.in-Err-run_all.ensures.ran
+    _ (c.in-Ok-commit.ensures.commits.counted told steps a staged) c.deref-2.result.now c.deref-2.ensures.value c.in-Err-run_all.fault c.unrun-in-Err-run_all.result c.in-Err-run_all.ensures.fault c.unrun-in-Err-run_all.ensures c.in-Err-run_all.ensures.ran
 
 pub returns-clause-folder : goal.returns-clause-folder
-returns-clause-folder g c = cause_as _ _ _ _ c.in-Ok-commit.ensures.cause (λ is. cc) (λ is. absurd (clash (is_folder_fault c.unrun-in-Err-run_all.result) is (unrun_folder _ _ _ _ c.unrun-in-Err-run_all.ensures)))
+returns-clause-folder g c = cause_as _ _ _ _ c.in-Ok-commit.ensures.commits.cause (λ is. cc) (λ is. absurd (clash (is_folder_fault c.unrun-in-Err-run_all.result) is (unrun_folder _ _ _ _ c.unrun-in-Err-run_all.ensures)))
 
 pub returns-clause-read : goal.returns-clause-read
 returns-clause-read g c = unrun_source _ _ _ _ c.unrun-in-Err-run_all.ensures
