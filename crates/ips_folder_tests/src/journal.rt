@@ -135,15 +135,13 @@ const FIRST_INSTALLATION: &str = "fresh 0755 usr
 fresh 0755 usr/share
 put 0 0644 usr/share/hello
 put 1 0644 var/pkg/history
-put 2 0644 var/pkg/installed
-put 3 0644 var/pkg/manifests/hello
-put 4 0644 var/pkg/owners";
+put 2 0644 var/pkg/owners
+put 3 0644 var/pkg/packages/hello";
 
 // Their journal, each line of which ends in `;`.
 const FIRST_JOURNAL: &str =
     "journal 1;fresh 0755 usr;fresh 0755 usr/share;put 0 0644 usr/share/hello;\
-    put 1 0644 var/pkg/history;put 2 0644 var/pkg/installed;put 3 0644 var/pkg/manifests/hello;\
-    put 4 0644 var/pkg/owners;end 7;";
+    put 1 0644 var/pkg/history;put 2 0644 var/pkg/owners;put 3 0644 var/pkg/packages/hello;end 6;";
 
 // The steps, each on a line.
 fn steps_of(rt: &impl Abort, alloc: Global, lines: &str) -> Vec<Step> {
@@ -184,7 +182,7 @@ fn writes_the_journal_of_a_first_installation(rt: HostRuntime) {
     assert!(rt; text.as_slice() == lines_of(&rt, alloc, FIRST_JOURNAL).as_slice());
     let mut reader = StepReader::new(alloc).ok().expect(&rt, "no fault");
     let read = read_all(&mut reader, &mut folder(&rt, alloc, &text, 0));
-    assert!(rt; read.ok() == Some(7));
+    assert!(rt; read.ok() == Some(6));
 }
 
 // So many steps that put a file.

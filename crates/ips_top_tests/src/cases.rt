@@ -109,6 +109,11 @@ look | acts -> file 644 "abc"
 status | 0 ->
 run | -R i -s r uninstall acts -> 0 "install 0, update 0, remove 1\nsteps: gone 2, fresh 0, mode 0, put 2, link 0, hard 0\ndone\n"
 with | -R i -s r install acts | spawner 1 -> 1 "spawn fault after\n"
+look | acts -> file 644 "abc"
+run | -R i -s r uninstall acts -> 0 "install 0, update 0, remove 1\nsteps: gone 2, fresh 0, mode 0, put 2, link 0, hard 0\ndone\n"
+run | -R i -s r install acts -> 0 "install 1, update 0, remove 0\nsteps: gone 0, fresh 0, mode 0, put 4, link 0, hard 0\ndone\n"
+ran | -> "/bin/echo\0restart\0svc:/a\0\n"
+look | acts -> file 644 "abc"
 "#;
 
 // What is refused, and leaves the image as it was.
@@ -122,6 +127,10 @@ run | -R i -s r install reserved -> 1 "reserved var/pkg/x\n"
 run | -R i -s r install lost -> 1 "payload missing 3333333333333333333333333333333333333333\n"
 run | -R i -s r install damaged -> 1 "payload damaged cb4cc28df0fdbe0ecf9d9662e294b118092a5735 found c9a2a5540dcfc3ebad99e723223675d3f15edc54\n"
 run | -R i -s r install gzip -> 1 "compressed 2222222222222222222222222222222222222222 found c1df680e393d04a2a3b050a06db652e9ab37f761\n"
+look | lost -> absent
+look | damaged -> absent
+look | gzip -> absent
+look | var/pkg/history -> file 644 "20240102T030405Z image-create -p test\n"
 run | -R i -s r install bad -> 1 "bad manifest bad@1 line 2\n"
 run | -R i -s r install absent -> 1 "manifest missing absent@1\n"
 with | -R i -s r install hello | source 1 -> 1 "source fault\n"
@@ -140,8 +149,8 @@ fn each_command_does_what_it_says(rt: HostRuntime) {
         (43u32, COMMANDS),
         (14u32, SETTINGS),
         (8u32, EDITS),
-        (16u32, ACTIONS),
-        (18u32, REFUSALS),
+        (21u32, ACTIONS),
+        (22u32, REFUSALS),
     ] {
         let mut world = World::new(alloc, repository(&rt, alloc));
         let rows = rows_told(&rt, alloc, &mut world, table);

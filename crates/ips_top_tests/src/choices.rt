@@ -84,6 +84,19 @@ does | install g -> 0 done
 does | list -> 0 g@1
 look | var/pkg/avoid -> file 644 "a\nb\n"
 does | unavoid a -> 4 nothing to do
+# a group draws in what it names, unless that is avoided
+begin ->
+does | image-create -p test -> 0 done
+package | g@1 | depend fmri=x type=group ->
+package | x@1 | set name=info value=x ->
+catalog | g 1; x 1 ->
+does | install g -> 0 done
+run | -R i -s r list -> 0 "g@1\nx@1\n"
+does | uninstall g x -> 0 done
+does | avoid x -> 0 done
+does | install g -> 0 done
+does | list -> 0 g@1
+look | var/pkg/avoid -> file 644 "x\n"
 "#;
 
 // What is laid of it.
@@ -190,7 +203,7 @@ run | -R i -s r list -> 0 "a@1\n"
 #[test]
 fn the_best_selection_is_chosen(rt: HostRuntime) {
     let alloc = rt.alloc();
-    for (count, table) in [(72u32, CHOICES), (23u32, FACETS)] {
+    for (count, table) in [(84u32, CHOICES), (23u32, FACETS)] {
         let mut world = World::new(alloc, bare(&rt, alloc));
         let rows = rows_told(&rt, alloc, &mut world, table);
         assert!(rt; rows == count, "{rows} rows in place of {count}");
