@@ -16,8 +16,7 @@ use Rattle.ips_conflict.specs.Clash.{Conflict, IsFirst, conflict_cmp, key_cmp, n
 use Rattle.ips_conflict.proofs.FirstOver.{key_total, same_rule}
 use Rattle.ips_conflict.proofs.FirstPair.{place_tie}
 use Rattle.ips_conflict.proofs.Ordered.{place_total}
-use Rattle.ips_new_licenses.proofs.Pairs.{both_equal}
-use Rattle.ips_plan_laws.proofs.Ties.{tie}
+use Rattle.ips_plan_laws.proofs.Ties.{both_equal, tie}
 
 pair_total : (placed : List Placed) → IsTotalOrder (pair_cmp placed)
 pair_total placed = then_total (on_total (λ (c : Conflict). c.first) (place_total placed)) (on_total (λ (c : Conflict). c.second) (options_total (place_total placed)))

@@ -17,7 +17,7 @@ use Rattle.ips_state.specs.declared.state.State.{State}
 use Rattle.ips_state.specs.State.{recorded}
 use Rattle.ips_image_plan.specs.Licenses.{AreDisplayed, AreNeeded, AreNewBetween}
 use Rattle.ips_plan_laws.proofs.States.{admitted_same}
-use Rattle.ips_new_licenses.proofs.Pairs.{both_equal}
+use Rattle.ips_plan_laws.proofs.Ties.{both_equal}
 
 name_total : IsTotalOrder license_cmp
 name_total = then_total (on_total (λ (n : LicenseName). n.0) nat_list_cmp_total) (on_total (λ (n : LicenseName). n.1) nat_list_cmp_total)
