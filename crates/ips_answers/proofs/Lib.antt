@@ -7,3 +7,10 @@ mod Fixing
 mod Showing
 mod Meaning
 mod Answers
+mod Causes
+mod Visible
+mod Staged
+mod Relaid
+mod Sparing
+mod Repairs
+mod Mending

@@ -1,25 +1,4 @@
-use Rattle.std.proofs.Common.{true, refl}
-use Rattle.ips_changing.specs.Decides.{asked_of}
-use Rattle.ips_answers.proofs.Answers.{done_once}
-use Rattle.ips_answers.proofs.Changing.{changing_once}
-use Rattle.ips_answers.proofs.Creating.{creating_once}
-use Rattle.ips_answers.proofs.Fixing.{fixing_once}
-use Rattle.ips_answers.proofs.Showing.{showing_once}
-use Rattle.ips_answers.proofs.Meaning.{means_once, means_or_fails}
-use Rattle.ips_history.specs.Directories.{image_for}
-use Rattle.ips_history.specs.declared.effect.Effect.TheVariants as effect
 use Rattle.ips_answers.proofs.laws.answer_is_one.Goals as goal
 
 pub returns : goal.returns
-returns g c = λ command moment old a b told other done again tells reads fixed firm.
-    let o = g.F.Source.outside in
-    let q = g.S.Source.outside in
-    let held = (o.state old.folder).held in
-    let repository = (q.state old.source).held in
-    let formed = g.met.F.Source.sane.formed old.folder tells in
-    done_once o q g.P.Spawner.running old a b tells reads told other fixed firm command moment
-    (showing_once means_once c.unmeant_is_one.ensures means_or_fails held)
-    (changing_once c.causes_are_one.ensures c.next_excludes_causes.ensures c.plans_are_one.ensures c.unplanned_is_one.ensures c.plan_excludes_causes.ensures (asked_of command moment true repository held) refl formed)
-    (λ z. creating_once c.creation_steps_are_one.ensures c.uncreated_is_one.ensures c.creation_excludes_causes.ensures z (image_for effect.Creates held))
-    (λ z. fixing_once c.want_is_one.ensures c.unmeant_is_one.ensures c.want_or_fault.ensures c.repair_steps_are_one.ensures c.unrepaired_is_one.ensures c.repair_excludes_causes.ensures z held)
-    done again
+returns g c = λ command moment old a b told other done again tells reads. c.cause_is_answered.ensures.answered command moment old b told other (c.cause_is_answered.ensures.caused command moment old a told done tells reads) again tells reads
