@@ -12,6 +12,7 @@ use Rattle.ips_state.specs.State.{Installed, Recorded}
 use Rattle.ips_state.specs.Text.{package_head}
 use Rattle.ips_state.specs.Records.{avoid_path, freeze_path, history_path, image_path, index_path, installed_path, manifest_path, mediators_path, package_path, packages_path}
 use Rattle.ips_load.specs.Held.{Holds, HoldsIndex, HoldsPackages, Stands, StandsManifest}
+use Rattle.ips_due.proofs.StateDue.{packages_seen}
 use Rattle.ips_entries.proofs.HeldOnce.{held_once}
 
 -- ---- records have no private names
@@ -43,10 +44,6 @@ history_seen = refl
 index_seen : is_private index_path ≡ false
 unfolding stage_name journal_name gate_name mark_front
 index_seen = refl
-
-folder_seen : is_private packages_path ≡ false
-unfolding stage_name journal_name gate_name mark_front
-folder_seen = refl
 
 manifest_seen : (stem : List ℕ) → is_private (manifest_path stem) ≡ false
 unfolding stage_name journal_name gate_name mark_front
@@ -84,8 +81,8 @@ module _ (t : Image) where
   packages_seen : (first : Bool) (ps : List Installed) → HoldsPackages first t ps → HoldsPackages first v ps
   packages_seen true ps h = record { names = stands_seen installed_path _ installed_seen h.names; each = manifests_seen manifest_path (λ p. []) manifest_seen ps h.each }
   packages_seen false ps h = record {
-    folder = ap is_dir (look_seen packages_path folder_seen) ∙ h.folder;
-    native = ap is_foreign (look_seen packages_path folder_seen) ∙ h.native;
+    folder = ap is_dir (look_seen packages_path packages_seen) ∙ h.folder;
+    native = ap is_foreign (look_seen packages_path packages_seen) ∙ h.native;
     each = manifests_seen package_path (λ p. package_head p.version) package_seen ps h.each;
     only = λ path child. h.only path (child_seen packages_path path child);
   }
