@@ -12,5 +12,5 @@ mod Visible
 mod Staged
 mod Relaid
 mod Sparing
-mod Repairs
+mod Cleaned
 mod Mending

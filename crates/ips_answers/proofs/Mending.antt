@@ -59,7 +59,7 @@ use Rattle.ips_plan_laws.proofs.Wants.{want_like}
 use Rattle.ips_top.specs.Performed.{At, IsPerformed}
 use Rattle.ips_top.specs.Runs.{Does, IsAnswered, Answers, Changes, Creates, Fixes, Shows, Tries}
 use Rattle.ips_answers.proofs.Answers.{apart, of_changing, of_creating, of_fixing, of_shown, of_tried}
-use Rattle.ips_answers.proofs.Repairs.{Laws, none_found}
+use Rattle.ips_answers.proofs.Cleaned.{Laws, none_found}
 use Rattle.ips_answers.proofs.Told.{none_decided, refusal}
 use Rattle.ips_answers.proofs.Visible.{same_records}
 

@@ -78,9 +78,9 @@ module _ (t : Image) where
   child_seen : (dir q : List ℕ) → is_child v dir q ≡ true → is_child t dir q ≡ true
   child_seen dir q h = let parts = and_parts (is_some (v.look q)) (is_directory dir (parent q)) h in and_from (is_some (t.look q)) _ (some_seen (is_private q) (t.look q) parts.0) parts.1
 
-  packages_seen : (first : Bool) (ps : List Installed) → HoldsPackages first t ps → HoldsPackages first v ps
-  packages_seen true ps h = record { names = stands_seen installed_path _ installed_seen h.names; each = manifests_seen manifest_path (λ p. []) manifest_seen ps h.each }
-  packages_seen false ps h = record {
+  installed_are_seen : (first : Bool) (ps : List Installed) → HoldsPackages first t ps → HoldsPackages first v ps
+  installed_are_seen true ps h = record { names = stands_seen installed_path _ installed_seen h.names; each = manifests_seen manifest_path (λ p. []) manifest_seen ps h.each }
+  installed_are_seen false ps h = record {
     folder = ap is_dir (look_seen packages_path packages_seen) ∙ h.folder;
     native = ap is_foreign (look_seen packages_path packages_seen) ∙ h.native;
     each = manifests_seen package_path (λ p. package_head p.version) package_seen ps h.each;
@@ -95,7 +95,7 @@ module _ (t : Image) where
   holds_seen r h = record {
     lawful = h.lawful;
     head = stands_seen image_path _ image_seen h.head;
-    packages = packages_seen _ r.installed h.packages;
+    packages = installed_are_seen _ r.installed h.packages;
     avoid = stands_seen avoid_path _ avoid_seen h.avoid;
     freeze = stands_seen freeze_path _ freeze_seen h.freeze;
     mediators = stands_seen mediators_path _ mediators_seen h.mediators;

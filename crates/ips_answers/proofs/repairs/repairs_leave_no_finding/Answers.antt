@@ -1,5 +1,5 @@
 use Rattle.ips_answers.proofs.Mending.{left_clean}
-use Rattle.ips_answers.proofs.Repairs.{Laws}
+use Rattle.ips_answers.proofs.Cleaned.{Laws}
 use Rattle.ips_answers.proofs.repairs.repairs_leave_no_finding.Goals as goal
 
 pub returns : goal.returns
