@@ -15,10 +15,10 @@ ghost use Rattle.ips_state.specs.Lawful.{IsLawful};
 ghost use Rattle.ips_image_plan.specs.Meaning.{StateMeans};
 ghost use Rattle.ips_image_steps.specs.Answers.{CanBeListed};
 ghost use Rattle.ips_plan_limits.specs.Limits as limits;
-ghost use Rattle.ips_lost.specs.Moments.{NamesMoment};
 ghost use Rattle.ips_meaning.specs.declared.entry.Entry.{Entry};
 ghost use Rattle.ips_created.specs.Creating.{AreCreationSteps, AreStepsToMake, ComesOfCreation, ComesOfMaking};
 ghost use Rattle.ips_created.specs.Made.{IsBlank, image_made};
+ghost use Rattle.ips_created.specs.Planning.{AnswersSteps, CanCreate};
 ghost use Rattle.ips_created.specs.declared.fault.CreateFault.TheVariants as fault;
 
 use crate::fault::CreateFault;
@@ -73,15 +73,11 @@ fn create_at<F: Folder>(
     text: &str,
     folder: &mut F,
 ) -> Result<Emitted, Or<CreateFault>>
-    requires moment { NamesMoment text.now }
+    requires can { CanCreate F.outside text.now new.now folder.old }
     requires new { IsLawful (recorded new.now) }
-    requires blank { IsBlank new.now }
-    requires records { IsTrue (F.outside.tells folder.old) → IsTrue (is_dir ((F.outside.state folder.old).held.look records_name)) }
-    ensures lists { IfOk result CanBeListed }
-    ensures within { IfOk result (λ e. limits.first_excess (map step_of e.steps.items) e.staged.items ≡ None) }
+    ensures answers { AnswersSteps F.outside folder.old folder.new result }
     ensures laid { IsTrue (F.outside.tells folder.old) → IfOk result (λ e. (want : List (List ℕ × Entry)) × StateMeans new.now want × AreStepsToMake text.now (recorded new.now) want (F.outside.state folder.old).held e) }
     ensures refused { IfBad result (λ why. (want : List (List ℕ × Entry)) × StateMeans new.now want × ComesOfMaking (F.outside.tells folder.old) (F.outside.state folder.old).held text.now (recorded new.now) want why) }
-    ensures reads { Reads F.outside folder.old folder.new (result ≡ Err (Bad fault.FolderFault)) }
 {
     match meaning(alloc, new) {
         Ok(want) => lay(alloc, new, &want, text, folder),

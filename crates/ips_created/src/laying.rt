@@ -1,25 +1,16 @@
 //! The steps that make an image, where it is known what no packages mean.
 
-ghost use Rattle.std.specs.Prelude.{◌≡◌, IfOk, IsTrue, Err, None, Some, map};
-ghost use Rattle.std.specs.List.{AllByRecursion};
+ghost use Rattle.std.specs.Prelude.{◌≡◌, IfOk, None, Some, map};
 ghost use Rattle.ips_text.specs.Reading.{IfBad};
-ghost use Rattle.ips_text.specs.declared.refusal.Or.TheVariants.{Bad};
-ghost use Rattle.ips_outside.specs.Image.{is_dir};
-ghost use Rattle.ips_outside.specs.Outside.{Reads};
-ghost use Rattle.ips_steps.specs.Private.{records_name};
 ghost use Rattle.ips_steps.specs.View.{step_of};
 ghost use Rattle.ips_state.specs.State.{recorded};
 ghost use Rattle.ips_state.specs.Lawful.{IsLawful};
-ghost use Rattle.ips_lost.specs.Moments.{NamesMoment};
-ghost use Rattle.ips_survey.specs.Rows.{AreRows, HasLooked, row_pair};
 ghost use Rattle.ips_due.specs.Delivered as delivered;
 ghost use Rattle.ips_due.specs.Due.{HasProperDue, IsDue, MeansSame};
 ghost use Rattle.ips_image_plan.specs.Meaning.{StateMeans};
-ghost use Rattle.ips_image_steps.specs.Answers.{CanBeListed};
 ghost use Rattle.ips_plan_limits.specs.Limits as limits;
-ghost use Rattle.ips_created.specs.Creating.{AreStepsToMake, ComesOfMaking, IsBeyond};
-ghost use Rattle.ips_created.specs.Made.{IsBlank};
-ghost use Rattle.ips_created.specs.declared.fault.CreateFault.TheVariants as fault;
+ghost use Rattle.ips_created.specs.Creating.{IsBeyond};
+ghost use Rattle.ips_created.specs.Planning.{AnswersSteps, AreSurveyed, CanCreate, PlansImage};
 
 use crate::fault::CreateFault;
 use ips_emit::Emitted;
@@ -43,16 +34,11 @@ pub(crate) fn lay<F: Folder>(
     text: &str,
     folder: &mut F,
 ) -> Result<Emitted, Or<CreateFault>>
-    requires moment { NamesMoment text.now }
+    requires can { CanCreate F.outside text.now new.now folder.old }
     requires new { IsLawful (recorded new.now) }
-    requires blank { IsBlank new.now }
     requires meant { StateMeans new.now want.now }
-    requires records { IsTrue (F.outside.tells folder.old) → IsTrue (is_dir ((F.outside.state folder.old).held.look records_name)) }
-    ensures lists { IfOk result CanBeListed }
-    ensures within { IfOk result (λ e. limits.first_excess (map step_of e.steps.items) e.staged.items ≡ None) }
-    ensures laid { IsTrue (F.outside.tells folder.old) → IfOk result (AreStepsToMake text.now (recorded new.now) want.now (F.outside.state folder.old).held) }
-    ensures refused { IfBad result (ComesOfMaking (F.outside.tells folder.old) (F.outside.state folder.old).held text.now (recorded new.now) want.now) }
-    ensures reads { Reads F.outside folder.old folder.new (result ≡ Err (Bad fault.FolderFault)) }
+    ensures answers { AnswersSteps F.outside folder.old folder.new result }
+    ensures plans { PlansImage text.now (recorded new.now) want.now (F.outside.tells folder.old) (F.outside.state folder.old).held result }
 {
     match survey(alloc, folder, want, want) {
         Ok(rows) => lay_over(alloc, new, want, &rows, text, folder),
@@ -70,18 +56,12 @@ fn lay_over<'a, F: Folder>(
     text: &str,
     folder: &mut F,
 ) -> Result<Emitted, Or<CreateFault>>
-    requires moment { NamesMoment text.now }
+    requires can { CanCreate F.outside text.now new.now folder.old }
     requires new { IsLawful (recorded new.now) }
-    requires blank { IsBlank new.now }
     requires meant { StateMeans new.now want.now }
-    requires rows { AreRows want.now want.now (map row_pair rows.now) }
-    requires records { IsTrue (F.outside.tells folder.old) → IsTrue (is_dir ((F.outside.state folder.old).held.look records_name)) }
-    requires looked { IsTrue (F.outside.tells folder.old) → AllByRecursion (HasLooked (F.outside.state folder.old).held) rows.now }
-    ensures lists { IfOk result CanBeListed }
-    ensures within { IfOk result (λ e. limits.first_excess (map step_of e.steps.items) e.staged.items ≡ None) }
-    ensures laid { IsTrue (F.outside.tells folder.old) → IfOk result (AreStepsToMake text.now (recorded new.now) want.now (F.outside.state folder.old).held) }
-    ensures refused { IfBad result (ComesOfMaking (F.outside.tells folder.old) (F.outside.state folder.old).held text.now (recorded new.now) want.now) }
-    ensures reads { Reads F.outside folder.old folder.new (result ≡ Err (Bad fault.FolderFault)) }
+    requires surveyed { AreSurveyed F.outside want.now folder.old rows.now }
+    ensures answers { AnswersSteps F.outside folder.old folder.new result }
+    ensures plans { PlansImage text.now (recorded new.now) want.now (F.outside.tells folder.old) (F.outside.state folder.old).held result }
 {
     match creation_due(alloc, new) {
         Ok(due) => lay_due(alloc, new, want, rows, &due, text, folder),
@@ -99,20 +79,14 @@ fn lay_due<'a, F: Folder>(
     text: &str,
     folder: &mut F,
 ) -> Result<Emitted, Or<CreateFault>>
-    requires moment { NamesMoment text.now }
-    requires blank { IsBlank new.now }
+    requires can { CanCreate F.outside text.now new.now folder.old }
     requires meant { StateMeans new.now want.now }
-    requires rows { AreRows want.now want.now (map row_pair rows.now) }
+    requires surveyed { AreSurveyed F.outside want.now folder.old rows.now }
     requires due { MeansSame due.now (delivered.creation_due (recorded new.now)) }
     requires together { IsDue due.now }
     requires proper { HasProperDue due.now }
-    requires records { IsTrue (F.outside.tells folder.old) → IsTrue (is_dir ((F.outside.state folder.old).held.look records_name)) }
-    requires looked { IsTrue (F.outside.tells folder.old) → AllByRecursion (HasLooked (F.outside.state folder.old).held) rows.now }
-    ensures lists { IfOk result CanBeListed }
-    ensures within { IfOk result (λ e. limits.first_excess (map step_of e.steps.items) e.staged.items ≡ None) }
-    ensures laid { IsTrue (F.outside.tells folder.old) → IfOk result (AreStepsToMake text.now (recorded new.now) want.now (F.outside.state folder.old).held) }
-    ensures refused { IfBad result (ComesOfMaking (F.outside.tells folder.old) (F.outside.state folder.old).held text.now (recorded new.now) want.now) }
-    ensures reads { Reads F.outside folder.old folder.new (result ≡ Err (Bad fault.FolderFault)) }
+    ensures answers { AnswersSteps F.outside folder.old folder.new result }
+    ensures plans { PlansImage text.now (recorded new.now) want.now (F.outside.tells folder.old) (F.outside.state folder.old).held result }
 {
     let between = Between {
         old: new,

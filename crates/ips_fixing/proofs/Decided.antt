@@ -1,6 +1,6 @@
 -- What is decided, from what each step found.
 use Rattle.std.proofs.Common.{◌≡◌, ◌≢◌, ◌⊎◌, ℕ, ◌==◌, Bool, true, false, ◌||◌, IsTrue, List, [], ◌∷◌, Option, Some, None, is_none, length, map, Ok, Err, inl, inr, refl, sym, ap, subst, ◌∙◌}
-use Rattle.std.specs.Prelude.{IfOk}
+use Rattle.std.specs.Prelude.{Result, IfOk}
 use Rattle.std.proofs.lemmas.Bool.{eqb-true, true≢false}
 use Rattle.std.proofs.lemmas.List.{nil_from_length}
 use Rattle.std.specs.declared.vec.Vec.{Vec}
@@ -12,6 +12,7 @@ use Rattle.ips_text.specs.declared.refusal.Or.TheVariants.{Bad, OutOfMemory}
 use Rattle.ips_outside.specs.Image.{Entry, Image, IsImage, file_bytes, is_dir}
 use Rattle.ips_outside.specs.State as outside
 use Rattle.ips_outside.specs.Outside.{Outside, Reads}
+use Rattle.ips_outside.proofs.Reading.{reads_as}
 use Rattle.ips_words.specs.declared.what.What.{What}
 use Rattle.ips_words.specs.declared.what.What.TheVariants.{Fix}
 use Rattle.ips_steps.specs.Steps.{Stage, all_laid}
@@ -21,11 +22,11 @@ use Rattle.ips_steps.specs.declared.step.Step as declared
 use Rattle.ips_journal.specs.declared.staged.Staged.{Staged}
 use Rattle.ips_commit.specs.Contents.{StagedContents}
 use Rattle.ips_commit.specs.Staging.{CanStage}
+use Rattle.ips_history.specs.declared.effect.Effect.TheVariants as effects
 use Rattle.ips_state.specs.Records.{image_path}
 use Rattle.ips_state.specs.State.{recorded}
 use Rattle.ips_state.specs.Lawful.{IsLawful}
 use Rattle.ips_state.specs.declared.state.State.{State}
-use Rattle.ips_load.specs.Held.{Holds}
 use Rattle.ips_load.specs.declared.fault.StateFault.{StateFault}
 use Rattle.ips_image.specs.Whole.{IsStateFault}
 use Rattle.ips_asked.specs.Formed.{CanBeKept, HasLine}
@@ -41,17 +42,21 @@ use Rattle.ips_emit.specs.declared.emitting.Emitted.{Emitted}
 use Rattle.ips_repaired.specs.Meant.{IsRepairedImage}
 use Rattle.ips_repaired.specs.Repairing.{AreRepairSteps, ComesOfRepairAt}
 use Rattle.ips_repaired.specs.declared.fault.RepairFault.{RepairFault}
+use Rattle.ips_repaired.specs.declared.fault.RepairFault.TheVariants as repair_fault
 use Rattle.ips_report.specs.declared.outcome.Outcome.{Outcome}
 use Rattle.ips_refusals.specs.Told.{Answer, unmeant_told, unread_told}
 use Rattle.ips_run.specs.declared.operation.Change.{Change}
 use Rattle.ips_run.specs.declared.operation.Decision.{Decision}
 use Rattle.ips_run.specs.declared.operation.Decision.TheVariants as decision
 use Rattle.ips_run.specs.declared.operation.DecideFault.{DecideFault}
-use Rattle.ips_run.specs.Planned.{IsPlanned}
+use Rattle.ips_run.specs.declared.operation.DecideFault.TheVariants as decide_fault
+use Rattle.ips_run.specs.Planned.{CanBeListed, IfChange, IsOfEffect, IsPlanned}
+use Rattle.ips_told.specs.Told.{IsToldAs}
 use Rattle.ips_told.specs.Laying.{IsChangeOfSteps}
 use Rattle.ips_plan_limits.specs.Limits.{first_excess}
 use Rattle.ips_fixing.specs.Fixes.{IsNoted, Repairing, repairs}
 use Rattle.ips_fixing.specs.Told.{unrepaired_told}
+use Rattle.ips_fixing.specs.Deciding.{AnswersRepair, CanRepair}
 use Rattle.ips_fixing.specs.Decides.{Decides, IsDamaged, IsNewState, Told, repairs_of, Repaired, Unmeant, Unread, Unrepaired}
 
 -- ---- the command
@@ -70,9 +75,9 @@ second_format s other lawful = second lawful.head.format
     second (inl first) = absurd (other first)
     second (inr is) = is
 
--- the records tell a state that isn't of the first format
-abbrev pub told_state : (t : Image) (s : State) → s.format ≢ 1 → IsLawful (recorded s) → Holds t (recorded s) → Told t
-told_state t s other lawful holds = record { state = s; holds = holds; format = second_format s other lawful }
+-- the records tell the state by which the image can be repaired
+abbrev pub told_by : {F : Type 0} (o : Outside F) (a : Repairing) (folder : F) (s : State) → CanRepair o a folder s → IsTrue (o.tells folder) → Told (o.state folder).held
+told_by o a folder s can tells = record { state = s; holds = can.holds tells; format = second_format s can.format can.lawful }
 
 module _ (a : Repairing) (old new : State) (noted : IsNoted a old new) (want : List (List ℕ × meant.Entry)) where
   -- packages mean the same with another history
@@ -135,6 +140,22 @@ unread_by X a t OutOfMemory r is h = undecided OutOfMemory r (Decides a t) is
 pub unmeant_by : (X : Type 0) (a : Repairing) (t : Image) (told : Told t) (e : Or WantFault) (why : WantFault) (d : Decision Outcome) → e ≡ Bad why
     → IfBad {X = X} {E = WantFault} (Err e) (StateFails told.state) → d ≡ unmeant_told why → Decides a t d
 unmeant_by X a t told e why d is h by = Unmeant told why (subst (λ (x : Or WantFault). IfBad {X = X} {E = WantFault} (Err x) (StateFails told.state)) is h) by
+
+-- where the image isn't repaired, no change is decided on, and just a call on the folder that failed is told as such
+module _ {F X : Type 0} (o : Outside F) (old new : F) (repaired : Result X (Or RepairFault)) (reads : Reads o old new (repaired ≡ Err (Bad repair_fault.FolderFault))) where
+  nothing_done : (r : Answer) → IfOk r (IsOfEffect effects.Fixes) → IfOk r (IfChange CanBeListed) → r ≢ Err (Bad decide_fault.SourceFault)
+      → (repaired ≡ Err (Bad repair_fault.FolderFault) → r ≡ Err (Bad decide_fault.FolderFault)) → (r ≡ Err (Bad decide_fault.FolderFault) → repaired ≡ Err (Bad repair_fault.FolderFault))
+      → IfOk r IsToldAs → AnswersRepair o old new r
+  nothing_done r of_effect lists unasked to from says = record { of_effect = of_effect; says = says; lists = lists; unasked = unasked; reads = reads_as o old new _ _ reads to from }
+
+  answers_as_told : (e : Or RepairFault) → repaired ≡ Err e → IfOk (unrepaired_told e) IsToldAs → AnswersRepair o old new (unrepaired_told e)
+  answers_as_told (Bad (repair_fault.Unmovable path)) is = nothing_done _ tt tt (λ asked. cc) (λ failed. cc) (λ failed. cc)
+  answers_as_told (Bad (repair_fault.TooLarge excess)) is = nothing_done _ tt tt (λ asked. cc) (λ failed. cc) (λ failed. cc)
+  answers_as_told (Bad repair_fault.FolderFault) is = nothing_done _ tt tt (λ asked. cc) (λ failed. refl) (λ failed. is)
+  answers_as_told OutOfMemory is = nothing_done _ tt tt (λ asked. cc) (λ failed. cc) (λ failed. cc)
+
+  pub unrepaired_answers : (e : Or RepairFault) (r : Answer) → repaired ≡ Err e → r ≡ unrepaired_told e → IfOk r IsToldAs → AnswersRepair o old new r
+  unrepaired_answers e r is told says = subst (λ (x : Answer). AnswersRepair o old new x) (sym told) (answers_as_told e is (subst (λ (x : Answer). IfOk x IsToldAs) told says))
 
 module _ (a : Repairing) (t : Image) (new : State) (is_new : IsNewState a t new) (want : List (List ℕ × meant.Entry)) (means : StateMeans new want)
     (some : after.findings is_payload_of (want_of want) t ≢ []) where

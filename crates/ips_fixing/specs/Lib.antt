@@ -1,3 +1,4 @@
 pub mod Fixes
 pub mod Told
 pub mod Decides
+pub mod Deciding

@@ -1,24 +1,15 @@
 //! The steps of a decision: the state that the records tell, what its packages mean, what is found against that, the steps that repair it, and the change.
 
-ghost use Rattle.std.specs.Prelude.{◌≡◌, ◌≢◌, ◌<◌, Bool, None, Err, IsTrue, IfOk, OnOk, [], map};
-ghost use Rattle.ips_text.specs.declared.refusal.Or.TheVariants.{Bad};
-ghost use Rattle.ips_outside.specs.Image.{Image, is_dir};
-ghost use Rattle.ips_outside.specs.Outside.{Reads};
+ghost use Rattle.std.specs.Prelude.{◌≡◌, ◌<◌, None, IsTrue, IfOk, OnOk};
+ghost use Rattle.ips_outside.specs.Image.{is_dir};
 ghost use Rattle.ips_steps.specs.Private.{gate_name, records_name};
-ghost use Rattle.ips_history.specs.declared.effect.Effect.TheVariants as effects;
 ghost use Rattle.ips_state.specs.State.{recorded};
 ghost use Rattle.ips_state.specs.Lawful.{IsLawful};
-ghost use Rattle.ips_load.specs.Held.{Holds};
 ghost use Rattle.ips_asked.specs.Formed.{CanBeKept, IsFormedCommand};
-ghost use Rattle.ips_after.specs.Findings as after;
-ghost use Rattle.ips_wanted.specs.Named.{is_payload_of};
-ghost use Rattle.ips_wanted.specs.Wanted.{want_of};
-ghost use Rattle.ips_verify.specs.Verified.{finding_told};
 ghost use Rattle.ips_image_plan.specs.Meaning.{StateMeans};
-ghost use Rattle.ips_run.specs.Planned.{CanBeListed, IfChange, IsOfEffect, IsPlanned};
-ghost use Rattle.ips_run.specs.declared.operation.DecideFault.TheVariants as fault;
 ghost use Rattle.ips_told.specs.Told.{IsToldAs};
-ghost use Rattle.ips_fixing.specs.Decides.{Decides, IsNewState, repairs_of};
+ghost use Rattle.ips_fixing.specs.Decides.{IsNewState};
+ghost use Rattle.ips_fixing.specs.Deciding.{AnswersRepair, AreFindings, CanRepair, IsDecisionOf};
 ghost use Rattle.ips_fixing.specs.Fixes.{IsNoted, Repairing, repairs};
 ghost use Rattle.ips_fixing.specs.Told.{unrepaired_told};
 
@@ -50,14 +41,8 @@ pub(crate) fn decided<F: Folder>(
     requires formed { IsFormedCommand command.now }
     requires fixes { IsTrue (repairs command.now.what) }
     requires shut { IsTrue (F.outside.tells folder.old) → (F.outside.state folder.old).held.look gate_name ≡ None }
-    ensures decided { IsTrue (F.outside.tells folder.old) → IfOk result (Decides (record { command = command.now; moment = moment }) (F.outside.state folder.old).held) }
-    ensures of_effect { IfOk result (IsOfEffect effects.Fixes) }
-    ensures says { IfOk result IsToldAs }
-    ensures lists { IfOk result (IfChange CanBeListed) }
-    ensures planned { IsTrue (F.outside.tells folder.old) → (tells : Bool) (repository : Image)
-        → IfOk result (IfChange (IsPlanned (repairs_of (record { command = command.now; moment = moment })) tells repository (F.outside.state folder.old).held)) }
-    ensures unasked { result ≢ Err (Bad fault.SourceFault) }
-    ensures reads { Reads F.outside folder.old folder.new (result ≡ Err (Bad fault.FolderFault)) }
+    ensures decided { IsTrue (F.outside.tells folder.old) → IsDecisionOf (record { command = command.now; moment = moment }) (F.outside.state folder.old).held result }
+    ensures answers { AnswersRepair F.outside folder.old folder.new result }
 {
     match load(alloc, folder) {
         Ok(state) if state.format == 1 => Ok(Decision::Refused(Outcome::OldFormat)),
@@ -74,20 +59,9 @@ fn stated<F: Folder>(
     state: &mut State,
     folder: &mut F,
 ) -> Result<Decision<Outcome>, Or<DecideFault>>
-    requires moment { moment < 253370764800 }
-    requires kept { CanBeKept command.now.history }
-    requires format { state.old.format ≢ 1 }
-    requires lawful { IsLawful (recorded state.old) }
-    requires holds { IsTrue (F.outside.tells folder.old) → Holds (F.outside.state folder.old).held (recorded state.old) }
-    requires shut { IsTrue (F.outside.tells folder.old) → (F.outside.state folder.old).held.look gate_name ≡ None }
-    ensures decided { IsTrue (F.outside.tells folder.old) → IfOk result (Decides (record { command = command.now; moment = moment }) (F.outside.state folder.old).held) }
-    ensures of_effect { IfOk result (IsOfEffect effects.Fixes) }
-    ensures says { IfOk result IsToldAs }
-    ensures lists { IfOk result (IfChange CanBeListed) }
-    ensures planned { IsTrue (F.outside.tells folder.old) → (tells : Bool) (repository : Image)
-        → IfOk result (IfChange (IsPlanned (repairs_of (record { command = command.now; moment = moment })) tells repository (F.outside.state folder.old).held)) }
-    ensures unasked { result ≢ Err (Bad fault.SourceFault) }
-    ensures reads { Reads F.outside folder.old folder.new (result ≡ Err (Bad fault.FolderFault)) }
+    requires can { CanRepair F.outside (record { command = command.now; moment = moment }) folder.old state.old }
+    ensures decided { IsTrue (F.outside.tells folder.old) → IsDecisionOf (record { command = command.now; moment = moment }) (F.outside.state folder.old).held result }
+    ensures answers { AnswersRepair F.outside folder.old folder.new result }
 {
     match meaning(alloc, state) {
         Ok(want) => compared(alloc, command, moment, state, &want, folder),
@@ -105,21 +79,10 @@ fn compared<F: Folder>(
     want: &Want,
     folder: &mut F,
 ) -> Result<Decision<Outcome>, Or<DecideFault>>
-    requires moment { moment < 253370764800 }
-    requires kept { CanBeKept command.now.history }
-    requires format { state.old.format ≢ 1 }
-    requires lawful { IsLawful (recorded state.old) }
-    requires holds { IsTrue (F.outside.tells folder.old) → Holds (F.outside.state folder.old).held (recorded state.old) }
+    requires can { CanRepair F.outside (record { command = command.now; moment = moment }) folder.old state.old }
     requires meant { StateMeans state.old want.now }
-    requires shut { IsTrue (F.outside.tells folder.old) → (F.outside.state folder.old).held.look gate_name ≡ None }
-    ensures decided { IsTrue (F.outside.tells folder.old) → IfOk result (Decides (record { command = command.now; moment = moment }) (F.outside.state folder.old).held) }
-    ensures of_effect { IfOk result (IsOfEffect effects.Fixes) }
-    ensures says { IfOk result IsToldAs }
-    ensures lists { IfOk result (IfChange CanBeListed) }
-    ensures planned { IsTrue (F.outside.tells folder.old) → (tells : Bool) (repository : Image)
-        → IfOk result (IfChange (IsPlanned (repairs_of (record { command = command.now; moment = moment })) tells repository (F.outside.state folder.old).held)) }
-    ensures unasked { result ≢ Err (Bad fault.SourceFault) }
-    ensures reads { Reads F.outside folder.old folder.new (result ≡ Err (Bad fault.FolderFault)) }
+    ensures decided { IsTrue (F.outside.tells folder.old) → IsDecisionOf (record { command = command.now; moment = moment }) (F.outside.state folder.old).held result }
+    ensures answers { AnswersRepair F.outside folder.old folder.new result }
 {
     match findings(alloc, want, folder) {
         Ok(found) if found.is_empty() => Ok(Decision::Nothing),
@@ -139,23 +102,11 @@ fn damaged<F: Folder>(
     found: &[Finding],
     folder: &mut F,
 ) -> Result<Decision<Outcome>, Or<DecideFault>>
-    requires moment { moment < 253370764800 }
-    requires kept { CanBeKept command.now.history }
-    requires format { state.old.format ≢ 1 }
-    requires lawful { IsLawful (recorded state.old) }
-    requires holds { IsTrue (F.outside.tells folder.old) → Holds (F.outside.state folder.old).held (recorded state.old) }
+    requires can { CanRepair F.outside (record { command = command.now; moment = moment }) folder.old state.old }
     requires meant { StateMeans state.old want.now }
-    requires found { IsTrue (F.outside.tells folder.old) → map finding_told found.now ≡ after.findings is_payload_of (want_of want.now) (F.outside.state folder.old).held }
-    requires some { found.now ≢ [] }
-    requires shut { IsTrue (F.outside.tells folder.old) → (F.outside.state folder.old).held.look gate_name ≡ None }
-    ensures decided { IsTrue (F.outside.tells folder.old) → IfOk result (Decides (record { command = command.now; moment = moment }) (F.outside.state folder.old).held) }
-    ensures of_effect { IfOk result (IsOfEffect effects.Fixes) }
-    ensures says { IfOk result IsToldAs }
-    ensures lists { IfOk result (IfChange CanBeListed) }
-    ensures planned { IsTrue (F.outside.tells folder.old) → (tells : Bool) (repository : Image)
-        → IfOk result (IfChange (IsPlanned (repairs_of (record { command = command.now; moment = moment })) tells repository (F.outside.state folder.old).held)) }
-    ensures unasked { result ≢ Err (Bad fault.SourceFault) }
-    ensures reads { Reads F.outside folder.old folder.new (result ≡ Err (Bad fault.FolderFault)) }
+    requires found { AreFindings F.outside folder.old want.now found.now }
+    ensures decided { IsTrue (F.outside.tells folder.old) → IsDecisionOf (record { command = command.now; moment = moment }) (F.outside.state folder.old).held result }
+    ensures answers { AnswersRepair F.outside folder.old folder.new result }
 {
     match noted(alloc, command, moment, state) {
         Ok(()) => mended(alloc, moment, state, want, found, folder),
@@ -187,18 +138,11 @@ fn mended<F: Folder>(
     requires moment { moment < 253370764800 }
     requires lawful { IsLawful (recorded new.now) }
     requires meant { StateMeans new.now want.now }
-    requires found { IsTrue (F.outside.tells folder.old) → map finding_told found.now ≡ after.findings is_payload_of (want_of want.now) (F.outside.state folder.old).held }
-    requires some { found.now ≢ [] }
+    requires found { AreFindings F.outside folder.old want.now found.now }
     requires shut { IsTrue (F.outside.tells folder.old) → (F.outside.state folder.old).held.look gate_name ≡ None }
     requires records { IsTrue (F.outside.tells folder.old) → IsTrue (is_dir ((F.outside.state folder.old).held.look records_name)) }
-    ensures decided { IsTrue (F.outside.tells folder.old) → (a : Repairing) → a.moment ≡ moment → IsNewState a (F.outside.state folder.old).held new.now → IfOk result (Decides a (F.outside.state folder.old).held) }
-    ensures of_effect { IfOk result (IsOfEffect effects.Fixes) }
-    ensures says { IfOk result IsToldAs }
-    ensures lists { IfOk result (IfChange CanBeListed) }
-    ensures planned { IsTrue (F.outside.tells folder.old) → (a : Repairing) (tells : Bool) (repository : Image) → a.moment ≡ moment → IsNewState a (F.outside.state folder.old).held new.now
-        → IfOk result (IfChange (IsPlanned (repairs_of a) tells repository (F.outside.state folder.old).held)) }
-    ensures unasked { result ≢ Err (Bad fault.SourceFault) }
-    ensures reads { Reads F.outside folder.old folder.new (result ≡ Err (Bad fault.FolderFault)) }
+    ensures decided { IsTrue (F.outside.tells folder.old) → (a : Repairing) → a.moment ≡ moment → IsNewState a (F.outside.state folder.old).held new.now → IsDecisionOf a (F.outside.state folder.old).held result }
+    ensures answers { AnswersRepair F.outside folder.old folder.new result }
 {
     let Ok(publisher) = new.publisher.copy(alloc) else {
         return Err(Or::OutOfMemory);

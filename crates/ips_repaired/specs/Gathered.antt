@@ -1,7 +1,9 @@
 -- What is known of an image before the steps of its repair are drawn.
-use Rattle.std.specs.Prelude.{◌≡◌, ℕ, Bool, true, false, IsFalse, List, [], ◌++◌, map, Option, Some, None}
+use Rattle.std.specs.Prelude.{◌≡◌, ℕ, Bool, true, false, IsFalse, List, [], ◌++◌, length, map, Option, Some, None}
+use Rattle.std.specs.List.{AllByRecursion}
 use Rattle.ips_outside.specs.Image.{Image}
 use Rattle.ips_state.specs.Records.{history_path}
+use Rattle.ips_state.specs.declared.state.State.{State}
 use Rattle.ips_meaning.specs.declared.entry.Entry.{Entry}
 use Rattle.ips_after.specs.Lists.{listed}
 use Rattle.ips_after.specs.Repaired.{IsRepair, Repair, is_displaced, relinked_as}
@@ -11,13 +13,21 @@ use Rattle.ips_wanted.specs.Named.{is_payload_of}
 use Rattle.ips_wanted.specs.Wanted.{want_of}
 use Rattle.ips_change.specs.declared.change.Change.{Change}
 use Rattle.ips_change.specs.Told.{change_told}
+use Rattle.ips_due.specs.Asked.{AreMeant}
 use Rattle.ips_due.specs.Due.{Own, holds_content}
+use Rattle.ips_emit.specs.Emitted.{HasTarget}
 use Rattle.ips_found.specs.Found.{AreThings, thing_paths}
 use Rattle.ips_found.specs.declared.found.Thing.{Thing}
 use Rattle.ips_movable.specs.First.{IsFirstPath, loses_foreign}
 use Rattle.ips_aside.specs.declared.ways.Ways.{Ways}
 use Rattle.ips_aside.specs.Lost.{folder_paths, names_of}
 use Rattle.ips_aside.specs.Ways.{IsMarkedAbove, IsStandingAbove, bytes_if_any}
+
+-- The packages of the state mean these entries, and each of them has a change, in which a symbolic link that is made has a target.
+pub record AreChangesFor (new : State) (want : List (List ℕ × Entry)) (changes : List Change) : Type 0 where
+  pub meant : AreMeant new.settings new.mediators.items new.installed.items want
+  pub long : length changes ≡ length want
+  pub targets : AllByRecursion HasTarget changes
 
 -- This becomes of the wanted paths in a repair, in their order, apart from what records say.
 abbrev pub IsTold : Repair → Image → List Change → Type 0

@@ -1,6 +1,10 @@
 -- The steps of a repair, or why there are none.
-use Rattle.std.specs.Prelude.{◌≡◌, ℕ, Bool, IsTrue, List, map, Some}
+use Rattle.std.specs.Prelude.{◌≡◌, ℕ, Bool, IsTrue, List, map, Some, None, Result, Err, IfOk}
+use Rattle.ips_text.specs.Reading.{IfBad}
+use Rattle.ips_text.specs.declared.refusal.Or.{Or}
+use Rattle.ips_text.specs.declared.refusal.Or.TheVariants.{Bad}
 use Rattle.ips_outside.specs.Image.{Image}
+use Rattle.ips_outside.specs.Outside.{Outside, Reads}
 use Rattle.ips_steps.specs.View.{step_of}
 use Rattle.ips_moment.specs.Moment.{IsMomentText}
 use Rattle.ips_meaning.specs.declared.entry.Entry.{Entry}
@@ -49,6 +53,15 @@ abbrev pub ComesOfRepair : Bool → Image → List ℕ → List (List ℕ) → L
 ComesOfRepair told t text history want (fault.Unmovable path) = IsTrue told → HindersRepair text history want t path.bytes
 ComesOfRepair told t text history want (fault.TooLarge excess) = AreTooLarge told t text history want excess
 ComesOfRepair told t text history want fault.FolderFault = Unit {0}
+
+-- The repair at the moment of this text is planned: its steps are answered, which a journal can list and which are within the limits, or the cause for which there are
+-- none; the folder is only looked at.
+pub record PlansRepair {F : Type 0} (o : Outside F) (text : List ℕ) (history : List (List ℕ)) (want : List (List ℕ × Entry)) (old new : F) (result : Result Emitted (Or RepairFault)) : Type 0 where
+  pub lists : IfOk result CanBeListed
+  pub within : IfOk result (λ e. first_excess (map step_of e.steps.items) e.staged.items ≡ None)
+  pub repaired : IsTrue (o.tells old) → IfOk result (AreStepsToRepair text history want (o.state old).held)
+  pub refused : IfBad result (ComesOfRepair (o.tells old) (o.state old).held text history want)
+  pub reads : Reads o old new (result ≡ Err (Bad fault.FolderFault))
 
 -- The fault tells that the repair can't be carried out at this path.
 abbrev pub IsUnmovable : List ℕ → RepairFault → Type 0

@@ -21,11 +21,10 @@ ghost use Rattle.ips_found.specs.Found.{AreThings, thing_paths};
 ghost use Rattle.ips_movable.specs.Movable.{CanMove};
 ghost use Rattle.ips_aside.specs.Lost.{AreNamesOf};
 ghost use Rattle.ips_aside.specs.Ways as way_specs;
-ghost use Rattle.ips_due.specs.Asked.{AreMeant};
 ghost use Rattle.ips_image_steps.specs.Answers.{CanBeListed};
 ghost use Rattle.ips_plan_limits.specs.Limits as limits;
 ghost use Rattle.ips_repaired.specs.Drawing.{AddsRepair, IsBeyond};
-ghost use Rattle.ips_repaired.specs.Gathered.{IsGathered, IsTold, NothingHinders, put_unless, stands_as};
+ghost use Rattle.ips_repaired.specs.Gathered.{AreChangesFor, IsGathered, IsTold, NothingHinders, put_unless, stands_as};
 ghost use Rattle.ips_repaired.specs.Repairing.{AreStepsToRepair};
 
 use crate::fault::RepairFault;
@@ -56,9 +55,7 @@ pub(crate) fn draw(
     ways: &Ways,
     put: Option<Vec<u8>>,
 ) -> Result<Emitted, AllocError>
-    requires meant { AreMeant new.now.settings new.now.mediators.items new.now.installed.items want.now }
-    requires long { length changes.now ≡ length want.now }
-    requires targets { AllByRecursion HasTarget changes.now }
+    requires changes { AreChangesFor new.now want.now changes.now }
     requires path { IsPath root.now.bytes }
     requires movable { AllByRecursion (CanMove root.now.bytes) things.now }
     ensures { IfOk result (λ e. (text : List ℕ) (t : Image) → IsImage t → IsTrue (is_dir (t.look records_name)) → IsGathered text t want.now changes.now things.now root.now.bytes ways.now → NothingHinders t root.now.bytes things.now

@@ -1,33 +1,26 @@
 //! What is gathered from the image for a repair, one thing behind the other: what becomes of the wanted paths, what is salvaged, the folder for that, and the directories on
 //! the way.
 
-ghost use Rattle.std.specs.Prelude.{◌≡◌, ◌++◌, [], IfOk, IsTrue, Err, None, length, map};
+ghost use Rattle.std.specs.Prelude.{◌≡◌, ◌++◌, [], IfOk, IsTrue, None, map};
 ghost use Rattle.std.specs.List.{AllByRecursion};
 ghost use Rattle.std.specs.List.Sorted.{IsStrictlySortedBy};
 ghost use Rattle.std.specs.Ordering.{nat_cmp};
 ghost use Rattle.std.specs.Cmp.Lexicographic.{slice_cmp};
 ghost use Rattle.ips_text.specs.Path.{IsPath};
 ghost use Rattle.ips_text.specs.Reading.{IfBad};
-ghost use Rattle.ips_text.specs.declared.refusal.Or.TheVariants.{Bad};
 ghost use Rattle.ips_outside.specs.Image.{is_dir};
-ghost use Rattle.ips_outside.specs.Outside.{Reads};
 ghost use Rattle.ips_steps.specs.Private.{records_name};
-ghost use Rattle.ips_steps.specs.View.{step_of};
 ghost use Rattle.ips_lost.specs.Moments.{NamesMoment};
 ghost use Rattle.ips_after.specs.Findings.{findings};
 ghost use Rattle.ips_after.specs.Salvage.{IsRoot};
 ghost use Rattle.ips_wanted.specs.Named.{is_payload_of};
 ghost use Rattle.ips_wanted.specs.Wanted.{want_of};
 ghost use Rattle.ips_verify.specs.Verified.{finding_told};
-ghost use Rattle.ips_emit.specs.Emitted.{HasTarget};
 ghost use Rattle.ips_found.specs.Found.{thing_paths};
 ghost use Rattle.ips_movable.specs.Movable.{CanMove};
 ghost use Rattle.ips_due.specs.Asked.{AreMeant};
-ghost use Rattle.ips_image_steps.specs.Answers.{CanBeListed};
-ghost use Rattle.ips_plan_limits.specs.Limits as limits;
-ghost use Rattle.ips_repaired.specs.Gathered.{AreMended, AreSaved, IsGathered, NothingHinders};
-ghost use Rattle.ips_repaired.specs.Repairing.{AreStepsToRepair, ComesOfRepair, IsUnmovable};
-ghost use Rattle.ips_repaired.specs.declared.fault.RepairFault.TheVariants as fault;
+ghost use Rattle.ips_repaired.specs.Gathered.{AreChangesFor, AreMended, AreSaved, IsGathered, NothingHinders};
+ghost use Rattle.ips_repaired.specs.Repairing.{IsUnmovable, PlansRepair};
 
 use crate::drawing::{checked, draw};
 use crate::fault::RepairFault;
@@ -61,11 +54,7 @@ pub(crate) fn repair_at<F: Folder>(
     requires meant { AreMeant new.now.settings new.now.mediators.items new.now.installed.items want.now }
     requires found { IsTrue (F.outside.tells folder.old) → map finding_told found.now ≡ findings is_payload_of (want_of want.now) (F.outside.state folder.old).held }
     requires records { IsTrue (F.outside.tells folder.old) → IsTrue (is_dir ((F.outside.state folder.old).held.look records_name)) }
-    ensures lists { IfOk result CanBeListed }
-    ensures within { IfOk result (λ e. limits.first_excess (map step_of e.steps.items) e.staged.items ≡ None) }
-    ensures repaired { IsTrue (F.outside.tells folder.old) → IfOk result (AreStepsToRepair text.now new.now.history.items want.now (F.outside.state folder.old).held) }
-    ensures refused { IfBad result (ComesOfRepair (F.outside.tells folder.old) (F.outside.state folder.old).held text.now new.now.history.items want.now) }
-    ensures reads { Reads F.outside folder.old folder.new (result ≡ Err (Bad fault.FolderFault)) }
+    ensures plans { PlansRepair F.outside text.now new.now.history.items want.now folder.old folder.new result }
 {
     mended_changes_have_targets();
     match mend(alloc, folder, want, found) {
@@ -85,16 +74,10 @@ fn repair_by<F: Folder>(
     folder: &mut F,
 ) -> Result<Emitted, Or<RepairFault>>
     requires moment { NamesMoment text.now }
-    requires meant { AreMeant new.now.settings new.now.mediators.items new.now.installed.items want.now }
-    requires long { length changes.now ≡ length want.now }
-    requires targets { AllByRecursion HasTarget changes.now }
+    requires changes { AreChangesFor new.now want.now changes.now }
     requires mended { IsTrue (F.outside.tells folder.old) → AreMended (F.outside.state folder.old).held want.now changes.now }
     requires records { IsTrue (F.outside.tells folder.old) → IsTrue (is_dir ((F.outside.state folder.old).held.look records_name)) }
-    ensures lists { IfOk result CanBeListed }
-    ensures within { IfOk result (λ e. limits.first_excess (map step_of e.steps.items) e.staged.items ≡ None) }
-    ensures repaired { IsTrue (F.outside.tells folder.old) → IfOk result (AreStepsToRepair text.now new.now.history.items want.now (F.outside.state folder.old).held) }
-    ensures refused { IfBad result (ComesOfRepair (F.outside.tells folder.old) (F.outside.state folder.old).held text.now new.now.history.items want.now) }
-    ensures reads { Reads F.outside folder.old folder.new (result ≡ Err (Bad fault.FolderFault)) }
+    ensures plans { PlansRepair F.outside text.now new.now.history.items want.now folder.old folder.new result }
 {
     match displaced(alloc, folder, want, changes) {
         Ok(things) => repair_saving(alloc, new, want, changes, &things, text, folder),
@@ -114,18 +97,12 @@ fn repair_saving<F: Folder>(
     folder: &mut F,
 ) -> Result<Emitted, Or<RepairFault>>
     requires moment { NamesMoment text.now }
-    requires meant { AreMeant new.now.settings new.now.mediators.items new.now.installed.items want.now }
-    requires long { length changes.now ≡ length want.now }
-    requires targets { AllByRecursion HasTarget changes.now }
+    requires changes { AreChangesFor new.now want.now changes.now }
     requires order { IsStrictlySortedBy (slice_cmp nat_cmp) (thing_paths things.now) }
     requires mended { IsTrue (F.outside.tells folder.old) → AreMended (F.outside.state folder.old).held want.now changes.now }
     requires saved { IsTrue (F.outside.tells folder.old) → AreSaved (F.outside.state folder.old).held want.now things.now }
     requires records { IsTrue (F.outside.tells folder.old) → IsTrue (is_dir ((F.outside.state folder.old).held.look records_name)) }
-    ensures lists { IfOk result CanBeListed }
-    ensures within { IfOk result (λ e. limits.first_excess (map step_of e.steps.items) e.staged.items ≡ None) }
-    ensures repaired { IsTrue (F.outside.tells folder.old) → IfOk result (AreStepsToRepair text.now new.now.history.items want.now (F.outside.state folder.old).held) }
-    ensures refused { IfBad result (ComesOfRepair (F.outside.tells folder.old) (F.outside.state folder.old).held text.now new.now.history.items want.now) }
-    ensures reads { Reads F.outside folder.old folder.new (result ≡ Err (Bad fault.FolderFault)) }
+    ensures plans { PlansRepair F.outside text.now new.now.history.items want.now folder.old folder.new result }
 {
     match salvage_root(alloc, folder, text) {
         Ok(root) => {
@@ -155,20 +132,14 @@ fn repair_into<F: Folder>(
     text: &str,
     folder: &mut F,
 ) -> Result<Emitted, Or<RepairFault>>
-    requires meant { AreMeant new.now.settings new.now.mediators.items new.now.installed.items want.now }
-    requires long { length changes.now ≡ length want.now }
-    requires targets { AllByRecursion HasTarget changes.now }
+    requires changes { AreChangesFor new.now want.now changes.now }
     requires order { IsStrictlySortedBy (slice_cmp nat_cmp) (thing_paths things.now) }
     requires path { IsPath root.now.bytes }
     requires mended { IsTrue (F.outside.tells folder.old) → AreMended (F.outside.state folder.old).held want.now changes.now }
     requires saved { IsTrue (F.outside.tells folder.old) → AreSaved (F.outside.state folder.old).held want.now things.now }
     requires root { IsTrue (F.outside.tells folder.old) → IsRoot (F.outside.state folder.old).held text.now root.now.bytes }
     requires records { IsTrue (F.outside.tells folder.old) → IsTrue (is_dir ((F.outside.state folder.old).held.look records_name)) }
-    ensures lists { IfOk result CanBeListed }
-    ensures within { IfOk result (λ e. limits.first_excess (map step_of e.steps.items) e.staged.items ≡ None) }
-    ensures repaired { IsTrue (F.outside.tells folder.old) → IfOk result (AreStepsToRepair text.now new.now.history.items want.now (F.outside.state folder.old).held) }
-    ensures refused { IfBad result (ComesOfRepair (F.outside.tells folder.old) (F.outside.state folder.old).held text.now new.now.history.items want.now) }
-    ensures reads { Reads F.outside folder.old folder.new (result ≡ Err (Bad fault.FolderFault)) }
+    ensures plans { PlansRepair F.outside text.now new.now.history.items want.now folder.old folder.new result }
 {
     match find_ways(alloc, folder, root, things, &[]) {
         Ok(ways) => repair_gathered(alloc, new, want, changes, things, root, &ways, text, folder),
@@ -189,18 +160,12 @@ fn repair_gathered<F: Folder>(
     text: &str,
     folder: &mut F,
 ) -> Result<Emitted, Or<RepairFault>>
-    requires meant { AreMeant new.now.settings new.now.mediators.items new.now.installed.items want.now }
-    requires long { length changes.now ≡ length want.now }
-    requires targets { AllByRecursion HasTarget changes.now }
+    requires changes { AreChangesFor new.now want.now changes.now }
     requires order { IsStrictlySortedBy (slice_cmp nat_cmp) (thing_paths things.now) }
     requires path { IsPath root.now.bytes }
     requires gathered { IsTrue (F.outside.tells folder.old) → IsGathered text.now (F.outside.state folder.old).held want.now changes.now things.now root.now.bytes ways.now }
     requires records { IsTrue (F.outside.tells folder.old) → IsTrue (is_dir ((F.outside.state folder.old).held.look records_name)) }
-    ensures lists { IfOk result CanBeListed }
-    ensures within { IfOk result (λ e. limits.first_excess (map step_of e.steps.items) e.staged.items ≡ None) }
-    ensures repaired { IsTrue (F.outside.tells folder.old) → IfOk result (AreStepsToRepair text.now new.now.history.items want.now (F.outside.state folder.old).held) }
-    ensures refused { IfBad result (ComesOfRepair (F.outside.tells folder.old) (F.outside.state folder.old).held text.now new.now.history.items want.now) }
-    ensures reads { Reads F.outside folder.old folder.new (result ≡ Err (Bad fault.FolderFault)) }
+    ensures plans { PlansRepair F.outside text.now new.now.history.items want.now folder.old folder.new result }
 {
     repairs_are_lawful();
     repairs_hang_together();
@@ -233,19 +198,13 @@ fn repair_movable<F: Folder>(
     text: &str,
     folder: &mut F,
 ) -> Result<Emitted, Or<RepairFault>>
-    requires meant { AreMeant new.now.settings new.now.mediators.items new.now.installed.items want.now }
-    requires long { length changes.now ≡ length want.now }
-    requires targets { AllByRecursion HasTarget changes.now }
+    requires changes { AreChangesFor new.now want.now changes.now }
     requires path { IsPath root.now.bytes }
     requires movable { AllByRecursion (CanMove root.now.bytes) things.now }
     requires gathered { IsTrue (F.outside.tells folder.old) → IsGathered text.now (F.outside.state folder.old).held want.now changes.now things.now root.now.bytes ways.now }
     requires free { IsTrue (F.outside.tells folder.old) → NothingHinders (F.outside.state folder.old).held root.now.bytes things.now }
     requires records { IsTrue (F.outside.tells folder.old) → IsTrue (is_dir ((F.outside.state folder.old).held.look records_name)) }
-    ensures lists { IfOk result CanBeListed }
-    ensures within { IfOk result (λ e. limits.first_excess (map step_of e.steps.items) e.staged.items ≡ None) }
-    ensures repaired { IsTrue (F.outside.tells folder.old) → IfOk result (AreStepsToRepair text.now new.now.history.items want.now (F.outside.state folder.old).held) }
-    ensures refused { IfBad result (ComesOfRepair (F.outside.tells folder.old) (F.outside.state folder.old).held text.now new.now.history.items want.now) }
-    ensures reads { Reads F.outside folder.old folder.new (result ≡ Err (Bad fault.FolderFault)) }
+    ensures plans { PlansRepair F.outside text.now new.now.history.items want.now folder.old folder.new result }
 {
     match history_to_put(alloc, new, folder) {
         Ok(put) => match draw(alloc, new, want, changes, things, root, ways, put) {

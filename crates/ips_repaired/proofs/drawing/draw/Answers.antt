@@ -8,7 +8,7 @@ pub returns-in-Ok : goal.returns-in-Ok
 returns-in-Ok c = λ text t formed stands known free put.
     let want = c.args.want.now in
     let history = c.args.new.now.history.items in
-    let means = c.requires.meant in
+    let means = c.requires.changes.meant in
     let laws = c.repairs_are_lawful.ensures in
     let drafted = c.drafted_saving_steps_are_a_plan.ensures in
     all_repaired _ _ _ want means text history t formed stands c.args.changes.now c.args.things.now c.args.root.now.bytes c.args.ways.now known

@@ -23,7 +23,7 @@ returns-in-Ok-clause-stages g c = λ told.
     let history = c.args.new.now.history.items in
     ok_both c.repair_at.result CanBeListed (AreStepsToRepair text history want h) (λ e. CanStage (map step_of e.steps.items) e.staged.items h)
     (λ e lists are. can_stage text history want h e are (c.repairs_are_lawful.ensures.repair _ _ _ want c.requires.meant (λ p. p) is_payload_of history h are.over (are.says (λ p. p)))
-    (g.met.F.Source.sane.formed c.args.folder.now told) lists (c.requires.shut told)) c.repair_at.ensures.lists (c.repair_at.ensures.repaired told)
+    (g.met.F.Source.sane.formed c.args.folder.now told) lists (c.requires.shut told)) c.repair_at.ensures.plans.lists (c.repair_at.ensures.plans.repaired told)
 
 pub returns-in-Ok-clause-meant : goal.returns-in-Ok-clause-meant
 returns-in-Ok-clause-meant g c = λ told.
@@ -39,4 +39,4 @@ returns-in-Ok-clause-meant g c = λ told.
     (λ bytes. laws.repair _ _ _ want means bytes is_payload_of history h are.over (are.says bytes))
     (λ bytes. laws.names _ _ _ want means bytes is_payload_of history h are.over (are.says bytes) (c.requires.records told))
     (λ bytes. c.findings_are_of_the_visible_image.ensures.request _ h (laws.repair _ _ _ want means bytes is_payload_of history h are.over (are.says bytes)) (laws.names _ _ _ want means bytes is_payload_of history h are.over (are.says bytes) (c.requires.records told)).news)
-    repository contents given) (c.repair_at.ensures.repaired told)
+    repository contents given) (c.repair_at.ensures.plans.repaired told)

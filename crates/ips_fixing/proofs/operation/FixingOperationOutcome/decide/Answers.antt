@@ -1,13 +1,16 @@
 use Rattle.std.proofs.Common.{subst}
-use Rattle.std.specs.Prelude.{IfOk}
-use Rattle.ips_run.specs.Planned.{IfChange, IsPlanned}
-use Rattle.ips_fixing.specs.Decides.{repairs_of}
+use Rattle.ips_fixing.specs.Deciding.{IsDecisionOf}
 use Rattle.ips_fixing.specs.Fixes.{Repairing}
 use Rattle.ips_fixing.proofs.operation.FixingOperationOutcome.decide.Goals as goal
 
+pub returns-clause-decided : goal.returns-clause-decided
+returns-clause-decided g c = λ told.
+    let t = (g.F.Source.outside.state c.args.folder.now).held in
+    let is = subst (λ (a : Repairing). IsDecisionOf a t c.decided.result) c.self.view_is (c.decided.ensures.decided told) in
+    is.decided
+
 pub returns-clause-planned : goal.returns-clause-planned
 returns-clause-planned g c = λ told.
-    let tells = g.S.Source.outside.tells c.args.source.now in
-    let repository = (g.S.Source.outside.state c.args.source.now).held in
-    subst (λ (a : Repairing). IfOk c.decided.result (IfChange (IsPlanned (repairs_of a) tells repository (g.F.Source.outside.state c.args.folder.now).held))) c.self.view_is
-    (c.decided.ensures.planned told tells repository)
+    let t = (g.F.Source.outside.state c.args.folder.now).held in
+    let is = subst (λ (a : Repairing). IsDecisionOf a t c.decided.result) c.self.view_is (c.decided.ensures.decided told) in
+    is.planned (g.S.Source.outside.tells c.args.source.now) (g.S.Source.outside.state c.args.source.now).held
