@@ -1,3 +1,4 @@
 mod Payloads
 pub mod Decided
 pub mod Telling
+mod Calls

@@ -3,3 +3,4 @@ pub mod Plans
 pub mod Refusals
 pub mod Decides
 pub mod Leads
+pub mod Deciding

@@ -1,20 +1,11 @@
 //! The steps of a decision: the state that the records tell, the next one, the plan of the request, and the change.
 
-ghost use Rattle.std.specs.Prelude.{◌≡◌, ◌<◌, None, Err, IsTrue, IfOk};
-ghost use Rattle.ips_text.specs.declared.refusal.Or.TheVariants.{Bad};
-ghost use Rattle.ips_outside.specs.Outside.{Reads};
+ghost use Rattle.std.specs.Prelude.{◌≡◌, ◌<◌, IsTrue, None};
 ghost use Rattle.ips_steps.specs.Private.{gate_name};
-ghost use Rattle.ips_history.specs.declared.effect.Effect.TheVariants as effects;
-ghost use Rattle.ips_state.specs.State.{recorded};
-ghost use Rattle.ips_state.specs.Lawful.{IsLawful};
-ghost use Rattle.ips_load.specs.Held.{Holds};
 ghost use Rattle.ips_asked.specs.Formed.{IsFormedCommand};
-ghost use Rattle.ips_run.specs.Planned.{CanBeListed, IfChange, IsOfEffect, IsPlanned};
-ghost use Rattle.ips_run.specs.declared.operation.DecideFault.TheVariants as fault;
 ghost use Rattle.ips_told.specs.Naming.{AreNamed};
-ghost use Rattle.ips_told.specs.Told.{IsToldAs};
-ghost use Rattle.ips_changing.specs.Decides.{Decides, LeadsOn, asked_of};
-ghost use Rattle.ips_changing.specs.Leads.{LeadsWhere};
+ghost use Rattle.ips_changing.specs.Decides.{LeadsOn, asked_of};
+ghost use Rattle.ips_changing.specs.Deciding.{IsDecisionOrFault, IsLoaded};
 ghost use Rattle.ips_changing.specs.Plans as plans;
 
 use crate::changing::accepts;
@@ -49,15 +40,7 @@ pub(crate) fn loaded<S: Source, F: Folder>(
     requires moment { moment < 253370764800 }
     requires formed { IsFormedCommand command.now }
     requires shut { IsTrue (F.outside.tells folder.old) → (F.outside.state folder.old).held.look gate_name ≡ None }
-    ensures decided { IsTrue (F.outside.tells folder.old)
-        → IfOk result (Decides (asked_of command.now moment (S.outside.tells source.old) (S.outside.state source.old).held (F.outside.state folder.old).held)) }
-    ensures of_effect { IfOk result (IsOfEffect effects.Changes) }
-    ensures says { IfOk result IsToldAs }
-    ensures lists { IfOk result (IfChange CanBeListed) }
-    ensures planned { IsTrue (F.outside.tells folder.old)
-        → IfOk result (IfChange (IsPlanned (LeadsWhere command.now moment) (S.outside.tells source.old) (S.outside.state source.old).held (F.outside.state folder.old).held)) }
-    ensures reads { Reads F.outside folder.old folder.new (result ≡ Err (Bad fault.FolderFault)) }
-    ensures source { Reads S.outside source.old source.new (result ≡ Err (Bad fault.SourceFault)) }
+    ensures { IsDecisionOrFault F.outside S.outside command.now moment folder.old folder.new source.old source.new result }
 {
     match load(alloc, folder) {
         Ok(old) => stated(alloc, command, moment, &old, source, folder),
@@ -76,18 +59,8 @@ fn stated<S: Source, F: Folder>(
 ) -> Result<Decision<Outcome>, Or<DecideFault>>
     requires moment { moment < 253370764800 }
     requires formed { IsFormedCommand command.now }
-    requires shut { IsTrue (F.outside.tells folder.old) → (F.outside.state folder.old).held.look gate_name ≡ None }
-    requires lawful { IsLawful (recorded old.now) }
-    requires holds { IsTrue (F.outside.tells folder.old) → Holds (F.outside.state folder.old).held (recorded old.now) }
-    ensures decided { IsTrue (F.outside.tells folder.old)
-        → IfOk result (Decides (asked_of command.now moment (S.outside.tells source.old) (S.outside.state source.old).held (F.outside.state folder.old).held)) }
-    ensures of_effect { IfOk result (IsOfEffect effects.Changes) }
-    ensures says { IfOk result IsToldAs }
-    ensures lists { IfOk result (IfChange CanBeListed) }
-    ensures planned { IsTrue (F.outside.tells folder.old)
-        → IfOk result (IfChange (IsPlanned (LeadsWhere command.now moment) (S.outside.tells source.old) (S.outside.state source.old).held (F.outside.state folder.old).held)) }
-    ensures reads { Reads F.outside folder.old folder.new (result ≡ Err (Bad fault.FolderFault)) }
-    ensures source { Reads S.outside source.old source.new (result ≡ Err (Bad fault.SourceFault)) }
+    requires loaded { IsLoaded F.outside folder.old old.now }
+    ensures { IsDecisionOrFault F.outside S.outside command.now moment folder.old folder.new source.old source.new result }
 {
     match next_state(alloc, command, moment, old, source) {
         Ok(new) => led(alloc, command, moment, old, &new, source, folder),
@@ -106,19 +79,9 @@ fn led<S: Source, F: Folder>(
     folder: &mut F,
 ) -> Result<Decision<Outcome>, Or<DecideFault>>
     requires moment { moment < 253370764800 }
-    requires shut { IsTrue (F.outside.tells folder.old) → (F.outside.state folder.old).held.look gate_name ≡ None }
-    requires lawful { IsLawful (recorded old.now) }
-    requires holds { IsTrue (F.outside.tells folder.old) → Holds (F.outside.state folder.old).held (recorded old.now) }
+    requires loaded { IsLoaded F.outside folder.old old.now }
     requires leads { LeadsOn (asked_of command.now moment (S.outside.tells source.old) (S.outside.state source.old).held (F.outside.state folder.old).held) old.now new.now }
-    ensures decided { IsTrue (F.outside.tells folder.old)
-        → IfOk result (Decides (asked_of command.now moment (S.outside.tells source.old) (S.outside.state source.old).held (F.outside.state folder.old).held)) }
-    ensures of_effect { IfOk result (IsOfEffect effects.Changes) }
-    ensures says { IfOk result IsToldAs }
-    ensures lists { IfOk result (IfChange CanBeListed) }
-    ensures planned { IsTrue (F.outside.tells folder.old)
-        → IfOk result (IfChange (IsPlanned (LeadsWhere command.now moment) (S.outside.tells source.old) (S.outside.state source.old).held (F.outside.state folder.old).held)) }
-    ensures reads { Reads F.outside folder.old folder.new (result ≡ Err (Bad fault.FolderFault)) }
-    ensures source { Reads S.outside source.old source.new (result ≡ Err (Bad fault.SourceFault)) }
+    ensures { IsDecisionOrFault F.outside S.outside command.now moment folder.old folder.new source.old source.new result }
 {
     plan_faults_are_told();
     let Ok(publisher) = new.publisher.copy(alloc) else {

@@ -7,4 +7,5 @@ pub mod Best
 pub mod OneDecided
 pub mod Recorded
 pub mod OneNext
+mod Leading
 pub mod OfKind

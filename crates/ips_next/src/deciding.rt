@@ -4,7 +4,7 @@ ghost use Rattle.std.specs.Prelude.{◌≡◌, ℕ, List, IsTrue, IfOk, Err, is_
 ghost use Rattle.ips_text.specs.Reading.{IfBad};
 ghost use Rattle.ips_text.specs.declared.refusal.Or.TheVariants.{Bad};
 ghost use Rattle.ips_outside.specs.Outside.{Reads};
-ghost use Rattle.ips_state.specs.Lawful.{ArePackages, AreStems, IsLawful};
+ghost use Rattle.ips_state.specs.Lawful.{AreStems, IsLawful};
 ghost use Rattle.ips_state.specs.State.{Recorded, installed, recorded};
 ghost use Rattle.ips_request.specs.Request.{looks_at_repository};
 ghost use Rattle.ips_problem.specs.Asked.{IsAsked, tells_where};
@@ -15,6 +15,7 @@ ghost use Rattle.ips_problem.specs.Recordable.{IsRecordable};
 ghost use Rattle.ips_problem.specs.Taken.{IsChoice};
 ghost use Rattle.ips_asked.specs.Asked.{IsAskedBy};
 ghost use Rattle.ips_asked.specs.Requested.{IsRequestOf, kind_asked};
+ghost use Rattle.ips_next.specs.Choosing.{CanBeDecided, IsLawfulChoice};
 ghost use Rattle.ips_next.specs.Decided as decided;
 ghost use Rattle.ips_next.specs.Decided.{IsDecided, IsLookedAt, IsPosed, IsUndecided, MayCome};
 ghost use Rattle.ips_next.specs.declared.fault.NextFault.TheVariants as fault;
@@ -53,12 +54,9 @@ pub fn decided<S: Source>(
     asked: &State,
     source: &mut S,
 ) -> Result<Chosen, Or<NextFault>>
-    requires old { IsLawful (recorded old.now) }
-    requires asked { IsLawful (recorded asked.now) }
-    requires asked_by { IsAskedBy what.now (recorded old.now) (recorded asked.now) }
+    requires { CanBeDecided what.now (recorded old.now) (recorded asked.now) }
     ensures decided { IsTrue (tells_where (decided.looks (kind_asked what.now)) (S.outside.tells source.old)) → IfOk result (λ d. IsDecided what.now (recorded old.now) (recorded asked.now) (S.outside.state source.old).held (map installed d.packages.items) d.avoid.items) }
-    ensures packages { IfOk result (λ d. ArePackages (map installed d.packages.items)) }
-    ensures stems { IfOk result (λ d. AreStems d.avoid.items) }
+    ensures lawful { IfOk result IsLawfulChoice }
     ensures refused { IsTrue (tells_where (decided.looks (kind_asked what.now)) (S.outside.tells source.old)) → IfBad result (IsUndecided what.now (recorded old.now) (recorded asked.now) (S.outside.state source.old).held) }
     ensures early { IfBad result (MayCome (kind_asked what.now)) }
     ensures reads { Reads S.outside source.old source.new (result ≡ Err (Bad fault.SourceFault)) }
@@ -81,15 +79,12 @@ fn decided_over<S: Source>(
     repo: Option<&Repo>,
     source: &mut S,
 ) -> Result<Chosen, Or<NextFault>>
-    requires old { IsLawful (recorded old.now) }
-    requires asked { IsLawful (recorded asked.now) }
-    requires asked_by { IsAskedBy what.now (recorded old.now) (recorded asked.now) }
+    requires can { CanBeDecided what.now (recorded old.now) (recorded asked.now) }
     requires request { IsRequestOf what.now request.now }
     requires repository { is_some repo ≡ decided.looks (kind_asked what.now) }
     ensures decided { IsTrue (tells_where (decided.looks (kind_asked what.now)) (S.outside.tells source.old)) → IsLookedAt (decided.looks (kind_asked what.now)) (recorded old.now).publisher (S.outside.state source.old).held (option_map (λ r. r.now) repo.entry)
         → IfOk result (λ d. IsDecided what.now (recorded old.now) (recorded asked.now) (S.outside.state source.old).held (map installed d.packages.items) d.avoid.items) }
-    ensures packages { IfOk result (λ d. ArePackages (map installed d.packages.items)) }
-    ensures stems { IfOk result (λ d. AreStems d.avoid.items) }
+    ensures lawful { IfOk result IsLawfulChoice }
     ensures refused { IsTrue (tells_where (decided.looks (kind_asked what.now)) (S.outside.tells source.old)) → IsLookedAt (decided.looks (kind_asked what.now)) (recorded old.now).publisher (S.outside.state source.old).held (option_map (λ r. r.now) repo.entry)
         → IfBad result (IsUndecided what.now (recorded old.now) (recorded asked.now) (S.outside.state source.old).held) }
     ensures early { IfBad result (MayCome (kind_asked what.now)) }
@@ -128,8 +123,7 @@ fn decided_in<S: Source>(
     requires repository { is_some repo ≡ looks_at_repository request.now }
     ensures decided { IsTrue (tells_where (is_some repo.entry) (S.outside.tells source.old)) → (old : Recorded) → IsPosed what.now old (recorded asked.now) (S.outside.state source.old).held request.now (option_map (λ r. r.now) repo.entry) (posed_of problem.now)
         → IfOk result (λ d. IsDecided what.now old (recorded asked.now) (S.outside.state source.old).held (map installed d.packages.items) d.avoid.items) }
-    ensures packages { IfOk result (λ d. ArePackages (map installed d.packages.items)) }
-    ensures stems { IfOk result (λ d. AreStems d.avoid.items) }
+    ensures lawful { IfOk result IsLawfulChoice }
     ensures refused { IsTrue (tells_where (is_some repo.entry) (S.outside.tells source.old)) → (old : Recorded) → IsAskedBy what.now old (recorded asked.now)
         → IsPosed what.now old (recorded asked.now) (S.outside.state source.old).held request.now (option_map (λ r. r.now) repo.entry) (posed_of problem.now)
         → IfBad result (IsUndecided what.now old (recorded asked.now) (S.outside.state source.old).held) }

@@ -8,10 +8,11 @@ ghost use Rattle.ips_outside.specs.Outside.{Reads};
 ghost use Rattle.ips_state.specs.State.{Recorded, recorded};
 ghost use Rattle.ips_state.specs.Lawful.{IsLawful};
 ghost use Rattle.ips_problem.specs.Asked.{tells_where};
-ghost use Rattle.ips_asked.specs.Formed.{CanBeKept, IsFormed, IsFormedCommand};
+ghost use Rattle.ips_asked.specs.Formed.{IsFormed, IsFormedCommand};
 ghost use Rattle.ips_asked.specs.Requested.{kind_asked};
 ghost use Rattle.ips_next.specs.Decided as decided;
 ghost use Rattle.ips_next.specs.Decided.{MayCome};
+ghost use Rattle.ips_next.specs.Leading.{CanBeRecorded, IsNextOrCause};
 ghost use Rattle.ips_next.specs.Next as spec;
 ghost use Rattle.ips_next.specs.Next.{ComesNext, IsNext, IsOldFormat, IsSettled, given};
 ghost use Rattle.ips_next.specs.declared.fault.NextFault.TheVariants as fault;
@@ -71,16 +72,9 @@ fn from_copy<S: Source>(
     old: &State,
     source: &mut S,
 ) -> Result<State, Or<NextFault>>
-    requires moment { moment < 253370764800 }
-    requires lawful { IsLawful (recorded old.now) }
-    requires formed { IsFormed command.now.what }
-    requires words { CanBeKept command.now.history }
+    requires can { CanBeRecorded old.now command.now moment }
     requires format { (old.now.format ≡ 2) ⊎ (command.now.what ≡ UpdateFormat) }
-    ensures lawful { IfOk result (λ s. IsLawful (recorded s)) }
-    ensures next { IsTrue (tells_where (decided.looks (kind_asked command.now.what)) (S.outside.tells source.old)) → IfOk result (λ s. IsNext (given (recorded old.now) command.now moment (S.outside.state source.old).held) (recorded s)) }
-    ensures refused { IsTrue (tells_where (decided.looks (kind_asked command.now.what)) (S.outside.tells source.old)) → IfBad result (ComesNext (given (recorded old.now) command.now moment (S.outside.state source.old).held)) }
-    ensures early { IfBad result (MayCome (kind_asked command.now.what)) }
-    ensures reads { Reads S.outside source.old source.new (result ≡ Err (Bad fault.SourceFault)) }
+    ensures { IsNextOrCause S.outside (λ state. state) old.now command.now moment source.old source.new result }
 {
     match old.copy(alloc) {
         Ok(copy) => changed(alloc, command, moment, old, source, copy),
@@ -97,17 +91,10 @@ fn changed<S: Source>(
     source: &mut S,
     copy: State,
 ) -> Result<State, Or<NextFault>>
-    requires moment { moment < 253370764800 }
-    requires lawful { IsLawful (recorded old.now) }
-    requires formed { IsFormed command.now.what }
-    requires words { CanBeKept command.now.history }
+    requires can { CanBeRecorded old.now command.now moment }
     requires format { (old.now.format ≡ 2) ⊎ (command.now.what ≡ UpdateFormat) }
     requires copy { recorded copy ≡ recorded old.now }
-    ensures lawful { IfOk result (λ s. IsLawful (recorded s)) }
-    ensures next { IsTrue (tells_where (decided.looks (kind_asked command.now.what)) (S.outside.tells source.old)) → IfOk result (λ s. IsNext (given (recorded old.now) command.now moment (S.outside.state source.old).held) (recorded s)) }
-    ensures refused { IsTrue (tells_where (decided.looks (kind_asked command.now.what)) (S.outside.tells source.old)) → IfBad result (ComesNext (given (recorded old.now) command.now moment (S.outside.state source.old).held)) }
-    ensures early { IfBad result (MayCome (kind_asked command.now.what)) }
-    ensures reads { Reads S.outside source.old source.new (result ≡ Err (Bad fault.SourceFault)) }
+    ensures { IsNextOrCause S.outside (λ state. state) old.now command.now moment source.old source.new result }
 {
     let mut next = copy;
     match go_on(alloc, command, moment, old, source, &mut next) {
@@ -140,17 +127,10 @@ fn go_on<S: Source>(
     source: &mut S,
     next: &mut State,
 ) -> Result<(), Or<NextFault>>
-    requires moment { moment < 253370764800 }
-    requires lawful { IsLawful (recorded old.now) }
-    requires formed { IsFormed command.now.what }
-    requires words { CanBeKept command.now.history }
+    requires can { CanBeRecorded old.now command.now moment }
     requires format { (old.now.format ≡ 2) ⊎ (command.now.what ≡ UpdateFormat) }
     requires copy { recorded next.old ≡ recorded old.now }
-    ensures lawful { OnOk result (IsLawful (recorded next.new)) }
-    ensures next { IsTrue (tells_where (decided.looks (kind_asked command.now.what)) (S.outside.tells source.old)) → OnOk result (IsNext (given (recorded old.now) command.now moment (S.outside.state source.old).held) (recorded next.new)) }
-    ensures refused { IsTrue (tells_where (decided.looks (kind_asked command.now.what)) (S.outside.tells source.old)) → IfBad result (ComesNext (given (recorded old.now) command.now moment (S.outside.state source.old).held)) }
-    ensures early { IfBad result (MayCome (kind_asked command.now.what)) }
-    ensures reads { Reads S.outside source.old source.new (result ≡ Err (Bad fault.SourceFault)) }
+    ensures { IsNextOrCause S.outside (λ done. next.new) old.now command.now moment source.old source.new result }
 {
     settle(alloc, &command.what, old, source, next)?;
     if is_unchanged(alloc, old, next)? {

@@ -1,19 +1,25 @@
 -- A plan of two states that are lent is the plan of these states.
-use Rattle.std.proofs.Common.{◌≡◌, ◌⊎◌, ℕ, Bool, List, inl, inr, map, refl, [], ◌∷◌, ap, sym, subst}
+use Rattle.std.proofs.Common.{◌≡◌, ℕ, Bool, List, Result, map, refl, [], ◌∷◌, ap, sym, subst}
 use Rattle.std.specs.List.Sorted.{IsStrictlySortedBy}
 use Rattle.std.specs.Ordering.{nat_cmp}
 use Rattle.std.specs.Cmp.Lexicographic.{slice_cmp}
+use Rattle.ips_text.specs.declared.refusal.Or.{Or}
+use Rattle.ips_outside.specs.Outside.{Outside}
 use Rattle.ips_manifest.specs.declared.package.Package.{Package}
 use Rattle.ips_state.specs.State.{Ascend, Installed, installed}
-use Rattle.ips_image_plan.specs.Accounts.{Given}
+use Rattle.ips_image_plan.specs.Between.{given}
 use Rattle.ips_image_plan.specs.declared.between.Between.{Between}
-use Rattle.ips_request_plan.specs.Plans.{ComesBetween, ComesOfPlan, NonePlanned}
+use Rattle.ips_request_plan.specs.Plans.{ComesBetween, ComesOfPlan, IsPlanBetween, IsRequestPlan, NonePlanned, PlansBetween, PlansRequest}
 use Rattle.ips_request_plan.specs.declared.fault.PlanFault.{PlanFault}
-use Rattle.ips_request_plan.specs.declared.fault.PlanFault.TheVariants as fault
+use Rattle.ips_request_plan.specs.declared.planning.Plan.{Plan}
+use Rattle.ips_request_plan.proofs.Calls.{plan_as}
 
-pub none_planned : (g : Given) (moment : List ℕ) (b : Between) (accept : Bool) (why : PlanFault) → (why ≡ fault.FolderFault) ⊎ ComesBetween g moment b accept why → (why ≡ fault.FolderFault) ⊎ ComesOfPlan g moment b.old.now b.new.now accept why
-none_planned g moment b accept why (inl failed) = inl failed
-none_planned g moment b accept why (inr comes) = inr (NonePlanned b (record { old_is = refl; new_is = refl }) comes)
+pub plans_lent : {F S : Type 0} (o : Outside F) (q : Outside S) (moment : List ℕ) (b : Between) (accept : Bool) (folder later : F) (source after : S) (answer : Result Plan (Or PlanFault))
+    → PlansBetween o q moment b accept folder later source after answer → PlansRequest o q moment b.old.now b.new.now accept folder later source after answer
+plans_lent o q moment b accept folder later source after answer is =
+    let g = given o q folder source b in
+    plan_as o q (IsPlanBetween g moment b accept) (IsRequestPlan g moment b.old.now b.new.now accept) (ComesBetween g moment b accept) (ComesOfPlan g moment b.old.now b.new.now accept) folder later source after answer
+    (λ p h. record { between = b; is_between = record { old_is = refl; new_is = refl }; is_plan = h }) (λ why comes. NonePlanned b (record { old_is = refl; new_is = refl }) comes) is
 
 stems_of : (packages : List Package) → map (λ (p : Installed). p.stem) (map installed packages) ≡ map (λ (p : Package). p.stem) packages
 stems_of [] = refl

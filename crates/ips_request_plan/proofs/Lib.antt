@@ -1,3 +1,4 @@
+pub mod Calls
 mod Proper
 mod Carried
 mod Ungiven

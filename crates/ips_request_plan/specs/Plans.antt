@@ -1,11 +1,20 @@
 -- The plan of a request from one state of an image to another, or why there is none.
-use Rattle.std.specs.Prelude.{◌≡◌, ℕ, Bool, List, map, Ok, Err}
+use Rattle.std.specs.Prelude.{◌≡◌, ◌⊎◌, ℕ, Bool, IsTrue, List, map, Result, Ok, Err, IfOk}
+use Rattle.std.specs.List.{AllByRecursion}
+use Rattle.ips_text.specs.Reading.{IfBad}
+use Rattle.ips_text.specs.declared.refusal.Or.{Or}
+use Rattle.ips_text.specs.declared.refusal.Or.TheVariants.{Bad}
 use Rattle.ips_outside.specs.Image.{Image}
-use Rattle.ips_outside.specs.Outside.{Outside}
+use Rattle.ips_outside.specs.Outside.{Outside, Reads}
+use Rattle.ips_lost.specs.Moments.{NamesMoment}
+use Rattle.ips_survey.specs.Rows.{AreRows, HasLooked, row_pair}
+use Rattle.ips_survey.specs.declared.row.Row.{Row}
 use Rattle.ips_meaning.specs.declared.entry.Entry.{Entry}
 use Rattle.ips_meaning.specs.declared.fault.WantFault.{WantFault}
 use Rattle.ips_books.specs.Seen.{accounts as books_seen}
 use Rattle.ips_outstanding.specs.Parts.{due_file}
+use Rattle.ips_state.specs.State.{recorded}
+use Rattle.ips_state.specs.Lawful.{IsLawful}
 use Rattle.ips_state.specs.declared.state.State.{State}
 use Rattle.ips_ledger.specs.declared.fault.LedgerFault.{LedgerFault}
 use Rattle.ips_account_files.specs.Behind.{files_seen}
@@ -15,12 +24,13 @@ use Rattle.ips_plan_limits.specs.Counts.{absent_among, updated_from}
 use Rattle.ips_image_plan.specs.Accounts.{Given, IsLedger}
 use Rattle.ips_image_plan.specs.Acting.{AreRuns}
 use Rattle.ips_image_plan.specs.Behind.{ComesOf, IsPlanned}
-use Rattle.ips_image_plan.specs.Between.{AreMeant}
+use Rattle.ips_image_plan.specs.Between.{AreMeant, given}
 use Rattle.ips_image_plan.specs.Meaning.{StateFails, StateMeans}
 use Rattle.ips_image_plan.specs.declared.behind.BehindFault.{BehindFault}
 use Rattle.ips_image_plan.specs.declared.between.Between.{Between}
 use Rattle.ips_request_plan.specs.Causes.{IsUngiven, unlaid, unmeant}
 use Rattle.ips_request_plan.specs.declared.fault.PlanFault.{PlanFault}
+use Rattle.ips_request_plan.specs.declared.fault.PlanFault.TheVariants.{SourceFault, FolderFault}
 use Rattle.ips_request_plan.specs.declared.planning.Plan.{Plan}
 
 -- What is given by a folder and a source, with the publisher of the new state.
@@ -83,3 +93,34 @@ pub data ComesOfPlan (g : Given) (moment : List ℕ) (old new : State) (accept :
   OldFail : (f : WantFault) → StateFails old f → why ≡ unmeant f → ComesOfPlan g moment old new accept why
   NewFail : (f : WantFault) (was : List (List ℕ × Entry)) → StateMeans old was → StateFails new f → why ≡ unmeant f → ComesOfPlan g moment old new accept why
   NonePlanned : (b : Between) → IsBetween old new b → ComesBetween g moment b accept why → ComesOfPlan g moment old new accept why
+
+-- ---- what is promised of a call
+
+-- A request between these states can be planned: this text names its moment, and both states can be recorded.
+pub record CanBePlanned (text : List ℕ) (before after : State) : Type 0 where
+  pub moment : NamesMoment text
+  pub old : IsLawful (recorded before)
+  pub new : IsLawful (recorded after)
+
+-- These are the rows of what was and what is wanted, and where the folder tells what it holds, they know of it what a rule asks.
+pub record AreSurveyed {F : Type 0} (o : Outside F) (folder : F) (b : Between) (list : List Row) : Type 0 where
+  pub rows : AreRows b.was.now b.is.now (map row_pair list)
+  pub looked : IsTrue (o.tells folder) → AllByRecursion (HasLooked (o.state folder).held) list
+
+-- The answer is a plan of which this holds, or a fault that comes under this cause, and folder and source are only looked at, where a call that failed is told as
+-- such.
+pub record IsPlanOrCause {F S : Type 0} (o : Outside F) (q : Outside S) (IsThePlan : Plan → Type 0) (Comes : PlanFault → Type 0) (folder later : F) (source after : S) (answer : Result Plan (Or PlanFault)) : Type 0 where
+  pub planned : IfOk answer IsThePlan
+  pub refused : IfBad answer (λ why. (why ≡ FolderFault) ⊎ Comes why)
+  pub reads : Reads o folder later (answer ≡ Err (Bad FolderFault))
+  pub reads_source : Reads q source after (answer ≡ Err (Bad SourceFault))
+
+-- The answer is the plan of the request between these states, or why there is none.
+abbrev pub PlansBetween : {F S : Type 0} → Outside F → Outside S → List ℕ → Between → Bool → F → F → S → S → Result Plan (Or PlanFault) → Type 0
+PlansBetween o q moment b accept folder later source after answer =
+    IsPlanOrCause o q (IsPlanBetween (given o q folder source b) moment b accept) (ComesBetween (given o q folder source b) moment b accept) folder later source after answer
+
+-- The answer is the plan of the request from the old state to the new one, or why there is none.
+abbrev pub PlansRequest : {F S : Type 0} → Outside F → Outside S → List ℕ → State → State → Bool → F → F → S → S → Result Plan (Or PlanFault) → Type 0
+PlansRequest o q moment old new accept folder later source after answer =
+    IsPlanOrCause o q (IsRequestPlan (given_of o q folder source new) moment old new accept) (ComesOfPlan (given_of o q folder source new) moment old new accept) folder later source after answer

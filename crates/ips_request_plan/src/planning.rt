@@ -1,12 +1,9 @@
 //! The plan of a request.
 
-ghost use Rattle.std.specs.Prelude.{◌≡◌, ◌⊎◌, ℕ, List, IsTrue, Ok, Err, IfOk, map};
-ghost use Rattle.std.specs.List.{AllByRecursion};
+ghost use Rattle.std.specs.Prelude.{◌≡◌, ◌⊎◌, ℕ, List, Err, IfOk, map};
 ghost use Rattle.ips_text.specs.Reading.{IfBad};
 ghost use Rattle.ips_text.specs.declared.refusal.Or.TheVariants.{Bad};
 ghost use Rattle.ips_outside.specs.Outside.{Reads};
-ghost use Rattle.ips_lost.specs.Moments.{NamesMoment};
-ghost use Rattle.ips_survey.specs.Rows.{AreRows, HasLooked, row_pair};
 ghost use Rattle.ips_outstanding.specs.Parts.{due_file};
 ghost use Rattle.ips_request_due.specs.RequestDue.{AreAccountFiles};
 ghost use Rattle.ips_state.specs.State.{recorded};
@@ -17,7 +14,7 @@ ghost use Rattle.ips_image_plan.specs.Acting.{AreRuns};
 ghost use Rattle.ips_image_plan.specs.Between.{AreMeant, given};
 ghost use Rattle.ips_image_plan.specs.Meaning.{StateMeans};
 ghost use Rattle.ips_request_plan.specs.Causes.{IsUngiven};
-ghost use Rattle.ips_request_plan.specs.Plans.{AreCounts, AreFiles, ComesBetween, ComesOfPlan, HasNoSteps, IsRequestPlan, IsPlanBetween, IsPlanWith, given_of};
+ghost use Rattle.ips_request_plan.specs.Plans.{AreCounts, AreFiles, AreSurveyed, CanBePlanned, HasNoSteps, IsPlanWith, PlansBetween, PlansRequest};
 ghost use Rattle.ips_request_plan.specs.declared.fault.PlanFault.TheVariants as fault;
 
 use crate::fault::{PlanFault, ungiven, unlaid, unmeant};
@@ -63,13 +60,8 @@ pub fn plan_request<S: Source, F: Folder>(
     source: &mut S,
     folder: &mut F,
 ) -> Result<Plan, Or<PlanFault>>
-    requires moment { NamesMoment moment.now }
-    requires old { IsLawful (recorded old.now) }
-    requires new { IsLawful (recorded new.now) }
-    ensures planned { IfOk result (IsRequestPlan (given_of F.outside S.outside folder.old source.old new.now) moment.now old.now new.now accept) }
-    ensures refused { IfBad result (λ why. (why ≡ fault.FolderFault) ⊎ ComesOfPlan (given_of F.outside S.outside folder.old source.old new.now) moment.now old.now new.now accept why) }
-    ensures reads { Reads F.outside folder.old folder.new (result ≡ Err (Bad fault.FolderFault)) }
-    ensures reads_source { Reads S.outside source.old source.new (result ≡ Err (Bad fault.SourceFault)) }
+    requires { CanBePlanned moment.now old.now new.now }
+    ensures { PlansRequest F.outside S.outside moment.now old.now new.now accept folder.old folder.new source.old source.new result }
 {
     match meaning(alloc, old) {
         Ok(was) => plan_from(alloc, old, &was, new, moment, accept, source, folder),
@@ -89,14 +81,9 @@ fn plan_from<S: Source, F: Folder>(
     source: &mut S,
     folder: &mut F,
 ) -> Result<Plan, Or<PlanFault>>
-    requires moment { NamesMoment moment.now }
+    requires request { CanBePlanned moment.now old.now new.now }
     requires meant { StateMeans old.now was.now }
-    requires old { IsLawful (recorded old.now) }
-    requires new { IsLawful (recorded new.now) }
-    ensures planned { IfOk result (IsRequestPlan (given_of F.outside S.outside folder.old source.old new.now) moment.now old.now new.now accept) }
-    ensures refused { IfBad result (λ why. (why ≡ fault.FolderFault) ⊎ ComesOfPlan (given_of F.outside S.outside folder.old source.old new.now) moment.now old.now new.now accept why) }
-    ensures reads { Reads F.outside folder.old folder.new (result ≡ Err (Bad fault.FolderFault)) }
-    ensures reads_source { Reads S.outside source.old source.new (result ≡ Err (Bad fault.SourceFault)) }
+    ensures { PlansRequest F.outside S.outside moment.now old.now new.now accept folder.old folder.new source.old source.new result }
 {
     match meaning(alloc, new) {
         Ok(is) => {
@@ -122,14 +109,9 @@ fn plan_between<S: Source, F: Folder>(
     source: &mut S,
     folder: &mut F,
 ) -> Result<Plan, Or<PlanFault>>
-    requires moment { NamesMoment moment.now }
+    requires request { CanBePlanned moment.now between.old.now between.new.now }
     requires meant { AreMeant between }
-    requires old { IsLawful (recorded between.old.now) }
-    requires new { IsLawful (recorded between.new.now) }
-    ensures planned { IfOk result (IsPlanBetween (given F.outside S.outside folder.old source.old between.entry) moment.now between.entry accept) }
-    ensures refused { IfBad result (λ why. (why ≡ fault.FolderFault) ⊎ ComesBetween (given F.outside S.outside folder.old source.old between.entry) moment.now between.entry accept why) }
-    ensures reads { Reads F.outside folder.old folder.new (result ≡ Err (Bad fault.FolderFault)) }
-    ensures reads_source { Reads S.outside source.old source.new (result ≡ Err (Bad fault.SourceFault)) }
+    ensures { PlansBetween F.outside S.outside moment.now between.entry accept folder.old folder.new source.old source.new result }
 {
     match survey(alloc, folder, between.was, between.is) {
         Ok(rows) => plan_over(alloc, between, &rows, moment, accept, source, folder),
@@ -148,16 +130,10 @@ fn plan_over<'a, S: Source, F: Folder>(
     source: &mut S,
     folder: &mut F,
 ) -> Result<Plan, Or<PlanFault>>
-    requires moment { NamesMoment moment.now }
+    requires request { CanBePlanned moment.now between.old.now between.new.now }
     requires meant { AreMeant between }
-    requires old { IsLawful (recorded between.old.now) }
-    requires new { IsLawful (recorded between.new.now) }
-    requires rows { AreRows between.was.now between.is.now (map row_pair rows.now) }
-    requires looked { IsTrue (F.outside.tells folder.old) → AllByRecursion (HasLooked (F.outside.state folder.old).held) rows.now }
-    ensures planned { IfOk result (IsPlanBetween (given F.outside S.outside folder.old source.old between.entry) moment.now between.entry accept) }
-    ensures refused { IfBad result (λ why. (why ≡ fault.FolderFault) ⊎ ComesBetween (given F.outside S.outside folder.old source.old between.entry) moment.now between.entry accept why) }
-    ensures reads { Reads F.outside folder.old folder.new (result ≡ Err (Bad fault.FolderFault)) }
-    ensures reads_source { Reads S.outside source.old source.new (result ≡ Err (Bad fault.SourceFault)) }
+    requires surveyed { AreSurveyed F.outside folder.old between rows.now }
+    ensures { PlansBetween F.outside S.outside moment.now between.entry accept folder.old folder.new source.old source.new result }
 {
     match ledger_of(alloc, between, rows, source, folder) {
         Ok(files) => plan_with(alloc, between, rows, &files, moment, accept, folder),
@@ -175,8 +151,7 @@ fn ledger_of<'a, S: Source, F: Folder>(
     folder: &mut F,
 ) -> Result<AccountFiles, Or<LedgerFault>>
     requires meant { AreMeant between }
-    requires rows { AreRows between.was.now between.is.now (map row_pair rows.now) }
-    requires looked { IsTrue (F.outside.tells folder.old) → AllByRecursion (HasLooked (F.outside.state folder.old).held) rows.now }
+    requires surveyed { AreSurveyed F.outside folder.old between rows.now }
     ensures files { IfOk result (AreFiles (given F.outside S.outside folder.old source.old between.entry) between.entry) }
     ensures proper { IfOk result (λ files. AreAccountFiles (map due_file files.due.items)) }
     ensures refused { IfBad result (λ why. (why ≡ ledger.FolderFault) ⊎ ((bytes : List ℕ → List ℕ) → IsLedger (given F.outside S.outside folder.old source.old between.entry) between.entry.old.now between.entry.new.now between.entry.was.now between.entry.is.now bytes (Err why))) }
@@ -212,13 +187,10 @@ fn plan_with<'a, F: Folder>(
     accept: bool,
     folder: &mut F,
 ) -> Result<Plan, Or<PlanFault>>
-    requires moment { NamesMoment moment.now }
+    requires request { CanBePlanned moment.now between.old.now between.new.now }
     requires meant { AreMeant between }
-    requires old { IsLawful (recorded between.old.now) }
-    requires new { IsLawful (recorded between.new.now) }
-    requires rows { AreRows between.was.now between.is.now (map row_pair rows.now) }
+    requires surveyed { AreSurveyed F.outside folder.old between rows.now }
     requires accounts { AreAccountFiles (map due_file files.now.due.items) }
-    requires looked { IsTrue (F.outside.tells folder.old) → AllByRecursion (HasLooked (F.outside.state folder.old).held) rows.now }
     ensures planned { IfOk result (IsPlanWith (F.outside.tells folder.old) (F.outside.state folder.old).held moment.now between.entry files.now accept) }
     ensures refused { IfBad result (HasNoSteps (F.outside.tells folder.old) (F.outside.state folder.old).held moment.now between.entry files.now accept) }
     ensures reads { Reads F.outside folder.old folder.new (result ≡ Err (Bad fault.FolderFault)) }

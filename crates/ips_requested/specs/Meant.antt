@@ -1,7 +1,16 @@
 -- What is promised of the plan of a request: the image after it.
-use Rattle.std.specs.Prelude.{ℕ, Bool, true, List, Ok}
-use Rattle.ips_outside.specs.Image.{Image}
-use Rattle.ips_steps.specs.Private.{visible}
+use Rattle.std.specs.Prelude.{◌≡◌, ℕ, Bool, true, IsTrue, List, map, None, Result, Ok, IfOk}
+use Rattle.ips_text.specs.declared.refusal.Or.{Or}
+use Rattle.ips_outside.specs.Image.{Image, is_dir}
+use Rattle.ips_outside.specs.Outside.{Outside}
+use Rattle.ips_steps.specs.Journal.{IsJournal}
+use Rattle.ips_steps.specs.Private.{gate_name, records_name, visible}
+use Rattle.ips_steps.specs.Steps.{Stage, all_laid}
+use Rattle.ips_steps.specs.View.{step_of}
+use Rattle.ips_commit.specs.Contents.{AreSeen, StagedContents}
+use Rattle.ips_commit.specs.Staging.{CanStage}
+use Rattle.ips_state.specs.State.{recorded}
+use Rattle.ips_state.specs.Lawful.{IsLawful}
 use Rattle.ips_state.specs.declared.state.State.{State}
 use Rattle.ips_moment.specs.Moment.{IsMomentText}
 use Rattle.ips_meaning.specs.declared.entry.Entry.{Entry}
@@ -18,7 +27,7 @@ use Rattle.ips_account_files.specs.Behind.{Files}
 use Rattle.ips_request_due.specs.RequestDue.{IsRequestDue}
 use Rattle.ips_image_plan.specs.Accounts.{Given, IsLedger}
 use Rattle.ips_image_plan.specs.Meaning.{StateMeans}
-use Rattle.ips_request_plan.specs.Plans.{ComesOfPlan, IsRequestPlan}
+use Rattle.ips_request_plan.specs.Plans.{ComesOfPlan, IsPlanOrCause, IsRequestPlan, given_of}
 use Rattle.ips_request_plan.specs.declared.fault.PlanFault.{PlanFault}
 use Rattle.ips_request_plan.specs.declared.planning.Plan.{Plan}
 
@@ -54,3 +63,23 @@ pub record IsMeant (moment : ℕ) (old new : State) (repository t after : Image)
   pub over : Over
   pub is_over : IsOverOf (payload_bytes new.publisher repository) is_payload_of due t over
   pub image : IsImageAfter text (request_between was is (payload_bytes new.publisher repository) is_payload_of over) (visible t) after
+
+-- ---- what is promised of a call
+
+-- The request can be carried out on this folder: both states can be recorded, and where the folder tells what it holds, the folder of the records stands in it, and
+-- the gate is closed.
+pub record CanBeRequested {F : Type 0} (o : Outside F) (folder : F) (before after : State) : Type 0 where
+  pub old : IsLawful (recorded before)
+  pub new : IsLawful (recorded after)
+  pub records : IsTrue (o.tells folder) → IsTrue (is_dir ((o.state folder).held.look records_name))
+  pub shut : IsTrue (o.tells folder) → (o.state folder).held.look gate_name ≡ None
+
+-- The answer is the plan of the request at this moment, or why there is none: a journal can list the steps of the plan, none is taken from the updater's own names,
+-- they can be staged, and what is seen once they are laid is the image after the request.
+pub record IsRequested {F S : Type 0} (o : Outside F) (q : Outside S) (moment : ℕ) (old new : State) (accept : Bool) (folder later : F) (source after : S) (answer : Result Plan (Or PlanFault)) : Type 0 where
+  pub plans : IsPlanOrCause o q (IsPlanAt (given_of o q folder source new) moment old new accept) (ComesAt (given_of o q folder source new) moment old new accept) folder later source after answer
+  pub lists : IfOk answer (λ p. IsJournal (map step_of p.planned.emitted.steps.items))
+  pub seen : IfOk answer (λ p. AreSeen p.planned.emitted.staged.items)
+  pub stages : IsTrue (o.tells folder) → IfOk answer (λ p. CanStage (map step_of p.planned.emitted.steps.items) p.planned.emitted.staged.items (o.state folder).held)
+  pub meant : IsTrue (o.tells folder) → IsTrue (q.tells source) → IfOk answer (λ p. (contents : Stage) → StagedContents true (q.state source).held new.publisher (o.state folder).held p.planned.emitted.staged.items contents
+      → IsMeant moment old new (q.state source).held (o.state folder).held (visible (all_laid contents (map step_of p.planned.emitted.steps.items) (o.state folder).held)))

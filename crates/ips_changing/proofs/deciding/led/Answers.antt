@@ -1,66 +1,75 @@
-use Rattle.std.proofs.Common.{refl}
+use Rattle.std.proofs.Common.{ap, refl}
 use Rattle.ips_outside.proofs.Reading.{reads_as}
 use Rattle.ips_request_plan.specs.Plans.{given_of}
 use Rattle.ips_request_plan.specs.declared.fault.PlanFault.TheVariants as plan
+use Rattle.ips_report.specs.declared.outcome.Outcome.{Outcome}
+use Rattle.ips_run.specs.declared.operation.Change.{Change}
 use Rattle.ips_run.specs.declared.operation.DecideFault.TheVariants as decide
+use Rattle.ips_told.specs.Told.{manner_of}
 use Rattle.ips_changing.specs.Refusals.{unplanned_told}
 use Rattle.ips_request_plan.specs.declared.planning.Plan.{Plan}
 use Rattle.ips_state.specs.State.{recorded}
 use Rattle.ips_changing.specs.Decides.{Led, asked_of}
 use Rattle.ips_changing.proofs.Decided.{change_decided, change_listed, change_planned, failed_where_told, given_tells, is_told, records_stand, told_failed, unplanned_by}
+use Rattle.ips_changing.proofs.Calls.{nothing_changed, unplanned_nothing}
 use Rattle.ips_changing.proofs.deciding.led.Goals as goal
 
-pub plan-requires-clause-records : goal.plan-requires-clause-records
-plan-requires-clause-records g c = λ tells. records_stand (g.F.Source.outside.state c.args.folder.now).held (recorded c.args.old.now) (g.met.F.Source.sane.formed c.args.folder.now tells) (c.requires.holds tells)
+pub plan-requires-clause-request : goal.plan-requires-clause-request
+plan-requires-clause-request g c = record {
+  old = c.requires.loaded.lawful;
+  new = c.requires.leads.lawful;
+  records = λ tells. records_stand (g.F.Source.outside.state c.args.folder.now).held (recorded c.args.old.now) (g.met.F.Source.sane.formed c.args.folder.now tells) (c.requires.loaded.holds tells);
+  shut = c.requires.loaded.shut;
+}
 
-pub returns-in-Ok-plan-clause-decided : goal.returns-in-Ok-plan-clause-decided
-returns-in-Ok-plan-clause-decided g c = λ tells.
+pub returns-in-Ok-plan : goal.returns-in-Ok-plan
+returns-in-Ok-plan g c =
     let o = g.F.Source.outside in
     let p = g.S.Source.outside in
     let a = asked_of c.args.command.now c.args.moment (p.tells c.args.source.now) (p.state c.args.source.now).held (o.state c.args.folder.now).held in
-    let led : Led a = record { old = c.args.old.now; holds = c.requires.holds tells; new = c.args.new.now; leads = c.requires.leads } in
-    change_decided a led (given_of o p c.args.folder.now c.args.source.now c.args.new.now) c.accepts-accept.result c.in-Ok-plan.plan c.in-Ok.publisher c.change_of.result c.change_of.ensures.is c.change_of.ensures.named c.in-Ok.ensures
-    (given_tells o p c.args.folder.now c.args.source.now c.args.command.now c.args.moment c.args.new.now tells) c.accepts-accept.ensures c.in-Ok-plan.ensures.planned
-
-pub returns-in-Ok-plan-clause-lists : goal.returns-in-Ok-plan-clause-lists
-returns-in-Ok-plan-clause-lists g c = change_listed c.in-Ok-plan.plan c.in-Ok.publisher c.change_of.result c.change_of.ensures.is c.in-Ok-plan.ensures.lists c.in-Ok-plan.ensures.seen
-
-pub returns-in-Ok-plan-clause-planned : goal.returns-in-Ok-plan-clause-planned
-returns-in-Ok-plan-clause-planned g c = λ tells.
-    let o = g.F.Source.outside in
-    let p = g.S.Source.outside in
-    let a = asked_of c.args.command.now c.args.moment (p.tells c.args.source.now) (p.state c.args.source.now).held (o.state c.args.folder.now).held in
-    let led : Led a = record { old = c.args.old.now; holds = c.requires.holds tells; new = c.args.new.now; leads = c.requires.leads } in
-    change_planned a led c.in-Ok-plan.plan c.in-Ok.publisher c.change_of.result c.change_of.ensures.is c.in-Ok.ensures (c.in-Ok-plan.ensures.stages tells) (c.in-Ok-plan.ensures.meant tells)
-
-pub returns-in-Ok-plan-clause-reads : goal.returns-in-Ok-plan-clause-reads
-returns-in-Ok-plan-clause-reads g c = reads_as g.F.Source.outside c.args.folder.now c.plan.new.folder _ _ c.plan.ensures.reads (λ failed. cc) (λ failed. cc)
-
-pub returns-in-Ok-plan-clause-source : goal.returns-in-Ok-plan-clause-source
-returns-in-Ok-plan-clause-source g c = reads_as g.S.Source.outside c.args.source.now c.plan.new.source _ _ c.plan.ensures.reads_source (λ failed. cc) (λ failed. cc)
+    let around = given_of o p c.args.folder.now c.args.source.now c.args.new.now in
+    let planned = c.in-Ok-plan.plan in
+    let publisher = c.in-Ok.publisher in
+    let change = c.change_of.result in
+    let is = c.change_of.ensures.is in
+    let promised = c.in-Ok-plan.ensures in record {
+      decided = λ tells.
+          let led : Led a = record { old = c.args.old.now; holds = c.requires.loaded.holds tells; new = c.args.new.now; leads = c.requires.leads } in
+          change_decided a led around c.accepts-accept.result planned publisher change is c.change_of.ensures.named c.in-Ok.ensures
+          (given_tells o p c.args.folder.now c.args.source.now c.args.command.now c.args.moment c.args.new.now tells) c.accepts-accept.ensures promised.plans.planned;
+      of_effect = refl;
+      says = ap (λ (x : Change Outcome). manner_of x.told) is;
+      lists = change_listed planned publisher change is promised.lists promised.seen;
+      planned = λ tells.
+          let led : Led a = record { old = c.args.old.now; holds = c.requires.loaded.holds tells; new = c.args.new.now; leads = c.requires.leads } in
+          change_planned a led planned publisher change is c.in-Ok.ensures (promised.stages tells) (promised.meant tells);
+      reads = reads_as o c.args.folder.now c.plan.new.folder _ _ c.plan.ensures.plans.reads (λ failed. cc) (λ failed. cc);
+      source = reads_as p c.args.source.now c.plan.new.source _ _ c.plan.ensures.plans.reads_source (λ failed. cc) (λ failed. cc);
+    }
 
 pub unplanned-requires : goal.unplanned-requires
 unplanned-requires g c =
     is_told Plan (given_of g.F.Source.outside g.S.Source.outside c.args.folder.now c.args.source.now c.args.new.now) c.args.moment c.args.old.now c.args.new.now c.accepts-accept.result c.in-Err.fault
-    c.plan_faults_are_told.ensures c.in-Err.ensures.refused
+    c.plan_faults_are_told.ensures c.in-Err.ensures.plans.refused
 
-pub returns-in-Err-clause-decided : goal.returns-in-Err-clause-decided
-returns-in-Err-clause-decided g c = λ tells.
+pub returns-in-Err : goal.returns-in-Err
+returns-in-Err g c =
     let o = g.F.Source.outside in
     let p = g.S.Source.outside in
     let a = asked_of c.args.command.now c.args.moment (p.tells c.args.source.now) (p.state c.args.source.now).held (o.state c.args.folder.now).held in
-    let led : Led a = record { old = c.args.old.now; holds = c.requires.holds tells; new = c.args.new.now; leads = c.requires.leads } in
-    unplanned_by Plan a led (given_of o p c.args.folder.now c.args.source.now c.args.new.now) c.accepts-accept.result c.in-Err.fault c.unplanned.result c.unplanned.ensures.told
-    (given_tells o p c.args.folder.now c.args.source.now c.args.command.now c.args.moment c.args.new.now tells) c.accepts-accept.ensures c.in-Err.ensures.refused
-
-pub returns-in-Err-clause-reads : goal.returns-in-Err-clause-reads
-returns-in-Err-clause-reads g c =
-    reads_as g.F.Source.outside c.args.folder.now c.plan.new.folder _ _ c.plan.ensures.reads
-    (failed_where_told c.plan.result c.in-Err.fault plan.FolderFault c.in-Err.is unplanned_told decide.FolderFault c.unplanned.result c.unplanned.ensures.told refl)
-    (λ failed. told_failed c.plan.result c.in-Err.fault plan.FolderFault c.in-Err.is (c.unplanned.ensures.failed_folder failed))
-
-pub returns-in-Err-clause-source : goal.returns-in-Err-clause-source
-returns-in-Err-clause-source g c =
-    reads_as g.S.Source.outside c.args.source.now c.plan.new.source _ _ c.plan.ensures.reads_source
-    (failed_where_told c.plan.result c.in-Err.fault plan.SourceFault c.in-Err.is unplanned_told decide.SourceFault c.unplanned.result c.unplanned.ensures.told refl)
-    (λ failed. told_failed c.plan.result c.in-Err.fault plan.SourceFault c.in-Err.is (c.unplanned.ensures.failed_source failed))
+    let around = given_of o p c.args.folder.now c.args.source.now c.args.new.now in
+    let fault = c.in-Err.fault in
+    let answer = c.unplanned.result in
+    let told = c.unplanned.ensures.told in
+    nothing_changed o p c.args.command.now c.args.moment c.args.folder.now c.plan.new.folder c.args.source.now c.plan.new.source answer (unplanned_nothing fault answer told)
+    (λ tells.
+    let led : Led a = record { old = c.args.old.now; holds = c.requires.loaded.holds tells; new = c.args.new.now; leads = c.requires.leads } in
+    unplanned_by Plan a led around c.accepts-accept.result fault answer told
+    (given_tells o p c.args.folder.now c.args.source.now c.args.command.now c.args.moment c.args.new.now tells) c.accepts-accept.ensures c.in-Err.ensures.plans.refused)
+    c.unplanned.ensures.says
+    (reads_as o c.args.folder.now c.plan.new.folder _ _ c.plan.ensures.plans.reads
+    (failed_where_told c.plan.result fault plan.FolderFault c.in-Err.is unplanned_told decide.FolderFault answer told refl)
+    (λ failed. told_failed c.plan.result fault plan.FolderFault c.in-Err.is (c.unplanned.ensures.failed_folder failed)))
+    (reads_as p c.args.source.now c.plan.new.source _ _ c.plan.ensures.plans.reads_source
+    (failed_where_told c.plan.result fault plan.SourceFault c.in-Err.is unplanned_told decide.SourceFault answer told refl)
+    (λ failed. told_failed c.plan.result fault plan.SourceFault c.in-Err.is (c.unplanned.ensures.failed_source failed)))

@@ -1,6 +1,5 @@
-use Rattle.std.proofs.Common.{◌≡◌, ◌⊎◌, true, map, inl, inr, refl}
+use Rattle.std.proofs.Common.{true, map, refl}
 use Rattle.std.proofs.lemmas.Result.{IfOk-weaker}
-use Rattle.ips_load.proofs.Answered.{bad_weaker}
 use Rattle.ips_steps.specs.Journal.{IsJournal}
 use Rattle.ips_steps.specs.Private.{visible}
 use Rattle.ips_steps.specs.Steps.{Stage, all_laid}
@@ -8,49 +7,34 @@ use Rattle.ips_steps.specs.View.{step_of}
 use Rattle.ips_commit.specs.Contents.{AreSeen, StagedContents}
 use Rattle.ips_commit.specs.Staging.{CanStage}
 use Rattle.ips_request_plan.specs.Plans.{ComesOfPlan, IsRequestPlan, given_of}
-use Rattle.ips_request_plan.specs.declared.fault.PlanFault.TheVariants as fault
+use Rattle.ips_request_plan.proofs.Calls.{plan_as}
 use Rattle.ips_requested.specs.Meant.{ComesAt, IsMeant, IsPlanAt}
 use Rattle.ips_staged_plans.proofs.Moments.{moment_named}
 use Rattle.ips_requested.proofs.Meant.{plan_listed, plan_means, plan_stages}
 use Rattle.ips_requested.proofs.requested.plan_at.Goals as goal
 
-pub plan_request-requires-clause-moment : goal.plan_request-requires-clause-moment
-plan_request-requires-clause-moment g c = moment_named c.args.moment c.args.text.now c.requires.text
+pub plan_request-requires : goal.plan_request-requires
+plan_request-requires g c = record { moment = moment_named c.args.moment c.args.text.now c.requires.text; old = c.requires.request.old; new = c.requires.request.new }
 
-pub returns-clause-lists : goal.returns-clause-lists
-returns-clause-lists g c =
-    let around = given_of g.F.Source.outside g.S.Source.outside c.args.folder.now c.args.source.now c.args.new.now in
-    IfOk-weaker c.plan_request.result (IsRequestPlan around c.args.text.now c.args.old.now c.args.new.now c.args.accept) (λ p. IsJournal (map step_of p.planned.emitted.steps.items))
-    (λ p h. (plan_listed around c.args.text.now c.args.old.now c.args.new.now c.args.accept p h).lists) c.plan_request.ensures.planned
-
-pub returns-clause-seen : goal.returns-clause-seen
-returns-clause-seen g c =
-    let around = given_of g.F.Source.outside g.S.Source.outside c.args.folder.now c.args.source.now c.args.new.now in
-    IfOk-weaker c.plan_request.result (IsRequestPlan around c.args.text.now c.args.old.now c.args.new.now c.args.accept) (λ p. AreSeen p.planned.emitted.staged.items)
-    (λ p h. (plan_listed around c.args.text.now c.args.old.now c.args.new.now c.args.accept p h).seen) c.plan_request.ensures.planned
-
-pub returns-clause-planned : goal.returns-clause-planned
-returns-clause-planned g c =
-    let around = given_of g.F.Source.outside g.S.Source.outside c.args.folder.now c.args.source.now c.args.new.now in
-    IfOk-weaker c.plan_request.result (IsRequestPlan around c.args.text.now c.args.old.now c.args.new.now c.args.accept) (IsPlanAt around c.args.moment c.args.old.now c.args.new.now c.args.accept)
-    (λ p h. (c.args.text.now, c.requires.text, h)) c.plan_request.ensures.planned
-
-pub returns-clause-refused : goal.returns-clause-refused
-returns-clause-refused g c =
-    let around = given_of g.F.Source.outside g.S.Source.outside c.args.folder.now c.args.source.now c.args.new.now in
-    bad_weaker c.plan_request.result (λ why. (why ≡ fault.FolderFault) ⊎ ComesOfPlan around c.args.text.now c.args.old.now c.args.new.now c.args.accept why) (λ why. (why ≡ fault.FolderFault) ⊎ ComesAt around c.args.moment c.args.old.now c.args.new.now c.args.accept why)
-    (λ why h. elim h [ inl failed ↦ inl failed | inr comes ↦ inr (c.args.text.now, c.requires.text, comes) ]) c.plan_request.ensures.refused
-
-pub returns-clause-stages : goal.returns-clause-stages
-returns-clause-stages g c = λ told.
-    let around = given_of g.F.Source.outside g.S.Source.outside c.args.folder.now c.args.source.now c.args.new.now in
-    IfOk-weaker c.plan_request.result (IsRequestPlan around c.args.text.now c.args.old.now c.args.new.now c.args.accept) (λ p. CanStage (map step_of p.planned.emitted.steps.items) p.planned.emitted.staged.items around.image)
-    (λ p h. plan_stages c.due_files_fit.ensures around c.args.text.now c.args.old.now c.args.new.now c.args.accept p h told (g.met.F.Source.sane.formed c.args.folder.now told) (c.requires.records told) (c.requires.shut told)) c.plan_request.ensures.planned
-
-pub returns-clause-meant : goal.returns-clause-meant
-returns-clause-meant g c = λ told tells.
-    let around = given_of g.F.Source.outside g.S.Source.outside c.args.folder.now c.args.source.now c.args.new.now in
-    IfOk-weaker c.plan_request.result (IsRequestPlan around c.args.text.now c.args.old.now c.args.new.now c.args.accept)
-    (λ p. (contents : Stage) → StagedContents true around.repository c.args.new.now.publisher around.image p.planned.emitted.staged.items contents
-    → IsMeant c.args.moment c.args.old.now c.args.new.now around.repository around.image (visible (all_laid contents (map step_of p.planned.emitted.steps.items) around.image)))
-    (λ p h. plan_means c.due_files_fit.ensures around c.args.text.now c.args.old.now c.args.new.now c.args.accept p h told (g.met.F.Source.sane.formed c.args.folder.now told) (c.requires.records told) c.args.moment c.requires.text tells refl) c.plan_request.ensures.planned
+pub returns : goal.returns
+returns g c =
+    let o = g.F.Source.outside in
+    let q = g.S.Source.outside in
+    let around = given_of o q c.args.folder.now c.args.source.now c.args.new.now in
+    let text = c.args.text.now in
+    let old = c.args.old.now in
+    let new = c.args.new.now in
+    let answer = c.plan_request.result in
+    let plans = c.plan_request.ensures in
+    let IsIt = IsRequestPlan around text old new c.args.accept in record {
+      plans = plan_as o q IsIt (IsPlanAt around c.args.moment old new c.args.accept) (ComesOfPlan around text old new c.args.accept) (ComesAt around c.args.moment old new c.args.accept)
+          c.args.folder.now c.plan_request.new.folder c.args.source.now c.plan_request.new.source answer (λ p h. (text, c.requires.text, h)) (λ why comes. (text, c.requires.text, comes)) plans;
+      lists = IfOk-weaker answer IsIt (λ p. IsJournal (map step_of p.planned.emitted.steps.items)) (λ p h. (plan_listed around text old new c.args.accept p h).lists) plans.planned;
+      seen = IfOk-weaker answer IsIt (λ p. AreSeen p.planned.emitted.staged.items) (λ p h. (plan_listed around text old new c.args.accept p h).seen) plans.planned;
+      stages = λ told. IfOk-weaker answer IsIt (λ p. CanStage (map step_of p.planned.emitted.steps.items) p.planned.emitted.staged.items around.image)
+          (λ p h. plan_stages c.due_files_fit.ensures around text old new c.args.accept p h told (g.met.F.Source.sane.formed c.args.folder.now told) (c.requires.request.records told) (c.requires.request.shut told)) plans.planned;
+      meant = λ told tells. IfOk-weaker answer IsIt
+          (λ p. (contents : Stage) → StagedContents true around.repository new.publisher around.image p.planned.emitted.staged.items contents
+          → IsMeant c.args.moment old new around.repository around.image (visible (all_laid contents (map step_of p.planned.emitted.steps.items) around.image)))
+          (λ p h. plan_means c.due_files_fit.ensures around text old new c.args.accept p h told (g.met.F.Source.sane.formed c.args.folder.now told) (c.requires.request.records told) c.args.moment c.requires.text tells refl) plans.planned;
+    }
