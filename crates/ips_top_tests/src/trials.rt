@@ -1,7 +1,6 @@
 //! Trials in memory: their summaries, and how far the tallies of the kinds rise.
 
 use ips_folder::{Folder, MemFolder};
-use ips_generate::generate;
 use ips_kinds::{FreshKind, GoneKind, HardKind, Kind, LinkKind, ModeKind, PutKind};
 use ips_outside::{MemSink, MemSource, MemSpawner, Sink, Source, Spawner, Tree};
 use ips_top::run;
@@ -53,26 +52,8 @@ fn first(rt: &impl Abort, alloc: Global) -> Vec<u64> {
     vec![in alloc; 1].expect(rt, "memory")
 }
 
-// How the run of a line ends over these objects: its number, how many steps the kinds have finished, and its report.
-fn told_over<S: Source, F: Folder, P: Spawner>(
-    rt: &impl Abort,
-    alloc: Global,
-    line: &str,
-    repo: &mut S,
-    image: &mut F,
-    spawner: &mut P,
-) -> String {
-    let mut out = MemSink::new(alloc, 200, Vec::new(alloc)).expect(rt, "memory");
-    let words = words_of(rt, alloc, line);
-    let (number, steps) = finished_by(alloc, &words, repo, image, spawner, &mut out).expect(
-        rt, "memory",
-    );
-    let taken = String::from_utf8_lossy(alloc, out.taken()).expect(rt, "memory");
-    let taken = taken.as_str();
-    format!(in alloc; "{number} {steps} {taken:?}").expect(rt, "memory")
-}
-
-// The same with a repository, a folder and a spawner of which the first call would fail.
+// How the run of a line ends, with a repository, a folder and a spawner of which the first call would fail: its number, how many steps the kinds have finished, and its
+// report.
 fn run_told(rt: &impl Abort, alloc: Global, line: &str) -> String {
     let mut repo = MemSource::new(Tree::new(alloc), first(rt, alloc));
     let mut image = MemFolder::new(alloc, Tree::new(alloc), first(rt, alloc), None).expect(
@@ -81,7 +62,19 @@ fn run_told(rt: &impl Abort, alloc: Global, line: &str) -> String {
     let mut spawner = MemSpawner::new(alloc, 0, Vec::new(alloc), first(rt, alloc)).expect(
         rt, "memory",
     );
-    told_over(rt, alloc, line, &mut repo, &mut image, &mut spawner)
+    let mut out = MemSink::new(alloc, 100, Vec::new(alloc)).expect(rt, "memory");
+    let words = words_of(rt, alloc, line);
+    let (number, steps) = finished_by(
+        alloc,
+        &words,
+        &mut repo,
+        &mut image,
+        &mut spawner,
+        &mut out,
+    ).expect(rt, "memory");
+    let taken = String::from_utf8_lossy(alloc, out.taken()).expect(rt, "memory");
+    let taken = taken.as_str();
+    format!(in alloc; "{number} {steps} {taken:?}").expect(rt, "memory")
 }
 
 // Lines, and what is told of them. A trial asks nothing of what it is lent.
@@ -109,35 +102,6 @@ fn a_trial_counts_its_steps_and_asks_nothing(rt: HostRuntime) {
     let alloc = rt.alloc();
     for (line, want) in TRIALS {
         let told = run_told(&rt, alloc, line);
-        assert!(rt; told.as_str() == want, "{line}: {told}, and not {want}");
-    }
-}
-
-// What a trial does, command by command, over a repository that is generated.
-const JOB: [(&str, &str); 3] = [
-    (
-        "-R i -s r image-create -p gen",
-        r#"0 10 "install 0, update 0, remove 0\nsteps: gone 0, fresh 3, mode 0, put 7, link 0, hard 0\ndone\n""#,
-    ),
-    (
-        "-R i -s r install all",
-        r#"0 3004 "install 1001, update 0, remove 0\nsteps: gone 0, fresh 1001, mode 0, put 2003, link 0, hard 0\ndone\n""#,
-    ),
-    ("-R i -s r verify", r#"0 0 "ok\n""#),
-];
-
-#[test]
-fn a_generated_repository_is_installed(rt: HostRuntime) {
-    let alloc = rt.alloc();
-    let mut repo = generate(alloc, 1000).expect(&rt, "memory");
-    let mut image = MemFolder::new(alloc, Tree::new(alloc), Vec::new(alloc), None).expect(
-        &rt, "memory",
-    );
-    let mut spawner = MemSpawner::new(alloc, 0, Vec::new(alloc), Vec::new(alloc)).expect(
-        &rt, "memory",
-    );
-    for (line, want) in JOB {
-        let told = told_over(&rt, alloc, line, &mut repo, &mut image, &mut spawner);
         assert!(rt; told.as_str() == want, "{line}: {told}, and not {want}");
     }
 }
