@@ -132,12 +132,25 @@ all_go : delivered_gone was (record { owners = []; drivers = []; licenses = []; 
 unfolding quoted
 all_go = refl
 
--- an image is made with an empty folder of packages, whatever stands there
+-- an image is made with an empty folder of packages, whatever stands there, and without an index
 abbrev made_due : Due
-made_due = record { accounts = []; records = []; renewed = codes "var/pkg/packages" ∷ []; folders = first_folders; gone = [] }
+made_due = record { accounts = []; records = []; renewed = codes "var/pkg/packages" ∷ []; folders = first_folders; gone = codes "var/pkg/index" ∷ [] }
 
 renewed_packages : said bytes holds made_due tree (codes "var/pkg/packages") ≡ Some (Some (Dir 493 false))
 renewed_packages = refl
 
 made_licenses : said bytes holds made_due tree (codes "var/pkg/license") ≡ Some (Some (Dir 493 false))
 made_licenses = refl
+
+-- what stands at the path of an index goes; where nothing stands there, nothing is said
+abbrev with_index : Image
+with_index = record {
+  look = look_in ((codes "var/pkg/index", File 420 (1 ∷ [])) ∷ []);
+  same = λ a b. same_path a b;
+}
+
+index_goes : said bytes holds made_due with_index (codes "var/pkg/index") ≡ Some None
+index_goes = refl
+
+no_index : said bytes holds made_due tree (codes "var/pkg/index") ≡ None
+no_index = refl

@@ -486,6 +486,10 @@ module _ (new : Recorded) where
   first_in : AllByRecursion (IsIn made nothing) first_folders
   first_in = (in_own made nothing licenses_path refl, (in_own made nothing lost_path refl, tt))
 
+  -- the place of an index, where what stands goes
+  index_gone : (q : List ℕ) → listed (index_path ∷ []) q ≡ true → IsOut made nothing q
+  index_gone q h = at_listed (IsOut made nothing) (index_path ∷ []) q (index_out made nothing, tt) h
+
   first_due : (q : List ℕ) → (false || (is_some (record_at first_records q) || (listed (packages_path ∷ []) q || listed first_folders q))) ≡ true → IsIn made nothing q
   first_due q h = elim (or_cases (is_some (record_at first_records q)) (listed (packages_path ∷ []) q || listed first_folders q) h) [
     | inl record_due ↦ (first_at q record_due).1
@@ -495,14 +499,14 @@ module _ (new : Recorded) where
     ]
   ]
 
-  owned_first : (q : List ℕ) → (is_some (record_at first_records q) || (listed (packages_path ∷ []) q || (listed first_folders q || false))) ≡ true → (is_own q ≡ true) × (is_private q ≡ false)
-  owned_first q h = elim (or_cases (is_some (record_at first_records q)) (listed (packages_path ∷ []) q || (listed first_folders q || false)) h) [
+  owned_first : (q : List ℕ) → (is_some (record_at first_records q) || (listed (packages_path ∷ []) q || (listed first_folders q || listed (index_path ∷ []) q))) ≡ true → (is_own q ≡ true) × (is_private q ≡ false)
+  owned_first q h = elim (or_cases (is_some (record_at first_records q)) _ h) [
     | inl record_due ↦ let at = (first_at q record_due).0 in (at.own, at.seen)
-    | inr more ↦ elim (or_cases (listed (packages_path ∷ []) q) (listed first_folders q || false) more) [
+    | inr more ↦ elim (or_cases (listed (packages_path ∷ []) q) _ more) [
       | inl packages ↦ at_listed (λ (x : List ℕ). (is_own x ≡ true) × (is_private x ≡ false)) (packages_path ∷ []) q ((folder_own, packages_seen), tt) packages
-      | inr rest ↦ elim (or_cases (listed first_folders q) false rest) [
+      | inr rest ↦ elim (or_cases (listed first_folders q) (listed (index_path ∷ []) q) rest) [
         | inl folder ↦ at_listed (λ (x : List ℕ). (is_own x ≡ true) × (is_private x ≡ false)) first_folders q first_own folder
-        | inr none ↦ cc
+        | inr gone ↦ let at = index_gone q gone in (at.own, at.seen)
       ]
     ]
   ]
@@ -511,8 +515,8 @@ module _ (new : Recorded) where
   creation_is_due = record {
     accounts = λ q h. cc;
     own = owned_first;
-    flat = λ p q up h. false_from_ne_true _ (λ bad. elim (or_cases (is_some (record_at first_records p)) false bad) [
+    flat = λ p q up h. false_from_ne_true _ (λ bad. elim (or_cases (is_some (record_at first_records p)) (listed (index_path ∷ []) p) bad) [
       | inl record_due ↦ clash (is_home made nothing p) (first_due q h p up) (first_at p record_due).0.out
-      | inr none ↦ cc
+      | inr gone ↦ clash (is_home made nothing p) (first_due q h p up) (index_gone p gone).out
     ]);
   }

@@ -18,7 +18,7 @@ use Rattle.ips_index.specs.Rows.{IndexedValue}
 use Rattle.ips_state.specs.Form.{IsPackage}
 use Rattle.ips_state.specs.Lawful.{IsLawful}
 use Rattle.ips_state.specs.State.{Installed, Recorded}
-use Rattle.ips_state.specs.Records.{common_records, index_records, listed_records, manifest_path, package_path, package_records, packages_path, records_by, records_of, taken_away, taken_by}
+use Rattle.ips_state.specs.Records.{common_records, index_path, index_records, listed_records, manifest_path, package_path, package_records, packages_path, records_by, records_of, taken_away, taken_by}
 use Rattle.ips_state.proofs.Places.{manifest_is_path, package_is_path}
 use Rattle.ips_outside.specs.Image.{File}
 use Rattle.ips_after.specs.Findings.{is_account_path}
@@ -183,8 +183,8 @@ abbrev nothing_named : Delivered
 nothing_named = record { owners = []; drivers = []; licenses = []; legacy = [] }
 
 module _ (new : Recorded) (lawful : IsLawful new) where
-  made_path : (q : List ℕ) → (is_due (creation_due new) q || false) ≡ true → IsPath q
-  made_path q h = elim (or_cases (is_due (creation_due new) q) false h) [
+  made_path : (q : List ℕ) → (is_due (creation_due new) q || listed (index_path ∷ []) q) ≡ true → IsPath q
+  made_path q h = elim (or_cases (is_due (creation_due new) q) (listed (index_path ∷ []) q) h) [
     | inl due ↦ elim (or_cases (is_some (record_at (own_records (records_of new) ++ delivered_records nothing_named) q)) (listed (packages_path ∷ []) q || listed first_folders q) due) [
       | inl record_due ↦ at_record IsPath (own_records (records_of new) ++ delivered_records nothing_named) q (all_append IsPath (own_records (records_of new)) (delivered_records nothing_named) (own_all IsPath (records_of new) (state_paths (new.format == 1) new lawful.installed.each)) (delivered_paths nothing_named (record { licenses = cc; packages = cc }))) record_due
       | inr more ↦ elim (or_cases (listed (packages_path ∷ []) q) (listed first_folders q) more) [
@@ -192,7 +192,7 @@ module _ (new : Recorded) (lawful : IsLawful new) where
         | inr folder ↦ at_listed IsPath first_folders q (in_pkg (codes "license") (record { bytes = refl; some = omega arith; few = omega arith; no_dots = refl }), (in_pkg (codes "lost+found") (record { bytes = refl; some = omega arith; few = omega arith; no_dots = refl }), tt)) folder
       ]
     ]
-    | inr none ↦ cc
+    | inr gone ↦ at_listed IsPath (index_path ∷ []) q (in_pkg (codes "index") (record { bytes = refl; some = omega arith; few = omega arith; no_dots = refl }), tt) gone
   ]
 
   pub creation_is_proper : HasProperDue (creation_due new)

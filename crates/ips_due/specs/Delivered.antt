@@ -5,7 +5,7 @@ use Rattle.ips_text.specs.Ancestry.{same_path}
 use Rattle.ips_text.specs.Quote.{quoted, AreBytes}
 use Rattle.ips_metafiles.specs.Records.{IsQuotedName, license_path}
 use Rattle.ips_state.specs.State.{Recorded}
-use Rattle.ips_state.specs.Records.{packages_path, records_of, taken_away}
+use Rattle.ips_state.specs.Records.{index_path, packages_path, records_of, taken_away}
 use Rattle.ips_due.specs.Due.{Content, Due, DueFile, OfPayload, Own, own_records}
 use Rattle.ips_due.specs.State.{renewed_by}
 
@@ -124,12 +124,12 @@ abbrev pub first_folders : List (List ℕ)
 first_folders = licenses_path ∷ codes "var/pkg/lost+found" ∷ []
 
 -- What is due where an image is made in this state, of format 2, in which nothing is installed: its folder of packages is made anew, whatever stands
--- there.
+-- there, and what stands at the path of an index goes.
 abbrev pub creation_due : Recorded → Due
 creation_due new = record {
   accounts = [];
   records = own_records (records_of new) ++ delivered_records (record { owners = []; drivers = []; licenses = []; legacy = [] });
   renewed = packages_path ∷ [];
   folders = first_folders;
-  gone = [];
+  gone = index_path ∷ [];
 }
