@@ -12,7 +12,7 @@ use Rattle.std.proofs.lemmas.Option.{same_Some}
 use Rattle.ips_text.specs.Ancestry.{same_path}
 use Rattle.ips_text.proofs.Ancestry.{same_path-true}
 use Rattle.ips_state.specs.State.{Ascend, Recorded}
-use Rattle.ips_state.specs.Records.{AreRecords, packages_path, records_of, taken_away}
+use Rattle.ips_state.specs.Records.{AreRecords, index_path, packages_path, records_of, taken_away}
 use Rattle.ips_entries.specs.Part.{entry_at}
 use Rattle.ips_entries.specs.Standing.{Written}
 use Rattle.ips_entries.specs.declared.part.Place.{Place}
@@ -124,7 +124,7 @@ request_same accounts old new was is places others gone are same_others same_gon
 
 pub creation_same : (new : Recorded) (places : List Place) (others : List DueRecord) → AreRecords new (map (entry_at new) places)
     → ((q : List ℕ) → record_at (map due_record others) q ≡ record_at (delivered_records (record { owners = []; drivers = []; licenses = []; legacy = [] })) q)
-    → MeansSame (record { accounts = []; records = placed_records new places others; renewed = packages_path ∷ []; folders = first_folders; gone = [] }) (creation_due new)
+    → MeansSame (record { accounts = []; records = placed_records new places others; renewed = packages_path ∷ []; folders = first_folders; gone = index_path ∷ [] }) (creation_due new)
 creation_same new places others are same_others = record {
   accounts = λ q. refl;
   records = behind_same new places others (delivered_records (record { owners = []; drivers = []; licenses = []; legacy = [] })) are same_others;

@@ -2,7 +2,7 @@
 
 ghost use Rattle.std.specs.Prelude.{◌≡◌, ◌==◌, ◌++◌, ◌∷◌, [], ℕ, List, map};
 ghost use Rattle.ips_state.specs.State.{Recorded};
-ghost use Rattle.ips_state.specs.Records.{AreRecords, packages_path, records_of, taken_away};
+ghost use Rattle.ips_state.specs.Records.{AreRecords, index_path, packages_path, records_of, taken_away};
 ghost use Rattle.ips_entries.specs.Part.{entry_at};
 ghost use Rattle.ips_entries.specs.declared.part.Place.{Place};
 ghost use Rattle.ips_after.specs.Lists.{listed};
@@ -23,5 +23,5 @@ pub fn places_mean_the_records()
         → MeansSame (record { accounts = accounts; records = placed_records new places others; renewed = renewed_by (old.format == 1) (new.format == 1); folders = []; gone = gone }) (request_due accounts old new was is) }
     ensures creation { (new : Recorded) (places : List Place) (others : List DueRecord) → AreRecords new (map (entry_at new) places)
         → ((q : List ℕ) → record_at (map due_record others) q ≡ record_at (delivered_records (record { owners = []; drivers = []; licenses = []; legacy = [] })) q)
-        → MeansSame (record { accounts = []; records = placed_records new places others; renewed = packages_path ∷ []; folders = first_folders; gone = [] }) (creation_due new) }
+        → MeansSame (record { accounts = []; records = placed_records new places others; renewed = packages_path ∷ []; folders = first_folders; gone = index_path ∷ [] }) (creation_due new) }
 {}
