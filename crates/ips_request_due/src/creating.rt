@@ -20,7 +20,7 @@ use ips_text::RelPath;
 use std::alloc::{AllocError, Global};
 
 /// What is due where an image is made in this state, in which nothing is installed: its records, the folder of packages made anew, and the folders of
-/// licenses and of what was salvaged where no directory stands. It hangs together, and has proper parts.
+/// licenses and of what was salvaged where no directory stands; what stands at the path of an index goes. It hangs together, and has proper parts.
 pub fn creation_due<'a>(alloc: Global, new: &'a State) -> Result<KeptDue<'a>, AllocError>
     requires { IsLawful (recorded new.now) }
     ensures due { IfOk result (λ made. MeansSame made (due.creation_due (recorded new.now))) }
@@ -43,6 +43,7 @@ fn of_state<'a>(alloc: Global, new: &'a State) -> Result<KeptDue<'a>, AllocError
     let others = empty_records(alloc)?;
     let renewed = one_path(alloc, b"var/pkg/packages")?;
     let folders = folders(alloc)?;
+    let gone = one_path(alloc, b"var/pkg/index")?;
     Ok(KeptDue {
         accounts: &[],
         state: new,
@@ -50,7 +51,7 @@ fn of_state<'a>(alloc: Global, new: &'a State) -> Result<KeptDue<'a>, AllocError
         others,
         renewed,
         folders,
-        gone: Vec::new(alloc),
+        gone,
     })
 }
 
