@@ -1,4 +1,4 @@
--- What is due where an image is made: records with bytes of their own and folders, each right in the folder of the records.
+-- What is due where an image is made: records with bytes of their own and folders, each right in the folder of the records, and so is what goes.
 use Rattle.std.proofs.Common.{◌≡◌, inl, inr, ℕ, ◌==◌, Bool, true, false, cond, ◌||◌, List, [], ◌∷◌, ◌++◌, length, Option, Some, None, is_some, refl, sym, ◌∙◌, ap, subst, arith}
 use Rattle.std.specs.List.{AllByRecursion}
 use Rattle.std.proofs.lemmas.Bool.{and_from, false_from_ne_true, not_from_false, or_cases}
@@ -9,7 +9,7 @@ use Rattle.ips_outside.specs.Image.{Entry, Image}
 use Rattle.ips_steps.specs.Private.{records_name}
 use Rattle.ips_index.specs.Rows.{IndexedValue}
 use Rattle.ips_state.specs.State.{Installed, Recorded}
-use Rattle.ips_state.specs.Records.{common_records, index_records, packages_path, records_by, records_of}
+use Rattle.ips_state.specs.Records.{common_records, index_path, index_records, packages_path, records_by, records_of}
 use Rattle.ips_after.specs.Lists.{listed}
 use Rattle.ips_after.proofs.Fits.{at_listed}
 use Rattle.ips_wanted.specs.Named.{is_payload_of}
@@ -64,6 +64,10 @@ folder_children = (refl, (refl, tt))
 packages_child : IsChild packages_path
 unfolding records_name
 packages_child = refl
+
+index_child : IsChild index_path
+unfolding records_name
+index_child = refl
 
 -- ---- what they hold
 
@@ -133,5 +137,5 @@ module _ (new : Recorded) where
         go _ (Account m b at) h = cc
         go _ (Record b at) h = record_child q at
         go _ (Folder at) h = made_child q at
-        go _ (Gone at) h = cc
+        go _ (Gone at) h = at_listed IsChild due.gone q (index_child, tt) at
         go _ Silent h = cc
