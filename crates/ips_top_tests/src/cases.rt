@@ -59,6 +59,20 @@ run | -R i -s r install g -> 0 "install 1, update 0, remove 0\nsteps: gone 0, fr
 run | -R i -s r list -> 0 "g@1\nx@1\n"
 "#;
 
+// An image that is made where something stands at the path of an index, and loads.
+const CREATIONS: &str = r#"
+put | var/pkg/index | no index%0a ->
+run | -R i -s r image-create -p test -> 0 "install 0, update 0, remove 0\nsteps: gone 1, fresh 3, mode 0, put 7, link 0, hard 0\ndone\n"
+look | var/pkg/index -> absent
+run | -R i -s r install hello -> 0 "install 1, update 0, remove 0\nsteps: gone 0, fresh 2, mode 0, put 4, link 0, hard 0\ndone\n"
+remove | var ->
+put | var/pkg/index/rows | no rows%0a ->
+run | -R i -s r image-create -p test -> 0 "install 0, update 0, remove 0\nsteps: gone 1, fresh 3, mode 0, put 7, link 0, hard 0\ndone\n"
+look | var/pkg/index -> absent
+look | var/pkg/index/rows -> absent
+run | -R i -s r list -> 0 ""
+"#;
+
 // What settings do.
 const SETTINGS: &str = r#"
 run | -R i -s r image-create -p test --facet facet.doc=false -> 0 "install 0, update 0, remove 0\nsteps: gone 0, fresh 3, mode 0, put 7, link 0, hard 0\ndone\n"
@@ -147,6 +161,7 @@ fn each_command_does_what_it_says(rt: HostRuntime) {
     let alloc = rt.alloc();
     for (count, table) in [
         (43u32, COMMANDS),
+        (10u32, CREATIONS),
         (14u32, SETTINGS),
         (8u32, EDITS),
         (21u32, ACTIONS),
