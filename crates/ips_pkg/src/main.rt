@@ -83,7 +83,7 @@ fn number_of<S: Source, F: Folder, P: Spawner, O: Sink>(
 ) -> Result<u8, AllocError>
     requires moment { moment < 253370764800 }
     ensures ended { IfOk result (λ number. EndsWith F.outside S.outside P.running O.taking (map string_bytes words.now) moment image.old image.new repo.old repo.new spawner.old spawner.new out.old out.new number) }
-    ensures undone { OnErr result (image.new ≡ image.old) }
+    ensures undone { OnErr result ((image.new ≡ image.old) × (repo.new ≡ repo.old) × (spawner.new ≡ spawner.old) × (out.new ≡ out.old)) }
 {
     let mut kinds: Vec<Box<dyn Kind>> = Vec::new(alloc);
     kinds.push(Box::new(alloc, GoneKind::new())?)?;
