@@ -2,6 +2,7 @@ pub mod Own
 pub mod Contents
 pub mod DuePaths
 pub mod Stand
+pub mod Whole
 pub mod Names
 pub mod Meant
 pub mod Mend

@@ -47,6 +47,7 @@ use Rattle.ips_requested.proofs.Legacy.{legacy_kept}
 use Rattle.ips_record_laws.proofs.Own.{folder_stands, root_lost}
 use Rattle.ips_record_laws.proofs.Names.{LinesStand, delivered_named, packages_named}
 use Rattle.ips_record_laws.proofs.Stand.{HeldFolder, new_held}
+use Rattle.ips_record_laws.proofs.Whole.{look_seen}
 
 -- what is wanted fits the account files behind a request that are due
 abbrev pub FilesFit : Type 0
@@ -80,9 +81,6 @@ paths_seen = (refl, refl)
 -- ---- what is held
 
 module _ (t : Image) where
-  look_seen : (q : List ℕ) → is_private q ≡ false → (visible t).look q ≡ t.look q
-  look_seen q seen = ap (λ (b : Bool). cond b None (t.look q)) seen
-
   child_seen : (q : List ℕ) → is_child (visible t) packages_path q ≡ true → is_child t packages_path q ≡ true
   child_seen q h = let parts = and_parts (is_some ((visible t).look q)) (is_directory packages_path (parent q)) h in and_from (is_some (t.look q)) _ (some_seen (is_private q) (t.look q) parts.0) parts.1
     where
@@ -93,13 +91,13 @@ module _ (t : Image) where
   folder_held : (first : Bool) (packages : List Installed) → HoldsPackages first t packages → first ≡ false → HeldFolder (visible t) packages
   folder_held true packages h second = absurd (true≢false second)
   folder_held false packages h second = record {
-    dir = ap is_dir (look_seen packages_path packages_seen) ∙ h.folder;
-    native = ap is_foreign (look_seen packages_path packages_seen) ∙ h.native;
+    dir = ap is_dir (look_seen t packages_path packages_seen) ∙ h.folder;
+    native = ap is_foreign (look_seen t packages_path packages_seen) ∙ h.native;
     only = λ q child. h.only q (child_seen q child);
   }
 
   index_bare : (o : Option (List IndexedValue)) → HoldsIndex t o → o ≡ None → (visible t).look index_path ≡ None
-  index_bare None h none = look_seen index_path paths_seen.1 ∙ h
+  index_bare None h none = look_seen t index_path paths_seen.1 ∙ h
   index_bare (Some rows) h none = absurd cc
 
 -- ---- the image after

@@ -25,7 +25,6 @@ use Rattle.ips_due.proofs.Lying.{own_of}
 use Rattle.ips_repair_due.specs.Repairing.{repair_between, repair_due}
 use Rattle.ips_staged_plans.specs.Payloads.{payload_bytes}
 use Rattle.ips_repaired.specs.Meant.{IsRepairedImage}
-use Rattle.ips_record_laws.specs.Recording.{IsNoted}
 use Rattle.ips_record_laws.proofs.Own.{folder_stands, root_lost}
 use Rattle.ips_record_laws.proofs.Mend.{mended_held}
 
@@ -75,7 +74,7 @@ module _ (repairs : RepairsLawful) (new_left : LeavesNew) (old_left : LeavesOld)
       (old_left new.settings new.mediators.items new.installed.items m.want m.means bytes is_payload_of t m.over) (new_left new.settings new.mediators.items new.installed.items m.want m.means bytes is_payload_of t m.over)
       (salvage bytes is_payload_of new.history.items t m.over m.is_over) is_after.is_root is_after.is_aside
 
-  pub repaired_holds : IsLawful (recorded new) → IsNoted old (recorded new) → length (lines_text new.history.items) ≤ record_limit → Holds after (recorded new)
+  pub repaired_holds : IsLawful (recorded new) → recorded new ≡ record old { history = new.history.items } → length (lines_text new.history.items) ≤ record_limit → Holds after (recorded new)
   repaired_holds of noted small =
       subst (λ (s : Recorded). Holds after s) (sym noted)
       (subst (λ (u : Image). Holds u (record old { history = new.history.items })) (sym is_after.means)

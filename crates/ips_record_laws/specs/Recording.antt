@@ -1,9 +1,16 @@
--- What is asked of a new state so that its records read back.
-use Rattle.std.specs.Prelude.{◌≡◌, ◌≤◌, length, None}
+-- A request or a repair that is carried out on an image which holds a state, and what then is loaded.
+use Rattle.std.specs.Prelude.{◌≡◌, ℕ, ◌≤◌, length, None}
 use Rattle.std.specs.List.{AllByRecursion}
-use Rattle.ips_load.specs.Held.{record_limit}
+use Rattle.ips_outside.specs.Image.{Image, IsImage}
+use Rattle.ips_steps.specs.Private.{visible}
+use Rattle.ips_records.specs.Lines.{lines_text}
+use Rattle.ips_load.specs.Held.{Holds, record_limit}
+use Rattle.ips_state.specs.Lawful.{IsLawful}
 use Rattle.ips_state.specs.Records.{RecordFile, records_of}
-use Rattle.ips_state.specs.State.{Recorded}
+use Rattle.ips_state.specs.State.{Recorded, recorded}
+use Rattle.ips_state.specs.declared.state.State.{State}
+use Rattle.ips_repaired.specs.Meant.{IsRepairedImage}
+use Rattle.ips_requested.specs.Meant.{IsMeant}
 
 -- No record of the state has more bytes than a record may have.
 abbrev pub AreWithin : Recorded → Type 0
@@ -13,6 +20,26 @@ AreWithin r = AllByRecursion (λ (e : RecordFile). length e.1 ≤ record_limit) 
 abbrev pub KeepsIndex : Recorded → Recorded → Type 0
 KeepsIndex old new = new.index ≡ None → old.index ≡ None
 
--- The new state is the old one with its own history.
-abbrev pub IsNoted : Recorded → Recorded → Type 0
-IsNoted old new = new ≡ record old { history = new.history }
+-- The second image is what is seen after the request from the old state to the new one over the first, which holds the old state; the new state can be recorded.
+pub record IsRequestedOf (moment : ℕ) (old new : State) (repository t after : Image) : Type 0 where
+  pub meant : IsMeant moment old new repository t after
+  pub formed : IsImage t
+  pub held : Holds t (recorded old)
+  pub lawful : IsLawful (recorded new)
+  pub within : AreWithin (recorded new)
+  pub index : KeepsIndex (recorded old) (recorded new)
+
+-- The second image is the first one repaired, which holds the old state; the new state is the old one with another history, and can be recorded.
+pub record IsRepairedOf (moment : ℕ) (old : Recorded) (new : State) (repository t after : Image) : Type 0 where
+  pub image : IsRepairedImage moment new repository t after
+  pub formed : IsImage t
+  pub held : Holds t old
+  pub noted : recorded new ≡ record old { history = new.history.items }
+  pub lawful : IsLawful (recorded new)
+  pub within : length (lines_text new.history.items) ≤ record_limit
+
+-- What is seen holds this state, and so does each image of which it is what is seen; no such image holds another.
+pub record HoldsJust (seen : Image) (r : Recorded) : Type 0 where
+  pub holds : Holds seen r
+  pub whole : (t : Image) → visible t ≡ seen → Holds t r
+  pub only : (t : Image) (loaded : Recorded) → visible t ≡ seen → Holds t loaded → loaded ≡ r
