@@ -1,3 +1,4 @@
+mod Journals
 mod Runs
 mod Told
 mod Changes

@@ -4,7 +4,7 @@ use Rattle.std.specs.Prelude.{slice_get}
 use Rattle.std.specs.Fmt.{decimal}
 use Rattle.ips_text.specs.Quote.{shown}
 use Rattle.ips_text.specs.declared.path.RelPath.{RelPath}
-use Rattle.ips_outside.specs.Image.{Image}
+use Rattle.ips_outside.specs.Image.{Entry, Image}
 use Rattle.ips_outside.specs.Running.{Run}
 use Rattle.ips_digest.specs.declared.name.PayloadName.{PayloadName}
 use Rattle.ips_repo.specs.Files.{file_at, HasSize}
@@ -13,12 +13,14 @@ use Rattle.ips_repo.specs.Payload.{digest_by, is_gzip, payload_limit}
 use Rattle.ips_repo.specs.declared.fault.RepoFault.{RepoFault}
 use Rattle.ips_repo.specs.declared.fault.RepoFault.TheVariants as fault
 use Rattle.ips_steps.specs.Private.{gate_name}
+use Rattle.ips_steps.specs.Steps.{Step}
 use Rattle.ips_steps.specs.View.{step_of}
 use Rattle.ips_steps.proofs.Lists.{clash}
 use Rattle.ips_kinds.specs.Tallies.{Carrier}
 use Rattle.ips_journal.specs.declared.staged.Staged.{Staged}
 use Rattle.ips_journal.specs.declared.staged.Staged.TheVariants.{Payload}
 use Rattle.ips_commit.specs.Contents.{IsFirstFault, IsIntact, IsPayloadFileFault}
+use Rattle.ips_commit.specs.Recovering.{CanRollForward, IsBadJournal}
 use Rattle.ips_history.specs.Directories.{IsFirstObstacle, is_dir_or_free, var_name}
 use Rattle.ips_history.specs.declared.effect.Effect.{Effect}
 use Rattle.ips_report.specs.Report.{line}
@@ -35,6 +37,7 @@ use Rattle.ips_run.proofs.Exclusive.{before_run, not_both, one_alone}
 use Rattle.ips_told.specs.Told.{payload_told, told_as}
 use Rattle.ips_answers.specs.Decided.{DecideTheSame, DecidesOnce, IsFixedDecision}
 use Rattle.ips_answers.specs.Same.{IsFixed, SayTheSame}
+use Rattle.ips_answers.proofs.Journals.{bad_once, forward_or_bad}
 
 pub says_same : (a b : Outcome) → a ≡ b → SayTheSame a b
 says_same a b e = subst (SayTheSame a) e (record { number = refl; text = refl })
@@ -44,7 +47,7 @@ turned a b s = record { number = sym s.number; text = sym s.text }
 
 -- ---- the first payload that has a fault
 
-some_one : {A : Type 0} (file : Option A) (x y : A) → file ≡ Some x → file ≡ Some y → x ≡ y
+pub some_one : {A : Type 0} (file : Option A) (x y : A) → file ≡ Some x → file ≡ Some y → x ≡ y
 some_one file x y a b = let e : Some x ≡ Some y = sym a ∙ b in cc
 
 not_none : {A : Type 0} (file : Option A) (x : A) → file ≡ None → file ≡ Some x → ⊥
@@ -128,6 +131,41 @@ payload_one repository publisher other staged list name named why because publis
     go (inr (inl late)) = absurd (before_a late)
     go (inr (inr at)) = here at
 
+-- ---- what is told of a recovery
+
+-- Where the gate is open the steps that the marks leave can be laid.
+abbrev CanGoOn : Image → Type 0
+CanGoOn t = is_some (t.look gate_name) ≡ true → (steps : List Step) × (count : ℕ) × CanRollForward t steps count
+
+-- The outcome tells the bad line of the journal behind an open gate.
+record TellsBadLine (t : Image) (o : Outcome) : Type 0 where
+  line : ℕ
+  told : o ≡ outcome.BadJournal line
+  open_gate : t.look gate_name ≡ None → ⊥
+  left : Image
+  before : List Carrier
+  now : List Carrier
+  bad : IsBadJournal t left before now line
+
+-- what is told of a recovery: that it is done, or a bad journal
+abbrev GoesBack : Image → Outcome → Type 0
+GoesBack t o = ((o ≡ outcome.Recovered (is_some (t.look gate_name))) × CanGoOn t) ⊎ TellsBadLine t o
+
+module _ (t : Image) where
+  -- a journal whose steps can be laid isn't bad
+  never_bad : (o : Outcome) → CanGoOn t → TellsBadLine t o → ⊥
+  never_bad o can x = let (steps, count, roll) = can (stands (t.look gate_name) x.open_gate) in forward_or_bad t steps count x.left x.before x.now x.line roll x.bad
+    where
+      stands : (e : Option Entry) → (e ≡ None → ⊥) → is_some e ≡ true
+      stands None some = absurd (some refl)
+      stands (Some y) some = refl
+
+  back_once : (a b : Outcome) → GoesBack t a → GoesBack t b → a ≡ b
+  back_once a b (inl x) (inl y) = x.0 ∙ sym y.0
+  back_once a b (inl x) (inr y) = absurd (never_bad b x.1 y)
+  back_once a b (inr x) (inl y) = absurd (never_bad a y.1 x)
+  back_once a b (inr x) (inr y) = x.told ∙ ap outcome.BadJournal (bad_once t x.left y.left x.before x.now y.before y.now x.line y.line x.bad y.bad) ∙ sym y.told
+
 -- ---- what is told of an ending, by its way
 
 module _ (n : Effect) (decides : Decision Outcome → Type 0) (once : DecidesOnce decides) (repository held : Image) where
@@ -138,7 +176,7 @@ module _ (n : Effect) (decides : Decision Outcome → Type 0) (once : DecidesOnc
   -- what an outcome says that tells an ending of this way
   abbrev Says : Way → Outcome → Type 0
   Says AtGate o = o ≡ outcome.Unfinished
-  Says Recovering o = o ≡ outcome.Recovered (is_some (held.look gate_name))
+  Says Recovering o = GoesBack held o
   Says InTheWay o = (p : RelPath) × IsFirstObstacle held p.bytes × (o ≡ outcome.BadImage p 0)
   Says Showing o = Fixes (decision.Shown o)
   Says Refusing o = Fixes (decision.Refused o)
@@ -227,8 +265,8 @@ module _ (n : Effect) (decides : Decision Outcome → Type 0) (once : DecidesOnc
     says_carried (ending.BadPayload name why) fixed c decided says = absurd says
 
     says_back : (x : Ending Outcome) → IsFixed (told_as x) → IsBackTo held left old now x → Says (way_of x) (told_as x)
-    says_back (ending.Recovered forward) fixed says = ap outcome.Recovered says.0
-    says_back (ending.BadJournal line) fixed says = absurd fixed
+    says_back (ending.Recovered forward) fixed says = inl (ap outcome.Recovered says.0, λ there. says.1 (says.0 ∙ there))
+    says_back (ending.BadJournal line) fixed says = inr (record { line = line; told = refl; open_gate = says.0; left = left; before = old; now = now; bad = says.1 })
     says_back (ending.SpawnFault after) fixed says = absurd fixed
     says_back (ending.FolderFault unfinished) fixed says = absurd fixed
     says_back ending.SourceFault fixed says = absurd fixed
@@ -293,7 +331,7 @@ module _ (n : Effect) (decides : Decision Outcome → Type 0) (once : DecidesOnc
 
   said_once : (w : Way) (a b : Outcome) → Says w a → Says w b → SayTheSame a b
   said_once AtGate a b x y = says_same a b (x ∙ sym y)
-  said_once Recovering a b x y = says_same a b (x ∙ sym y)
+  said_once Recovering a b x y = says_same a b (back_once held a b x y)
   said_once InTheWay a b (p, x, is) (q, y, was) = subst (λ (o : Outcome). SayTheSame o b) (sym is) (subst (SayTheSame (outcome.BadImage p 0)) (sym was) (bad_image p q (obstacle_one p.bytes q.bytes x y)))
   said_once Showing a b x y = once (decision.Shown a) (decision.Shown b) x.0 y.0 x.1 y.1
   said_once Refusing a b x y = once (decision.Refused a) (decision.Refused b) x.0 y.0 x.1 y.1

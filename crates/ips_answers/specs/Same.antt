@@ -2,7 +2,7 @@
 use Rattle.std.specs.Prelude.{◌≡◌, ℕ, List, ◌++◌, codes}
 use Rattle.ips_report.specs.Report.{line, outcome_number, report_text, tried_texts}
 use Rattle.ips_report.specs.declared.outcome.Outcome.{Outcome}
-use Rattle.ips_report.specs.declared.outcome.Outcome.TheVariants.{ActuatorFailed, BadJournal, FolderFault, NoSolution, OutOfMemory, SearchSpent, SourceFault, SpawnFault}
+use Rattle.ips_report.specs.declared.outcome.Outcome.TheVariants.{ActuatorFailed, FolderFault, NoSolution, OutOfMemory, SearchSpent, SourceFault, SpawnFault}
 
 -- The report of an outcome without the refutation of 'no solution', of which each that a checker accepts will do.
 abbrev pub said_text : Outcome → List ℕ
@@ -14,8 +14,7 @@ pub record SayTheSame (a b : Outcome) : Type 0 where
   pub number : outcome_number a ≡ outcome_number b
   pub text : said_text a ≡ said_text b
 
--- What a run is given leaves one such outcome. So it isn't where a call failed, memory ran out, a program of the actuator failed or the search spent its limit; nor
--- where a journal is bad, which none is that a run has left.
+-- What a run is given leaves one such outcome. So it isn't where a call failed, memory ran out, a program of the actuator failed or the search spent its limit.
 abbrev pub IsFixed : Outcome → Type 0
 IsFixed SourceFault = ⊥
 IsFixed (FolderFault unfinished) = ⊥
@@ -23,5 +22,4 @@ IsFixed (SpawnFault after) = ⊥
 IsFixed (ActuatorFailed after words status) = ⊥
 IsFixed OutOfMemory = ⊥
 IsFixed (SearchSpent limit) = ⊥
-IsFixed (BadJournal number) = ⊥
 IsFixed o = Unit {0}
