@@ -63,7 +63,7 @@ founded_one (ImageCreate publisher variants facets actuator) a b x y =
     }
 founded_one w a b x y = absurd x
 
-begun_one : (a : Creation) (s t : State) → IsBegun a s → IsBegun a t → recorded s ≡ recorded t
+pub begun_one : (a : Creation) (s t : State) → IsBegun a s → IsBegun a t → recorded s ≡ recorded t
 begun_one a s t x y =
     let founded = founded_one a.command.what x.founded y.founded x.are_founded y.are_founded in
     let added = line_one a.moment a.command.history x.line y.line x.is_line y.is_line in

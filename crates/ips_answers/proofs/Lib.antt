@@ -15,3 +15,7 @@ mod Relaid
 mod Sparing
 mod Cleaned
 mod Mending
+mod Quiet
+mod Ledger
+mod Behind
+mod Left

@@ -16,8 +16,7 @@ use Rattle.ips_repo.specs.declared.fault.RepoFault.TheVariants as repo
 use Rattle.ips_kinds.specs.Tallies.{Carrier}
 use Rattle.ips_journal.specs.declared.staged.Staged.{Staged}
 use Rattle.ips_commit.specs.Contents.{AreIntactContents}
-use Rattle.ips_state.specs.State.{Recorded, recorded}
-use Rattle.ips_state.specs.Records.{with_line}
+use Rattle.ips_state.specs.State.{recorded}
 use Rattle.ips_state.specs.declared.state.State.{State}
 use Rattle.ips_load.specs.declared.fault.StateFault.{StateFault}
 use Rattle.ips_load.specs.declared.fault.StateFault.TheVariants as state
@@ -50,10 +49,9 @@ use Rattle.ips_told.specs.Laying.{IsChangeOfSteps}
 use Rattle.ips_words.specs.declared.command.Command.{Command}
 use Rattle.ips_words.specs.declared.what.What.{What}
 use Rattle.ips_creating.specs.Creations.{makes_image}
-use Rattle.ips_fixing.specs.Fixes.{Repairing, IsNoted, repairs}
-use Rattle.ips_fixing.specs.Decides.{Decides, IsNewState, IsRepairedBy, RepairsImage, Told, repairs_of, OldFormat, Repaired, Sound, Unmeant, Unread, Unrepaired}
+use Rattle.ips_fixing.specs.Fixes.{Repairing, repairs}
+use Rattle.ips_fixing.specs.Decides.{Decides, IsRepairedBy, RepairsImage, Told, repairs_of, OldFormat, Repaired, Sound, Unmeant, Unread, Unrepaired}
 use Rattle.ips_fixing.specs.Told.{unrepaired_told}
-use Rattle.ips_next.proofs.OneNext.{line_one}
 use Rattle.ips_plan_laws.proofs.States.{meaning_same}
 use Rattle.ips_plan_laws.proofs.Wants.{want_like}
 use Rattle.ips_top.specs.Performed.{At, IsPerformed}
@@ -61,7 +59,7 @@ use Rattle.ips_top.specs.Runs.{Does, IsAnswered, Answers, Changes, Creates, Fixe
 use Rattle.ips_answers.proofs.Answers.{apart, of_changing, of_creating, of_fixing, of_shown, of_tried}
 use Rattle.ips_answers.proofs.Cleaned.{Laws, none_found}
 use Rattle.ips_answers.proofs.Told.{none_decided, refusal}
-use Rattle.ips_answers.proofs.Visible.{same_records}
+use Rattle.ips_answers.proofs.Visible.{noted_once}
 
 -- ---- what is decided
 
@@ -174,21 +172,10 @@ module _ (a : Repairing) (t repository held left : Image) (old now : List Carrie
 -- ---- the run
 
 -- what is told with nothing done claims nothing
-not_answered : (w : What) (told : Outcome) → Claims told → IsAnswered w told → ⊥
+pub not_answered : (w : What) (told : Outcome) → Claims told → IsAnswered w told → ⊥
 not_answered w (outcome.Shown text) claims is = cc
 not_answered w outcome.OutOfMemory claims is = cc
 not_answered w told claims is = is
-
--- the new records are the old ones with a line more
-noted_records : (a : Repairing) (old new : State) (n : IsNoted a old new) → recorded new ≡ record (recorded old) { history = with_line (recorded old).history n.line }
-noted_records a old new n = ap recorded n.rest ∙ (λ i. record (recorded old) { history = n.history i })
-
-module _ (a : Repairing) (t u : Image) (x y : State) (seen : visible t ≡ visible u) (p : IsNewState a t x) (q : IsNewState a u y) where
-  records_one : recorded x ≡ recorded y
-  records_one =
-      let olds = same_records t u (recorded p.told.state) (recorded q.told.state) seen p.told.holds q.told.holds in
-      let lines = line_one a.moment a.command.history p.noted.line q.noted.line p.noted.is_line q.noted.is_line in
-      noted_records a p.told.state x p.noted ∙ (λ i. record (olds i) { history = with_line (olds i).history (lines i) }) ∙ sym (noted_records a q.told.state y q.noted)
 
 module _ {F S P : Type 0} (o : Outside F) (q : Outside S) (r : Running P) (c : Command) (moment : ℕ) (old new : At F S P) (told : Outcome) (claims : Claims told) where
   abbrev a : Repairing
@@ -232,7 +219,7 @@ module _ {F S P : Type 0} (o : Outside F) (q : Outside S) (r : Running P) (c : C
           let wants : want_of entries ≡ want_of by.damaged.want = want_like entries by.damaged.want (meaning_same known.state by.is_new.told.state told entries by.damaged.want means by.damaged.means) in
           let contents = subst (λ (z : Vec Staged Global). AreIntactContents repository new_state.publisher z.items) change.staged (subst (λ (p : List ℕ). AreIntactContents repository p ch.staged.items) change.publisher_is intact) in
           ap (λ (w : Want). findings is_payload_of w (visible left)) wants
-          ∙ none_found laws a held repository formed new_state e by change.named contents theirs.new (visible left) (records_one a held theirs.whole new_state theirs.new theirs.seen by.is_new theirs.is_new) theirs.is
+          ∙ none_found laws a held repository formed new_state e by change.named contents theirs.new (visible left) (noted_once a held theirs.whole new_state theirs.new theirs.seen by.is_new theirs.is_new) theirs.is
           (subst (λ (w : Want). HasOneMode w (visible held)) wants modes)
 
       pub left_clean : repairs c.what ≡ true → Does o q r c moment old new told → findings is_payload_of (want_of entries) (visible left) ≡ []

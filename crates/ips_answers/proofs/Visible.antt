@@ -1,5 +1,5 @@
 -- What is seen of an image records what the image does, so images that are seen the same record the same.
-use Rattle.std.proofs.Common.{◌≡◌, ℕ, Bool, true, false, cond, ◌&&◌, List, [], ◌∷◌, ◌++◌, Option, Some, None, is_some, refl, ◌∙◌, ap, subst}
+use Rattle.std.proofs.Common.{◌≡◌, ℕ, Bool, true, false, cond, List, [], ◌∷◌, ◌++◌, Option, Some, None, is_some, refl, sym, ◌∙◌, ap, subst}
 use Rattle.std.specs.List.{AllByRecursion}
 use Rattle.std.proofs.lemmas.Bool.{and_parts, and_from}
 use Rattle.ips_text.specs.Ancestry.{parent}
@@ -8,12 +8,16 @@ use Rattle.ips_outside.specs.Children.{is_child, is_directory, is_foreign}
 use Rattle.ips_steps.specs.Steps.{stage_name}
 use Rattle.ips_steps.specs.Private.{gate_name, is_private, journal_name, mark_front, visible}
 use Rattle.ips_index.specs.Rows.{IndexedValue, index_text}
-use Rattle.ips_state.specs.State.{Installed, Recorded}
+use Rattle.ips_state.specs.State.{Installed, Recorded, recorded}
+use Rattle.ips_state.specs.declared.state.State.{State}
 use Rattle.ips_state.specs.Text.{package_head}
-use Rattle.ips_state.specs.Records.{avoid_path, freeze_path, history_path, image_path, index_path, installed_path, manifest_path, mediators_path, package_path, packages_path}
+use Rattle.ips_state.specs.Records.{avoid_path, freeze_path, history_path, image_path, index_path, installed_path, manifest_path, mediators_path, package_path, packages_path, with_line}
 use Rattle.ips_load.specs.Held.{Holds, HoldsIndex, HoldsPackages, Stands, StandsManifest}
 use Rattle.ips_due.proofs.StateDue.{packages_seen}
 use Rattle.ips_entries.proofs.HeldOnce.{held_once}
+use Rattle.ips_next.proofs.OneNext.{line_one}
+use Rattle.ips_fixing.specs.Fixes.{Repairing, IsNoted}
+use Rattle.ips_fixing.specs.Decides.{IsNewState}
 
 -- ---- records have no private names
 
@@ -106,3 +110,16 @@ module _ (t : Image) where
 -- images that are seen the same record the same
 pub same_records : (t u : Image) (r s : Recorded) → visible t ≡ visible u → Holds t r → Holds u s → r ≡ s
 same_records t u r s same h k = held_once (visible u) r s (subst (λ (x : Image). Holds x r) same (holds_seen t r h)) (holds_seen u s k)
+
+-- ---- a repair
+
+-- the new records are the old ones with a line more
+noted_records : (a : Repairing) (old new : State) (n : IsNoted a old new) → recorded new ≡ record (recorded old) { history = with_line (recorded old).history n.line }
+noted_records a old new n = ap recorded n.rest ∙ (λ i. record (recorded old) { history = n.history i })
+
+-- images that are seen the same get the same records
+pub noted_once : (a : Repairing) (t u : Image) (x y : State) → visible t ≡ visible u → IsNewState a t x → IsNewState a u y → recorded x ≡ recorded y
+noted_once a t u x y seen p q =
+    let olds = same_records t u (recorded p.told.state) (recorded q.told.state) seen p.told.holds q.told.holds in
+    let lines = line_one a.moment a.command.history p.noted.line q.noted.line p.noted.is_line q.noted.is_line in
+    noted_records a p.told.state x p.noted ∙ (λ i. record (olds i) { history = with_line (olds i).history (lines i) }) ∙ sym (noted_records a q.told.state y q.noted)
