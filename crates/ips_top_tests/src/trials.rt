@@ -1,8 +1,9 @@
 //! Trials in memory: their summaries, and how far the tallies of the kinds rise.
 
-use ips_folder::{Folder, MemFolder};
+use ips_folder::{Folder, MemFolder, Stop};
+use ips_generate::generate;
 use ips_kinds::{FreshKind, GoneKind, HardKind, Kind, LinkKind, ModeKind, PutKind};
-use ips_outside::{MemSink, MemSource, MemSpawner, Sink, Source, Spawner, Tree};
+use ips_outside::{MemSink, MemSource, MemSpawner, Sink, Source, Spawner, SureSource, Tree};
 use ips_top::run;
 use std::alloc::{AllocError, Global};
 use std::process::Abort;
@@ -52,8 +53,26 @@ fn first(rt: &impl Abort, alloc: Global) -> Vec<u64> {
     vec![in alloc; 1].expect(rt, "memory")
 }
 
-// How the run of a line ends, with a repository, a folder and a spawner of which the first call would fail: its number, how many steps the kinds have finished, and its
-// report.
+// How the run of a line ends over these objects: its number, how many steps the kinds have finished, and its report.
+fn told_over<S: Source, F: Folder, P: Spawner>(
+    rt: &impl Abort,
+    alloc: Global,
+    line: &str,
+    repo: &mut S,
+    image: &mut F,
+    spawner: &mut P,
+) -> String {
+    let mut out = MemSink::new(alloc, 200, Vec::new(alloc)).expect(rt, "memory");
+    let words = words_of(rt, alloc, line);
+    let (number, steps) = finished_by(alloc, &words, repo, image, spawner, &mut out).expect(
+        rt, "memory",
+    );
+    let taken = String::from_utf8_lossy(alloc, out.taken()).expect(rt, "memory");
+    let taken = taken.as_str();
+    format!(in alloc; "{number} {steps} {taken:?}").expect(rt, "memory")
+}
+
+// The same with a repository, a folder and a spawner of which the first call would fail.
 fn run_told(rt: &impl Abort, alloc: Global, line: &str) -> String {
     let mut repo = MemSource::new(Tree::new(alloc), first(rt, alloc));
     let mut image = MemFolder::new(alloc, Tree::new(alloc), first(rt, alloc), None).expect(
@@ -62,19 +81,7 @@ fn run_told(rt: &impl Abort, alloc: Global, line: &str) -> String {
     let mut spawner = MemSpawner::new(alloc, 0, Vec::new(alloc), first(rt, alloc)).expect(
         rt, "memory",
     );
-    let mut out = MemSink::new(alloc, 100, Vec::new(alloc)).expect(rt, "memory");
-    let words = words_of(rt, alloc, line);
-    let (number, steps) = finished_by(
-        alloc,
-        &words,
-        &mut repo,
-        &mut image,
-        &mut spawner,
-        &mut out,
-    ).expect(rt, "memory");
-    let taken = String::from_utf8_lossy(alloc, out.taken()).expect(rt, "memory");
-    let taken = taken.as_str();
-    format!(in alloc; "{number} {steps} {taken:?}").expect(rt, "memory")
+    told_over(rt, alloc, line, &mut repo, &mut image, &mut spawner)
 }
 
 // Lines, and what is told of them. A trial asks nothing of what it is lent.
@@ -104,4 +111,52 @@ fn a_trial_counts_its_steps_and_asks_nothing(rt: HostRuntime) {
         let told = run_told(&rt, alloc, line);
         assert!(rt; told.as_str() == want, "{line}: {told}, and not {want}");
     }
+}
+
+// The commands of a trial.
+const CREATE: &str = "-R i -s r image-create -p gen";
+
+const INSTALL: &str = "-R i -s r install all";
+
+const VERIFY: &str = "-R i -s r verify";
+
+// What is told of them over a repository that is generated.
+const CREATED: &str =
+    r#"0 10 "install 0, update 0, remove 0\nsteps: gone 0, fresh 3, mode 0, put 7, link 0, hard 0\ndone\n""#;
+
+const INSTALLED: &str =
+    r#"0 3004 "install 1001, update 0, remove 0\nsteps: gone 0, fresh 1001, mode 0, put 2003, link 0, hard 0\ndone\n""#;
+
+const VERIFIED: &str = r#"0 0 "ok\n""#;
+
+// The same over a repository that is generated, with a spawner that has no room.
+fn trial_told(
+    rt: &impl Abort,
+    alloc: Global,
+    line: &str,
+    repo: &mut SureSource,
+    image: &mut MemFolder,
+) -> String {
+    let mut spawner = MemSpawner::new(alloc, 0, Vec::new(alloc), Vec::new(alloc)).expect(
+        rt, "memory",
+    );
+    told_over(rt, alloc, line, repo, image, &mut spawner)
+}
+
+// A folder of which no call fails before it is stopped.
+fn folder_of(rt: &impl Abort, alloc: Global, tree: Tree, stop: Option<Stop>) -> MemFolder {
+    MemFolder::new(alloc, tree, Vec::new(alloc), stop).expect(rt, "memory")
+}
+
+#[test]
+fn a_generated_repository_is_installed(rt: HostRuntime) {
+    let alloc = rt.alloc();
+    let mut repo = generate(alloc, 1000).expect(&rt, "memory");
+    let mut image = folder_of(&rt, alloc, Tree::new(alloc), None);
+    let told = trial_told(&rt, alloc, CREATE, &mut repo, &mut image);
+    assert!(rt; told.as_str() == CREATED, "{told}");
+    let told = trial_told(&rt, alloc, INSTALL, &mut repo, &mut image);
+    assert!(rt; told.as_str() == INSTALLED, "{told}");
+    let told = trial_told(&rt, alloc, VERIFY, &mut repo, &mut image);
+    assert!(rt; told.as_str() == VERIFIED, "{told}");
 }
