@@ -1,9 +1,10 @@
 //! Trials in memory: their summaries, and how far the tallies of the kinds rise.
 
-use ips_folder::{Folder, MemFolder, Stop};
+use ips_folder::{Choice, Folder, MemFolder, Stop};
 use ips_generate::generate;
 use ips_kinds::{FreshKind, GoneKind, HardKind, Kind, LinkKind, ModeKind, PutKind};
-use ips_outside::{MemSink, MemSource, MemSpawner, Sink, Source, Spawner, SureSource, Tree};
+use ips_outside::{Look, MemSink, MemSource, MemSpawner, Sink, Source, Spawner, SureSource, Tree};
+use ips_text::RelPath;
 use ips_top::run;
 use std::alloc::{AllocError, Global};
 use std::process::Abort;
@@ -157,6 +158,49 @@ fn a_generated_repository_is_installed(rt: HostRuntime) {
     assert!(rt; told.as_str() == CREATED, "{told}");
     let told = trial_told(&rt, alloc, INSTALL, &mut repo, &mut image);
     assert!(rt; told.as_str() == INSTALLED, "{told}");
+    let told = trial_told(&rt, alloc, VERIFY, &mut repo, &mut image);
+    assert!(rt; told.as_str() == VERIFIED, "{told}");
+}
+
+// What is told of the installation that is stopped at the first call that changes the path of step 2,301, and of the fix behind it.
+const STOPPED: &str = r#"1 2300 "folder fault: unfinished\n""#;
+
+const FIXED: &str = r#"0 1004 "recovered: new image\n""#;
+
+// Whether something stands at a path.
+fn stands(rt: &impl Abort, alloc: Global, tree: &Tree, path: &str) -> bool {
+    let path = RelPath::parse(alloc, path.as_bytes())
+        .ok()
+        .expect(rt, "a path");
+    !matches!(tree.look(&path), Look::Absent)
+}
+
+// What the stopped installation leaves, where two marks stand.
+fn stopped(rt: &impl Abort, alloc: Global, repo: &mut SureSource, tree: Tree) -> Tree {
+    let stop = Stop {
+        call: 17863,
+        choice: Choice::Before,
+    };
+    let mut image = folder_of(rt, alloc, tree, Some(stop));
+    let told = trial_told(rt, alloc, INSTALL, repo, &mut image);
+    assert!(rt; told.as_str() == STOPPED, "{told}");
+    let left = image.crashed(alloc).ok().expect(rt, "memory");
+    assert!(rt; stands(rt, alloc, &left, "var/pkg/done.2"));
+    assert!(rt; !stands(rt, alloc, &left, "var/pkg/done.3"));
+    left
+}
+
+#[test]
+fn a_fix_goes_on_behind_the_marks_of_files(rt: HostRuntime) {
+    let alloc = rt.alloc();
+    let mut repo = generate(alloc, 1000).expect(&rt, "memory");
+    let mut image = folder_of(&rt, alloc, Tree::new(alloc), None);
+    let _ = trial_told(&rt, alloc, CREATE, &mut repo, &mut image);
+    let tree = image.tree().copy(alloc).expect(&rt, "memory");
+    let left = stopped(&rt, alloc, &mut repo, tree);
+    let mut image = folder_of(&rt, alloc, left, None);
+    let told = trial_told(&rt, alloc, "-R i -s r fix", &mut repo, &mut image);
+    assert!(rt; told.as_str() == FIXED, "{told}");
     let told = trial_told(&rt, alloc, VERIFY, &mut repo, &mut image);
     assert!(rt; told.as_str() == VERIFIED, "{told}");
 }
