@@ -25,9 +25,9 @@ fn before(rt: &impl Abort, alloc: Global) -> World {
     world
 }
 
-// What is left of the names that a stop at this call touches.
-fn choice_at(call: u64) -> Choice {
-    match call % 5 {
+// What is left of the names that a stop touches.
+fn choice_at(number: u64) -> Choice {
+    match number % 5 {
         0 => Choice::Before,
         1 => Choice::After,
         2 => Choice::Gone,
@@ -44,13 +44,21 @@ fn stopped(call: u64, choice: Choice) -> Mishap {
     }
 }
 
-// What is seen of `x`: its file, one more name of it, and its record.
+// The stop of this number, counted from 0: five are at each call, of which the first leaves what the last sync made sure of.
+fn stop_of(number: u64) -> Mishap {
+    stopped((number / 5).saturating_add(1), choice_at(number))
+}
+
+// What is seen of all that an update of `x` changes: its file, one more name of it, whether they are one, its record, and whether the history tells of it.
 fn seen(rt: &impl Abort, alloc: Global, world: &World) -> String {
     let file = look_told(rt, alloc, world, "bin/a");
     let other = look_told(rt, alloc, world, "bin/b");
+    let same = same_told(rt, alloc, world, "bin/a", "bin/b");
     let record = look_told(rt, alloc, world, "var/pkg/packages/x");
     let front = record.as_str().split("\\n").nth(1).unwrap_or("none");
-    format!(in alloc; "{file} {other} {front}").expect(rt, "memory")
+    let history = look_told(rt, alloc, world, "var/pkg/history");
+    let is_written = history.as_str().contains(" update");
+    format!(in alloc; "{file} {other} {same} {front} {is_written}").expect(rt, "memory")
 }
 
 // A fix, and one more: how they end, and what is then seen.
@@ -67,41 +75,47 @@ fn fixed(rt: &impl Abort, alloc: Global, world: &mut World) -> String {
 
 // How a story may end.
 const ENDINGS: [&str; 5] = [
-    r#"file 644 "abc" file 644 "abc" version 1 "nothing to do\n" "nothing to do\n""#,
-    r#"file 644 "abc" file 644 "abc" version 1 "recovered: leftovers cleared\n" "nothing to do\n""#,
-    r#"file 644 "" file 644 "" version 2 "recovered: new image\n" "nothing to do\n""#,
-    r#"file 644 "" file 644 "" version 2 "recovered: leftovers cleared\n" "nothing to do\n""#,
-    r#"file 644 "" file 644 "" version 2 "nothing to do\n" "nothing to do\n""#,
+    r#"file 644 "abc" file 644 "abc" true version 1 false "nothing to do\n" "nothing to do\n""#,
+    r#"file 644 "abc" file 644 "abc" true version 1 false "recovered: leftovers cleared\n" "nothing to do\n""#,
+    r#"file 644 "" file 644 "" true version 2 true "recovered: new image\n" "nothing to do\n""#,
+    r#"file 644 "" file 644 "" true version 2 true "recovered: leftovers cleared\n" "nothing to do\n""#,
+    r#"file 644 "" file 644 "" true version 2 true "nothing to do\n" "nothing to do\n""#,
 ];
 
-// An update that is stopped at this call, and the fixes behind it, of which so many are stopped too. False where the update wasn't stopped.
-fn is_stopped_at(rt: &impl Abort, alloc: Global, world: &mut World, call: u64, stops: u64) -> bool {
-    let stop = stopped(call, choice_at(call));
-    let update = run_line(rt, alloc, world, UPDATE, stop);
-    if update.number == 0 {
-        return false;
-    }
-    for _ in 0..stops {
-        let _ = run_line(rt, alloc, world, FIX, stop);
-    }
-    let ended = fixed(rt, alloc, world);
-    let is_known = ENDINGS.iter().any(|ending| ended.as_str() == *ending);
-    assert!(rt; is_known, "{call}: {ended}");
-    true
+// Whether something stands at the gate.
+fn is_open(rt: &impl Abort, alloc: Global, world: &World) -> bool {
+    look_told(rt, alloc, world, "var/pkg/gate").as_str() != "absent"
 }
 
-// Each fifth call is stopped with one choice, and each second update has a fix that is stopped too.
+// The fixes behind a stop end as they may: at the new image where that is due, and exactly an open gate tells so.
+fn check_end(rt: &impl Abort, alloc: Global, world: &mut World, is_due: bool) {
+    let is_open = is_open(rt, alloc, world);
+    let ended = fixed(rt, alloc, world);
+    let least = if is_due { 2 } else { 0 };
+    let is_known = ENDINGS
+        .iter()
+        .skip(least)
+        .any(|ending| ended.as_str() == *ending);
+    assert!(rt; is_known, "{ended}");
+    let is_told = ended.as_str().contains("new image");
+    assert!(rt; is_open == is_told, "{ended}");
+}
+
+// The new image is due from the first stop on that leaves a gate which was made sure of.
 #[test]
 fn a_stopped_update_is_undone_or_done(rt: HostRuntime) {
     let alloc = rt.alloc();
     let mut world = before(&rt, alloc);
     let image = held(&rt, alloc, &world);
-    for call in 1..200u64 {
+    let mut is_due = false;
+    for number in 0..1000u64 {
         restore(&rt, alloc, &mut world, &image);
-        if !is_stopped_at(&rt, alloc, &mut world, call, call % 2) {
-            assert!(rt; call > 60, "{call} calls");
+        if run_line(&rt, alloc, &mut world, UPDATE, stop_of(number)).number == 0 {
+            assert!(rt; number > 300 && is_due, "{number} stops");
             return;
         }
+        is_due = is_due || number % 5 == 0 && is_open(&rt, alloc, &world);
+        check_end(&rt, alloc, &mut world, is_due);
     }
     panic!(rt; "each call is stopped");
 }
@@ -143,14 +157,14 @@ fn a_fix_may_be_stopped_too(rt: HostRuntime) {
 
 // What an update may tell in which a call fails, `part` where the report isn't told whole, and how the fixes behind it end.
 const TOLD: [&str; 8] = [
-    r#""source fault\n" file 644 "abc" file 644 "abc" version 1 "nothing to do\n" "nothing to do\n""#,
-    r#""source fault\n" file 644 "abc" file 644 "abc" version 1 "recovered: leftovers cleared\n" "nothing to do\n""#,
-    r#""folder fault: unchanged\n" file 644 "abc" file 644 "abc" version 1 "nothing to do\n" "nothing to do\n""#,
-    r#""folder fault: unchanged\n" file 644 "abc" file 644 "abc" version 1 "recovered: leftovers cleared\n" "nothing to do\n""#,
-    r#""folder fault: unfinished\n" file 644 "" file 644 "" version 2 "recovered: new image\n" "nothing to do\n""#,
-    r#""folder fault: unfinished\n" file 644 "" file 644 "" version 2 "recovered: leftovers cleared\n" "nothing to do\n""#,
-    r#""folder fault: unfinished\n" file 644 "" file 644 "" version 2 "nothing to do\n" "nothing to do\n""#,
-    r#""part" file 644 "" file 644 "" version 2 "nothing to do\n" "nothing to do\n""#,
+    r#""source fault\n" file 644 "abc" file 644 "abc" true version 1 false "nothing to do\n" "nothing to do\n""#,
+    r#""source fault\n" file 644 "abc" file 644 "abc" true version 1 false "recovered: leftovers cleared\n" "nothing to do\n""#,
+    r#""folder fault: unchanged\n" file 644 "abc" file 644 "abc" true version 1 false "nothing to do\n" "nothing to do\n""#,
+    r#""folder fault: unchanged\n" file 644 "abc" file 644 "abc" true version 1 false "recovered: leftovers cleared\n" "nothing to do\n""#,
+    r#""folder fault: unfinished\n" file 644 "" file 644 "" true version 2 true "recovered: new image\n" "nothing to do\n""#,
+    r#""folder fault: unfinished\n" file 644 "" file 644 "" true version 2 true "recovered: leftovers cleared\n" "nothing to do\n""#,
+    r#""folder fault: unfinished\n" file 644 "" file 644 "" true version 2 true "nothing to do\n" "nothing to do\n""#,
+    r#""part" file 644 "" file 644 "" true version 2 true "nothing to do\n" "nothing to do\n""#,
 ];
 
 // What a run reported, or `part`.
