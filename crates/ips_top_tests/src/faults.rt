@@ -120,37 +120,51 @@ fn a_stopped_update_is_undone_or_done(rt: HostRuntime) {
     panic!(rt; "each call is stopped");
 }
 
-// Three fixes of an open gate are stopped at one call, each with another choice, and the fourth isn't. False where the first wasn't stopped.
-fn is_fix_stopped_at(rt: &impl Abort, alloc: Global, world: &mut World, call: u64) -> bool {
-    let fix = run_line(rt, alloc, world, FIX, stopped(call, Choice::Gone));
-    if fix.number == 0 {
+// Three fixes are stopped at one call, each with another choice, and the fourth isn't. False where the first wasn't stopped.
+fn is_fix_stopped_at(
+    rt: &impl Abort,
+    alloc: Global,
+    world: &mut World,
+    call: u64,
+    is_due: bool,
+) -> bool {
+    if run_line(rt, alloc, world, FIX, stopped(call, Choice::Gone)).number != 1 {
         return false;
     }
     let _ = run_line(rt, alloc, world, FIX, stopped(call, Choice::Torn));
     let _ = run_line(rt, alloc, world, FIX, stopped(call, Choice::Junk));
-    let ended = fixed(rt, alloc, world);
-    let is_new = ENDINGS
-        .iter()
-        .skip(2)
-        .any(|ending| ended.as_str() == *ending);
-    assert!(rt; is_new, "{call}: {ended}");
+    check_end(rt, alloc, world, is_due);
     true
 }
 
-// The update is stopped behind the second of its four steps.
+// The fixes behind what was stopped are stopped at each of their calls. Answers the first call that a fix doesn't make.
+fn fixed_in(rt: &impl Abort, alloc: Global, world: &mut World, is_due: bool) -> u64 {
+    let image = held(rt, alloc, world);
+    for call in 1..200u64 {
+        restore(rt, alloc, world, &image);
+        if !is_fix_stopped_at(rt, alloc, world, call, is_due) {
+            return call;
+        }
+    }
+    0
+}
+
+// The update is stopped at each call, and the fixes behind it at each of theirs. The new image is due where the gate is open.
 #[test]
 fn a_fix_may_be_stopped_too(rt: HostRuntime) {
     let alloc = rt.alloc();
     let mut world = before(&rt, alloc);
-    let _ = run_line(&rt, alloc, &mut world, UPDATE, stopped(70, Choice::Junk));
-    assert!(rt; world.laid() == 2, "two steps");
     let image = held(&rt, alloc, &world);
     for call in 1..200u64 {
         restore(&rt, alloc, &mut world, &image);
-        if !is_fix_stopped_at(&rt, alloc, &mut world, call) {
-            assert!(rt; call > 30, "{call} calls");
+        let stop = stopped(call, choice_at(call));
+        if run_line(&rt, alloc, &mut world, UPDATE, stop).number == 0 {
+            assert!(rt; call > 60, "{call} calls");
             return;
         }
+        let is_open = is_open(&rt, alloc, &world);
+        let calls = fixed_in(&rt, alloc, &mut world, is_open);
+        assert!(rt; calls > if is_open { 30 } else { 3 }, "{calls} calls");
     }
     panic!(rt; "each call is stopped");
 }
