@@ -169,6 +169,38 @@ fn a_fix_may_be_stopped_too(rt: HostRuntime) {
     panic!(rt; "each call is stopped");
 }
 
+// A call that fails, and a stop at the next one: at each call five, with each choice of what is left.
+fn failing(number: u64) -> Mishap {
+    let call = (number / 5).saturating_add(1);
+    Mishap {
+        folder: call,
+        ..stopped(call.saturating_add(1), choice_at(number))
+    }
+}
+
+const UNINSTALL: &str = "-R i -s r uninstall x";
+
+// Behind an update of which a call fails, the first call of an uninstallation fails too: it is told that nothing is changed, and the fixes behind it end as if
+// it hadn't been asked for.
+#[test]
+fn a_run_that_fails_at_once_asks_for_nothing(rt: HostRuntime) {
+    let alloc = rt.alloc();
+    let mut world = before(&rt, alloc);
+    let image = held(&rt, alloc, &world);
+    for number in 0..1000u64 {
+        restore(&rt, alloc, &mut world, &image);
+        let mishap = failing(number);
+        let (first, told) = run_both(&rt, alloc, &mut world, UPDATE, UNINSTALL, mishap);
+        if first == 0 {
+            assert!(rt; number > 300, "{number} calls");
+            return;
+        }
+        assert!(rt; told.as_str() == "folder fault: unchanged\n", "{told}");
+        check_end(&rt, alloc, &mut world, false);
+    }
+    panic!(rt; "each call fails");
+}
+
 // What an update may tell in which a call fails, `part` where the report isn't told whole, and how the fixes behind it end.
 const TOLD: [&str; 8] = [
     r#""source fault\n" file 644 "abc" file 644 "abc" true version 1 false "nothing to do\n" "nothing to do\n""#,

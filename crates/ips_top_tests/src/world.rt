@@ -194,6 +194,26 @@ pub fn run_line(
     ended
 }
 
+/// Runs the words of two lines over one folder, to which this happens. What a stop leaves of that is the image. Answers the number of the first and the report of the second.
+pub fn run_both(
+    rt: &impl Abort,
+    alloc: Global,
+    world: &mut World,
+    first: &str,
+    second: &str,
+    mishap: Mishap,
+) -> (u8, String) {
+    let tree = world.image.copy(alloc).expect(rt, "memory");
+    let fails = one(rt, alloc, mishap.folder);
+    let mut folder = MemFolder::new(alloc, tree, fails, mishap.stop).expect(rt, "memory");
+    let words = words_of(rt, alloc, first);
+    let number = run_over(rt, alloc, world, &words, mishap, &mut folder).number;
+    let words = words_of(rt, alloc, second);
+    let last = run_over(rt, alloc, world, &words, mishap, &mut folder);
+    world.image = folder.crashed(alloc).ok().expect(rt, "memory");
+    (number, last.taken)
+}
+
 fn path_of(rt: &impl Abort, alloc: Global, path: &str) -> RelPath {
     RelPath::parse(alloc, path.as_bytes())
         .ok()
