@@ -90,6 +90,11 @@ stock | publisher/test/catalog/catalog.base.C | {"test": {"p": [{"version": "1"}
 does | install p -> 1 bad catalog
 stock | publisher/test/catalog/catalog.base.C | {"other": {"p": [{"version": "1"}]}} ->
 does | install p -> 1 no match p
+# a catalog of as many stems as are taken, and one of more
+crowd | 20000 ->
+does | install p -> 1 no match p
+crowd | 20001 ->
+does | install p -> 1 too large: 20001
 # patterns
 catalog | a/p 1; b/p 1; p1 1; x 1; y 1 ->
 does | install p -> 1 ambiguous p: a/p b/p
@@ -215,7 +220,7 @@ fn each_outcome_is_reached(rt: HostRuntime) {
     let alloc = rt.alloc();
     let mut world = World::new(alloc, bare(&rt, alloc));
     let rows = rows_told(&rt, alloc, &mut world, OUTCOMES);
-    assert!(rt; rows == 137, "{rows} rows");
+    assert!(rt; rows == 141, "{rows} rows");
     for ending in 0..ENDINGS - 1 {
         assert!(rt; world.has_ended(ending), "no run ended in the way {ending}");
     }

@@ -113,6 +113,7 @@ fn change(
         "package" => put_package(rt, alloc, world, first, second),
         "many" => put_many(rt, alloc, world, first, number(rt, second)),
         "catalog" => put_catalog(rt, alloc, world, first),
+        "crowd" => crowd(rt, alloc, world, number(rt, first)),
         "stock" => stock(rt, alloc, world, first, second),
         "swell" => swell(rt, alloc, world, first, number(rt, second)),
         "lose" => lose(rt, alloc, world, first),

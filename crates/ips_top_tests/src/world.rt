@@ -360,6 +360,15 @@ pub fn put_catalog(rt: &impl Abort, alloc: Global, world: &mut World, offered: &
     offer(rt, alloc, &mut world.repo, offered);
 }
 
+/// Has the catalog of the repository offer so many stems.
+pub fn crowd(rt: &impl Abort, alloc: Global, world: &mut World, count: u64) {
+    let mut offered = String::from_str(alloc, "s 1").expect(rt, "memory");
+    for number in 1..count {
+        write!(offered, "; s{number} 1").expect(rt, "memory");
+    }
+    put_catalog(rt, alloc, world, offered.as_str());
+}
+
 /// Takes away what stands in the image at a path.
 pub fn remove(rt: &impl Abort, alloc: Global, world: &mut World, path: &str) {
     world.image.remove(&path_of(rt, alloc, path));
