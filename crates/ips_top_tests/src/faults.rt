@@ -364,6 +364,11 @@ with | -R i -s r install many | before 6060 -> 1 "folder fault: unfinished\n"
 laid -> 1500
 look | var/pkg/done.1 -> file 600 ""
 put | var/pkg/done.3 | ->
+# it is taken away, and that is made sure of, before the second mark is made
+with | -R i -s r fix | before 1500 -> 1 "folder fault: unfinished\n"
+look | var/pkg/done.1 -> file 600 ""
+look | var/pkg/done.2 -> absent
+look | var/pkg/done.3 -> absent
 does | fix -> 0 recovered: new image
 laid -> 2004
 look | var/pkg/done.3 -> absent
@@ -383,5 +388,5 @@ fn a_fix_goes_by_the_marks_that_stand(rt: HostRuntime) {
     let alloc = rt.alloc();
     let mut world = World::new(alloc, bare(&rt, alloc));
     let rows = rows_told(&rt, alloc, &mut world, UNMARKED);
-    assert!(rt; rows == 21, "{rows} rows");
+    assert!(rt; rows == 25, "{rows} rows");
 }
