@@ -11,8 +11,8 @@ const FIX: &str = "-R i -s r fix";
 
 const UPDATE: &str = "-R i -s r update";
 
-// An image with the first version of `x`, where the second is offered.
-fn before(rt: &impl Abort, alloc: Global) -> World {
+/// An image with the first version of `x`, where the second is offered.
+pub fn before(rt: &impl Abort, alloc: Global) -> World {
     let mut world = World::new(alloc, repository(rt, alloc));
     let _ = run_line(
         rt,
@@ -44,8 +44,8 @@ fn stopped(call: u64, choice: Choice) -> Mishap {
     }
 }
 
-// The stop of this number, counted from 0: five are at each call, of which the first leaves what the last sync made sure of.
-fn stop_of(number: u64) -> Mishap {
+/// The stop of this number, counted from 0: five are at each call, of which the first leaves what the last sync made sure of.
+pub fn stop_of(number: u64) -> Mishap {
     stopped((number / 5).saturating_add(1), choice_at(number))
 }
 
@@ -82,8 +82,8 @@ const ENDINGS: [&str; 5] = [
     r#"file 644 "" file 644 "" true version 2 true "nothing to do\n" "nothing to do\n""#,
 ];
 
-// Whether something stands at the gate.
-fn is_open(rt: &impl Abort, alloc: Global, world: &World) -> bool {
+/// Whether something stands at the gate.
+pub fn is_open(rt: &impl Abort, alloc: Global, world: &World) -> bool {
     look_told(rt, alloc, world, "var/pkg/gate").as_str() != "absent"
 }
 
@@ -263,59 +263,6 @@ fn each_other_call_that_fails_is_told(rt: HostRuntime) {
         let calls = failed(&rt, alloc, thing);
         assert!(rt; calls > least, "{calls} calls on the {thing}");
     }
-}
-
-// An image whose records are of the first format.
-const FIRST_FORMAT: &str = "
-put | var/pkg/image | image 1%0apublisher test%0a ->
-put | var/pkg/installed | a@1%0a ->
-put | var/pkg/manifests/a | dir group=bin mode=0755 owner=root path=a%0a ->
-put | var/pkg/avoid | ->
-put | var/pkg/freeze | ->
-put | var/pkg/mediators | ->
-put | var/pkg/history | ->
-put | var/pkg/owners | 0 2 root bin a%0a ->
-put | var/pkg/drivers | ->
-dir | a ->";
-
-// The change of format is stopped at this call, and then fixed, where a fix can be: what is then the first line of the image's record, and whether all is there.
-// False where it wasn't stopped.
-fn is_format_stopped_at(rt: &impl Abort, alloc: Global, world: &mut World, call: u64) -> bool {
-    let stop = stopped(call, choice_at(call));
-    let run = run_line(rt, alloc, world, "-R i -s r update-format", stop);
-    if run.number == 0 {
-        return false;
-    }
-    let _ = run_line(rt, alloc, world, FIX, NONE);
-    let list = run_line(rt, alloc, world, "-R i -s r list", NONE);
-    let verify = run_line(rt, alloc, world, "-R i -s r verify", NONE);
-    let image = look_told(rt, alloc, world, "var/pkg/image");
-    let (list, verify, image) = (list.taken.as_str(), verify.taken.as_str(), image.as_str());
-    assert!(rt;
-        list == "a@1\n" && verify == "ok\n",
-        "{call}: {list} {verify}"
-    );
-    let is_first = image == r#"file 644 "image 1\npublisher test\n""#;
-    let is_second = image == r#"file 644 "image 2\npublisher test\n""#;
-    assert!(rt; is_first || is_second, "{call}: {image}");
-    true
-}
-
-#[test]
-fn a_stopped_change_of_format_is_undone_or_done(rt: HostRuntime) {
-    let alloc = rt.alloc();
-    let mut world = World::new(alloc, bare(&rt, alloc));
-    let rows = rows_told(&rt, alloc, &mut world, FIRST_FORMAT);
-    assert!(rt; rows == 10, "{rows} rows");
-    let image = held(&rt, alloc, &world);
-    for call in 1..200u64 {
-        restore(&rt, alloc, &mut world, &image);
-        if !is_format_stopped_at(&rt, alloc, &mut world, call) {
-            assert!(rt; call > 60, "{call} calls");
-            return;
-        }
-    }
-    panic!(rt; "each call is stopped");
 }
 
 // A package of three thousand directories, in three thousand and four steps. After each thousand a mark is made.
