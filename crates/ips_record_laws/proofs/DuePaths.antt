@@ -7,7 +7,7 @@ use Rattle.std.proofs.lemmas.Bool.{or_cases, or_left, or_right, false_from_ne_tr
 use Rattle.std.proofs.lemmas.Slice.Eq.{bytes_eq-Decides}
 use Rattle.ips_text.specs.Ancestry.{same_path, covers, is_below, parent}
 use Rattle.ips_text.specs.Quote.{quoted}
-use Rattle.ips_text.proofs.Ancestry.{same_path-true, same_path-self}
+use Rattle.ips_text.proofs.Ancestry.{covers-parent, covers-self, parent_covers, same_path-true, same_path-self}
 use Rattle.ips_steps.specs.Private.{records_name}
 use Rattle.ips_steps.proofs.Lists.{clash}
 use Rattle.ips_metafiles.specs.Records.{license_path}
@@ -16,6 +16,7 @@ use Rattle.ips_state.specs.State.{Installed, Recorded}
 use Rattle.ips_state.specs.Records.{common_records, gone_stems, index_path, index_records, manifest_path, package_path, packages_path, records_by, records_of, taken_away, taken_by}
 use Rattle.ips_after.specs.Findings.{is_account_path}
 use Rattle.ips_after.specs.Lists.{listed}
+use Rattle.ips_after.proofs.Fits.{below_of}
 use Rattle.ips_due.specs.Apart.{lost_path}
 use Rattle.ips_due.specs.Delivered.{Delivered, Legacy, License, delivered_gone, delivered_records, gone_license, has_legacy_package, has_license, has_stem, legacy_folder, legacy_record, license_folder, license_record}
 use Rattle.ips_due.specs.Due.{Content, own_records}
@@ -32,6 +33,12 @@ package_parent (p ∷ ps) q h = elim (or_cases (same_path (package_path p.stem) 
   | inl here ↦ ap parent (sym (same_path-true (package_path p.stem) q here)) ∙ parent_of packages_path (quoted p.stem) (no_slash p.stem)
   | inr later ↦ package_parent ps q later
 ]
+
+-- what is right below that folder is below it
+pub in_packages : (q : List ℕ) → parent q ≡ Some packages_path → is_below packages_path q ≡ true
+in_packages q right =
+    below_of packages_path q (parent_covers q packages_path right)
+    (false_from_ne_true _ (λ same. clash (covers q packages_path) (ap (λ (x : List ℕ). covers x packages_path) (sym (same_path-true packages_path q same)) ∙ covers-self packages_path) (covers-parent q packages_path right)))
 
 -- ---- what is due
 

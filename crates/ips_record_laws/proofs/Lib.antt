@@ -7,3 +7,4 @@ pub mod Names
 pub mod Meant
 pub mod Mend
 pub mod Repaired
+pub mod Made

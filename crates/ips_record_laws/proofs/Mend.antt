@@ -3,7 +3,7 @@ use Rattle.std.proofs.Common.{◌≡◌, ℕ, ◌≤◌, Bool, true, false, ◌=
 use Rattle.std.specs.List.{AllByRecursion}
 use Rattle.std.proofs.lemmas.Bool.{and_from, cases_Bool, false_from_ne_true}
 use Rattle.ips_text.specs.Ancestry.{same_path, covers, is_below, parent}
-use Rattle.ips_text.proofs.Ancestry.{covers-parent, covers-self, covers_trans, parent_covers, same_path-self, same_path-true}
+use Rattle.ips_text.proofs.Ancestry.{covers-self, covers_trans, parent_covers, same_path-self, same_path-true}
 use Rattle.ips_outside.specs.Image.{File, Image, IsImage, file_bytes, is_dir, with_mode}
 use Rattle.ips_outside.specs.Children.{is_child, is_directory, is_foreign}
 use Rattle.ips_steps.specs.Private.{records_name}
@@ -17,12 +17,12 @@ use Rattle.ips_state.specs.Text.{package_head}
 use Rattle.ips_load.specs.Held.{Holds, HoldsIndex, HoldsPackages, Stands, StandsManifest, record_limit}
 use Rattle.ips_after.specs.Request.{IsRequest, Request, lays}
 use Rattle.ips_after.specs.Salvage.{Aside, IsAside, IsOwn, image_saving}
-use Rattle.ips_after.proofs.Fits.{below_covers, below_of, below_trans, exists_dir}
+use Rattle.ips_after.proofs.Fits.{below_covers, below_trans, exists_dir}
 use Rattle.ips_after.proofs.Saved.{comparable}
 use Rattle.ips_due.specs.Apart.{lost_path}
 use Rattle.ips_due.specs.Due.{IsOverOf, Own, holds_content, said_record}
 use Rattle.ips_repair_due.specs.Repairing.{repair_due}
-use Rattle.ips_record_laws.proofs.DuePaths.{IsInside, index_is_inside, packages_are_inside}
+use Rattle.ips_record_laws.proofs.DuePaths.{IsInside, in_packages, index_is_inside, packages_are_inside}
 use Rattle.ips_record_laws.proofs.Own.{Bare, absent, bytes_there, laid, none_where, stays, unmade}
 use Rattle.ips_record_laws.proofs.Stand.{bytes_moded, child_there, dir_moded, foreign_moded, held_bytes}
 
@@ -75,16 +75,13 @@ history_inside = record { deep = refl; off = refl }
 -- so is what is right below the folder of packages
 child_else : (q : List ℕ) → parent q ≡ Some packages_path → IsElse q
 child_else q right = record {
-  inside = record { deep = below_trans records_name packages_path q packages_are_inside.deep under; off = apart lost_path refl refl };
+  inside = record { deep = below_trans records_name packages_path q packages_are_inside.deep (in_packages q right); off = apart lost_path refl refl };
   up = apart history_path refl refl;
   down = false_from_ne_true _ (λ h. clash (covers packages_path history_path) (covers_trans packages_path q history_path over h) refl);
 }
   where
     over : covers packages_path q ≡ true
     over = parent_covers q packages_path right
-
-    under : is_below packages_path q ≡ true
-    under = below_of packages_path q over (false_from_ne_true _ (λ same. clash (covers q packages_path) (ap (λ (x : List ℕ). covers x packages_path) (sym (same_path-true packages_path q same)) ∙ covers-self packages_path) (covers-parent q packages_path right)))
 
     apart : (x : List ℕ) → covers x packages_path ≡ false → covers packages_path x ≡ false → covers x q ≡ false
     apart x one two = false_from_ne_true _ (λ h. elim (comparable x packages_path q h over) [

@@ -30,7 +30,7 @@ use Rattle.ips_due.specs.Due.{Due, DueFile, IsDue, IsOverOf, MeansSame, Own, acc
 use Rattle.ips_due.proofs.Fitting.{Account, Folder, Gone, Record, Said, Silent, due_of_record, said_is}
 use Rattle.ips_due.proofs.StateDue.{at_record, renewed_is}
 use Rattle.ips_record_laws.proofs.Contents.{records_found}
-use Rattle.ips_record_laws.proofs.DuePaths.{IsInside, IsPlaced, account_not_above, account_outside, due_placed, gone_aside, holds_package, index_is_inside, listed_front, package_goes, package_parent, packages_are_inside, records_inside}
+use Rattle.ips_record_laws.proofs.DuePaths.{IsInside, IsPlaced, account_not_above, account_outside, due_placed, gone_aside, holds_package, in_packages, index_is_inside, listed_front, package_goes, package_parent, packages_are_inside, records_inside}
 use Rattle.ips_record_laws.proofs.Own.{Bare, Leaves_none, Renewed, Taken, absent, laid, none_where, stays, unmade, unmade_dir}
 
 -- ---- what stands
@@ -92,7 +92,7 @@ recounted_place (p ∷ ps) q h = elim (or_cases (same_path (package_path p.stem)
 -- ---- what is said
 
 -- where nothing is due nothing is said
-not_said : (due : Due) (q : List ℕ) (o : Option (Option Entry)) → Said due q o → is_some (account_at due.accounts q) ≡ false → is_some (record_at due.records q) ≡ false → (listed due.renewed q || listed due.folders q) ≡ false → listed due.gone q ≡ false → o ≡ None
+pub not_said : (due : Due) (q : List ℕ) (o : Option (Option Entry)) → Said due q o → is_some (account_at due.accounts q) ≡ false → is_some (record_at due.records q) ≡ false → (listed due.renewed q || listed due.folders q) ≡ false → listed due.gone q ≡ false → o ≡ None
 not_said due q _ (Account m b at) account rec folder gone = clash (is_some (account_at due.accounts q)) (ap is_some at) account
 not_said due q _ (Record b at) account rec folder gone = clash (is_some (record_at due.records q)) at rec
 not_said due q _ (Folder at) account rec folder gone = clash (listed due.renewed q || listed due.folders q) at folder
@@ -268,7 +268,7 @@ module _ (bytes : List ℕ → List ℕ) (holds : List ℕ → List ℕ → Bool
       not_up = covers-parent q packages_path right
 
       in_folder : is_below packages_path q ≡ true
-      in_folder = below_of packages_path q above_it (false_from_ne_true _ (λ same. clash (covers q packages_path) (ap (λ (x : List ℕ). covers x packages_path) (sym (same_path-true packages_path q same)) ∙ covers-self packages_path) not_up))
+      in_folder = in_packages q right
 
       deep : is_below records_name q ≡ true
       deep = below_trans records_name packages_path q packages_are_inside.deep in_folder

@@ -1,4 +1,4 @@
--- A request or a repair that is carried out on an image which holds a state, and what then is loaded.
+-- An image that is made, a request or a repair that is carried out on an image which holds a state, and what then is loaded.
 use Rattle.std.specs.Prelude.{◌≡◌, ℕ, ◌≤◌, length, None}
 use Rattle.std.specs.List.{AllByRecursion}
 use Rattle.ips_outside.specs.Image.{Image, IsImage}
@@ -9,6 +9,7 @@ use Rattle.ips_state.specs.Lawful.{IsLawful}
 use Rattle.ips_state.specs.Records.{RecordFile, records_of}
 use Rattle.ips_state.specs.State.{Recorded, recorded}
 use Rattle.ips_state.specs.declared.state.State.{State}
+use Rattle.ips_created.specs.Made.{IsBlank, image_made}
 use Rattle.ips_repaired.specs.Meant.{IsRepairedImage}
 use Rattle.ips_requested.specs.Meant.{IsMeant}
 
@@ -19,6 +20,13 @@ AreWithin r = AllByRecursion (λ (e : RecordFile). length e.1 ≤ record_limit) 
 -- The new state has an index where the old one has one.
 abbrev pub KeepsIndex : Recorded → Recorded → Type 0
 KeepsIndex old new = new.index ≡ None → old.index ≡ None
+
+-- The second image is the first one made with the state, in which nothing is installed; the state can be recorded.
+pub record IsMadeOf (new : State) (t after : Image) : Type 0 where
+  pub is : after ≡ image_made (recorded new) t
+  pub blank : IsBlank new
+  pub lawful : IsLawful (recorded new)
+  pub within : AreWithin (recorded new)
 
 -- The second image is what is seen after the request from the old state to the new one over the first, which holds the old state; the new state can be recorded.
 pub record IsRequestedOf (moment : ℕ) (old new : State) (repository t after : Image) : Type 0 where
