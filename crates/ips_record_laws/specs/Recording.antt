@@ -21,14 +21,14 @@ AreWithin r = AllByRecursion (λ (e : RecordFile). length e.1 ≤ record_limit) 
 abbrev pub KeepsIndex : Recorded → Recorded → Type 0
 KeepsIndex old new = new.index ≡ None → old.index ≡ None
 
--- The second image is the first one made with the state, in which nothing is installed; the state can be recorded.
+-- The second image is the first one made with the state, in which nothing is installed; the state can be recorded within the limits.
 pub record IsMadeOf (new : State) (t after : Image) : Type 0 where
   pub is : after ≡ image_made (recorded new) t
   pub blank : IsBlank new
   pub lawful : IsLawful (recorded new)
   pub within : AreWithin (recorded new)
 
--- The second image is what is seen after the request from the old state to the new one over the first, which holds the old state; the new state can be recorded.
+-- The second image is what is seen after the request from the old state to the new one over the first, which holds the old; the new one can be recorded within the limits and keeps an index.
 pub record IsRequestedOf (moment : ℕ) (old new : State) (repository t after : Image) : Type 0 where
   pub meant : IsMeant moment old new repository t after
   pub formed : IsImage t
@@ -37,7 +37,7 @@ pub record IsRequestedOf (moment : ℕ) (old new : State) (repository t after : 
   pub within : AreWithin (recorded new)
   pub index : KeepsIndex (recorded old) (recorded new)
 
--- The second image is the first one repaired, which holds the old state; the new state is the old one with another history, and can be recorded.
+-- The second image is the first one repaired, which holds the old state; the new state is the old one with another history, and can be recorded within the limit.
 pub record IsRepairedOf (moment : ℕ) (old : Recorded) (new : State) (repository t after : Image) : Type 0 where
   pub image : IsRepairedImage moment new repository t after
   pub formed : IsImage t

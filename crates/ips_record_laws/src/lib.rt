@@ -1,5 +1,5 @@
-//! Laws of records: where an image holds a state and a request or a repair is carried out, the image after it holds the new state, so that the next
-//! run loads just that one. So does an image that is made with a state.
+//! Laws of records: where an image holds a state and a request or a repair is carried out, the image after it holds just the new state, if no record of that is too
+//! large and it keeps an index; so the next run can load no other. So does an image that is made with a state.
 //!
 //! In reading order: creations (`creations`), requests (`requests`) and repairs (`repairs`).
 #![tactic(auto)]

@@ -8,7 +8,7 @@ ghost use Rattle.ips_record_laws.specs.Recording.{HoldsJust, IsRepairedOf};
 
 use ips_repair_due::{repairs_are_lawful, repairs_hang_together};
 
-/// The repaired image of one that holds a state holds just that state, with the history that the repair puts: no other record is touched.
+/// The repaired image of one that holds a state holds just that state, with the history that the repair puts.
 pub fn records_of_repairs_read_back()
     ensures { (moment : ℕ) (old : Recorded) (new : State) (repository t after : Image) → IsRepairedOf moment old new repository t after → HoldsJust after (recorded new) }
 {
