@@ -120,7 +120,7 @@ fn a_stopped_update_is_undone_or_done(rt: HostRuntime) {
     panic!(rt; "each call is stopped");
 }
 
-// Three fixes are stopped at one call, each with another choice, and the fourth isn't. False where the first wasn't stopped.
+// A fix is stopped at this call, and so are two more, each with another choice, where they come so far; the fourth isn't. False where the first wasn't stopped.
 fn is_fix_stopped_at(
     rt: &impl Abort,
     alloc: Global,
@@ -180,8 +180,8 @@ fn failing(number: u64) -> Mishap {
 
 const UNINSTALL: &str = "-R i -s r uninstall x";
 
-// Behind an update of which a call fails, the first call of an uninstallation fails too: it is told that nothing is changed, and the fixes behind it end as if
-// it hadn't been asked for.
+// Behind an update of which a call fails, the first call of an uninstallation fails too: it is told that nothing is changed, and the fixes behind it end
+// in one of the ways in which they may behind the update.
 #[test]
 fn a_run_that_fails_at_once_asks_for_nothing(rt: HostRuntime) {
     let alloc = rt.alloc();
@@ -311,7 +311,7 @@ with | -R i -s r install many | before 6060 -> 1 "folder fault: unfinished\n"
 laid -> 1500
 look | var/pkg/done.1 -> file 600 ""
 put | var/pkg/done.3 | ->
-# it is taken away, and that is made sure of, before the second mark is made
+# it is taken away, and that is made sure of, before the second mark is
 with | -R i -s r fix | before 1500 -> 1 "folder fault: unfinished\n"
 look | var/pkg/done.1 -> file 600 ""
 look | var/pkg/done.2 -> absent

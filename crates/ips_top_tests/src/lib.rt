@@ -2,7 +2,7 @@
 //!
 //! The runs of the program are tables of rows, and `runs` says what is asked of a row, over the repository of `packages` and the image of a `world`: what commands
 //! do (`cases`), how each run may end (`outcomes`), what is chosen (`choices`), what packages mean together (`meanings`), what becomes of edits (`keep`) and of what
-//! would be lost (`salvage`), trials (`trials`), and a large image (`large`). Runs that are stopped or meet a fault are stories of `faults` and `stops`.
+//! would be lost (`salvage`), trials (`trials`), and a large image (`large`). Runs that are stopped or meet a fault are stories of `faults` and `stops`, and one of `trials`.
 #![tactic(auto)]
 
 #[cfg(test)]

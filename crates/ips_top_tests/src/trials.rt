@@ -1,4 +1,4 @@
-//! Trials in memory: their summaries, and how far the tallies of the kinds rise.
+//! Trials in memory: their summaries, how far the tallies of the kinds rise, and the commands of one over a generated repository, stopped too.
 
 use ips_folder::{Choice, Folder, MemFolder, Stop};
 use ips_generate::generate;
