@@ -1,9 +1,10 @@
 -- What holds of every row of a stem's actions, and of every row of an index.
-use Rattle.std.proofs.Common.{◌≡◌, inl, inr, ℕ, Bool, true, false, cond, ◌&&◌, List, [], ◌∷◌, ◌++◌, map, refl, sym, subst, Option, Some, None, codes, arith}
+use Rattle.std.proofs.Common.{◌≡◌, inl, inr, ℕ, Bool, true, false, cond, ◌&&◌, List, [], ◌∷◌, ◌++◌, drop, map, refl, sym, subst, Option, Some, None, codes, arith}
 use Rattle.std.specs.Prelude.{◌≢◌, Contains}
 use Rattle.std.specs.List.{AllByRecursion}
 use Rattle.std.specs.Option.{option_to_list, unwrap_or}
-use Rattle.std.specs.Str.{IsUtf8}
+use Rattle.std.specs.Str.{IsUtf8, IsCharBoundary}
+use Rattle.std.proofs.lemmas.Str.{IsUtf8-drop}
 use Rattle.ips_text.specs.Path.{parts}
 use Rattle.ips_text.proofs.Lists.{all_append}
 use Rattle.ips_fmri.specs.Name.{IsStem}
@@ -14,7 +15,7 @@ use Rattle.ips_action.specs.Attrs.{is_same, values_of}
 use Rattle.ips_action.specs.Check.{last_of}
 use Rattle.ips_action.specs.Action.{Fields, naming_key, payload_word, IfTaken}
 use Rattle.ips_index.specs.declared.entry.Field.TheVariants.{Key}
-use Rattle.ips_index.specs.Rows.{IndexedValue, has_slash, rows_at, rows_in, key_rows, values_said, rows_of, scanned}
+use Rattle.ips_index.specs.Rows.{IndexedValue, has_slash, tokens, rows_at, rows_in, key_rows, values_said, rows_of, scanned}
 use Rattle.ips_index.specs.Text.{HasIndex, IsRow, AreIndexRows}
 use Rattle.ips_index.specs.Entries.{AreFit, AreNamed, AreOf, index_name}
 use Rattle.ips_index.proofs.Picked.{one_or_rest, head_in, tail_in}
@@ -123,25 +124,25 @@ payload_index kind payload name taken e = inr (inr (subst (IfTaken kind) e taken
 
 -- ---- rows of one value
 
-pub whole_row : (stem : List ℕ) (kind : ActionKind) (index value : List ℕ) → IsStem false stem → HasIndex kind index → IsUtf8 value → IsRow (record { token = value; index = index; kind = kind; value = value; stem = stem })
-whole_row stem kind index value of_stem has text = record {
+-- a value is found by what begins at a place of it
+pub row_is : (stem : List ℕ) (kind : ActionKind) (index value : List ℕ) (token : ℕ) → IsStem false stem → HasIndex kind index → IsUtf8 value → IsCharBoundary value token → Contains (tokens index value) (drop token value)
+    → IsRow (record { token = drop token value; index = index; kind = kind; value = value; stem = stem })
+row_is stem kind index value token of_stem has text cut found = record {
   index = has;
   value = text;
-  token = text;
-  found = (0, omega arith, refl);
+  token = IsUtf8-drop value token text cut;
+  found = found;
   stem = of_stem;
 }
 
-pub last_row : (stem : List ℕ) (kind : ActionKind) (index value last : List ℕ) → IsStem false stem → HasIndex kind index → IsUtf8 value → IsUtf8 last → (is_same index (codes "path") && has_slash value) ≡ true → last ≡ last_of (parts value)
-    → IsRow (record { token = last; index = index; kind = kind; value = value; stem = stem })
-last_row stem kind index value last of_stem has text of_last slash e = record {
-  index = has;
-  value = text;
-  token = of_last;
-  found = go (is_same index (codes "path") && has_slash value) slash;
-  stem = of_stem;
-}
+-- it is found by itself
+pub whole_found : (index value : List ℕ) → Contains (tokens index value) value
+whole_found index value = (0, omega arith, refl)
+
+-- a path with a `/` is found by its last part
+pub last_found : (index value : List ℕ) (token : ℕ) → (is_same index (codes "path") && has_slash value) ≡ true → drop token value ≡ last_of (parts value) → Contains (tokens index value) (drop token value)
+last_found index value token slash e = go (is_same index (codes "path") && has_slash value) slash
   where
-    go : (t : Bool) → t ≡ true → Contains (value ∷ cond t (last_of (parts value) ∷ []) []) last
+    go : (t : Bool) → t ≡ true → Contains (value ∷ cond t (last_of (parts value) ∷ []) []) (drop token value)
     go true h = (1, omega arith, sym e)
     go false h = cc

@@ -2,6 +2,7 @@ pub mod Picked
 pub mod Order
 pub mod InSets
 pub mod LastPart
+pub mod Places
 pub mod Growing
 pub mod Scanned
 pub mod Facts

@@ -1,5 +1,5 @@
 -- The line of a row, and its words.
-use Rattle.std.proofs.Common.{◌≡◌, inl, inr, ℕ, true, false, List, ◌∷◌, ◌++◌, refl, sym, ◌∙◌, ap, subst, Option, Some, None, arith}
+use Rattle.std.proofs.Common.{◌≡◌, inl, inr, ℕ, true, false, List, [], ◌∷◌, ◌++◌, refl, sym, ◌∙◌, ap, subst, Option, Some, None, arith}
 use Rattle.std.specs.Prelude.{Contains}
 use Rattle.ips_text.specs.Quote.{quoted}
 use Rattle.ips_text.proofs.Quotes.{quoted_apart}
@@ -9,6 +9,7 @@ use Rattle.ips_action.specs.Kind.{kind_name}
 use Rattle.ips_action.specs.Action.{naming_key}
 use Rattle.ips_action.proofs.One.{one_kind}
 use Rattle.std.specs.List.{list_all}
+use Rattle.std.proofs.lemmas.List.{append_assoc}
 use Rattle.std.specs.Str.{IsUtf8}
 use Rattle.ips_text.specs.Cut.{has_byte, IsCut}
 use Rattle.ips_records.specs.Listed.{Sole}
@@ -174,3 +175,11 @@ no_token index value token r is same_index same_value text same_token never =
     never r.token
     (subst (λ (v : List ℕ). Contains (tokens index v) r.token) (quoted_apart r.value value (text_bytes r.value is.value) (text_bytes value text) same_value) (subst (λ (i : List ℕ). Contains (tokens i r.value) r.token) same_index is.found))
     same_token
+
+-- ---- a line, written piece by piece
+
+pub line_written : (out token index kind value stem : List ℕ) → out ++ token ++ 32 ∷ index ++ 32 ∷ kind ++ 32 ∷ [] ++ value ++ 32 ∷ stem ++ 10 ∷ [] ≡ out ++ (token ++ 32 ∷ (index ++ 32 ∷ (kind ++ 32 ∷ (value ++ 32 ∷ stem)))) ++ 10 ∷ []
+line_written out token index kind value stem = ap (λ (l : List ℕ). l ++ 10 ∷ [])
+    (append_assoc (out ++ token ++ 32 ∷ index ++ 32 ∷ kind ++ 32 ∷ []) value (32 ∷ stem) ∙ append_assoc (out ++ token ++ 32 ∷ index ++ 32 ∷ kind) (32 ∷ []) (value ++ 32 ∷ stem)
+    ∙ append_assoc (out ++ token ++ 32 ∷ index) (32 ∷ kind) (32 ∷ (value ++ 32 ∷ stem)) ∙ append_assoc (out ++ token) (32 ∷ index) (32 ∷ kind ++ 32 ∷ (value ++ 32 ∷ stem))
+    ∙ append_assoc out token (32 ∷ index ++ (32 ∷ kind ++ 32 ∷ (value ++ 32 ∷ stem))))

@@ -1,5 +1,5 @@
--- Rows as they are kept: the token and the index are told by the field.
-use Rattle.std.specs.Prelude.{◌≡◌, ◌≢◌, Contains, ℕ, List, [], Option, codes}
+-- Rows as they are kept: in one text, with the places of their parts, and the index told by the field.
+use Rattle.std.specs.Prelude.{◌≡◌, ◌≢◌, ◌≤◌, Contains, ℕ, List, [], codes, take, drop, slice_range}
 use Rattle.std.specs.Option.{unwrap_or, option_map_or}
 use Rattle.std.specs.declared.vec.Vec.{Vec}
 use Rattle.std.specs.declared.alloc.Global.{Global}
@@ -7,7 +7,7 @@ use Rattle.std.specs.declared.string.String.{String}
 use Rattle.std.specs.BTreeMap.{BTreeMap, get_by_text}
 use Rattle.std.specs.BTreeSet.{BTreeSet}
 use Rattle.std.specs.List.{AllByRecursion}
-use Rattle.std.specs.Str.{chars, IsUtf8}
+use Rattle.std.specs.Str.{chars, IsUtf8, IsCharBoundary}
 use Rattle.ips_fmri.specs.Matching.{HasNone}
 use Rattle.ips_action.specs.declared.kind.ActionKind.{ActionKind}
 use Rattle.ips_action.specs.Action.{naming_key}
@@ -23,9 +23,19 @@ index_name kind Key = unwrap_or (naming_key kind) []
 index_name kind Value = codes "value"
 index_name kind Payload = codes "payload"
 
--- the row of what is kept: it is found by the part of its value that is kept beside it, or else by the value
-abbrev pub row_at : ActionKind → Field → Option (List ℕ) → List ℕ → List ℕ → IndexedValue
-row_at kind field last value stem = record { token = unwrap_or last value; index = index_name kind field; kind = kind; value = value; stem = stem }
+-- the row of a value in the index of a field
+abbrev pub row_of : ActionKind → Field → List ℕ → List ℕ → List ℕ → IndexedValue
+row_of kind field token value stem = record { token = token; index = index_name kind field; kind = kind; value = value; stem = stem }
+
+-- the row of what is kept: its text has the value and then the stem, and the token is the end of the value; both begin at these places
+abbrev pub row_at : ActionKind → Field → ℕ → ℕ → List ℕ → IndexedValue
+row_at kind field token stem text = row_of kind field (slice_range text token stem) (take stem text) (drop stem text)
+
+-- The token and the stem of a row may begin at these places of its text: the stem not before the token, and both at a character.
+pub record ArePlaces (token stem : ℕ) (text : List ℕ) : Type 0 where
+  pub ordered : token ≤ stem
+  pub token_cut : IsCharBoundary text token
+  pub stem_cut : IsCharBoundary text stem
 
 -- Each of the rows is one that an index may hold.
 abbrev pub AreFit : List IndexedValue → Type 0

@@ -1,15 +1,16 @@
 //! Rows as an index keeps them.
 
-ghost use Rattle.std.specs.Prelude.{◌≡◌, IfOk};
+ghost use Rattle.std.specs.Prelude.{◌≡◌, ◌++◌, drop, IfOk, string_bytes};
 ghost use Rattle.std.specs.Ordering.{as_partial_cmp, eq_by_cmp};
 ghost use Rattle.std.specs.Cmp.{eq_by_cmp_equiv, partial_equiv_from_equiv, partial_order_from_total};
 ghost use Rattle.std.specs.Cmp.Rules.{comparing};
 ghost use Rattle.std.specs.Option.{option_map};
-ghost use Rattle.std.specs.Str.{IsUtf8};
+ghost use Rattle.std.specs.Str.{IsCharBoundary};
 ghost use Rattle.std.proofs.Common.{rules};
 ghost use Rattle.ips_text.specs.Path.{parts};
 ghost use Rattle.ips_action.specs.Check.{last_of};
 ghost use Rattle.ips_action.specs.Action.{naming_key};
+ghost use Rattle.ips_action.specs.Kind.{kind_name};
 ghost use Rattle.ips_index.specs.Rows.{row_cmp, rest_cmp, row_total, row_seen};
 ghost use Rattle.ips_index.specs.Entries as spec;
 
@@ -19,6 +20,7 @@ use ips_text::Text;
 use std::alloc::{AllocError, Global};
 use std::cmp::Ordering;
 use std::marker::Model;
+use std::rc::Rc;
 
 /// The place of a row's value in its action.
 #[derive(Clone, Copy, Drop)]
@@ -33,39 +35,105 @@ pub(crate) enum Field {
     Payload,
 }
 
-/// A row, of which the name of its index isn't kept, nor its token where that is the value.
+/// A row, which is held once, however many lists it stands in.
 #[derive(Drop)]
 pub(crate) struct Entry {
-    pub(crate) kind: ActionKind,
-    pub(crate) field: Field,
-    pub(crate) last: Option<Text>,
-    pub(crate) value: Text,
-    pub(crate) stem: Text,
+    row: Rc<Row>,
 }
 
 impl Model for Entry {
     ghost use Rattle.ips_index.specs.Rows.{IndexedValue};
-    ghost use Rattle.ips_index.specs.Entries.{row_at};
 
     ghost Value = { IndexedValue };
 
-    ghost view = { λ e. row_at e.kind e.field e.last e.value e.stem };
+    ghost view = { λ e. e.row.value };
+}
+
+// A row, in one text: its value, of which its token is the end, and behind it its stem. The name of its index isn't kept.
+#[derive(Drop)]
+struct Row {
+    kind: ActionKind,
+    field: Field,
+    token: u32,
+    stem: u32,
+    text: String,
+}
+
+impl Model for Row {
+    ghost use Rattle.std.specs.Prelude.{string_bytes};
+    ghost use Rattle.ips_index.specs.Rows.{IndexedValue};
+    ghost use Rattle.ips_index.specs.Entries.{row_at, ArePlaces};
+
+    ghost Value = { IndexedValue };
+
+    ghost view = { λ e. row_at e.kind e.field e.token e.stem (string_bytes e.text) };
+
+    ghost invariant = { λ e. ArePlaces e.token e.stem (string_bytes e.text) };
 }
 
 impl Entry {
+    /// The row of a value that is found by what begins at this place of it. Places are held as `u32`: a value of 4 GiB or more is
+    /// refused as want of memory.
+    pub(crate) fn new(
+        alloc: Global,
+        kind: ActionKind,
+        field: Field,
+        token: usize,
+        value: &str,
+        stem: &str,
+    ) -> Result<Entry, AllocError>
+        requires { IsCharBoundary value.now token }
+        ensures { IfOk result (λ entry. entry ≡ spec.row_of kind field (drop token value.now) value.now stem.now) }
+    {
+        if value.len() >= 1 << 32 {
+            return Err(AllocError);
+        }
+        let text = joined(alloc, value, stem)?;
+        let row = Row {
+            kind,
+            field,
+            token: token as u32,
+            stem: value.len() as u32,
+            text,
+        };
+        Ok(Entry {
+            row: Rc::new(alloc, row)?,
+        })
+    }
+
+    /// The name of its kind.
+    pub(crate) fn kind_name(&self) -> &'static str
+        ensures { result.now ≡ kind_name self.now.kind }
+    {
+        self.row.as_ref().kind.name()
+    }
+
     pub(crate) fn token(&self) -> &str
         ensures { result.now ≡ self.now.token }
     {
-        match &self.last {
-            Some(last) => last.as_str(),
-            None => self.value.as_str(),
-        }
+        let row = self.row.as_ref();
+        &row.text.as_str()[row.token as usize..row.stem as usize]
+    }
+
+    pub(crate) fn value(&self) -> &str
+        ensures { result.now ≡ self.now.value }
+    {
+        let row = self.row.as_ref();
+        &row.text.as_str()[..row.stem as usize]
+    }
+
+    pub(crate) fn stem(&self) -> &str
+        ensures { result.now ≡ self.now.stem }
+    {
+        let row = self.row.as_ref();
+        &row.text.as_str()[row.stem as usize..]
     }
 
     pub(crate) fn index(&self) -> &'static str
         ensures { result.now ≡ self.now.index }
     {
-        index_name(self.kind, self.field)
+        let row = self.row.as_ref();
+        index_name(row.kind, row.field)
     }
 
     /// The row, copied.
@@ -74,34 +142,35 @@ impl Entry {
     {
         let token = Text::new(alloc, self.token())?;
         let index = Text::new(alloc, self.index())?;
-        let value = self.value.copy(alloc)?;
-        let stem = self.stem.copy(alloc)?;
+        let value = Text::new(alloc, self.value())?;
+        let stem = Text::new(alloc, self.stem())?;
         Ok(IndexRow {
             token,
             index,
-            kind: self.kind,
+            kind: self.row.as_ref().kind,
             value,
             stem,
         })
     }
 
-    pub(crate) fn copy(&self, alloc: Global) -> Result<Entry, AllocError>
+    /// The same row, held by one more.
+    pub(crate) fn share(&self) -> Result<Entry, AllocError>
         ensures { IfOk result (λ entry. entry ≡ self.now) }
     {
-        let last = match &self.last {
-            Some(last) => Some(last.copy(alloc)?),
-            None => None,
-        };
-        let value = self.value.copy(alloc)?;
-        let stem = self.stem.copy(alloc)?;
         Ok(Entry {
-            kind: self.kind,
-            field: self.field,
-            last,
-            value,
-            stem,
+            row: self.row.clone()?,
         })
     }
+}
+
+// Both texts in one, which has room for no more.
+fn joined(alloc: Global, first: &str, second: &str) -> Result<String, AllocError>
+    ensures { IfOk result (λ text. string_bytes text ≡ first.now ++ second.now) }
+{
+    let mut text = String::with_capacity(alloc, first.len() + second.len())?;
+    text.push_str(first)?;
+    text.push_str(second)?;
+    Ok(text)
 }
 
 /// The name of the index of a field.
@@ -134,16 +203,15 @@ pub(crate) fn key_name(kind: ActionKind) -> Option<&'static str>
     }
 }
 
-/// The last part of a path.
-pub(crate) fn last_part(path: &str) -> &str
-    ensures last { result.now ≡ last_of (parts path.now) }
-    ensures text { IsUtf8 result.now }
+/// Where the last part of a path begins.
+pub(crate) fn last_part(path: &str) -> usize
+    ensures last { drop result path.now ≡ last_of (parts path.now) }
+    ensures cut { IsCharBoundary path.now result }
 {
-    let mut left = path;
-    while let Some((_, rest)) = left.split_once('/') {
-        left = rest;
+    match path.rfind('/') {
+        Some(slash) => slash + 1,
+        None => 0,
     }
-    left
 }
 
 impl PartialEq for Entry {
@@ -197,6 +265,7 @@ fn order_of_rest(one: &Entry, other: &Entry) -> Ordering
     ensures { result ≡ rest_cmp one.now other.now }
 {
     let by_index = one.index().cmp(other.index());
-    let by_kind = one.kind.name().cmp(other.kind.name());
-    by_index.then(by_kind.then(one.value.cmp(&other.value).then(one.stem.cmp(&other.stem))))
+    let by_kind = one.kind_name().cmp(other.kind_name());
+    let by_value = one.value().cmp(other.value());
+    by_index.then(by_kind.then(by_value.then(one.stem().cmp(other.stem()))))
 }

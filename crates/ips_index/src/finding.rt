@@ -11,7 +11,6 @@ use crate::entry::{Entry, Field};
 use crate::row::IndexRow;
 use ips_action::ActionKind;
 use ips_fmri::matches_stem;
-use ips_text::Text;
 use std::alloc::{AllocError, Global};
 use std::collections::BTreeSet;
 use std::ops::Bound;
@@ -82,13 +81,5 @@ fn start(alloc: Global, token: &str) -> Result<Entry, AllocError>
     ensures token { IfOk result (λ entry. entry.token ≡ token.now) }
     ensures index { IfOk result (λ entry. entry.index ≡ []) }
 {
-    let value = Text::new(alloc, token)?;
-    let stem = Text::new(alloc, "")?;
-    Ok(Entry {
-        kind: ActionKind::Set,
-        field: Field::Start,
-        last: None,
-        value,
-        stem,
-    })
+    Entry::new(alloc, ActionKind::Set, Field::Start, 0, token, "")
 }

@@ -64,7 +64,7 @@ fn gone_rows(
         return Ok(Vec::new(alloc));
     };
     let mut staying = BTreeSet::new(alloc);
-    add_all(alloc, &mut staying, list)?;
+    add_all(&mut staying, list)?;
     absent(alloc, &staying, old)
 }
 
@@ -86,7 +86,7 @@ fn enter(
     ensures same { OnErr result ((q : List ℕ) → listed_at stems.new q ≡ listed_at stems.old q) }
 {
     let key = String::from_str(alloc, stem)?;
-    add_all(alloc, rows, fresh)?;
+    add_all(rows, fresh)?;
     stems.insert(key, list)?;
     Ok(())
 }

@@ -26,10 +26,10 @@ fn push_row(alloc: Global, out: &mut String, row: &Entry) -> Result<(), AllocErr
 {
     push_quoted(alloc, out, row.token())?;
     push_word(out, row.index())?;
-    push_word(out, row.kind.name())?;
+    push_word(out, row.kind_name())?;
     out.push_str(" ")?;
-    push_quoted(alloc, out, row.value.as_str())?;
-    push_word(out, row.stem.as_str())?;
+    push_quoted(alloc, out, row.value())?;
+    push_word(out, row.stem())?;
     out.push_str("\n")?;
     Ok(())
 }

@@ -52,22 +52,18 @@ fn read_row(alloc: Global, words: Words) -> Result<Option<Entry>, AllocError>
     let Some(place) = place(words.kind, words.index) else {
         return Ok(None);
     };
-    let Some(value) = text(alloc, words.value)? else {
+    let Some(text) = text(alloc, words.value)? else {
         return Ok(None);
     };
-    let Some(last) = found_by(alloc, place, value.as_str(), words.value, words.token)? else {
+    let value = text.as_str();
+    let Some(token) = found_by(alloc, place, value, words.value, words.token)? else {
         return Ok(None);
     };
     let Some(stem) = stem(alloc, words.stem)? else {
         return Ok(None);
     };
-    Ok(Some(Entry {
-        kind: place.0,
-        field: place.1,
-        last,
-        value,
-        stem,
-    }))
+    let entry = Entry::new(alloc, place.0, place.1, token, value, stem.as_str())?;
+    Ok(Some(entry))
 }
 
 /// The rows of an index.

@@ -1,7 +1,8 @@
 //! The rows of actions.
 
-ghost use Rattle.std.specs.Prelude.{◌≡◌, ◌++◌, ◌∷◌, [], ◌&&◌, false, codes, IfOk, OnOk, Some, None};
+ghost use Rattle.std.specs.Prelude.{◌≡◌, ◌++◌, ◌∷◌, [], ◌&&◌, false, codes, drop, IfOk, OnOk};
 ghost use Rattle.std.specs.Option.{option_to_list};
+ghost use Rattle.std.specs.Str.{IsCharBoundary};
 ghost use Rattle.ips_action.specs.Attrs.{values_of, is_same};
 ghost use Rattle.ips_action.specs.Action.{payload_word};
 ghost use Rattle.ips_index.specs.Rows as rows;
@@ -13,7 +14,6 @@ ghost use Rattle.ips_index.specs.Entries.{AreFit};
 
 use crate::entry::{Entry, Field, index_name, key_name, last_part};
 use ips_action::{Action, ActionKind};
-use ips_text::Text;
 use std::alloc::{AllocError, Global};
 
 /// The rows of a stem's actions.
@@ -106,9 +106,9 @@ fn push_value(
     ensures rows { OnOk result (entries.new.items ≡ entries.old.items ++ rows_at stem.now kind (spec.index_name kind field) value.now) }
     ensures fit { AreFit entries.old.items → OnOk result (AreFit entries.new.items) }
 {
-    push_whole(alloc, entries, stem, kind, field, value)?;
+    push_row(alloc, entries, stem, kind, field, 0, value)?;
     if has_last(kind, field, value) {
-        push_last(alloc, entries, stem, kind, field, last_part(value), value)?;
+        push_row(alloc, entries, stem, kind, field, last_part(value), value)?;
     }
     Ok(())
 }
@@ -126,52 +126,21 @@ fn has_slash(value: &str) -> bool
     value.as_bytes().contains(&b'/')
 }
 
-// The row of a value that is found by itself.
-fn push_whole(
+// The row of a value that is found by what begins at this place of it.
+fn push_row(
     alloc: Global,
     entries: &mut Vec<Entry>,
     stem: &str,
     kind: ActionKind,
     field: Field,
+    token: usize,
     value: &str,
 ) -> Result<(), AllocError>
-    ensures rows { OnOk result (entries.new.items ≡ entries.old.items ++ (spec.row_at kind field None value.now stem.now ∷ [])) }
-    ensures fit { IsRow (spec.row_at kind field None value.now stem.now) → AreFit entries.old.items → OnOk result (AreFit entries.new.items) }
+    requires { IsCharBoundary value.now token }
+    ensures rows { OnOk result (entries.new.items ≡ entries.old.items ++ (spec.row_of kind field (drop token value.now) value.now stem.now ∷ [])) }
+    ensures fit { IsRow (spec.row_of kind field (drop token value.now) value.now stem.now) → AreFit entries.old.items → OnOk result (AreFit entries.new.items) }
 {
-    let value = Text::new(alloc, value)?;
-    let stem = Text::new(alloc, stem)?;
-    entries.push(Entry {
-        kind,
-        field,
-        last: None,
-        value,
-        stem,
-    })?;
-    Ok(())
-}
-
-// The row of a value that is found by its last part.
-fn push_last(
-    alloc: Global,
-    entries: &mut Vec<Entry>,
-    stem: &str,
-    kind: ActionKind,
-    field: Field,
-    last: &str,
-    value: &str,
-) -> Result<(), AllocError>
-    ensures rows { OnOk result (entries.new.items ≡ entries.old.items ++ (spec.row_at kind field (Some last.now) value.now stem.now ∷ [])) }
-    ensures fit { IsRow (spec.row_at kind field (Some last.now) value.now stem.now) → AreFit entries.old.items → OnOk result (AreFit entries.new.items) }
-{
-    let last = Some(Text::new(alloc, last)?);
-    let value = Text::new(alloc, value)?;
-    let stem = Text::new(alloc, stem)?;
-    entries.push(Entry {
-        kind,
-        field,
-        last,
-        value,
-        stem,
-    })?;
+    let entry = Entry::new(alloc, kind, field, token, value, stem)?;
+    entries.push(entry)?;
     Ok(())
 }

@@ -13,7 +13,7 @@ use std::collections::{BTreeMap, BTreeSet};
 /// The rows of each stem.
 pub(crate) type Stems = BTreeMap<String, Vec<Entry>>;
 
-/// Copies of the rows that don't stand in the set.
+/// The rows that don't stand in the set.
 pub(crate) fn absent(
     alloc: Global,
     set: &BTreeSet<Entry>,
@@ -24,25 +24,21 @@ pub(crate) fn absent(
     let mut found = Vec::new(alloc);
     for row in rows {
         if !set.contains(row) {
-            found.push(row.copy(alloc)?)?;
+            found.push(row.share()?)?;
         }
     }
     Ok(found)
 }
 
-/// Adds copies of the rows. Where memory runs out, some of them.
-pub(crate) fn add_all(
-    alloc: Global,
-    set: &mut BTreeSet<Entry>,
-    rows: &[Entry],
-) -> Result<(), AllocError>
+/// Adds the rows, which others keep. Where memory runs out, some of them.
+pub(crate) fn add_all(set: &mut BTreeSet<Entry>, rows: &[Entry]) -> Result<(), AllocError>
     ensures all { OnOk result ((row : IndexedValue) → Contains rows.now row → Contains set.new.keys row) }
     ensures old { (row : IndexedValue) → Contains set.old.keys row → Contains set.new.keys row }
     ensures only { (row : IndexedValue) → Contains set.new.keys row → Contains set.old.keys row ⊎ Contains rows.now row }
     ensures order { IsStrictlySortedBy row_cmp set.old.keys → IsStrictlySortedBy row_cmp set.new.keys }
 {
     for row in rows {
-        set.insert(row.copy(alloc)?)?;
+        set.insert(row.share()?)?;
     }
     Ok(())
 }
@@ -71,7 +67,7 @@ pub(crate) fn remove_all(set: &mut BTreeSet<Entry>, rows: &[Entry])
     }
 }
 
-/// A set of copies of the rows.
+/// Another set of the rows.
 pub(crate) fn copied_set(
     alloc: Global,
     rows: &BTreeSet<Entry>,
@@ -80,18 +76,18 @@ pub(crate) fn copied_set(
 {
     let mut copies = BTreeSet::new(alloc);
     for row in rows {
-        copies.insert(row.copy(alloc)?)?;
+        copies.insert(row.share()?)?;
     }
     Ok(copies)
 }
 
-/// Copies of the rows, by their stems.
+/// The rows, by their stems.
 pub(crate) fn by_stem(alloc: Global, rows: &BTreeSet<Entry>) -> Result<Stems, AllocError>
     ensures { IfOk result (λ stems. (stem : List ℕ) (row : IndexedValue) → Contains (listed_at stems stem) row ↔ (Contains rows.now.keys row × (row.stem ≡ stem))) }
 {
     let mut stems = BTreeMap::new(alloc);
     for row in rows {
-        add(alloc, &mut stems, row.copy(alloc)?)?;
+        add(alloc, &mut stems, row.share()?)?;
     }
     Ok(stems)
 }
@@ -100,7 +96,7 @@ pub(crate) fn by_stem(alloc: Global, rows: &BTreeSet<Entry>) -> Result<Stems, Al
 fn add(alloc: Global, stems: &mut Stems, row: Entry) -> Result<(), AllocError>
     ensures { OnOk result ((stem : List ℕ) → listed_at stems.new stem ≡ (if is_same row.stem stem then listed_at stems.old stem ++ row ∷ [] else listed_at stems.old stem)) }
 {
-    let stem = String::from_str(alloc, row.stem.as_str())?;
+    let stem = String::from_str(alloc, row.stem())?;
     let mut rows = taken(alloc, stems, stem.as_str());
     rows.push(row)?;
     stems.insert(stem, rows)?;

@@ -1,7 +1,7 @@
 //! The words of a line.
 
-ghost use Rattle.std.specs.Prelude.{◌≡◌, ◌↔◌, ℕ, List, Some, IsTrue, IfOk, IfNone, IfSome, unwrap_or, Contains};
-ghost use Rattle.std.specs.Str.{IsUtf8};
+ghost use Rattle.std.specs.Prelude.{◌≡◌, ◌↔◌, ℕ, List, Some, IsTrue, IfOk, IfNone, IfSome, drop, Contains};
+ghost use Rattle.std.specs.Str.{IsUtf8, IsCharBoundary};
 ghost use Rattle.ips_text.specs.Quote.{quoted};
 ghost use Rattle.ips_action.specs.Kind.{kind_name};
 ghost use Rattle.ips_action.specs.Action.{naming_key};
@@ -110,31 +110,31 @@ fn text_of(alloc: Global, bytes: &[u8]) -> Result<Option<Text>, AllocError>
     }
 }
 
-/// How the value, whose quoted form is at hand, is found by the token of this quoted form: by itself, where no part is told, or
-/// by its last part. None where it isn't found by it.
+/// The place of the value, whose quoted form is at hand, where its token of this quoted form begins: that of the value itself, or
+/// of its last part. None where it isn't found by it.
 pub(crate) fn found_by(
     alloc: Global,
     place: (ActionKind, Field),
     value: &str,
     form: &[u8],
     token: &[u8],
-) -> Result<Option<Option<Text>>, AllocError>
+) -> Result<Option<usize>, AllocError>
     requires { form.now ≡ quoted value.now }
-    ensures found { IfOk result (λ found. IfSome found (λ last. Contains (tokens (spec.index_name place.0 place.1) value.now) (unwrap_or last value.now))) }
-    ensures spelled { IfOk result (λ found. IfSome found (λ last. token.now ≡ quoted (unwrap_or last value.now))) }
-    ensures text { IfOk result (λ found. IfSome found (λ last. IsUtf8 (unwrap_or last value.now))) }
+    ensures found { IfOk result (λ found. IfSome found (λ at. Contains (tokens (spec.index_name place.0 place.1) value.now) (drop at value.now))) }
+    ensures spelled { IfOk result (λ found. IfSome found (λ at. token.now ≡ quoted (drop at value.now))) }
+    ensures cut { IfOk result (λ found. IfSome found (IsCharBoundary value.now)) }
     ensures none { IfOk result (λ found. IfNone found ((t : List ℕ) → Contains (tokens (spec.index_name place.0 place.1) value.now) t → token.now ≡ quoted t → ⊥)) }
 {
     if token == form {
-        return Ok(Some(None));
+        return Ok(Some(0));
     }
     if !has_last(place.0, place.1, value) {
         return Ok(None);
     }
     let last = last_part(value);
-    let quoted = quote(alloc, last.as_bytes())?;
+    let quoted = quote(alloc, value[last..].as_bytes())?;
     if quoted.as_str().as_bytes() == token {
-        Ok(Some(Some(Text::new(alloc, last)?)))
+        Ok(Some(last))
     } else {
         Ok(None)
     }

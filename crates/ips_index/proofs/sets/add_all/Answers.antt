@@ -12,15 +12,15 @@ pub loop-row-preserved : goal.loop-row-preserved
 loop-row-preserved c =
     let rows : List IndexedValue = c.args.rows.now in (
       subst (λ (front : List IndexedValue). Grown c.args.set.now.keys front c.insert.new.self) (sym (take_item rows c.loop-row.row-index c.row-item.result c.loop-row-test.true c.row-item.is))
-          (subst (λ (row : IndexedValue). Grown c.args.set.now.keys (take c.loop-row.row-index rows ++ row ∷ []) c.insert.new.self) c.in_ok-copy.ensures (grown_more c.args.set.now.keys (take c.loop-row.row-index rows) c.in_ok-copy.field-0 c.loop-row.set c.insert.new.self c.loop-row.invariant.0 c.in_ok-insert.ensures.updates)),
+          (subst (λ (row : IndexedValue). Grown c.args.set.now.keys (take c.loop-row.row-index rows ++ row ∷ []) c.insert.new.self) c.in_ok-share.ensures (grown_more c.args.set.now.keys (take c.loop-row.row-index rows) c.in_ok-share.field-0 c.loop-row.set c.insert.new.self c.loop-row.invariant.0 c.in_ok-insert.ensures.updates)),
       λ h. c.in_ok-insert.ensures.ordered,
     )
 
-pub returns-in_err-copy-clause-old : goal.returns-in_err-copy-clause-old
-returns-in_err-copy-clause-old c = grown_kept c.args.set.now.keys (take c.loop-row.row-index c.args.rows.now) c.loop-row.set c.loop-row.invariant.0
+pub returns-in_err-share-clause-old : goal.returns-in_err-share-clause-old
+returns-in_err-share-clause-old c = grown_kept c.args.set.now.keys (take c.loop-row.row-index c.args.rows.now) c.loop-row.set c.loop-row.invariant.0
 
-pub returns-in_err-copy-clause-only : goal.returns-in_err-copy-clause-only
-returns-in_err-copy-clause-only c = grown_only c.args.set.now.keys c.args.rows.now c.loop-row.row-index c.loop-row.set c.loop-row.invariant.0
+pub returns-in_err-share-clause-only : goal.returns-in_err-share-clause-only
+returns-in_err-share-clause-only c = grown_only c.args.set.now.keys c.args.rows.now c.loop-row.row-index c.loop-row.set c.loop-row.invariant.0
 
 pub returns-in_err-insert-clause-old : goal.returns-in_err-insert-clause-old
 returns-in_err-insert-clause-old c row h = subst (λ (keys : List IndexedValue). Contains keys row) (sym c.in_err-insert.ensures.err) (grown_kept c.args.set.now.keys (take c.loop-row.row-index c.args.rows.now) c.loop-row.set c.loop-row.invariant.0 row h)

@@ -13,7 +13,7 @@ pub loop-row-preserved : goal.loop-row-preserved
 loop-row-preserved c =
     let seen : List IndexedValue = map (λ (b : Bor IndexedValue). b.now) c.loop-row.yielded in
     subst (λ (front : List IndexedValue). AreListed front c.add.new.stems) (sym (map-append (λ (b : Bor IndexedValue). b.now) c.loop-row.yielded (c.in-Some.row ∷ [])))
-    (subst (λ (row : IndexedValue). AreListed (seen ++ row ∷ []) c.add.new.stems) c.in_ok-copy.ensures (listed_next seen c.in_ok-copy.field-0 c.loop-row.stems c.add.new.stems c.loop-row.invariant c.in_ok-add.ensures))
+    (subst (λ (row : IndexedValue). AreListed (seen ++ row ∷ []) c.add.new.stems) c.in_ok-share.ensures (listed_next seen c.in_ok-share.field-0 c.loop-row.stems c.add.new.stems c.loop-row.invariant c.in_ok-add.ensures))
 
 pub returns : goal.returns
 returns c =

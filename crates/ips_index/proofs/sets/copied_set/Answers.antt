@@ -13,8 +13,8 @@ loop-row-init c = (subst (λ (keys : List IndexedValue). Grown keys [] c.new-cop
 pub loop-row-preserved : goal.loop-row-preserved
 loop-row-preserved c = (
   subst (λ (front : List IndexedValue). Grown [] front c.insert.new.self) (sym (map-append (λ (b : Bor IndexedValue). b.now) c.loop-row.yielded (c.in-Some.row ∷ [])))
-      (subst (λ (row : IndexedValue). Grown [] (map (λ (b : Bor IndexedValue). b.now) c.loop-row.yielded ++ row ∷ []) c.insert.new.self) c.in_ok-copy.ensures
-      (grown_more [] (map (λ (b : Bor IndexedValue). b.now) c.loop-row.yielded) c.in_ok-copy.field-0 c.loop-row.copies c.insert.new.self c.loop-row.invariant.0 c.in_ok-insert.ensures.updates)),
+      (subst (λ (row : IndexedValue). Grown [] (map (λ (b : Bor IndexedValue). b.now) c.loop-row.yielded ++ row ∷ []) c.insert.new.self) c.in_ok-share.ensures
+      (grown_more [] (map (λ (b : Bor IndexedValue). b.now) c.loop-row.yielded) c.in_ok-share.field-0 c.loop-row.copies c.insert.new.self c.loop-row.invariant.0 c.in_ok-insert.ensures.updates)),
   c.in_ok-insert.ensures.ordered,
 )
 
