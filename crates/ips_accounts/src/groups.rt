@@ -12,10 +12,10 @@ ghost use Rattle.ips_accounts.specs.Seen.{tables_seen};
 
 use crate::numbers::number_for;
 use crate::tables::Tables;
-use ips_action::Action;
+use ips_action::{Action, Values};
 use ips_books::{AccountFault, Line, field, join, members_of, with_members};
 use ips_passwd::{Named, Numbered};
-use ips_text::{Or, Text};
+use ips_text::Or;
 use ips_turnover::{number_given, value_of};
 use std::alloc::{AllocError, Global};
 
@@ -76,12 +76,14 @@ pub fn join_groups(
     alloc: Global,
     lines: &mut Numbered,
     user: &str,
-    groups: &[Text],
+    groups: Values<'_>,
 ) -> Result<(), AllocError>
-    ensures { OnOk result (lines.new ≡ spec.in_groups user.now groups.now lines.old) }
+    ensures { OnOk result (lines.new ≡ spec.in_groups user.now groups.entry lines.old) }
 {
-    for group in groups {
-        join_group(alloc, lines, user, group.as_str())?;
+    let mut left = groups;
+    while let Some((group, rest)) = left.split_first() {
+        join_group(alloc, lines, user, group)?;
+        left = rest;
     }
     Ok(())
 }

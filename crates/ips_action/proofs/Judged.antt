@@ -2,7 +2,7 @@
 use Rattle.std.proofs.Common.{◌≡◌, ℕ, Bool, true, false, cond, ◌||◌, List, [], ◌∷◌, ◌++◌, map, Option, refl, ap, subst}
 use Rattle.std.specs.List.{AllByRecursion, list_any, flat_map}
 use Rattle.ips_action.specs.declared.fault.ActionFault.{ActionFault}
-use Rattle.ips_action.specs.declared.attrs.Attr.{Attr}
+use Rattle.ips_action.specs.Attrs.{Attr}
 use Rattle.ips_action.specs.declared.check.Check.TheVariants.{FacetTag}
 use Rattle.ips_action.specs.declared.table.Row as declared
 use Rattle.ips_action.specs.Table.{AttributeRow, row_seen, any_times}

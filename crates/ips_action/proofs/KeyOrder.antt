@@ -7,13 +7,10 @@ use Rattle.std.specs.Cmp.Lexicographic.{slice_cmp, bytes_decides}
 use Rattle.std.specs.FinMap.{slice_cmp-IsAntisymmetric, nat_cmp-IsAntisymmetric}
 use Rattle.std.proofs.lemmas.Cmp.{nat_list_cmp_total, tied_itself}
 use Rattle.ips_action.specs.Attrs.{is_same, IsBefore}
+use Rattle.ips_action.specs.Gathering.{UpTo}
 
 abbrev pub by_bytes : List ℕ → List ℕ → Ordering
 by_bytes = slice_cmp nat_cmp
-
--- the key doesn't come behind the other
-abbrev pub UpTo : List ℕ → List ℕ → Type 0
-UpTo key other = is_gt (by_bytes key other) ≡ false
 
 pub same_true : (a b : List ℕ) → is_same a b ≡ true → a ≡ b
 same_true a b e = (bytes_decides a b).0 e

@@ -4,6 +4,7 @@ pub mod Parts
 pub mod KeyOrder
 pub mod Gathered
 pub mod Found
+pub mod Places
 pub mod Judged
 pub mod Slashes
 pub mod Tabled

@@ -17,7 +17,7 @@ use Rattle.ips_line.specs.Seen.{seen, seen_payload}
 use Rattle.ips_action.specs.declared.kind.ActionKind.{ActionKind}
 use Rattle.ips_action.specs.declared.fault.ActionFault.{ActionFault}
 use Rattle.ips_action.specs.declared.fault.ActionFault.TheVariants.{UnknownAction, BadWord, OpenQuote, MissingKey, BadValue}
-use Rattle.ips_action.specs.declared.attrs.Attr.{Attr}
+use Rattle.ips_action.specs.Attrs.{Attr}
 use Rattle.ips_action.specs.Kind.{kind_name}
 use Rattle.ips_action.specs.Table.{AttributeRow}
 use Rattle.ips_action.specs.Attrs.{is_same, AreAttrs, values_of, values_in, Gathers}

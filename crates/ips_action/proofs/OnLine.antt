@@ -13,7 +13,7 @@ use Rattle.ips_line.specs.Canonical.{payload_text}
 use Rattle.ips_line.proofs.OnLine.{CanStand, CanPair, Plain_byte, can_nil, can_ahead, can_past, plain_blank, can_words, says_can}
 use Rattle.ips_action.specs.declared.kind.ActionKind.{ActionKind}
 use Rattle.ips_action.specs.declared.kind.ActionKind.TheVariants.{Set, Depend, Dir, File, Link, Hardlink, User, Group, Driver, License, Legacy, Signature}
-use Rattle.ips_action.specs.declared.attrs.Attr.{Attr}
+use Rattle.ips_action.specs.Attrs.{Attr}
 use Rattle.ips_action.specs.Kind.{kind_name}
 use Rattle.ips_action.specs.Attrs.{is_same, AreAttrs, values_in, Gathers}
 use Rattle.ips_action.specs.Action.{Fields, IfName, payload_word, pairs_of, pairs_of_one, line_text}

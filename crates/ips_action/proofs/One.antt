@@ -13,14 +13,15 @@ use Rattle.ips_action.specs.declared.kind.ActionKind.{ActionKind}
 use Rattle.ips_action.specs.declared.kind.ActionKind.TheVariants.{Set, Depend, Dir, File, Link, Hardlink, User, Group, Driver, License, Legacy, Signature}
 use Rattle.ips_action.specs.declared.fault.ActionFault.{ActionFault}
 use Rattle.ips_action.specs.declared.fault.ActionFault.TheVariants.{UnknownAction, BadWord, OpenQuote, MissingKey, BadValue}
-use Rattle.ips_action.specs.declared.attrs.Attr.{Attr}
+use Rattle.ips_action.specs.Attrs.{Attr}
 use Rattle.ips_action.specs.Kind.{kind_name}
 use Rattle.ips_action.specs.Table.{AttributeRow}
 use Rattle.ips_action.specs.Attrs.{is_same, IsBefore, AreAttrs, values_of, Gathers}
 use Rattle.ips_action.specs.Judging.{MeetsRow, KeepsRow, Finds, FindsFirst, path_of, standing, rows_of, takes_payload}
 use Rattle.ips_action.specs.Action.{Fields, IfName, IfTaken, payload_word}
 use Rattle.ips_action.specs.Meaning.{held, word_of, IsSaid, IsJudged, IsNotTaken, FaultOf}
-use Rattle.ips_action.proofs.KeyOrder.{by_bytes, same_true, same_self, after_other, before_trans, equal_is, turned}
+use Rattle.ips_action.proofs.Gathered.{later_none, all_later}
+use Rattle.ips_action.proofs.KeyOrder.{by_bytes, same_true, same_self, equal_is, turned}
 
 -- ---- kinds
 
@@ -53,14 +54,6 @@ one_payload (Some m) None ha hb e = absurd cc
 one_payload (Some m) (Some n) ha hb e = let same : spelling m ≡ spelling n = cc in ap (λ (x : PayloadName). Some x) (spelled_once m n ha hb same)
 
 -- ---- attributes
-
-pub later_none : (attrs : List Attr) (key : List ℕ) → AllByRecursion (λ (a : Attr). IsBefore key a.key) attrs → values_of key attrs ≡ []
-later_none [] key h = refl
-later_none (a ∷ attrs) key h = rw (after_other key a.key h.0) (later_none attrs key h.1)
-
-pub all_later : (attrs : List Attr) (a b : List ℕ) → IsBefore a b → AllByRecursion (λ (x : Attr). IsBefore b x.key) attrs → AllByRecursion (λ (x : Attr). IsBefore a x.key) attrs
-all_later [] a b h g = tt
-all_later (x ∷ attrs) a b h g = (before_trans a b x.key h g.0, all_later attrs a b h g.1)
 
 abbrev Alike : List Attr → List Attr → Type 0
 Alike attrs others = (key : List ℕ) → values_of key attrs ≡ values_of key others

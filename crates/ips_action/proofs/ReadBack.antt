@@ -15,7 +15,7 @@ use Rattle.ips_action.specs.declared.kind.ActionKind.{ActionKind}
 use Rattle.ips_action.specs.declared.kind.ActionKind.TheVariants.{Set, Depend, Dir, File, Link, Hardlink, User, Group, Driver, License, Legacy, Signature}
 use Rattle.ips_action.specs.declared.check.Check.{Check}
 use Rattle.ips_action.specs.declared.check.Check.TheVariants.{Anything, Path, Mode, Payload, Preserve, Overlay, LinkTarget, HardlinkTarget, Numbers, Priority, Account, Id, Field, FileName, Flag, FacetTag}
-use Rattle.ips_action.specs.declared.attrs.Attr.{Attr}
+use Rattle.ips_action.specs.Attrs.{Attr}
 use Rattle.ips_action.specs.Kind.{kind_name}
 use Rattle.ips_action.specs.Table.{AttributeRow, table}
 use Rattle.ips_action.specs.Check.{Meets, IsActionPath}
@@ -27,7 +27,8 @@ use Rattle.ips_action.proofs.KeyOrder.{same_true, self_equal}
 use Rattle.ips_action.proofs.Found.{found_at}
 use Rattle.ips_action.proofs.Slashes.{bare_already}
 use Rattle.ips_action.proofs.Spelled.{name_runs}
-use Rattle.ips_action.proofs.One.{one_kind, one_payload, one_list, later_none}
+use Rattle.ips_action.proofs.Gathered.{later_none}
+use Rattle.ips_action.proofs.One.{one_kind, one_payload, one_list}
 use Rattle.ips_text.proofs.Lists.{all_append}
 
 -- ---- the words of a canonical line

@@ -11,7 +11,7 @@ use Rattle.ips_digest.specs.Name.{IsName, AreNameDigits, is_lower_digit, spellin
 use Rattle.ips_digest.proofs.Names.{read_only}
 use Rattle.ips_line.specs.Line.{IsRunOfBytes, in_payload}
 use Rattle.ips_line.specs.Canonical.{pair_text}
-use Rattle.ips_action.specs.declared.attrs.Attr.{Attr}
+use Rattle.ips_action.specs.Attrs.{Attr}
 use Rattle.ips_action.specs.Action.{pairs_of, pairs_of_one, attr_text}
 
 pub low_digit : (b : ℕ) → is_lower_digit b ≡ true → b < 128

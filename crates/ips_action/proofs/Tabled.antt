@@ -4,7 +4,7 @@ use Rattle.std.specs.Prelude.{codes, slice_get, IfNone, IfSome}
 use Rattle.std.specs.List.{AllByRecursion}
 use Rattle.ips_action.specs.declared.kind.ActionKind.{ActionKind}
 use Rattle.ips_action.specs.declared.kind.ActionKind.TheVariants.{Set, Depend, Dir, File, Link, Hardlink, User, Group, Driver, License, Legacy, Signature}
-use Rattle.ips_action.specs.declared.attrs.Attr.{Attr}
+use Rattle.ips_action.specs.Attrs.{Attr}
 use Rattle.ips_action.specs.declared.action.Preserve.{Preserve}
 use Rattle.ips_action.specs.Table.{AttributeRow}
 use Rattle.ips_action.specs.Check.{IsOneOf, preserve_words}

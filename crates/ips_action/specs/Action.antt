@@ -8,7 +8,7 @@ use Rattle.ips_line.specs.Canonical.{words_text, pair_text}
 use Rattle.ips_digest.specs.declared.name.PayloadName.{PayloadName}
 use Rattle.ips_digest.specs.Name.{IsName, spelling}
 use Rattle.ips_action.specs.declared.kind.ActionKind.{ActionKind}
-use Rattle.ips_action.specs.declared.attrs.Attr.{Attr}
+use Rattle.ips_action.specs.Attrs.{Attr}
 use Rattle.ips_action.specs.declared.action.Preserve.{Preserve}
 use Rattle.ips_action.specs.declared.action.Preserve.TheVariants as preserve
 use Rattle.ips_action.specs.Kind.{kind_name}

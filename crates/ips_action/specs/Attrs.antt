@@ -5,7 +5,11 @@ use Rattle.std.specs.declared.cmp.Ordering.TheVariants.{Less}
 use Rattle.std.specs.Ordering.{nat_cmp}
 use Rattle.std.specs.Cmp.Lexicographic.{pointwise, slice_cmp}
 use Rattle.ips_line.specs.declared.words.Pair.{Pair}
-use Rattle.ips_action.specs.declared.attrs.Attr.{Attr}
+
+-- an attribute: a key and its values
+pub record Attr : Type 0 where
+  pub key : List ℕ
+  pub values : List (List ℕ)
 
 -- the keys are the same
 abbrev pub is_same : List ℕ → List ℕ → Bool

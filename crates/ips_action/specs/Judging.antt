@@ -9,7 +9,7 @@ use Rattle.ips_action.specs.declared.table.Times.{Times}
 use Rattle.ips_action.specs.declared.table.Times.TheVariants.{Once, OnceOrMore, AtMostOnce, AnyTimes}
 use Rattle.ips_action.specs.declared.fault.ActionFault.{ActionFault}
 use Rattle.ips_action.specs.declared.fault.ActionFault.TheVariants.{UnknownAction, BadWord, OpenQuote, MissingKey, BadValue}
-use Rattle.ips_action.specs.declared.attrs.Attr.{Attr}
+use Rattle.ips_action.specs.Attrs.{Attr}
 use Rattle.ips_action.specs.Table.{AttributeRow, table, any_times}
 use Rattle.ips_action.specs.Check.{Meets}
 use Rattle.ips_action.specs.Attrs.{values_of}

@@ -27,4 +27,4 @@ known_text known.Type = codes "type"
 -- the bytes of a key
 abbrev pub key_text : Named → List ℕ
 key_text (named.Known k) = known_text k
-key_text (named.Other text) = text
+key_text (named.Other text) = text.value

@@ -2,10 +2,10 @@ pub mod Kind
 pub mod Target
 pub mod Check
 pub mod Table
-pub mod Held
 pub mod Key
 pub mod Attrs
 pub mod Gathering
+pub mod Held
 pub mod Judging
 pub mod Action
 pub mod Meaning

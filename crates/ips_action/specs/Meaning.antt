@@ -11,7 +11,7 @@ use Rattle.ips_action.specs.declared.check.Check.{Check}
 use Rattle.ips_action.specs.declared.check.Check.TheVariants.{Anything, Path, Mode, Payload, Preserve, Overlay, LinkTarget, HardlinkTarget, Numbers, Priority, Account, Id, Field, FileName, Flag, FacetTag}
 use Rattle.ips_action.specs.declared.fault.ActionFault.{ActionFault}
 use Rattle.ips_action.specs.declared.fault.ActionFault.TheVariants.{UnknownAction, BadWord, OpenQuote, MissingKey, BadValue}
-use Rattle.ips_action.specs.declared.attrs.Attr.{Attr}
+use Rattle.ips_action.specs.Attrs.{Attr}
 use Rattle.ips_action.specs.Kind.{kind_name}
 use Rattle.ips_action.specs.Table.{AttributeRow, table}
 use Rattle.ips_action.specs.Attrs.{is_same, AreAttrs, Gathers}

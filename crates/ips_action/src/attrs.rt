@@ -1,178 +1,71 @@
 //! Attributes: keys with their values.
 
-ghost use Rattle.std.specs.Prelude.{◌≡◌, ◌≤◌, ◌++◌, ◌∷◌, [], IfOk, OnOk, IfSome, IfNone, Some, None, length, slice_get};
+ghost use Rattle.std.specs.Prelude.{◌≡◌, ◌≤◌, ◌++◌, ◌∷◌, [], IfOk, OnOk, IfSome, IfNone, Some, MatchOption, length, slice_get, string_bytes};
+ghost use Rattle.std.specs.List.{slice_range};
+ghost use Rattle.std.specs.Str.{IsUtf8};
+ghost use Rattle.std.specs.Ordering.{nat_cmp};
+ghost use Rattle.std.specs.Cmp.Lexicographic.{slice_cmp};
 ghost use Rattle.ips_action.specs.Attrs.{AreAttrs, Gathers, values_of};
-ghost use Rattle.ips_action.specs.Gathering as gathering;
+ghost use Rattle.ips_action.specs.Gathering.{Ascend, grouped};
+ghost use Rattle.ips_action.specs.Held.{IsHeld, attrs_at, slot_behind};
 
 use crate::key::Key;
+use crate::values::{Slot, Values, run_of};
 use ips_line::Pair;
 use ips_text::Text;
 use std::alloc::{AllocError, Global};
+use std::cmp::Ordering;
 use std::marker::Model;
-use std::slice;
-
-/// The values of an attribute, in their order. A single one takes no room for a list. Contracts see them as a list of texts.
-#[derive(Drop)]
-pub struct Values {
-    held: Held,
-}
-
-/// How values are held.
-#[derive(Drop)]
-pub enum Held {
-    /// One value.
-    One(Text),
-    /// Any number of them.
-    List(Vec<Text>),
-}
-
-impl Model for Values {
-    ghost use Rattle.std.specs.Prelude.{List, ℕ};
-    ghost use Rattle.ips_action.specs.Held.{held_values};
-
-    ghost Value = { List (List ℕ) };
-
-    ghost view = { λ v. held_values v.held };
-}
-
-impl Values {
-    /// One value.
-    pub fn one(value: Text) -> Values
-        ensures { result ≡ value ∷ [] }
-    {
-        Values {
-            held: Held::One(value),
-        }
-    }
-
-    /// The values, and one more behind them.
-    pub fn with_more(self, alloc: Global, value: Text) -> Result<Values, AllocError>
-        ensures { IfOk result (λ values. values ≡ self ++ value ∷ []) }
-    {
-        let items = match self.held {
-            Held::One(first) => pair(alloc, first, value)?,
-            Held::List(items) => pushed(items, value)?,
-        };
-        Ok(Values {
-            held: Held::List(items),
-        })
-    }
-
-    /// The values.
-    pub fn as_slice(&self) -> &[Text]
-        ensures { result.now ≡ self.now }
-    {
-        match &self.held {
-            Held::One(value) => slice::from_ref(value),
-            Held::List(items) => items.as_slice(),
-        }
-    }
-
-    /// The same values.
-    pub fn copy(&self, alloc: Global) -> Result<Values, AllocError>
-        ensures { IfOk result (λ values. values ≡ self.now) }
-    {
-        match &self.held {
-            Held::One(value) => Ok(Values::one(value.copy(alloc)?)),
-            Held::List(items) => Ok(Values {
-                held: Held::List(copy_texts(alloc, items)?),
-            }),
-        }
-    }
-}
-
-// A list of two values.
-fn pair(alloc: Global, first: Text, second: Text) -> Result<Vec<Text>, AllocError>
-    ensures { IfOk result (λ items. items.items ≡ first ∷ second ∷ []) }
-{
-    let mut items = Vec::with_capacity(alloc, 2)?;
-    items.push(first)?;
-    items.push(second)?;
-    Ok(items)
-}
-
-// The list with one more value.
-fn pushed(items: Vec<Text>, value: Text) -> Result<Vec<Text>, AllocError>
-    ensures { IfOk result (λ more. more.items ≡ items.items ++ value ∷ []) }
-{
-    let mut items = items;
-    items.push(value)?;
-    Ok(items)
-}
-
-fn copy_texts(alloc: Global, texts: &[Text]) -> Result<Vec<Text>, AllocError>
-    ensures { IfOk result (λ copies. copies.items ≡ texts.now) }
-{
-    let mut copies = Vec::with_capacity(alloc, texts.len())?;
-    for text in texts {
-        copies.push(text.copy(alloc)?)?;
-    }
-    Ok(copies)
-}
-
-/// An attribute of an action: a key and its values.
-#[derive(Drop)]
-pub struct Attr {
-    /// The key.
-    pub key: Key,
-    /// Its values, in the order in which they were given.
-    pub values: Values,
-}
-
-impl Attr {
-    /// An attribute of the same key and values.
-    pub fn copy(&self, alloc: Global) -> Result<Attr, AllocError>
-        ensures { IfOk result (λ attr. attr ≡ self.now) }
-    {
-        Ok(Attr {
-            key: self.key.copy(alloc)?,
-            values: self.values.copy(alloc)?,
-        })
-    }
-}
 
 /// The attributes of an action by the bytes of their keys: each key once, with at least one value. Contracts see them as a
-/// list.
+/// list. The values of all stand in one text, of less than 4 GiB.
 #[derive(Drop)]
 pub struct Attrs {
-    list: Vec<Attr>,
+    slots: Vec<Slot>,
+    text: Text,
 }
 
 impl Model for Attrs {
     ghost use Rattle.std.specs.Prelude.{List};
-    ghost use Rattle.ips_action.specs.declared.attrs.Attr.{Attr};
-    ghost use Rattle.ips_action.specs.Attrs.{AreAttrs};
+    ghost use Rattle.ips_action.specs.Attrs.{Attr};
+    ghost use Rattle.ips_action.specs.Held.{attrs_at, IsHeld};
 
     ghost Value = { List Attr };
 
-    ghost view = { λ a. a.list.items };
+    ghost view = { λ a. attrs_at a.text a.slots.items };
 
-    ghost invariant = { λ a. AreAttrs a.list.items };
+    ghost invariant = { λ a. IsHeld a.text a.slots.items };
 }
 
 impl Attrs {
-    /// The attributes that `key=value` give: the values of a key stand in the order of theirs.
+    /// The attributes that `key=value` give: the values of a key stand in the order of theirs. Values of 4 GiB together are
+    /// refused as those that memory doesn't suffice for.
     pub fn gather(alloc: Global, pairs: Vec<Pair>) -> Result<Attrs, AllocError>
         ensures attrs { IfOk result (λ attrs. AreAttrs attrs) }
         ensures gathers { IfOk result (λ attrs. Gathers pairs.items attrs) }
     {
-        let list = gather(alloc, pairs)?;
-        Ok(Attrs { list })
+        let mut sorted = pairs;
+        sorted.sort_by(|a, b| a.key.cmp(&b.key))?;
+        let attrs = held(alloc, sorted)?;
+        Ok(attrs)
     }
 
     /// The attributes, by the bytes of their keys.
-    pub fn list(&self) -> &[Attr]
-        ensures value { result.now ≡ self.now }
+    pub fn list(&self) -> AttrList<'_>
+        ensures value { result ≡ self.now }
         ensures attrs { AreAttrs self.now }
     {
-        &self.list
+        AttrList {
+            slots: &self.slots,
+            text: self.text.as_str(),
+        }
     }
 
     /// The values of the key; none where it doesn't stand.
-    pub fn values(&self, name: &str) -> &[Text]
-        ensures { result.now ≡ values_of name.now self.now }
+    pub fn values(&self, name: &str) -> Values<'_>
+        ensures { result ≡ values_of name.now self.now }
     {
-        find(&self.list, name)
+        of_key(self.text.as_str(), &self.slots, name)
     }
 
     /// The first value of the key, or None where it doesn't stand.
@@ -195,107 +88,173 @@ impl Attrs {
         ensures some { IfSome result (λ value. slice_get (values_of name.now self.now) i ≡ Some value.now) }
         ensures none { IfNone result (length (values_of name.now self.now) ≤ i) }
     {
-        match self.values(name).get(i) {
-            Some(value) => Some(value.as_str()),
-            None => None,
-        }
+        self.values(name).get(i)
     }
 
     /// The same attributes.
     pub fn copy(&self, alloc: Global) -> Result<Attrs, AllocError>
         ensures { IfOk result (λ attrs. attrs ≡ self.now) }
     {
-        copy_attrs(alloc, &self.list)
+        let slots = copy_slots(alloc, &self.slots)?;
+        let text = self.text.copy(alloc)?;
+        Ok(Attrs { slots, text })
     }
 }
 
-fn copy_attrs(alloc: Global, attrs: &[Attr]) -> Result<Attrs, AllocError>
-    requires { AreAttrs attrs.now }
-    ensures { IfOk result (λ copies. copies ≡ attrs.now) }
+// The values of the key among those at these places of the text.
+fn of_key<'a>(text: &'a str, slots: &'a [Slot], name: &str) -> Values<'a>
+    requires { IsHeld text.now slots.now }
+    ensures { result ≡ values_of name.now (attrs_at text.now slots.now) }
 {
-    let list = copy_list(alloc, attrs)?;
-    Ok(Attrs { list })
+    let first = slots.partition_point(|slot| to_name(slot, name).is_lt());
+    let behind = slots.partition_point(|slot| !to_name(slot, name).is_gt());
+    Values::new(part(slots, first, behind), text)
 }
 
-fn copy_list(alloc: Global, attrs: &[Attr]) -> Result<Vec<Attr>, AllocError>
-    ensures { IfOk result (λ copies. copies.items ≡ attrs.now) }
+// How the key of a place stands to a name.
+fn to_name(slot: &Slot, name: &str) -> Ordering
+    ensures { result ≡ slice_cmp nat_cmp slot.now.key name.now }
 {
-    let mut copies = Vec::with_capacity(alloc, attrs.len())?;
-    for attr in attrs {
-        copies.push(attr.copy(alloc)?)?;
+    slot.key.as_str().as_bytes().cmp(name.as_bytes())
+}
+
+fn part(slots: &[Slot], first: usize, behind: usize) -> &[Slot]
+    requires order { first ≤ behind }
+    requires bound { behind ≤ length slots.now }
+    ensures { result.now ≡ slice_range slots.now first behind }
+{
+    &slots[first..behind]
+}
+
+fn copy_slots(alloc: Global, slots: &[Slot]) -> Result<Vec<Slot>, AllocError>
+    ensures { IfOk result (λ copies. copies.items ≡ slots.now) }
+{
+    let mut copies = Vec::with_capacity(alloc, slots.len())?;
+    for slot in slots {
+        copies.push(slot.copy(alloc)?)?;
     }
     Ok(copies)
 }
 
-// The values of the key in a list that stands by keys.
-fn find<'a>(attrs: &'a [Attr], name: &str) -> &'a [Text]
-    requires { AreAttrs attrs.now }
-    ensures { result.now ≡ values_of name.now attrs.now }
-{
-    match attrs.binary_search_by(|attr| attr.key.as_str().as_bytes().cmp(name.as_bytes())) {
-        Ok(i) => attrs[i].values.as_slice(),
-        Err(_) => &[],
-    }
-}
-
-fn gather(alloc: Global, pairs: Vec<Pair>) -> Result<Vec<Attr>, AllocError>
-    ensures attrs { IfOk result (λ attrs. AreAttrs attrs.items) }
-    ensures gathers { IfOk result (λ attrs. Gathers pairs.items attrs.items) }
-{
-    let mut sorted = pairs;
-    sorted.sort_by(|a, b| a.key.cmp(&b.key))?;
-    let attrs = gather_sorted(alloc, sorted)?;
-    Ok(attrs)
-}
-
 // The attributes of `key=value` that stand by their keys.
-#[tactic(auto, using(crate::proofs::Gathered::gathered_push))]
-fn gather_sorted(alloc: Global, pairs: Vec<Pair>) -> Result<Vec<Attr>, AllocError>
-    ensures { IfOk result (λ attrs. attrs.items ≡ gathering.gathered [] pairs.items) }
+#[tactic(auto, using(crate::proofs::Places::filled_push))]
+fn held(alloc: Global, pairs: Vec<Pair>) -> Result<Attrs, AllocError>
+    requires { Ascend pairs.items }
+    ensures { IfOk result (λ attrs. attrs ≡ grouped pairs.items) }
 {
-    let mut attrs = Vec::new(alloc);
+    let mut slots = Vec::with_capacity(alloc, pairs.len())?;
+    let mut text = String::new(alloc);
     for pair in pairs {
-        add(alloc, &mut attrs, pair)?;
+        add(alloc, &mut slots, &mut text, pair)?;
     }
-    attrs.shrink_to_fit();
-    Ok(attrs)
+    text.shrink_to_fit();
+    Ok(Attrs {
+        slots,
+        text: Text::from_string(text),
+    })
 }
 
-// Adds a value to the last attribute, where it is of this key, or else an attribute behind it.
-fn add(alloc: Global, attrs: &mut Vec<Attr>, pair: Pair) -> Result<(), AllocError>
-    ensures { OnOk result (attrs.new.items ≡ gathering.added attrs.old.items pair) }
+// Adds a value behind all others.
+fn add(
+    alloc: Global,
+    slots: &mut Vec<Slot>,
+    text: &mut String,
+    pair: Pair,
+) -> Result<(), AllocError>
+    ensures text { OnOk result (string_bytes text.new ≡ string_bytes text.old ++ pair.value) }
+    ensures slots { OnOk result (slots.new.items ≡ slots.old.items ++ slot_behind (string_bytes text.old) pair ∷ []) }
+    ensures utf8 { OnOk result (IsUtf8 pair.value) }
 {
     let Pair { key, value } = pair;
-    match attrs.pop() {
-        None => attrs.push(single(key, value))?,
-        Some(last) if last.key.as_str() == key.as_str() => attrs.push(with_value(
-            alloc, last, value,
-        )?)?,
-        Some(last) => {
-            attrs.push(last)?;
-            attrs.push(single(key, value))?;
-        }
-    }
+    let start = place(text.len())?;
+    text.push_str(value.as_str())?;
+    let end = place(text.len())?;
+    let key = Key::new(alloc, key)?;
+    slots.push(Slot { key, start, end })?;
     Ok(())
 }
 
-// An attribute with one value.
-fn single(key: Text, value: Text) -> Attr
-    ensures { result ≡ gathering.single (record { key = key; value = value }) }
+// A place in the text of all values.
+fn place(len: usize) -> Result<u32, AllocError>
+    ensures { IfOk result (λ place. place ≡ len) }
 {
-    Attr {
-        key: Key::new(key),
-        values: Values::one(value),
+    match u32::try_from(len) {
+        Ok(place) => Ok(place),
+        Err(_) => Err(AllocError),
     }
 }
 
-// The attribute with one more value.
-fn with_value(alloc: Global, attr: Attr, value: Text) -> Result<Attr, AllocError>
-    ensures { IfOk result (λ more. more ≡ record { key = attr.key; values = attr.values ++ value ∷ [] }) }
-{
-    let Attr { key, values } = attr;
-    Ok(Attr {
-        key,
-        values: values.with_more(alloc, value)?,
-    })
+/// Attributes that stand by the bytes of their keys, lent. Contracts see them as a list.
+#[derive(Drop)]
+pub struct AttrList<'a> {
+    slots: &'a [Slot],
+    text: &'a str,
+}
+
+impl<'a> Model for AttrList<'a> {
+    ghost use Rattle.std.specs.Prelude.{List};
+    ghost use Rattle.ips_action.specs.Attrs.{Attr};
+    ghost use Rattle.ips_action.specs.Held.{attrs_at, IsHeld};
+
+    ghost Value = { List Attr };
+
+    ghost view = { λ l. attrs_at l.text.now l.slots.now };
+
+    ghost invariant = { λ l. IsHeld l.text.now l.slots.now };
+}
+
+impl<'a> AttrList<'a> {
+    /// The first attribute, and those behind it; None where there is none.
+    pub fn split_first(&self) -> Option<(Attr<'a>, AttrList<'a>)>
+        ensures { MatchOption result (self.now ≡ []) (λ x. self.now ≡ x.0 ∷ x.1) }
+    {
+        let first = self.slots.first()?;
+        let (of_key, behind) = self.slots.split_at(run_of(first.key.as_str(), self.slots));
+        let attr = Attr {
+            key: &first.key,
+            slots: of_key,
+            text: self.text,
+        };
+        let rest = AttrList {
+            slots: behind,
+            text: self.text,
+        };
+        Some((attr, rest))
+    }
+}
+
+/// An attribute of an action, lent: a key and its values.
+#[derive(Drop)]
+pub struct Attr<'a> {
+    key: &'a Key,
+    slots: &'a [Slot],
+    text: &'a str,
+}
+
+impl<'a> Model for Attr<'a> {
+    ghost use Rattle.std.specs.List.{AllByRecursion};
+    ghost use Rattle.ips_action.specs.Attrs as spec;
+    ghost use Rattle.ips_action.specs.Held.{values_at, IsPlaced};
+
+    ghost Value = { spec.Attr };
+
+    ghost view = { λ a. record { key = a.key.now; values = values_at a.text.now a.slots.now } };
+
+    ghost invariant = { λ a. AllByRecursion (IsPlaced a.text.now) a.slots.now };
+}
+
+impl<'a> Attr<'a> {
+    /// The key.
+    pub fn key(&self) -> &'a str
+        ensures { result.now ≡ self.now.key }
+    {
+        self.key.as_str()
+    }
+
+    /// Its values, in the order in which they were given.
+    pub fn values(&self) -> Values<'a>
+        ensures { result ≡ self.now.values }
+    {
+        Values::new(self.slots, self.text)
+    }
 }

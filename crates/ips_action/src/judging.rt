@@ -5,16 +5,17 @@ ghost use Rattle.std.specs.List.{AllByRecursion, list_any};
 ghost use Rattle.std.specs.Option.{option_map};
 ghost use Rattle.ips_text.specs.Reading.{IfBad};
 ghost use Rattle.ips_action.specs.Table.{AttributeRow as DefinedRow, row_seen};
-ghost use Rattle.ips_action.specs.declared.attrs.Attr.{Attr as DefinedAttr};
+ghost use Rattle.ips_action.specs.Attrs.{Attr as DefinedAttr};
 ghost use Rattle.ips_action.specs.Check.{Meets};
 ghost use Rattle.ips_action.specs.Judging as judging;
 ghost use Rattle.ips_action.specs.Judging.{MeetsRow, KeepsRow, Finds, FindsFirst, facet_rows, rows_of};
 
-use crate::attrs::{Attr, Attrs};
+use crate::attrs::Attrs;
 use crate::check::{Check, meets};
 use crate::fault::ActionFault;
 use crate::kind::ActionKind;
 use crate::table::{Row, Times, rows};
+use crate::values::Values;
 use ips_digest::PayloadName;
 use ips_text::{Or, Text};
 use std::alloc::{AllocError, Global};
@@ -90,27 +91,29 @@ fn judge_facets(alloc: Global, payload: Option<&str>, attrs: &Attrs) -> Result<(
     ensures kept { OnOk result (AllByRecursion (KeepsRow (option_map (λ w. w.now) payload.entry) attrs.now) (facet_rows attrs.now)) }
     ensures fault { IfBad result (λ fault. FindsFirst (option_map (λ w. w.now) payload.entry) attrs.now (facet_rows attrs.now) fault) }
 {
-    for attr in attrs.list() {
-        judge_tag(alloc, payload, attrs, attr)?;
+    let mut left = attrs.list();
+    while let Some((attr, rest)) = left.split_first() {
+        judge_tag(alloc, payload, attrs, attr.key())?;
+        left = rest;
     }
     Ok(())
 }
 
-// The fault of an attribute that is a facet's tag.
+// The fault of the attribute of a key that is a facet's tag.
 fn judge_tag(
     alloc: Global,
     payload: Option<&str>,
     attrs: &Attrs,
-    attr: &Attr,
+    key: &str,
 ) -> Result<(), Or<ActionFault>>
-    ensures kept { OnOk result (AllByRecursion (KeepsRow (option_map (λ w. w.now) payload.entry) attrs.now) (facet_rows (attr.now ∷ []))) }
-    ensures fault { IfBad result (λ fault. FindsFirst (option_map (λ w. w.now) payload.entry) attrs.now (facet_rows (attr.now ∷ [])) fault) }
+    ensures kept { OnOk result (AllByRecursion (KeepsRow (option_map (λ w. w.now) payload.entry) attrs.now) (facet_rows (record { key = key.now; values = [] } ∷ []))) }
+    ensures fault { IfBad result (λ fault. FindsFirst (option_map (λ w. w.now) payload.entry) attrs.now (facet_rows (record { key = key.now; values = [] } ∷ [])) fault) }
 {
-    if !is_facet(attr.key.as_str()) {
+    if !is_facet(key) {
         return Ok(());
     }
     let row = Row {
-        name: attr.key.as_str(),
+        name: key,
         times: Times::AnyTimes,
         check: Check::FacetTag,
     };
@@ -165,11 +168,11 @@ fn judge_payload(alloc: Global, payload: Option<&str>, row: &Row<'_>) -> Result<
 fn judge_values(
     alloc: Global,
     path: &str,
-    values: &[Text],
+    values: Values<'_>,
     row: &Row<'_>,
 ) -> Result<(), Or<ActionFault>>
-    ensures kept { OnOk result (MeetsRow path.now values.now (row_seen row.now)) }
-    ensures fault { IfBad result (λ fault. Finds path.now values.now (row_seen row.now) fault) }
+    ensures kept { OnOk result (MeetsRow path.now values.entry (row_seen row.now)) }
+    ensures fault { IfBad result (λ fault. Finds path.now values.entry (row_seen row.now) fault) }
 {
     if values.len() < row.times.least() {
         return missing(alloc, row.name);
@@ -184,13 +187,15 @@ fn judge_values(
 }
 
 // Whether each value is what the check asks for, in an action at this path.
-fn all_meet(alloc: Global, check: Check, path: &str, values: &[Text]) -> Result<bool, AllocError>
-    ensures { IfOk result (λ all. IsTrue all ↔ AllByRecursion (Meets check path.now) values.now) }
+fn all_meet(alloc: Global, check: Check, path: &str, values: Values<'_>) -> Result<bool, AllocError>
+    ensures { IfOk result (λ all. IsTrue all ↔ AllByRecursion (Meets check path.now) values.entry) }
 {
-    for value in values {
-        if !meets(alloc, check, path, value.as_str())? {
+    let mut left = values;
+    while let Some((value, rest)) = left.split_first() {
+        if !meets(alloc, check, path, value)? {
             return Ok(false);
         }
+        left = rest;
     }
     Ok(true)
 }

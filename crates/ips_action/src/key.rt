@@ -22,7 +22,7 @@ pub enum Named {
     /// One that stands in many actions.
     Known(Known),
     /// Any other, as its text.
-    Other(Text),
+    Other(Box<Text>),
 }
 
 /// A key that stands in many actions (pkg(7), "Actions").
@@ -73,14 +73,14 @@ impl Model for Key {
 
 impl Key {
     /// The key of this text, which isn't copied.
-    pub fn new(text: Text) -> Key
-        ensures { result ≡ text }
+    pub fn new(alloc: Global, text: Text) -> Result<Key, AllocError>
+        ensures { IfOk result (λ key. key ≡ text) }
     {
         let held = match Known::named(text.as_str()) {
             Some(known) => Named::Known(known),
-            None => Named::Other(text),
+            None => Named::Other(Box::new(alloc, text)?),
         };
-        Key { held }
+        Ok(Key { held })
     }
 
     /// The key as a `&str`.
@@ -99,7 +99,7 @@ impl Key {
     {
         let held = match &self.held {
             Named::Known(known) => Named::Known(*known),
-            Named::Other(text) => Named::Other(text.copy(alloc)?),
+            Named::Other(text) => Named::Other(Box::new(alloc, text.copy(alloc)?)?),
         };
         Ok(Key { held })
     }

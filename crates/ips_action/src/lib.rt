@@ -16,9 +16,10 @@ mod printing;
 mod reading;
 mod table;
 mod target;
+mod values;
 
 pub use action::{Action, Preserve};
-pub use attrs::{Attr, Attrs, Values};
+pub use attrs::{Attr, AttrList, Attrs};
 pub use check::Check;
 pub use fault::ActionFault;
 pub use judging::takes_payload;
@@ -28,3 +29,4 @@ pub use printing::{actions_read_back, print_line};
 pub use reading::parse_line;
 pub use table::{Row, Times, rows};
 pub use target::leads_to;
+pub use values::Values;

@@ -7,7 +7,7 @@ ghost use Rattle.ips_action.specs.Action.{line_text, attr_text, payload_word, If
 ghost use Rattle.ips_action.specs.Meaning.{Means};
 
 use crate::action::Action;
-use crate::attrs::Attr;
+use crate::attrs::{Attr, AttrList};
 use ips_digest::PayloadName;
 use ips_line::{push_pair, push_payload};
 use ips_text::Text;
@@ -43,21 +43,25 @@ fn push_name(out: &mut String, payload: &Option<PayloadName>) -> Result<(), Allo
 }
 
 // Writes each attribute.
-fn push_attrs(out: &mut String, attrs: &[Attr]) -> Result<(), AllocError>
-    ensures { OnOk result (string_bytes out.new ≡ string_bytes out.old ++ flat_map attr_text attrs.now) }
+fn push_attrs(out: &mut String, attrs: AttrList<'_>) -> Result<(), AllocError>
+    ensures { OnOk result (string_bytes out.new ≡ string_bytes out.old ++ flat_map attr_text attrs.entry) }
 {
-    for attr in attrs {
-        push_values(out, attr.key.as_str(), attr.values.as_slice())?;
+    let mut left = attrs;
+    while let Some((attr, rest)) = left.split_first() {
+        push_values(out, &attr)?;
+        left = rest;
     }
     Ok(())
 }
 
 // Writes a `key=value` for each value.
-fn push_values(out: &mut String, key: &str, values: &[Text]) -> Result<(), AllocError>
-    ensures { OnOk result (string_bytes out.new ≡ string_bytes out.old ++ attr_text (record { key = key.now; values = values.now })) }
+fn push_values(out: &mut String, attr: &Attr<'_>) -> Result<(), AllocError>
+    ensures { OnOk result (string_bytes out.new ≡ string_bytes out.old ++ attr_text attr.now) }
 {
-    for value in values {
-        push_pair(out, key, value.as_str())?;
+    let mut left = attr.values();
+    while let Some((value, rest)) = left.split_first() {
+        push_pair(out, attr.key(), value)?;
+        left = rest;
     }
     Ok(())
 }

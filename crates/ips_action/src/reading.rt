@@ -8,7 +8,7 @@ ghost use Rattle.ips_line.specs.declared.words.Pair as line_pair;
 ghost use Rattle.ips_line.specs.Line.{IsRunOfBytes, in_key};
 ghost use Rattle.ips_line.specs.Seen.{seen};
 ghost use Rattle.ips_digest.specs.Name.{AreNameDigits};
-ghost use Rattle.ips_action.specs.declared.attrs.Attr.{Attr};
+ghost use Rattle.ips_action.specs.Attrs.{Attr};
 ghost use Rattle.ips_action.specs.declared.fault.ActionFault as faults;
 ghost use Rattle.ips_action.specs.Attrs.{AreAttrs, Gathers};
 ghost use Rattle.ips_action.specs.Judging.{FindsFirst, rows_of};

@@ -1,5 +1,5 @@
 -- Sets of texts, as they grow.
-use Rattle.std.proofs.Common.{◌≡◌, ◌⊎◌, inl, inr, ℕ, ◌+◌, ◌<◌, ◌≤◌, Bool, true, false, not, cond, List, [], ◌∷◌, length, take, get_or, refl, sym, ◌∙◌, subst, arith, codes}
+use Rattle.std.proofs.Common.{◌≡◌, ◌⊎◌, inl, inr, ℕ, ◌+◌, ◌<◌, ◌≤◌, Bool, true, false, not, cond, List, [], ◌∷◌, ◌++◌, length, take, get_or, refl, sym, ap, ◌∙◌, subst, append_assoc, arith, codes}
 use Rattle.std.specs.Prelude.{◌↔◌, Contains, Result, Ok, Err, OnOk}
 use Rattle.std.specs.declared.cmp.Ordering.{Ordering}
 use Rattle.std.specs.declared.cmp.Ordering.TheVariants.{Less, Equal, Greater}
@@ -8,7 +8,7 @@ use Rattle.std.specs.Cmp.Lexicographic.{slice_cmp}
 use Rattle.std.specs.BTreeSet.{contains, Updates}
 use Rattle.std.proofs.lemmas.Bool.{true≢false, false≢true}
 use Rattle.std.proofs.lemmas.Cmp.{nat_list_cmp_total}
-use Rattle.std.proofs.lemmas.List.{take_all}
+use Rattle.std.proofs.lemmas.List.{take_all, append-nil}
 use Rattle.std.proofs.lemmas.List.Elements.{Contains-append_left, Contains-push, Contains-push_cases}
 use Rattle.std.proofs.lemmas.Map.Views.{btree_set_contains_iff}
 use Rattle.ips_text.proofs.Lists.{take_item}
@@ -49,11 +49,14 @@ module _ {X : Type 0} (P : X → List ℕ → Type 0) where
   none_gives : (text : List ℕ) → Gives P [] text → ⊥
   none_gives text w = absurd (omega (arith, w.1.1))
 
-  gives_more : (xs : List X) (i : ℕ) (x : X) → i < length xs → x ≡ get_or xs i x → (text : List ℕ) → Gives P (take (i + 1) xs) text ↔ (Gives P (take i xs) text ⊎ P x text)
-  gives_more xs i x lt e text = subst (λ (front : List X). Gives P front text ↔ (Gives P (take i xs) text ⊎ P x text)) (sym (take_item xs i x lt e)) (
-    λ w. elim (Contains-push_cases (take i xs) x w.0 w.1) [ inl in_front ↦ inl (w.0, in_front, w.2) | inr last ↦ inr (subst (λ (y : X). P y text) (sym last) w.2) ],
-    λ w. elim w [ inl g ↦ (g.0, Contains-append_left (take i xs) (x ∷ []) g.0 g.1, g.2) | inr p ↦ (x, Contains-push (take i xs) x, p) ],
+  gives_push : (front : List X) (x : X) (text : List ℕ) → Gives P (front ++ x ∷ []) text ↔ (Gives P front text ⊎ P x text)
+  gives_push front x text = (
+    λ w. elim (Contains-push_cases front x w.0 w.1) [ inl in_front ↦ inl (w.0, in_front, w.2) | inr last ↦ inr (subst (λ (y : X). P y text) (sym last) w.2) ],
+    λ w. elim w [ inl g ↦ (g.0, Contains-append_left front (x ∷ []) g.0 g.1, g.2) | inr p ↦ (x, Contains-push front x, p) ],
   )
+
+  gives_more : (xs : List X) (i : ℕ) (x : X) → i < length xs → x ≡ get_or xs i x → (text : List ℕ) → Gives P (take (i + 1) xs) text ↔ (Gives P (take i xs) text ⊎ P x text)
+  gives_more xs i x lt e text = subst (λ (front : List X). Gives P front text ↔ (Gives P (take i xs) text ⊎ P x text)) (sym (take_item xs i x lt e)) (gives_push (take i xs) x text)
 
   pub set_none : (set : TextSet) → set.keys ≡ [] → IsSetOf (Gives P []) set
   set_none set e text = (λ h. let w = subst (λ (keys : List (List ℕ)). Contains keys text) e h in absurd (omega (arith, w.1)), λ w. absurd (none_gives text w))
@@ -71,15 +74,38 @@ module _ {X : Type 0} (P : X → List ℕ → Type 0) where
   pub grown_none : (set : TextSet) → IsGrown (Gives P []) set set
   grown_none set text = (λ h. inl h, λ w. elim w [ inl h ↦ h | inr g ↦ absurd (none_gives text g) ])
 
-  pub grown_more : (xs : List X) (i : ℕ) (x : X) (first old new : TextSet) → i < length xs → x ≡ get_or xs i x → IsGrown (Gives P (take i xs)) first old → IsGrown (P x) old new → IsGrown (Gives P (take (i + 1) xs)) first new
-  grown_more xs i x first old new lt e so_far grown text =
-      let more = gives_more xs i x lt e text in (
+  grown_push : (front : List X) (x : X) (first old new : TextSet) → IsGrown (Gives P front) first old → IsGrown (P x) old new → IsGrown (Gives P (front ++ x ∷ [])) first new
+  grown_push front x first old new so_far grown text =
+      let more = gives_push front x text in (
         λ h. elim ((grown text).0 h) [ inl had ↦ elim ((so_far text).0 had) [ inl a ↦ inl a | inr g ↦ inr (more.1 (inl g)) ] | inr p ↦ inr (more.1 (inr p)) ],
         λ w. (grown text).1 (elim w [ inl a ↦ inl ((so_far text).1 (inl a)) | inr g ↦ elim (more.0 g) [ inl before ↦ inl ((so_far text).1 (inr before)) | inr p ↦ inr p ] ]),
       )
 
+  pub grown_more : (xs : List X) (i : ℕ) (x : X) (first old new : TextSet) → i < length xs → x ≡ get_or xs i x → IsGrown (Gives P (take i xs)) first old → IsGrown (P x) old new → IsGrown (Gives P (take (i + 1) xs)) first new
+  grown_more xs i x first old new lt e so_far grown = subst (λ (front : List X). IsGrown (Gives P front) first new) (sym (take_item xs i x lt e)) (grown_push (take i xs) x first old new so_far grown)
+
   pub grown_done : (xs : List X) (i : ℕ) (first set : TextSet) → length xs ≤ i → IsGrown (Gives P (take i xs)) first set → IsGrown (Gives P xs) first set
   grown_done xs i first set past all = subst (λ (front : List X). IsGrown (Gives P front) first set) (take_all i xs past) all
+
+  -- the set has what the items before those that are left give
+  pub record HasGrown (xs left : List X) (first set : TextSet) : Type 0 where
+    pub front : List X
+    pub parts : xs ≡ front ++ left
+    pub grown : IsGrown (Gives P front) first set
+
+  pub none_left_out : (xs : List X) (set : TextSet) → HasGrown xs xs set set
+  none_left_out xs set = record { front = []; parts = refl; grown = grown_none set }
+
+  pub one_taken : (xs left rest : List X) (x : X) (first old new : TextSet) → HasGrown xs left first old → left ≡ x ∷ rest → IsGrown (P x) old new → HasGrown xs rest first new
+  one_taken xs left rest x first old new so_far next grown = record {
+    front = so_far.front ++ x ∷ [];
+    parts = so_far.parts ∙ ap (λ (l : List X). so_far.front ++ l) next ∙ sym (append_assoc so_far.front (x ∷ []) rest);
+    grown = grown_push so_far.front x first old new so_far.grown grown;
+  }
+
+  pub all_taken : (xs left : List X) (first set : TextSet) → HasGrown xs left first set → left ≡ [] → IsGrown (Gives P xs) first set
+  all_taken xs left first set so_far end =
+      subst (λ (l : List X). IsGrown (Gives P l) first set) (sym (so_far.parts ∙ ap (λ (l : List X). so_far.front ++ l) end ∙ append-nil so_far.front)) so_far.grown
 
 -- what holds of the same texts
 pub grown_same : (P Q : List ℕ → Type 0) (old new : TextSet) → ((text : List ℕ) → P text → Q text) → ((text : List ℕ) → Q text → P text) → IsGrown P old new → IsGrown Q old new
@@ -114,6 +140,6 @@ asks_are key lines disabled old new a texts e no_line =
     (λ text w. (subst (λ (ts : List (List ℕ)). Contains ts text) (sym e) w.1, w.2))
 
 -- a copy that is put in, where it isn't among others
-pub put_lacking : (text copy : List ℕ) (others old new : TextSet) → copy ≡ text → Lacks others text → IsGrown (λ other. copy ≡ other) old new → IsGrown (λ other. (text ≡ other) × Lacks others other) old new
+pub put_lacking : (text copy : List ℕ) (others old new : TextSet) → copy ≡ text → Lacks others copy → IsGrown (λ other. copy ≡ other) old new → IsGrown (λ other. (text ≡ other) × Lacks others other) old new
 put_lacking text copy others old new e lacks =
-    grown_same (λ other. copy ≡ other) (λ other. (text ≡ other) × Lacks others other) old new (λ other is. let same = sym e ∙ is in (same, subst (Lacks others) same lacks)) (λ other w. e ∙ w.0)
+    grown_same (λ other. copy ≡ other) (λ other. (text ≡ other) × Lacks others other) old new (λ other is. (sym e ∙ is, subst (Lacks others) is lacks)) (λ other w. e ∙ w.0)

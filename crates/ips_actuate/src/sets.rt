@@ -6,7 +6,7 @@ ghost use Rattle.ips_actuate.specs.Actuators.{HasLine};
 ghost use Rattle.ips_actuate.specs.Gathering as spec;
 ghost use Rattle.ips_actuate.specs.Gathering.{IsSetOf, IsGrown, Lacks, HasKey};
 
-use ips_action::{Action, print_line};
+use ips_action::{Action, Values, print_line};
 use ips_text::Text;
 use std::alloc::{AllocError, Global};
 use std::collections::BTreeSet;
@@ -81,13 +81,15 @@ fn lacks(set: &BTreeSet<Text>, text: &Text) -> bool
 pub(crate) fn add_but(
     alloc: Global,
     set: &mut BTreeSet<Text>,
-    texts: &[Text],
+    texts: Values<'_>,
     others: &BTreeSet<Text>,
 ) -> Result<(), AllocError>
-    ensures { OnOk result (IsGrown (λ text. Contains texts.now text × Lacks others.now text) set.old set.new) }
+    ensures { OnOk result (IsGrown (λ text. Contains texts.entry text × Lacks others.now text) set.old set.new) }
 {
-    for text in texts {
+    let mut left = texts;
+    while let Some((text, rest)) = left.split_first() {
         add_unless(alloc, set, text, others)?;
+        left = rest;
     }
     Ok(())
 }
@@ -96,13 +98,14 @@ pub(crate) fn add_but(
 fn add_unless(
     alloc: Global,
     set: &mut BTreeSet<Text>,
-    text: &Text,
+    text: &str,
     others: &BTreeSet<Text>,
 ) -> Result<(), AllocError>
     ensures { OnOk result (IsGrown (λ other. (text.now ≡ other) × Lacks others.now other) set.old set.new) }
 {
-    if lacks(others, text) {
-        return add(set, text.copy(alloc)?);
+    let text = Text::new(alloc, text)?;
+    if lacks(others, &text) {
+        return add(set, text);
     }
     Ok(())
 }

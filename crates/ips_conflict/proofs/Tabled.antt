@@ -6,7 +6,7 @@ use Rattle.std.proofs.lemmas.Bool.{ltb-true}
 use Rattle.ips_text.specs.Mode.{IsOctal}
 use Rattle.ips_action.specs.declared.kind.ActionKind.{ActionKind}
 use Rattle.ips_action.specs.declared.kind.ActionKind.TheVariants.{Set, Depend, Dir, File, Link, Hardlink, User, Group, Driver, License, Legacy, Signature}
-use Rattle.ips_action.specs.declared.attrs.Attr.{Attr}
+use Rattle.ips_action.specs.Attrs.{Attr}
 use Rattle.ips_action.specs.Attrs.{values_of}
 use Rattle.ips_action.specs.Check.{LeadsInside}
 use Rattle.ips_action.specs.Target.{LeadsTo}

@@ -11,7 +11,7 @@ ghost use Rattle.ips_conflict.specs.Alike as spec;
 ghost use Rattle.ips_conflict.specs.Alike.{led_to, mode_of, same_attr, untagged};
 
 use crate::placed::value;
-use ips_action::{Action, ActionKind, Attr, leads_to};
+use ips_action::{Action, ActionKind, Attr, AttrList, Values, leads_to};
 use ips_digest::PayloadName;
 use ips_text::{RelPath, octal};
 use std::alloc::{AllocError, Global};
@@ -199,8 +199,8 @@ fn same_name(a: &PayloadName, b: &PayloadName) -> bool
 }
 
 // Whether two lists of attributes are the same but for tags.
-fn same_line(a: &[Attr], b: &[Attr]) -> bool
-    ensures { result ≡ pointwise same_attr (untagged a.now) (untagged b.now) }
+fn same_line(a: AttrList<'_>, b: AttrList<'_>) -> bool
+    ensures { result ≡ pointwise same_attr (untagged a.entry) (untagged b.entry) }
 {
     let mut left = a;
     let mut right = b;
@@ -208,7 +208,7 @@ fn same_line(a: &[Attr], b: &[Attr]) -> bool
         match (next_untagged(left), next_untagged(right)) {
             (None, None) => return true,
             (Some((x, more)), Some((y, others))) => {
-                if !same_attr(x, y) {
+                if !same_attr(&x, &y) {
                     return false;
                 }
                 left = more;
@@ -220,12 +220,12 @@ fn same_line(a: &[Attr], b: &[Attr]) -> bool
 }
 
 // The first attribute that is no tag, and those behind it.
-fn next_untagged(attrs: &[Attr]) -> Option<(&Attr, &[Attr])>
-    ensures { MatchOption result (untagged attrs.now ≡ []) (λ x. untagged attrs.now ≡ x.0.now ∷ untagged x.1.now) }
+fn next_untagged<'a>(attrs: AttrList<'a>) -> Option<(Attr<'a>, AttrList<'a>)>
+    ensures { MatchOption result (untagged attrs.entry ≡ []) (λ x. untagged attrs.entry ≡ x.0 ∷ untagged x.1) }
 {
     let mut left = attrs;
-    while let Some((attr, rest)) = next(left) {
-        if !is_tag(attr.key.as_str()) {
+    while let Some((attr, rest)) = left.split_first() {
+        if !is_tag(attr.key()) {
             return Some((attr, rest));
         }
         left = rest;
@@ -233,16 +233,30 @@ fn next_untagged(attrs: &[Attr]) -> Option<(&Attr, &[Attr])>
     None
 }
 
-fn next(attrs: &[Attr]) -> Option<(&Attr, &[Attr])>
-    ensures { MatchOption result (attrs.now ≡ []) (λ x. attrs.now ≡ x.0.now ∷ x.1.now) }
-{
-    attrs.split_first()
-}
-
-fn same_attr(a: &Attr, b: &Attr) -> bool
+fn same_attr(a: &Attr<'_>, b: &Attr<'_>) -> bool
     ensures { result ≡ spec.same_attr a.now b.now }
 {
-    a.key == b.key && a.values.as_slice() == b.values.as_slice()
+    a.key() == b.key() && same_values(a.values(), b.values())
+}
+
+fn same_values(a: Values<'_>, b: Values<'_>) -> bool
+    ensures { result ≡ pointwise is_same a.entry b.entry }
+{
+    let mut left = a;
+    let mut right = b;
+    loop {
+        match (left.split_first(), right.split_first()) {
+            (None, None) => return true,
+            (Some((x, more)), Some((y, others))) => {
+                if x != y {
+                    return false;
+                }
+                left = more;
+                right = others;
+            }
+            _ => return false,
+        }
+    }
 }
 
 fn is_tag(key: &str) -> bool

@@ -4,8 +4,7 @@ use Rattle.std.specs.Prelude.{codes, Option, Some, None}
 use Rattle.std.specs.Option.{option_map}
 use Rattle.std.proofs.lemmas.Option.{none-some, same_Some}
 use Rattle.ips_fmri.specs.declared.fmri.Fmri.{Fmri}
-use Rattle.ips_action.specs.declared.attrs.Attr.{Attr}
-use Rattle.ips_action.specs.Attrs.{values_of}
+use Rattle.ips_action.specs.Attrs.{Attr, values_of}
 use Rattle.ips_depend.specs.declared.dependency_type.DependencyType.{DependencyType}
 use Rattle.ips_depend.specs.declared.dependency_type.DependencyType.TheVariants as of_type
 use Rattle.ips_depend.specs.Dependency.{Dependency, Require, Optional, Incorporate, Exclude, Conditional, RequireAny, Group, GroupAny, Parent, Origin, type_of, type_name, predicates, objects}

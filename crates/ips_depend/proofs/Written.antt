@@ -1,6 +1,6 @@
 -- Texts that write FMRIs, one after the other.
-use Rattle.std.proofs.Common.{◌≡◌, ◌∙◌, ℕ, zero, suc, ◌+◌, ◌<◌, List, [], ◌∷◌, ◌++◌, length, take, get_or, refl, sym, ap, subst, arith}
-use Rattle.std.proofs.lemmas.List.{take_more}
+use Rattle.std.proofs.Common.{◌≡◌, ◌∙◌, ℕ, List, [], ◌∷◌, ◌++◌, refl, sym, ap, subst, append_assoc}
+use Rattle.std.proofs.lemmas.List.{append-nil}
 use Rattle.ips_fmri.specs.declared.fmri.Fmri.{Fmri}
 use Rattle.ips_fmri.specs.Fmri.{IsFmri, WritesFmri}
 use Rattle.ips_fmri.proofs.Versions.{written_one}
@@ -24,20 +24,40 @@ written_more [] (g ∷ fs) t f w is writes = absurd w
 written_more (u ∷ texts) [] t f w is writes = absurd w
 written_more (u ∷ texts) (g ∷ fs) t f w is writes = (w.0, w.1, written_more texts fs t f w.2 is writes)
 
-written_at : (texts : List (List ℕ)) (fs : List Fmri) (k : ℕ) (d : List ℕ) → AreWritten texts fs → k < length texts → (f : Fmri) × IsFmri f × WritesFmri f (get_or texts k d)
-written_at [] fs k d w l = absurd (omega arith)
-written_at (t ∷ texts) [] k d w l = absurd w
-written_at (t ∷ texts) (f ∷ fs) zero d w l = (f, w.0, w.1)
-written_at (t ∷ texts) (f ∷ fs) (suc k) d w l = written_at texts fs k d w.2 (omega arith)
+written_within : (front rest : List (List ℕ)) (t : List ℕ) (gs : List Fmri) → AreWritten (front ++ t ∷ rest) gs → (f : Fmri) × IsFmri f × WritesFmri f t
+written_within [] rest t [] w = absurd w
+written_within [] rest t (g ∷ gs) w = (g, w.0, w.1)
+written_within (u ∷ front) rest t [] w = absurd w
+written_within (u ∷ front) rest t (g ∷ gs) w = written_within front rest t gs w.2
+
+-- ---- on the way along the texts
+
+-- the texts that stand before those that are left write the FMRIs
+pub record Passed (texts left : List (List ℕ)) (fs : List Fmri) : Type 0 where
+  pub front : List (List ℕ)
+  pub parts : texts ≡ front ++ left
+  pub written : AreWritten front fs
+
+pub none_passed : (texts : List (List ℕ)) → Passed texts texts []
+none_passed texts = record { front = []; parts = refl; written = tt }
 
 -- one more text is read
-pub read_more : (texts : List (List ℕ)) (fs : List Fmri) (k : ℕ) (t : List ℕ) (f : Fmri) → k < length texts → t ≡ get_or texts k t → AreWritten (take k texts) fs → IsFmri f × WritesFmri f t → AreWritten (take (k + 1) texts) (fs ++ f ∷ [])
-read_more texts fs k t f l is written reads =
-    let one : take (k + 1) texts ≡ take k texts ++ t ∷ [] = take_more texts k t l ∙ ap (λ (x : List ℕ). take k texts ++ x ∷ []) (sym is) in
-    subst (λ (front : List (List ℕ)). AreWritten front (fs ++ f ∷ [])) (sym one) (written_more (take k texts) fs t f written reads.0 reads.1)
+pub read_more : (texts left rest : List (List ℕ)) (fs : List Fmri) (t : List ℕ) (f : Fmri) → Passed texts left fs → left ≡ t ∷ rest → IsFmri f × WritesFmri f t → Passed texts rest (fs ++ f ∷ [])
+read_more texts left rest fs t f passed next reads = record {
+  front = passed.front ++ t ∷ [];
+  parts = passed.parts ∙ ap (λ (l : List (List ℕ)). passed.front ++ l) next ∙ sym (append_assoc passed.front (t ∷ []) rest);
+  written = written_more passed.front fs t f passed.written reads.0 reads.1;
+}
 
 -- a text that writes no FMRI
-pub none_read : (texts : List (List ℕ)) (k : ℕ) (t : List ℕ) → k < length texts → t ≡ get_or texts k t → ((f : Fmri) → IsFmri f → WritesFmri f t → ⊥) → (fs : List Fmri) → AreWritten texts fs → ⊥
-none_read texts k t l is reads fs w =
-    let at = written_at texts fs k t w l in
-    reads at.0 at.1 (subst (WritesFmri at.0) (sym is) at.2)
+pub none_read : (texts left rest : List (List ℕ)) (fs : List Fmri) (t : List ℕ) → Passed texts left fs → left ≡ t ∷ rest → ((f : Fmri) → IsFmri f → WritesFmri f t → ⊥) → (gs : List Fmri) → AreWritten texts gs → ⊥
+none_read texts left rest fs t passed next reads gs w =
+    let here = passed.parts ∙ ap (λ (l : List (List ℕ)). passed.front ++ l) next in
+    let at = written_within passed.front rest t gs (subst (λ (l : List (List ℕ)). AreWritten l gs) here w) in
+    reads at.0 at.1 at.2
+
+-- all texts are read
+pub all_read : (texts left : List (List ℕ)) (fs : List Fmri) → Passed texts left fs → left ≡ [] → AreWritten texts fs
+all_read texts left fs passed end =
+    let here = passed.parts ∙ ap (λ (l : List (List ℕ)). passed.front ++ l) end ∙ append-nil passed.front in
+    subst (λ (l : List (List ℕ)). AreWritten l fs) (sym here) passed.written

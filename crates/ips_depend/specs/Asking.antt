@@ -4,8 +4,7 @@ use Rattle.std.specs.List.{list_any}
 use Rattle.ips_fmri.specs.declared.fmri.Fmri.{Fmri}
 use Rattle.ips_fmri.specs.Fmri.{IsFmri, WritesFmri}
 use Rattle.ips_action.specs.declared.kind.ActionKind.TheVariants as kind
-use Rattle.ips_action.specs.declared.attrs.Attr.{Attr}
-use Rattle.ips_action.specs.Attrs.{values_of}
+use Rattle.ips_action.specs.Attrs.{Attr, values_of}
 use Rattle.ips_manifest.specs.declared.line.Line.{Line}
 use Rattle.ips_filter.specs.Settings.{Set}
 use Rattle.ips_filter.specs.Admitted.{Admits}

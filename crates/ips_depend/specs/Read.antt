@@ -3,7 +3,7 @@ use Rattle.std.specs.Prelude.{◌≡◌, ℕ, List, [], ◌∷◌, ◌++◌, Opt
 use Rattle.std.specs.declared.alloc.Global.{Global}
 use Rattle.ips_fmri.specs.declared.fmri.Fmri.{Fmri}
 use Rattle.ips_fmri.specs.Fmri.{IsFmri, WritesFmri}
-use Rattle.ips_action.specs.declared.attrs.Attr.{Attr}
+use Rattle.ips_action.specs.Attrs.{Attr}
 use Rattle.ips_manifest.specs.declared.line.Line.{Line}
 use Rattle.ips_filter.specs.Settings.{Set}
 use Rattle.ips_depend.specs.declared.dependency_type.DependencyType.{DependencyType}

@@ -8,11 +8,11 @@ ghost use Rattle.ips_depend.specs.Read.{AreRead, HasAdded, IsAskedFor, IsTyped, 
 
 use crate::dependency::Test;
 use crate::dependency_type::DependencyType;
-use ips_action::{Action, ActionKind, Attrs};
+use ips_action::{Action, ActionKind, Attrs, Values};
 use ips_filter::Settings;
 use ips_fmri::Fmri;
 use ips_manifest::{Line, Manifest};
-use ips_text::{Or, Text};
+use ips_text::Or;
 use std::alloc::{AllocError, Global};
 
 /// A `depend` action that the image takes is no dependency: its type is unknown; it has more than one FMRI, and is none of
@@ -97,41 +97,51 @@ fn test_of(alloc: Global, attrs: &Attrs) -> Result<Option<Test>, AllocError>
 }
 
 // The type that is the one value; None where there is no such value or type.
-fn type_of(values: &[Text]) -> Option<DependencyType>
-    ensures { IsTyped values.now result }
+fn type_of(values: Values<'_>) -> Option<DependencyType>
+    ensures { IsTyped values.entry result }
 {
-    match values {
-        [word] => DependencyType::named(word.as_str()),
-        _ => None,
+    let (word, others) = values.split_first()?;
+    if others.len() > 0 {
+        return None;
     }
+    DependencyType::named(word)
 }
 
 // Whether the values mark a dependency as one on the image that the system runs from.
-fn marks_root(values: &[Text]) -> bool
-    ensures { result ≡ asking.marks_root values.now }
+fn marks_root(values: Values<'_>) -> bool
+    ensures { result ≡ asking.marks_root values.entry }
 {
-    values.iter().any(|value| value.as_str() == "true")
+    let mut left = values;
+    while let Some((value, rest)) = left.split_first() {
+        if value == "true" {
+            return true;
+        }
+        left = rest;
+    }
+    false
 }
 
 // The FMRIs that the texts are; None where one of them is none.
-fn read_fmris(alloc: Global, texts: &[Text]) -> Result<Option<Vec<Fmri>>, AllocError>
-    ensures { IfOk result (λ fmris. AreRead texts.now fmris) }
+fn read_fmris(alloc: Global, texts: Values<'_>) -> Result<Option<Vec<Fmri>>, AllocError>
+    ensures { IfOk result (λ fmris. AreRead texts.entry fmris) }
 {
     let mut fmris = Vec::with_capacity(alloc, texts.len())?;
-    for text in texts {
+    let mut left = texts;
+    while let Some((text, rest)) = left.split_first() {
         let Some(fmri) = read_fmri(alloc, text)? else {
             return Ok(None);
         };
         fmris.push(fmri)?;
+        left = rest;
     }
     Ok(Some(fmris))
 }
 
 // The FMRI that the text is; None where it is none.
-fn read_fmri(alloc: Global, text: &Text) -> Result<Option<Fmri>, AllocError>
+fn read_fmri(alloc: Global, text: &str) -> Result<Option<Fmri>, AllocError>
     ensures { IfOk result (λ fmri. Reads text.now fmri) }
 {
-    match Fmri::parse(alloc, text.as_str()) {
+    match Fmri::parse(alloc, text) {
         Ok(fmri) => Ok(Some(fmri)),
         Err(Or::Bad(_)) => Ok(None),
         Err(Or::OutOfMemory) => Err(AllocError),

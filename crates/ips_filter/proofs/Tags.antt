@@ -8,7 +8,7 @@ use Rattle.std.proofs.lemmas.Bool.{cases_Bool, true≢false}
 use Rattle.std.proofs.lemmas.Slice.Eq.{bytes_eq-Decides}
 use Rattle.ips_action.specs.Attrs.{is_same, IsBefore, AreAttrs, values_of}
 use Rattle.ips_action.specs.Judging.{is_facet}
-use Rattle.ips_action.specs.declared.attrs.Attr.{Attr}
+use Rattle.ips_action.specs.Attrs.{Attr}
 use Rattle.ips_filter.specs.Settings.{Set, variant_value}
 use Rattle.ips_filter.specs.Facet.{HasFacet}
 use Rattle.ips_filter.specs.Admitted.{is_variant, has_value, is_tag, MeetsVariant, MeetsAll, HasTag, MeetsVariants, MeetsAllFacets, IsTrueTag, MeetsSomeFacet}

@@ -4,7 +4,7 @@ use Rattle.std.specs.List.{starts_with, list_any, list_all}
 use Rattle.std.specs.Str.{bytes_eq}
 use Rattle.ips_action.specs.Attrs.{values_of}
 use Rattle.ips_action.specs.Judging.{is_facet}
-use Rattle.ips_action.specs.declared.attrs.Attr.{Attr}
+use Rattle.ips_action.specs.Attrs.{Attr}
 use Rattle.ips_filter.specs.Settings.{Set, variant_value}
 use Rattle.ips_filter.specs.Facet.{HasFacet}
 

@@ -7,7 +7,7 @@ use Rattle.ips_line.specs.Line.{Said, Says}
 use Rattle.ips_line.specs.Reading.{read_line, said_line}
 use Rattle.ips_line.proofs.Answered.{words_found, words_only, stopped_only}
 use Rattle.ips_action.specs.declared.kind.ActionKind.{ActionKind}
-use Rattle.ips_action.specs.declared.attrs.Attr.{Attr}
+use Rattle.ips_action.specs.Attrs.{Attr}
 use Rattle.ips_action.specs.Kind.{kind_name}
 use Rattle.ips_action.specs.Table.{AttributeRow}
 use Rattle.ips_action.specs.Attrs.{Gathers}

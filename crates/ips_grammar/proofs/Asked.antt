@@ -9,7 +9,7 @@ use Rattle.ips_fmri.specs.Reading.{read_fmri}
 use Rattle.ips_fmri.proofs.Versions.{read_none}
 use Rattle.ips_fmri.proofs.Readings.{WritesName, judges_fmri}
 use Rattle.ips_action.specs.declared.kind.ActionKind.TheVariants as kind
-use Rattle.ips_action.specs.declared.attrs.Attr.{Attr}
+use Rattle.ips_action.specs.Attrs.{Attr}
 use Rattle.ips_action.specs.Kind.{kind_name}
 use Rattle.ips_action.specs.Attrs.{values_of}
 use Rattle.ips_action.proofs.One.{one_kind}

@@ -6,11 +6,11 @@ use Rattle.std.specs.Ordering.{ordering_reverse}
 use Rattle.std.specs.declared.cmp.Ordering.{Ordering}
 use Rattle.std.specs.declared.cmp.Ordering.TheVariants.{Less, Equal, Greater}
 use Rattle.ips_line.specs.declared.words.Pair.{Pair}
-use Rattle.ips_action.specs.declared.attrs.Attr.{Attr}
+use Rattle.ips_action.specs.Attrs.{Attr}
 use Rattle.ips_action.specs.Attrs.{is_same, IsBefore, AreAttrs, values_of, values_in, Gathers}
 use Rattle.ips_action.specs.Gathering.{single}
 use Rattle.ips_action.proofs.KeyOrder.{by_bytes, same_true, same_self, before_other, before_trans, equal_is, turned}
-use Rattle.ips_action.proofs.One.{later_none, all_later}
+use Rattle.ips_action.proofs.Gathered.{later_none, all_later}
 
 -- the attributes with one more value, before the other values of its key; the attributes behind the first have it already
 abbrev put_by : Ordering → Pair → Attr → List Attr → List Attr → List Attr

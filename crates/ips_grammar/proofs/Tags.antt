@@ -5,7 +5,7 @@ use Rattle.std.specs.Str.{bytes_eq}
 use Rattle.std.specs.List.{AllByRecursion}
 use Rattle.std.proofs.lemmas.Bool.{true≢false, or_cases}
 use Rattle.std.proofs.lemmas.Slice.Eq.{bytes_eq-Decides}
-use Rattle.ips_action.specs.declared.attrs.Attr.{Attr}
+use Rattle.ips_action.specs.Attrs.{Attr}
 use Rattle.ips_action.specs.Attrs.{is_same, values_of}
 use Rattle.ips_action.specs.Judging.{is_facet}
 use Rattle.ips_action.proofs.KeyOrder.{same_true}

@@ -12,7 +12,7 @@ ghost use Rattle.ips_manifest.specs.Manifest.{IsManifestOf, IsFaultOf, manifest_
 use crate::fault::ManifestFault;
 use crate::line::{Line, add, read_action};
 use crate::logical::{Remaining, next_logical};
-use ips_action::{Action, ActionKind, actions_read_back, print_line};
+use ips_action::{Action, ActionKind, Values, actions_read_back, print_line};
 use ips_text::{Or, Text};
 use std::alloc::{AllocError, Global};
 
@@ -71,13 +71,15 @@ fn tells_obsolete(action: &Action) -> bool
 }
 
 // Whether the value is one of these.
-fn has_value(values: &[Text], value: &str) -> bool
-    ensures { result ≡ list_any (is_same value.now) values.now }
+fn has_value(values: Values<'_>, value: &str) -> bool
+    ensures { result ≡ list_any (is_same value.now) values.entry }
 {
-    for text in values {
-        if value == text.as_str() {
+    let mut left = values;
+    while let Some((text, rest)) = left.split_first() {
+        if value == text {
             return true;
         }
+        left = rest;
     }
     false
 }

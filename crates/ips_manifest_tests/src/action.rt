@@ -1,5 +1,5 @@
 use crate::table::{Ask, columns, counted, holds, text, word};
-use ips_action::{Action, ActionFault, Preserve, leads_to, parse_line, print_line};
+use ips_action::{Action, ActionFault, Attrs, Preserve, leads_to, parse_line, print_line};
 use ips_text::Or;
 use std::alloc::Global;
 use std::process::Abort;
@@ -125,7 +125,7 @@ fn values(rt: &impl Abort, alloc: Global, line: &str, question: &str) -> String 
     let (what, name) = question.split_once(' ').unwrap_or((question, ""));
     let found = match what {
         "count" => return counted(rt, alloc, action.count(name)),
-        "attributes" => return counted(rt, alloc, action.attrs.list().len()),
+        "attributes" => return counted(rt, alloc, attributes(&action.attrs)),
         "first" => action.get(name),
         "second" => action.nth(name, 1),
         "third" => action.nth(name, 2),
@@ -135,10 +135,22 @@ fn values(rt: &impl Abort, alloc: Global, line: &str, question: &str) -> String 
     word(rt, alloc, found.unwrap_or("none"))
 }
 
+// How many attributes there are.
+fn attributes(attrs: &Attrs) -> usize {
+    let mut count: usize = 0;
+    let mut left = attrs.list();
+    while let Some((_, rest)) = left.split_first() {
+        count = count.saturating_add(1);
+        left = rest;
+    }
+    count
+}
+
 // The canonical line.
 const CANONICAL: &str = r#"
 set value="a \"b\" c" name=pkg.summary -> set name=pkg.summary value="a \"b\" c"
 set name=x value=b value=a value='' -> set name=x value=b value=a value=""
+set name=é value={v*70000} value=日本 -> set name=é value={v*70000} value=日本
 set name=path path=//usr value=1 -> set name=path path=//usr value=1
 dir path=/usr mode=755 owner=root group=bin -> dir group=bin mode=755 owner=root path=usr
 dir path=///usr/bin mode=0755 owner=root group=bin -> dir group=bin mode=0755 owner=root path=usr/bin
@@ -183,7 +195,7 @@ dir group=g mode=1 owner=o path=/a/{a*241} -> bad path
 #[test]
 fn tells_the_canonical_line_or_the_first_fault(rt: HostRuntime) {
     let alloc = rt.alloc();
-    holds(&rt, alloc, &mut Asked::Canonical, 10, CANONICAL);
+    holds(&rt, alloc, &mut Asked::Canonical, 11, CANONICAL);
     holds(&rt, alloc, &mut Asked::Told, 18, FAULTS);
     holds(&rt, alloc, &mut Asked::Told, 5, BOUNDS);
 }
@@ -215,6 +227,19 @@ attributes -> 4
 key -> n
 ";
 
+// Values of other lengths than their characters, one of them empty, and keys that stand in few actions.
+const VALUES_BESIDE: &str = "
+count value -> 3
+first value -> 日本
+third value -> ø
+first name -> é
+first x -> ö
+first y.z -> w
+count y -> 0
+attributes -> 4
+key -> é
+";
+
 const KEYS: &str = "
 depend fmri=a fmri=b type=x -> a
 hardlink path=/p target=t -> p
@@ -243,6 +268,8 @@ fn gives_values_and_what_they_mean(rt: HostRuntime) {
     holds(&rt, alloc, &mut Asked::Leads, 11, LEADS);
     let mut set = Asked::Values("set value=b name=n value=a z=1 a=2");
     holds(&rt, alloc, &mut set, 9, VALUES);
+    let mut beside = Asked::Values("set x=ö value=日本 name=é value='' value=ø y.z=w");
+    holds(&rt, alloc, &mut beside, 9, VALUES_BESIDE);
     holds(&rt, alloc, &mut Asked::Key, 7, KEYS);
     holds(&rt, alloc, &mut Asked::Kept, 8, KEPT);
 }

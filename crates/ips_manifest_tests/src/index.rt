@@ -125,6 +125,9 @@ index 1¶a%2Fb path link a%2Fb s¶b path link a%2Fb s¶ -> index 1¶a%2Fb path l
 index 1¶a%20b value set a%20b s¶c value set c s¶n name set n s¶ -> index 1¶a%20b value set a%20b s¶c value set c s¶n name set n s¶
 index 1¶0123456789012345678901234567890123456789 payload license 0123456789012345678901234567890123456789 s¶lic license license lic s¶ -> index 1¶0123456789012345678901234567890123456789 payload license 0123456789012345678901234567890123456789 s¶lic license license lic s¶
 index 1¶x name driver x b¶x name set x b¶x path dir x b¶x path link x a¶x path link x b¶ -> index 1¶x name driver x b¶x name set x b¶x path dir x b¶x path link x a¶x path link x b¶
+# Texts may be long, and have characters of several bytes.
+index 1¶{v*70000} name driver {v*70000} s¶ -> index 1¶{v*70000} name driver {v*70000} s¶
+index 1¶a%2F%E6%97%A5 path dir a%2F%E6%97%A5 s¶%E6%97%A5 path dir a%2F%E6%97%A5 s¶ -> index 1¶a%2F%E6%97%A5 path dir a%2F%E6%97%A5 s¶%E6%97%A5 path dir a%2F%E6%97%A5 s¶
 # A text may be empty, between two blanks.
 index 1¶{blank}name set {blank}s¶ -> index 1¶{blank}name set {blank}s¶
 index 1¶{blank}value set {blank}s¶a%2F path dir a%2F s¶ -> index 1¶{blank}value set {blank}s¶a%2F path dir a%2F s¶
@@ -169,7 +172,7 @@ index 1¶bin path dir bin hello¶usr path dir usr hello¶bin path dir bin hello�
 #[test]
 fn index_is_read(rt: HostRuntime) {
     let alloc = rt.alloc();
-    holds(&rt, alloc, &mut Reread, 38, TEXTS_ARE_READ);
+    holds(&rt, alloc, &mut Reread, 40, TEXTS_ARE_READ);
 }
 
 #[test]

@@ -4,7 +4,7 @@ use Rattle.std.specs.Prelude.{codes, slice_get}
 use Rattle.std.specs.List.{AllByRecursion}
 use Rattle.ips_action.specs.declared.kind.ActionKind.{ActionKind}
 use Rattle.ips_action.specs.declared.kind.ActionKind.TheVariants.{Set, Depend, Dir, File, Link, Hardlink, User, Group, Driver, License, Legacy, Signature}
-use Rattle.ips_action.specs.declared.attrs.Attr.{Attr}
+use Rattle.ips_action.specs.Attrs.{Attr}
 use Rattle.ips_action.specs.Check.{IsNumerals}
 use Rattle.ips_action.specs.Attrs.{values_of}
 use Rattle.ips_action.specs.Judging.{KeepsRow, rows_of}

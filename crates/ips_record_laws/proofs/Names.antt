@@ -11,7 +11,7 @@ use Rattle.ips_line.specs.Canonical.{escaped_byte, is_escaped, needs_quotes, pai
 use Rattle.ips_action.specs.Action.{Fields, line_text, pairs_of, pairs_of_one, payload_word}
 use Rattle.ips_action.specs.Attrs.{is_same, values_of}
 use Rattle.ips_action.specs.Kind.{kind_name}
-use Rattle.ips_action.specs.declared.attrs.Attr.{Attr}
+use Rattle.ips_action.specs.Attrs.{Attr}
 use Rattle.ips_manifest.specs.Manifest.{IsManifestOf, StandsOnLine}
 use Rattle.ips_manifest.specs.declared.line.Line.{Line}
 use Rattle.ips_manifest.specs.declared.package.Package.{Package}

@@ -9,5 +9,5 @@ returns-then-lacks c =
     let others = c.args.others.now in
     let set = c.args.set.now in
     let new = c.add.new.set in
-    if_grown (λ other. c.in_ok-copy.field-0 ≡ other) (λ other. (text ≡ other) × Lacks others other) set new c.add.result
-    (put_lacking text c.in_ok-copy.field-0 others set new c.in_ok-copy.ensures (c.lacks.ensures.0 c.if-lacks.true)) c.add.ensures
+    if_grown (λ other. c.in_ok-text.text ≡ other) (λ other. (text ≡ other) × Lacks others other) set new c.add.result
+    (put_lacking text c.in_ok-text.text others set new c.in_ok-text.ensures (c.lacks.ensures.0 c.if-lacks.true)) c.add.ensures

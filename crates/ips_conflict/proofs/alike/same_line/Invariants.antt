@@ -4,7 +4,7 @@ use Rattle.ips_conflict.specs.Alike.{same_attr, untagged}
 use Rattle.ips_conflict.proofs.alike.same_line.Given as goal
 
 abbrev pub invariant-loop-x : goal.invariant-loop-x
-invariant-loop-x l = pointwise same_attr (untagged l.left) (untagged l.right) ≡ pointwise same_attr (untagged l.a) (untagged l.b)
+invariant-loop-x l = pointwise same_attr (untagged l.left) (untagged l.right) ≡ pointwise same_attr (untagged l.fn.a) (untagged l.fn.b)
 
 abbrev pub decreases-loop-x : goal.decreases-loop-x
 decreases-loop-x l = length (untagged l.left)

@@ -1,6 +1,9 @@
-use Rattle.std.proofs.Common.{take}
-use Rattle.ips_depend.specs.Asking.{AreWritten}
+use Rattle.std.proofs.Common.{length}
+use Rattle.ips_depend.proofs.Written.{Passed}
 use Rattle.ips_depend.proofs.reading.read_fmris.Given as goal
 
 abbrev pub invariant-loop-text : goal.invariant-loop-text
-invariant-loop-text l = AreWritten (take l.text-index l.texts) l.fmris.items
+invariant-loop-text l = Passed l.fn.texts l.left l.fmris.items
+
+abbrev pub decreases-loop-text : goal.decreases-loop-text
+decreases-loop-text l = length l.left
