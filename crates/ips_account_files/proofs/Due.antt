@@ -15,11 +15,11 @@ use Rattle.ips_books.specs.Reading.{Texts}
 use Rattle.ips_after.specs.Findings.{is_account_path}
 use Rattle.ips_after.specs.Request.{Request, WantDir, WantFile, WantHard, WantLink, Wanted, is_dir_wanted, is_file_wanted}
 use Rattle.ips_due.specs.Due.{Due, DueFile, FitsAccounts, account_at}
-use Rattle.ips_ledger.specs.declared.blocked.Blocked.{Blocked}
-use Rattle.ips_ledger.specs.declared.outdated.Modes.{Modes}
-use Rattle.ips_ledger.specs.Blocking.{wants_other_than_file}
-use Rattle.ips_ledger.specs.Editing.{due_book, due_books, edited_where, placed_book, placed_books}
-use Rattle.ips_ledger.specs.Left.{AreSmallWanted}
+use Rattle.ips_account_files.specs.declared.ledger.blocked.Blocked.{Blocked}
+use Rattle.ips_account_files.specs.declared.ledger.outdated.Modes.{Modes}
+use Rattle.ips_account_files.specs.ledger.Blocking.{wants_other_than_file}
+use Rattle.ips_account_files.specs.ledger.Editing.{due_book, due_books, edited_where, placed_book, placed_books}
+use Rattle.ips_account_files.specs.ledger.Left.{AreSmallWanted}
 use Rattle.ips_account_files.specs.Around.{Around, has_accounts}
 use Rattle.ips_account_files.specs.Bases.{IsBaseWhere}
 use Rattle.ips_account_files.specs.Behind.{AreEdited, Behind, BehindWhere, Files, no_files}

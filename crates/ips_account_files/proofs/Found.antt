@@ -5,12 +5,12 @@ use Rattle.std.proofs.lemmas.Bool.{or_parts}
 use Rattle.ips_steps.proofs.Lists.{clash}
 use Rattle.ips_books.specs.Reading.{Texts}
 use Rattle.ips_after.specs.Request.{Request}
-use Rattle.ips_ledger.specs.declared.base.BaseFile.{BaseFile}
-use Rattle.ips_ledger.specs.declared.blocked.Blocked.{Blocked}
-use Rattle.ips_ledger.specs.declared.fault.LedgerFault.{LedgerFault}
-use Rattle.ips_ledger.specs.declared.fault.LedgerFault.TheVariants as fault
-use Rattle.ips_ledger.specs.declared.outdated.Modes.{Modes}
-use Rattle.ips_ledger.specs.Blocking.{is_blocked, is_folder_blocked, is_in_way, wants_other_than_file}
+use Rattle.ips_account_files.specs.declared.ledger.base.BaseFile.{BaseFile}
+use Rattle.ips_account_files.specs.declared.ledger.blocked.Blocked.{Blocked}
+use Rattle.ips_account_files.specs.declared.ledger.fault.LedgerFault.{LedgerFault}
+use Rattle.ips_account_files.specs.declared.ledger.fault.LedgerFault.TheVariants as fault
+use Rattle.ips_account_files.specs.declared.ledger.outdated.Modes.{Modes}
+use Rattle.ips_account_files.specs.ledger.Blocking.{is_blocked, is_folder_blocked, is_in_way, wants_other_than_file}
 use Rattle.ips_account_files.specs.Around.{Around}
 use Rattle.ips_account_files.specs.Bases.{AreBases, AreBlocked, IsBaseWhere, IsFirstUnread, IsGivenWhere}
 use Rattle.ips_account_files.specs.Finding.{IsFound, IsFree, IsLost, mode_found, text_found}

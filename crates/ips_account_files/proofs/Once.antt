@@ -18,17 +18,17 @@ use Rattle.ips_books.specs.declared.fault.AccountFault.{AccountFault}
 use Rattle.ips_books.specs.Reading.{Texts}
 use Rattle.ips_after.specs.Request.{Request}
 use Rattle.ips_due.specs.Due.{DueFile}
-use Rattle.ips_outstanding.proofs.Compared.{size_of}
-use Rattle.ips_ledger.specs.declared.blocked.Blocked.{Blocked}
-use Rattle.ips_ledger.specs.declared.fault.LedgerFault.{LedgerFault}
-use Rattle.ips_ledger.specs.declared.fault.LedgerFault.TheVariants as fault
-use Rattle.ips_ledger.specs.declared.left.Left.{Left}
-use Rattle.ips_ledger.specs.declared.left.Left.TheVariants.{Nothing, Standing, Laid}
-use Rattle.ips_ledger.specs.declared.outdated.Modes.{Modes}
-use Rattle.ips_ledger.specs.Base.{mode_left}
-use Rattle.ips_ledger.specs.Editing.{due_books, edited_where}
-use Rattle.ips_ledger.specs.Left.{IsLeftOf}
-use Rattle.ips_ledger.specs.Texts.{IsPayloadFault, IsStandingUnread, IsTextLeft, IsTextUnread, IsUnread, account_limit}
+use Rattle.ips_due.proofs.outstanding.Compared.{size_of}
+use Rattle.ips_account_files.specs.declared.ledger.blocked.Blocked.{Blocked}
+use Rattle.ips_account_files.specs.declared.ledger.fault.LedgerFault.{LedgerFault}
+use Rattle.ips_account_files.specs.declared.ledger.fault.LedgerFault.TheVariants as fault
+use Rattle.ips_account_files.specs.declared.ledger.left.Left.{Left}
+use Rattle.ips_account_files.specs.declared.ledger.left.Left.TheVariants.{Nothing, Standing, Laid}
+use Rattle.ips_account_files.specs.declared.ledger.outdated.Modes.{Modes}
+use Rattle.ips_account_files.specs.ledger.Base.{mode_left}
+use Rattle.ips_account_files.specs.ledger.Editing.{due_books, edited_where}
+use Rattle.ips_account_files.specs.ledger.Left.{IsLeftOf}
+use Rattle.ips_account_files.specs.ledger.Texts.{IsPayloadFault, IsStandingUnread, IsTextLeft, IsTextUnread, IsUnread, account_limit}
 use Rattle.ips_account_files.specs.Around.{Around, has_accounts}
 use Rattle.ips_account_files.specs.Bases.{AreBases, AreBlocked, IsBaseOf, IsBaseWhere, IsFirstUnread, IsFirstUnreadWhere, IsGivenWhere, IsUnreadWhere}
 use Rattle.ips_account_files.proofs.Due.{ok_err}

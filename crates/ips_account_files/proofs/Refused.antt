@@ -4,11 +4,11 @@ use Rattle.ips_action.specs.Action.{Fields}
 use Rattle.ips_books.specs.declared.fault.AccountFault.{AccountFault}
 use Rattle.ips_books.specs.Reading.{Texts}
 use Rattle.ips_after.specs.Request.{Request}
-use Rattle.ips_ledger.specs.declared.blocked.Blocked.{Blocked}
-use Rattle.ips_ledger.specs.declared.fault.LedgerFault.{LedgerFault}
-use Rattle.ips_ledger.specs.declared.fault.LedgerFault.TheVariants as fault
-use Rattle.ips_ledger.specs.declared.left.Left.TheVariants.{Nothing, Standing, Laid}
-use Rattle.ips_ledger.specs.declared.outdated.Modes.{Modes}
+use Rattle.ips_account_files.specs.declared.ledger.blocked.Blocked.{Blocked}
+use Rattle.ips_account_files.specs.declared.ledger.fault.LedgerFault.{LedgerFault}
+use Rattle.ips_account_files.specs.declared.ledger.fault.LedgerFault.TheVariants as fault
+use Rattle.ips_account_files.specs.declared.ledger.left.Left.TheVariants.{Nothing, Standing, Laid}
+use Rattle.ips_account_files.specs.declared.ledger.outdated.Modes.{Modes}
 use Rattle.ips_account_files.specs.Around.{Around}
 use Rattle.ips_account_files.specs.Bases.{AreBases, IsFirstUnread, IsUnreadWhere}
 use Rattle.ips_account_files.specs.Behind.{IsEditRefused, IsRefused}

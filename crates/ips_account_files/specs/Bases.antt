@@ -4,14 +4,14 @@ use Rattle.ips_outside.specs.Image.{Image}
 use Rattle.ips_files.specs.Files.{file_at}
 use Rattle.ips_books.specs.Reading.{Texts}
 use Rattle.ips_after.specs.Request.{Request}
-use Rattle.ips_ledger.specs.declared.blocked.Blocked.{Blocked}
-use Rattle.ips_ledger.specs.declared.fault.LedgerFault.{LedgerFault}
-use Rattle.ips_ledger.specs.declared.left.Left.{Left}
-use Rattle.ips_ledger.specs.declared.outdated.Modes.{Modes}
-use Rattle.ips_ledger.specs.Base.{mode_left}
-use Rattle.ips_ledger.specs.Blocking.{is_blocked, is_folder_blocked, wants_other_than_file}
-use Rattle.ips_ledger.specs.Left.{AreSmallWanted, IsLeftOf}
-use Rattle.ips_ledger.specs.Texts.{IsTextLeft, IsTextUnread, account_limit}
+use Rattle.ips_account_files.specs.declared.ledger.blocked.Blocked.{Blocked}
+use Rattle.ips_account_files.specs.declared.ledger.fault.LedgerFault.{LedgerFault}
+use Rattle.ips_account_files.specs.declared.ledger.left.Left.{Left}
+use Rattle.ips_account_files.specs.declared.ledger.outdated.Modes.{Modes}
+use Rattle.ips_account_files.specs.ledger.Base.{mode_left}
+use Rattle.ips_account_files.specs.ledger.Blocking.{is_blocked, is_folder_blocked, wants_other_than_file}
+use Rattle.ips_account_files.specs.ledger.Left.{AreSmallWanted, IsLeftOf}
+use Rattle.ips_account_files.specs.ledger.Texts.{IsTextLeft, IsTextUnread, account_limit}
 use Rattle.ips_account_files.specs.Around.{Around}
 
 -- No text.

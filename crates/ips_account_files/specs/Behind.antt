@@ -6,12 +6,12 @@ use Rattle.ips_books.specs.Reading.{Texts}
 use Rattle.ips_books.specs.Seen.{texts}
 use Rattle.ips_after.specs.Request.{Request}
 use Rattle.ips_due.specs.Due.{DueFile}
-use Rattle.ips_outstanding.specs.Parts.{due_file}
-use Rattle.ips_ledger.specs.declared.blocked.Blocked.{Blocked}
-use Rattle.ips_ledger.specs.declared.fault.LedgerFault.{LedgerFault}
-use Rattle.ips_ledger.specs.declared.fault.LedgerFault.TheVariants as fault
-use Rattle.ips_ledger.specs.declared.outdated.Modes.{Modes}
-use Rattle.ips_ledger.specs.Editing.{due_books, edited_where}
+use Rattle.ips_due.specs.outstanding.Parts.{due_file}
+use Rattle.ips_account_files.specs.declared.ledger.blocked.Blocked.{Blocked}
+use Rattle.ips_account_files.specs.declared.ledger.fault.LedgerFault.{LedgerFault}
+use Rattle.ips_account_files.specs.declared.ledger.fault.LedgerFault.TheVariants as fault
+use Rattle.ips_account_files.specs.declared.ledger.outdated.Modes.{Modes}
+use Rattle.ips_account_files.specs.ledger.Editing.{due_books, edited_where}
 use Rattle.ips_account_files.specs.declared.files.AccountFiles.{AccountFiles}
 use Rattle.ips_account_files.specs.Around.{Around, has_accounts}
 use Rattle.ips_account_files.specs.Bases.{AreBases, IsFirstUnread, no_texts}

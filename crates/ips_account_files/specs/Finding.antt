@@ -1,10 +1,10 @@
 -- What is found of one account file before it is edited.
 use Rattle.std.specs.Prelude.{◌≡◌, ◌⊎◌, ℕ, Bool, false, ◌||◌, IsTrue, List, Option, Some, None}
 use Rattle.ips_after.specs.Request.{Request}
-use Rattle.ips_ledger.specs.declared.base.BaseFile.{BaseFile}
-use Rattle.ips_ledger.specs.declared.fault.LedgerFault.{LedgerFault}
-use Rattle.ips_ledger.specs.declared.fault.LedgerFault.TheVariants as fault
-use Rattle.ips_ledger.specs.Blocking.{is_blocked, wants_other_than_file}
+use Rattle.ips_account_files.specs.declared.ledger.base.BaseFile.{BaseFile}
+use Rattle.ips_account_files.specs.declared.ledger.fault.LedgerFault.{LedgerFault}
+use Rattle.ips_account_files.specs.declared.ledger.fault.LedgerFault.TheVariants as fault
+use Rattle.ips_account_files.specs.ledger.Blocking.{is_blocked, wants_other_than_file}
 use Rattle.ips_account_files.specs.Around.{Around}
 use Rattle.ips_account_files.specs.Bases.{IsBaseOf, IsUnreadOf}
 

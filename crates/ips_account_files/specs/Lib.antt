@@ -3,3 +3,4 @@ pub mod Bases
 pub mod Finding
 pub mod Behind
 pub mod Laws
+pub mod ledger

@@ -3,14 +3,14 @@
 ghost use Rattle.std.specs.Prelude.{◌≡◌, Ok, IfOk};
 ghost use Rattle.ips_text.specs.Reading.{IfBad};
 ghost use Rattle.ips_books.specs.Seen.{texts};
-ghost use Rattle.ips_ledger.specs.Editing.{due_books, edited_where};
+ghost use Rattle.ips_account_files.specs.ledger.Editing.{due_books, edited_where};
 ghost use Rattle.ips_account_files.specs.Behind.{IsEditRefused, files_seen};
 
 use crate::bases::Bases;
 use crate::files::AccountFiles;
+use crate::ledger::{LedgerFault, due, edit_where};
 use ips_action::Action;
 use ips_books::Books;
-use ips_ledger::{LedgerFault, due, edit_where};
 use ips_text::Or;
 use std::alloc::{AllocError, Global};
 

@@ -4,7 +4,7 @@ ghost use Rattle.std.specs.Prelude.{◌≡◌};
 ghost use Rattle.ips_account_files.specs.Behind.{files_seen, no_files};
 
 use ips_books::Books;
-use ips_outstanding::AccountFile;
+use ips_due::outstanding::AccountFile;
 use std::alloc::Global;
 
 /// The account files behind a request.

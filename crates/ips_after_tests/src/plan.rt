@@ -2,19 +2,19 @@
 
 use crate::images::image_of;
 use crate::wants::wanted;
+use ips_aside::sides::{Side, SideName, sides};
 use ips_change::Change;
+use ips_change::survey::{Table, merge, survey};
 use ips_digest::PayloadName;
-use ips_emptied::{Settled, settle};
 use ips_folder::MemFolder;
-use ips_foreign::foreign;
 use ips_found::{Found, Thing};
+use ips_links::emptied::{Settled, settle};
+use ips_links::order::{accounts, order};
 use ips_meaning::Want;
-use ips_order::{accounts, order};
 use ips_outside::Failed;
-use ips_salvage::destroyed;
-use ips_sides::{Side, SideName, sides};
+use ips_strays::foreign::foreign;
+use ips_strays::salvage::destroyed;
 use ips_strays::things;
-use ips_survey::{Table, merge, survey};
 use ips_text::{Or, RelPath};
 use std::alloc::Global;
 use std::process::Abort;

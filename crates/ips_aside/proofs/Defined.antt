@@ -20,12 +20,12 @@ use Rattle.ips_after.specs.Salvage as salvage
 use Rattle.ips_after.proofs.Fits.{any_from, below_covers, below_of, below_trans}
 use Rattle.ips_after.proofs.Names.{AllTried, Tried, beside_out, depth_below, depth_tried, side_facts, tried, tried_below, tried_of}
 use Rattle.ips_after.proofs.Order.{listed_append, listed_filter}
-use Rattle.ips_sides.specs.declared.side.Put.{Put}
-use Rattle.ips_sides.specs.declared.side.Put.TheVariants.{Legacy, New, Old}
-use Rattle.ips_sides.specs.declared.side.Side.{Side}
-use Rattle.ips_sides.specs.declared.side.SideName.{SideName}
-use Rattle.ips_sides.specs.declared.side.SideName.TheVariants as name
-use Rattle.ips_sides.specs.Sides.{IsNameOf, IsSide, ending_of, has_side, side_paths, side_put}
+use Rattle.ips_aside.specs.declared.sides.side.Put.{Put}
+use Rattle.ips_aside.specs.declared.sides.side.Put.TheVariants.{Legacy, New, Old}
+use Rattle.ips_aside.specs.declared.sides.side.Side.{Side}
+use Rattle.ips_aside.specs.declared.sides.side.SideName.{SideName}
+use Rattle.ips_aside.specs.declared.sides.side.SideName.TheVariants as name
+use Rattle.ips_aside.specs.sides.Sides.{IsNameOf, IsSide, ending_of, has_side, side_paths, side_put}
 use Rattle.ips_aside.specs.declared.lost.Lost.{Lost}
 use Rattle.ips_aside.specs.declared.lost.LostName.{LostName}
 use Rattle.ips_aside.specs.Lost.{AreFirstFree, AreNamesOf, HasName, IsFirstFree, comes_first, finding_order, first_name_of, folder_paths, in_folder, is_lost_name, is_taken, lost_of, lost_seen, names_of}

@@ -14,8 +14,8 @@ use Rattle.ips_after.specs.Salvage.{with_suffix}
 use Rattle.ips_conflict.specs.Index.{HoldsAbove, has_path}
 use Rattle.ips_found.specs.Found.{thing_paths}
 use Rattle.ips_found.specs.declared.found.Thing.{Thing}
-use Rattle.ips_sides.specs.declared.side.Side.{Side}
-use Rattle.ips_sides.specs.Sides.{ending_of}
+use Rattle.ips_aside.specs.declared.sides.side.Side.{Side}
+use Rattle.ips_aside.specs.sides.Sides.{ending_of}
 use Rattle.ips_aside.specs.declared.lost.Lost.{Lost}
 use Rattle.ips_aside.specs.declared.lost.LostName.{LostName}
 use Rattle.ips_aside.specs.Lost.{AreFirstFree, IsFirstFree, IsMarked, first_name_of, folder_paths, in_folder, is_lost_name, is_taken, lost_of, lost_seen, names_of}

@@ -16,8 +16,8 @@ use Rattle.ips_after.specs.Salvage.{Aside}
 use Rattle.ips_after.proofs.Changed.{both_ways}
 use Rattle.ips_after.proofs.Order.{once_filter}
 use Rattle.ips_after.proofs.Sorted.{sorted_once}
-use Rattle.ips_sides.specs.declared.side.Side.{Side}
-use Rattle.ips_sides.specs.Sides.{AreSides, has_side, side_paths}
+use Rattle.ips_aside.specs.declared.sides.side.Side.{Side}
+use Rattle.ips_aside.specs.sides.Sides.{AreSides, has_side, side_paths}
 use Rattle.ips_aside.specs.declared.lost.Lost.{Lost}
 use Rattle.ips_aside.specs.declared.lost.LostName.{LostName}
 use Rattle.ips_aside.specs.Lost.{AreLostNames, HasName, is_lost_name, lost_in, lost_of, lost_seen}

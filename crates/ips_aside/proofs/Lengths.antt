@@ -13,10 +13,10 @@ use Rattle.ips_after.specs.Request.{Request}
 use Rattle.ips_after.specs.Salvage.{Aside, has_long_side, is_long_path, is_lost, side_at, side_name}
 use Rattle.ips_after.specs.Salvage as salvage
 use Rattle.ips_after.proofs.Changed.{both_ways}
-use Rattle.ips_sides.specs.declared.side.Side.{Side}
-use Rattle.ips_sides.specs.declared.side.SideName.{SideName}
-use Rattle.ips_sides.specs.declared.side.SideName.TheVariants as name
-use Rattle.ips_sides.specs.Sides.{IsNameOf, IsSide, ending_of, side_paths, side_put}
+use Rattle.ips_aside.specs.declared.sides.side.Side.{Side}
+use Rattle.ips_aside.specs.declared.sides.side.SideName.{SideName}
+use Rattle.ips_aside.specs.declared.sides.side.SideName.TheVariants as name
+use Rattle.ips_aside.specs.sides.Sides.{IsNameOf, IsSide, ending_of, side_paths, side_put}
 use Rattle.ips_aside.specs.declared.lost.LostName.{LostName}
 use Rattle.ips_aside.specs.Long.{is_too_long_name, long_name_at, too_long_at}
 use Rattle.ips_aside.specs.Lost.{AreNamesOf, HasName, lost_seen}

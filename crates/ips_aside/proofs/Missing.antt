@@ -15,7 +15,7 @@ use Rattle.ips_after.proofs.Names.{beside_out, tried_below}
 use Rattle.ips_after.proofs.Order.{listed_append}
 use Rattle.ips_after.proofs.Saved.{below_slash, comparable}
 use Rattle.ips_conflict.proofs.Marked as marked
-use Rattle.ips_sides.specs.declared.side.Side.{Side}
+use Rattle.ips_aside.specs.declared.sides.side.Side.{Side}
 use Rattle.ips_aside.specs.declared.lost.LostName.{LostName}
 use Rattle.ips_aside.specs.declared.ways.Ways.{Ways}
 use Rattle.ips_aside.specs.Lost.{AreNamesOf, HasName, folder_paths, in_folder, lost_seen, names_of}

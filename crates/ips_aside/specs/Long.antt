@@ -3,9 +3,9 @@ use Rattle.std.specs.Prelude.{ℕ, Bool, true, false, ◌&&◌, IsTrue, IsFalse,
 use Rattle.std.specs.List.{list_any}
 use Rattle.ips_text.specs.Ancestry.{same_path}
 use Rattle.ips_after.specs.Salvage.{is_long_path, lesser}
-use Rattle.ips_sides.specs.declared.side.Side.{Side}
-use Rattle.ips_sides.specs.declared.side.SideName.{SideName}
-use Rattle.ips_sides.specs.declared.side.SideName.TheVariants as name
+use Rattle.ips_aside.specs.declared.sides.side.Side.{Side}
+use Rattle.ips_aside.specs.declared.sides.side.SideName.{SideName}
+use Rattle.ips_aside.specs.declared.sides.side.SideName.TheVariants as name
 use Rattle.ips_aside.specs.declared.lost.LostName.{LostName}
 
 -- The path is the first by bytes at which the test holds; where there is none, it holds at no path.

@@ -14,11 +14,11 @@ use Rattle.ips_after.specs.Request.{Request}
 use Rattle.ips_after.specs.Salvage.{Aside, depth, salvaged, with_suffix}
 use Rattle.ips_outside.specs.Image.{Image}
 use Rattle.ips_conflict.specs.Index.{has_path}
-use Rattle.ips_sides.specs.declared.side.Put.{Put}
-use Rattle.ips_sides.specs.declared.side.Side.{Side}
-use Rattle.ips_sides.specs.declared.side.SideName.{SideName}
-use Rattle.ips_sides.specs.declared.side.SideName.TheVariants as name
-use Rattle.ips_sides.specs.Sides.{AreSides, ending_of, has_side}
+use Rattle.ips_aside.specs.declared.sides.side.Put.{Put}
+use Rattle.ips_aside.specs.declared.sides.side.Side.{Side}
+use Rattle.ips_aside.specs.declared.sides.side.SideName.{SideName}
+use Rattle.ips_aside.specs.declared.sides.side.SideName.TheVariants as name
+use Rattle.ips_aside.specs.sides.Sides.{AreSides, ending_of, has_side}
 use Rattle.ips_aside.specs.declared.lost.Lost.{Lost}
 use Rattle.ips_aside.specs.declared.lost.LostName.{LostName}
 

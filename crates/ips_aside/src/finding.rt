@@ -9,8 +9,8 @@ ghost use Rattle.ips_aside.specs.Lost.{AreFirstFree, AreLostNames, IsMarked, com
 use crate::free::{free_name, inside};
 use crate::lost::{Lost, LostName, compare};
 use crate::marking::mark;
+use crate::sides::{Side, SideName};
 use ips_found::Thing;
-use ips_sides::{Side, SideName};
 use ips_text::RelPath;
 use std::alloc::{AllocError, Global};
 use std::collections::BTreeSet;

@@ -2,10 +2,10 @@
 
 ghost use Rattle.std.specs.Prelude.{◌≡◌, IfOk, OnOk};
 ghost use Rattle.ips_conflict.specs.Index.{has_path};
-ghost use Rattle.ips_sides.specs.Sides.{ending_of};
+ghost use Rattle.ips_aside.specs.sides.Sides.{ending_of};
 ghost use Rattle.ips_aside.specs.Lost.{IsFirstFree, first_name_of, in_folder};
 
-use ips_sides::Put;
+use crate::sides::Put;
 use ips_text::RelPath;
 use std::alloc::{AllocError, Global};
 use std::collections::BTreeSet;

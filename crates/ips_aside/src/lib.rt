@@ -4,6 +4,8 @@
 //! In reading order: such a file (`lost`), paths that are marked with all above them (`marking`), the first free name of one (`free`), the names
 //! of all (`finding`), what they are by an image (`laws`), the first path whose file gets too long a name (`long`), and the directories that are
 //! missing for what is saved (`ways`).
+//!
+//! Below it, each with its own contracts: the files that are put beside paths (`sides`), and the names in the salvage folder (`lost_and_found`).
 #![tactic(auto)]
 
 mod finding;
@@ -11,7 +13,9 @@ mod free;
 mod laws;
 mod long;
 mod lost;
+pub mod lost_and_found;
 mod marking;
+pub mod sides;
 mod ways;
 
 pub use finding::lost_names;

@@ -12,7 +12,7 @@ ghost use Rattle.ips_aside.specs.Lost.{AreNamesOf};
 ghost use Rattle.ips_aside.specs.Long.{IsFirstAt, is_too_long_name, long_name_at, too_long_at};
 
 use crate::lost::LostName;
-use ips_sides::{Side, SideName};
+use crate::sides::{Side, SideName};
 use ips_text::RelPath;
 use std::cmp::Ordering;
 

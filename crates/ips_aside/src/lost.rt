@@ -4,7 +4,7 @@ ghost use Rattle.std.specs.Prelude.{◌≡◌};
 ghost use Rattle.ips_after.specs.Salvage as salvage;
 ghost use Rattle.ips_aside.specs.Lost as spec;
 
-use ips_sides::Put;
+use crate::sides::Put;
 use ips_text::RelPath;
 use std::cmp::Ordering;
 

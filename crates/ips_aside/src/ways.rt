@@ -4,7 +4,7 @@ ghost use Rattle.std.specs.Prelude.{◌≡◌, ◌++◌, [], ◌∷◌, IsTrue, 
 ghost use Rattle.ips_text.specs.Path.{IsPath};
 ghost use Rattle.ips_outside.specs.Image.{is_dir};
 ghost use Rattle.ips_outside.specs.Outside.{Reads};
-ghost use Rattle.ips_content.specs.Failing.{HasFailed};
+ghost use Rattle.ips_change.specs.content.Failing.{HasFailed};
 ghost use Rattle.ips_conflict.specs.Index.{HoldsAbove};
 ghost use Rattle.ips_found.specs.Found.{thing_paths};
 ghost use Rattle.ips_aside.specs.Lost.{folder_paths, in_folder, names_of};
@@ -13,7 +13,7 @@ ghost use Rattle.ips_aside.specs.Ways.{IsMarkedAbove, IsStandingAbove, bytes_if_
 use crate::free::inside;
 use crate::lost::LostName;
 use crate::marking::mark_above;
-use ips_content::look_at;
+use ips_change::content::look_at;
 use ips_found::Thing;
 use ips_outside::{Failed, Look, Source};
 use ips_text::{Or, RelPath, parent};

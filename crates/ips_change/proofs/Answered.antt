@@ -12,7 +12,7 @@ use Rattle.ips_preserve.specs.declared.case.Standing.TheVariants.{Same, Differen
 use Rattle.ips_preserve.specs.Keep.{keep}
 use Rattle.ips_after.specs.After as after
 use Rattle.ips_after.specs.Request.{Request, WantDir, WantFile, WantHard, WantLink, Wanted}
-use Rattle.ips_wanted.specs.Named.{is_payload_of}
+use Rattle.ips_change.specs.wanted.Named.{is_payload_of}
 use Rattle.ips_change.specs.Stands.{has_payload, seen_of, standing_seen, tells_edits, weighs}
 use Rattle.ips_change.specs.Told.{naming}
 

@@ -13,7 +13,7 @@ use Rattle.ips_after.specs.After as after
 use Rattle.ips_after.specs.Change as change
 use Rattle.ips_after.specs.Request.{Request, WantDir, WantFile, WantHard, WantLink, Wanted}
 use Rattle.ips_after.specs.Salvage.{Side, copied, copies, has_bytes, legacy_suffix, new_suffix, old_suffix, saved_as, side_as, side_for}
-use Rattle.ips_wanted.specs.Named.{is_payload_of}
+use Rattle.ips_change.specs.wanted.Named.{is_payload_of}
 use Rattle.ips_change.specs.declared.stands.Stands.{Stands}
 use Rattle.ips_change.specs.declared.stands.Stands.TheVariants as stands
 use Rattle.ips_change.specs.Stands.{fresh_payload, has_fresh, has_payload, is_unasked, known_payload, seen_of, stands_of, weighs}

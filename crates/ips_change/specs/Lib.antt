@@ -1,3 +1,6 @@
 pub mod Stands
 pub mod Told
 pub mod Fitting
+pub mod content
+pub mod survey
+pub mod wanted

@@ -7,7 +7,7 @@ use Rattle.ips_preserve.specs.declared.keep.Keep.TheVariants.{Lay, Stay, Salvage
 use Rattle.ips_after.specs.Change as after
 use Rattle.ips_after.specs.Request.{Request, WantDir, WantFile, WantHard, WantLink, Wanted}
 use Rattle.ips_after.specs.Salvage.{Side, copied, legacy_suffix, new_suffix, old_suffix}
-use Rattle.ips_wanted.specs.Named.{is_payload_of}
+use Rattle.ips_change.specs.wanted.Named.{is_payload_of}
 use Rattle.ips_change.specs.declared.change.Beside.{Beside}
 use Rattle.ips_change.specs.declared.change.Beside.TheVariants.{Old, Legacy, New}
 use Rattle.ips_change.specs.declared.change.Change.{Change}

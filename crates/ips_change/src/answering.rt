@@ -6,14 +6,14 @@ ghost use Rattle.ips_outside.specs.Image as image;
 ghost use Rattle.ips_digest.specs.Name.{spelling};
 ghost use Rattle.ips_after.specs.After as after;
 ghost use Rattle.ips_after.specs.Request.{Request, WantFile, Wanted};
-ghost use Rattle.ips_wanted.specs.Named.{is_payload_of};
-ghost use Rattle.ips_wanted.specs.Wanted.{wanted_of};
+ghost use Rattle.ips_change.specs.wanted.Named.{is_payload_of};
+ghost use Rattle.ips_change.specs.wanted.Wanted.{wanted_of};
 ghost use Rattle.ips_change.specs.Stands as spec;
 ghost use Rattle.ips_change.specs.Told.{naming};
 
+use crate::content::is_same_name;
 use crate::stands::Stands;
 use ips_action::Preserve;
-use ips_content::is_same_name;
 use ips_digest::PayloadName;
 use ips_meaning::Entry;
 use ips_preserve::{Case, Event, Keep, Standing, decide};

@@ -4,11 +4,11 @@ ghost use Rattle.std.specs.Prelude.{◌≡◌, false, Some, None};
 ghost use Rattle.std.specs.Option.{option_map};
 ghost use Rattle.ips_digest.specs.Name.{spelling};
 ghost use Rattle.ips_after.specs.After as after;
-ghost use Rattle.ips_wanted.specs.Wanted.{wanted_of};
+ghost use Rattle.ips_change.specs.wanted.Wanted.{wanted_of};
 ghost use Rattle.ips_change.specs.Stands as spec;
 
+use crate::content::{is_same, is_same_name};
 use ips_action::Preserve;
-use ips_content::{is_same, is_same_name};
 use ips_digest::PayloadName;
 use ips_meaning::Entry;
 

@@ -15,9 +15,9 @@ use Rattle.ips_after.specs.Planned.{HasEntryParts, IsNameable, IsProperRequest}
 use Rattle.ips_after.specs.Request.{IsRequest, Over, Request}
 use Rattle.ips_after.proofs.Behind.{above_path}
 use Rattle.ips_after.proofs.Sorted.{sorted_once}
-use Rattle.ips_wanted.specs.Wanted.{want_of, wanted_among}
-use Rattle.ips_wanted.proofs.Apart.{legacy_wanted, nothing_below, nothing_legacy, own_wanted, wanted_named}
-use Rattle.ips_wanted.proofs.Found.{is_want, led_to_file, proper_at, some_there}
+use Rattle.ips_change.specs.wanted.Wanted.{want_of, wanted_among}
+use Rattle.ips_change.proofs.wanted.Apart.{legacy_wanted, nothing_below, nothing_legacy, own_wanted, wanted_named}
+use Rattle.ips_change.proofs.wanted.Found.{is_want, led_to_file, proper_at, some_there}
 use Rattle.ips_due.specs.Asked.{AreMeant, request_between}
 use Rattle.ips_due.specs.Due.{Due, FitsAccounts, HasProperDue, IsDue, IsOverOf, LeavesOwn, is_due}
 use Rattle.ips_due.proofs.Fitting.{Account, Folder, Gone, Record, Said, Silent, due_of_account, due_of_folder, due_of_record, over_fits, over_named, said_is}

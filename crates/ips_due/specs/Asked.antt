@@ -7,7 +7,7 @@ use Rattle.ips_meaning.specs.declared.entry.Entry.{Entry}
 use Rattle.ips_meaning.specs.Together.{AreProper, HangTogether}
 use Rattle.ips_meaning.specs.Want.{PackagesMean}
 use Rattle.ips_after.specs.Request.{Over, Request}
-use Rattle.ips_wanted.specs.Wanted.{AreLinkBytes, want_of}
+use Rattle.ips_change.specs.wanted.Wanted.{AreLinkBytes, want_of}
 
 -- What is known of the entries that packages mean: no path is reserved and nothing clashes, they hang together, and their parts are proper.
 pub record AreMeant (settings : Set) (mediators : List SetMediator) (packages : List Package) (entries : List (List ℕ × Entry)) : Type 0 where

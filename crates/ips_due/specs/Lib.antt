@@ -3,3 +3,4 @@ pub mod State
 pub mod Delivered
 pub mod Asked
 pub mod Apart
+pub mod outstanding

@@ -14,7 +14,7 @@ ghost use Rattle.ips_after.specs.After.{IsEmptied, image_after};
 ghost use Rattle.ips_after.specs.Planned.{IsNameable, IsProperRequest};
 ghost use Rattle.ips_after.specs.Salvage.{Aside, IsAside, IsOwn, IsRoot};
 ghost use Rattle.ips_due.specs.Apart.{LeavesSalvage};
-ghost use Rattle.ips_wanted.specs.Wanted.{want_of};
+ghost use Rattle.ips_change.specs.wanted.Wanted.{want_of};
 ghost use Rattle.ips_steps.specs.Journal.{may_name};
 ghost use Rattle.ips_after.specs.Lists.{listed};
 ghost use Rattle.ips_after.specs.Request.{is_dir_wanted, IsRequest, IsWant, OverFits, Over, Request, Want};

@@ -7,17 +7,17 @@ use Rattle.std.proofs.lemmas.Option.{same_Some}
 use Rattle.ips_text.specs.Ancestry.{same_path}
 use Rattle.ips_text.proofs.Ancestry.{same_path-true}
 use Rattle.ips_outside.specs.Image.{Dir, Entry, File, Image, Other}
-use Rattle.ips_wanted.specs.Named.{is_payload_of}
+use Rattle.ips_change.specs.wanted.Named.{is_payload_of}
 use Rattle.ips_after.specs.Lists.{listed}
 use Rattle.ips_after.specs.Request.{Over, lays}
 use Rattle.ips_due.specs.Due.{Content, Due, DueFile, IsOverOf, OfPayload, Own, bytes_of_content, said}
 use Rattle.ips_due.proofs.Fitting.{Said, said_is}
 use Rattle.ips_laying.specs.Laying.{Laid, LaysFor, entry_laid}
-use Rattle.ips_outstanding.specs.declared.verdict.Named.{Named}
-use Rattle.ips_outstanding.specs.declared.verdict.Verdict.{Verdict}
-use Rattle.ips_outstanding.specs.declared.verdict.Verdict.TheVariants as verdict
-use Rattle.ips_outstanding.specs.Outstanding.{AreOutstanding}
-use Rattle.ips_outstanding.specs.Verdicts.{account_entry, meant, named_paths, record_entry}
+use Rattle.ips_due.specs.declared.outstanding.verdict.Named.{Named}
+use Rattle.ips_due.specs.declared.outstanding.verdict.Verdict.{Verdict}
+use Rattle.ips_due.specs.declared.outstanding.verdict.Verdict.TheVariants as verdict
+use Rattle.ips_due.specs.outstanding.Outstanding.{AreOutstanding}
+use Rattle.ips_due.specs.outstanding.Verdicts.{account_entry, meant, named_paths, record_entry}
 use Rattle.ips_due_laying.specs.Laying.{Place, account_laid, content_laid, laid_at, laid_for, laid_paths, record_laid, verdict_at}
 
 meant_at : (bytes : List ℕ → List ℕ) (due : Due) (says : List ℕ → Option (Option Entry)) (named : List Named) (q : List ℕ) → map (λ n. meant bytes due n.verdict) named ≡ map says (named_paths named) → listed (named_paths named) q ≡ true → meant bytes due (verdict_at named q) ≡ says q

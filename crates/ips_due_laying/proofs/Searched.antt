@@ -14,8 +14,8 @@ use Rattle.std.proofs.lemmas.Map.Lookups.{exact_bytes}
 use Rattle.std.proofs.lemmas.Option.{same_Some}
 use Rattle.ips_text.specs.Ancestry.{same_path}
 use Rattle.ips_text.proofs.Ancestry.{same_path-self, same_path-true}
-use Rattle.ips_outstanding.specs.declared.verdict.Named.{Named}
-use Rattle.ips_outstanding.specs.Verdicts.{named_paths}
+use Rattle.ips_due.specs.declared.outstanding.verdict.Named.{Named}
+use Rattle.ips_due.specs.outstanding.Verdicts.{named_paths}
 use Rattle.ips_due_laying.specs.Laying.{verdict_at}
 
 abbrev pub Ascends : List Named → Type 0

@@ -4,9 +4,9 @@ use Rattle.std.specs.Option.{option_map}
 use Rattle.ips_text.specs.Ancestry.{same_path}
 use Rattle.ips_due.specs.Due.{Content, Due, DueFile, OfPayload, Own}
 use Rattle.ips_laying.specs.Laying.{Laid, LaidDir, LaidFile, LaidPayload}
-use Rattle.ips_outstanding.specs.declared.verdict.Named.{Named}
-use Rattle.ips_outstanding.specs.declared.verdict.Verdict.{Verdict}
-use Rattle.ips_outstanding.specs.declared.verdict.Verdict.TheVariants as verdict
+use Rattle.ips_due.specs.declared.outstanding.verdict.Named.{Named}
+use Rattle.ips_due.specs.declared.outstanding.verdict.Verdict.{Verdict}
+use Rattle.ips_due.specs.declared.outstanding.verdict.Verdict.TheVariants as verdict
 
 -- What is said of a path, where it is named.
 abbrev pub verdict_at : List Named → List ℕ → Option Verdict

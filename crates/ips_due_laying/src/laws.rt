@@ -2,12 +2,12 @@
 
 ghost use Rattle.std.specs.Prelude.{◌≡◌, ℕ, List, None, IsFalse};
 ghost use Rattle.ips_outside.specs.Image.{Image};
-ghost use Rattle.ips_wanted.specs.Named.{is_payload_of};
+ghost use Rattle.ips_change.specs.wanted.Named.{is_payload_of};
 ghost use Rattle.ips_after.specs.Request.{Over, lays};
 ghost use Rattle.ips_due.specs.Due.{Due, IsOverOf};
 ghost use Rattle.ips_laying.specs.Laying.{LaysFor};
-ghost use Rattle.ips_outstanding.specs.declared.verdict.Named.{Named};
-ghost use Rattle.ips_outstanding.specs.Outstanding.{AreOutstanding};
+ghost use Rattle.ips_due.specs.declared.outstanding.verdict.Named.{Named};
+ghost use Rattle.ips_due.specs.outstanding.Outstanding.{AreOutstanding};
 ghost use Rattle.ips_due_laying.specs.Laying.{laid_at, laid_paths};
 
 /// What is laid is just what account files and records say, whatever the bytes of payloads are; where they lay nothing, nothing is laid.

@@ -6,13 +6,13 @@ ghost use Rattle.std.specs.List.Sorted.{IsStrictlySortedBy};
 ghost use Rattle.std.specs.Ordering.{nat_cmp};
 ghost use Rattle.std.specs.Cmp.Lexicographic.{slice_cmp};
 ghost use Rattle.ips_laying.specs.Laying.{laid_told};
-ghost use Rattle.ips_outstanding.specs.Parts.{content_told, due_file, due_of};
-ghost use Rattle.ips_outstanding.specs.Verdicts.{named_paths};
+ghost use Rattle.ips_due.specs.outstanding.Parts.{content_told, due_file, due_of};
+ghost use Rattle.ips_due.specs.outstanding.Verdicts.{named_paths};
 ghost use Rattle.ips_due_laying.specs.Laying as spec;
 ghost use Rattle.ips_due_laying.specs.Laying.{account_laid, content_laid, laid_at, laid_paths, record_laid};
 
+use ips_due::outstanding::{AccountFile, Content, DueParts, Named, Outstanding, Records, Verdict};
 use ips_laying::{Laid, Laying};
-use ips_outstanding::{AccountFile, Content, DueParts, Named, Outstanding, Records, Verdict};
 use ips_text::RelPath;
 use std::alloc::{AllocError, Global};
 use std::marker::Model;
@@ -29,8 +29,8 @@ impl<'a, R: Records> Model for DueLaying<'a, R> {
     ghost use Rattle.std.specs.List.Sorted.{IsStrictlySortedBy};
     ghost use Rattle.std.specs.Ordering.{nat_cmp};
     ghost use Rattle.std.specs.Cmp.Lexicographic.{slice_cmp};
-    ghost use Rattle.ips_outstanding.specs.Parts.{due_of};
-    ghost use Rattle.ips_outstanding.specs.Verdicts.{named_paths};
+    ghost use Rattle.ips_due.specs.outstanding.Parts.{due_of};
+    ghost use Rattle.ips_due.specs.outstanding.Verdicts.{named_paths};
     ghost use Rattle.ips_due_laying.specs.Laying.{Place, laid_paths};
 
     ghost Value = { List Place };

@@ -20,17 +20,17 @@ use Rattle.ips_after.proofs.Saved.{sent_or_way}
 use Rattle.ips_steps.proofs.Lists.{clash}
 use Rattle.ips_due.specs.Apart.{LeavesSalvage}
 use Rattle.ips_change.specs.Told.{naming}
-use Rattle.ips_survey.specs.declared.table.Table.{Table}
-use Rattle.ips_survey.specs.Marks.{row_paths}
+use Rattle.ips_change.specs.declared.survey.table.Table.{Table}
+use Rattle.ips_change.specs.survey.Marks.{row_paths}
 use Rattle.ips_laying.specs.Laying.{Laid}
-use Rattle.ips_emptied.specs.Emptying.{marked_in}
-use Rattle.ips_emptied.specs.declared.settled.Settled.{Settled}
+use Rattle.ips_links.specs.emptied.Emptying.{marked_in}
+use Rattle.ips_links.specs.declared.emptied.settled.Settled.{Settled}
 use Rattle.ips_found.specs.Found.{AreThings, FoundLink, found_of, found_told, thing_paths}
 use Rattle.ips_found.specs.declared.found.Thing.{Thing}
 use Rattle.ips_movable.specs.First.{IsFirstPath}
 use Rattle.ips_movable.specs.Movable.{CanMove, SaysBytes}
-use Rattle.ips_sides.specs.declared.side.Side.{Side}
-use Rattle.ips_sides.specs.Sides.{has_side}
+use Rattle.ips_aside.specs.declared.sides.side.Side.{Side}
+use Rattle.ips_aside.specs.sides.Sides.{has_side}
 use Rattle.ips_aside.specs.declared.lost.LostName.{LostName}
 use Rattle.ips_aside.specs.declared.ways.Ways.{Ways}
 use Rattle.ips_aside.specs.Lost.{AreLostNames, AreNamesOf, folder_paths, lost_in, names_of}

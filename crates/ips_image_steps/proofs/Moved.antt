@@ -5,13 +5,13 @@ use Rattle.ips_outside.specs.Image.{Image}
 use Rattle.ips_after.specs.Planned.{IsProperRequest}
 use Rattle.ips_after.specs.Request.{Request}
 use Rattle.ips_change.specs.Told.{naming}
-use Rattle.ips_survey.specs.declared.row.Row.{Row}
-use Rattle.ips_survey.specs.declared.said.Said.{Said}
-use Rattle.ips_survey.specs.Marks.{row_paths}
-use Rattle.ips_survey.specs.Rows.{HasLooked}
-use Rattle.ips_survey.specs.Tables.{IsTable}
-use Rattle.ips_sides.specs.declared.side.Side.{Side}
-use Rattle.ips_sides.specs.Sides.{AreSides}
+use Rattle.ips_change.specs.declared.survey.row.Row.{Row}
+use Rattle.ips_change.specs.declared.survey.said.Said.{Said}
+use Rattle.ips_change.specs.survey.Marks.{row_paths}
+use Rattle.ips_change.specs.survey.Rows.{HasLooked}
+use Rattle.ips_change.specs.survey.Tables.{IsTable}
+use Rattle.ips_aside.specs.declared.sides.side.Side.{Side}
+use Rattle.ips_aside.specs.sides.Sides.{AreSides}
 use Rattle.ips_image_steps.specs.Findings.{AreFiles}
 
 -- the files that were found by lent rows

@@ -10,12 +10,12 @@ use Rattle.ips_commit.specs.Contents.{AreStanding, IsStanding}
 use Rattle.ips_after.specs.Request.{Request}
 use Rattle.ips_change.specs.declared.change.Change.{Change as Told}
 use Rattle.ips_change.specs.declared.change.Change.TheVariants as told
-use Rattle.ips_survey.specs.declared.said.Said.{Said}
-use Rattle.ips_survey.specs.declared.said.Said.TheVariants.{Lays, Takes}
+use Rattle.ips_change.specs.declared.survey.said.Said.{Said}
+use Rattle.ips_change.specs.declared.survey.said.Said.TheVariants.{Lays, Takes}
 use Rattle.ips_laying.specs.Laying.{Laid, LaidDir, LaidFile, LaidPayload}
 use Rattle.ips_emit.specs.Emitted.{FromFile, FromPayload, OwnBytes, Provenance, provenance_of, provenances_told}
-use Rattle.ips_draft.specs.Drafting.{provenances_at, provenances_in, provenances_laid, provenances_of}
-use Rattle.ips_saving.specs.Saving.{IsSavedFrom}
+use Rattle.ips_image_steps.specs.draft.Drafting.{provenances_at, provenances_in, provenances_laid, provenances_of}
+use Rattle.ips_image_steps.specs.saving.Saving.{IsSavedFrom}
 use Rattle.ips_image_steps.specs.Sources.{IsNoCopy}
 
 -- a content that is copied is that of a file which stands

@@ -13,7 +13,7 @@ use Rattle.ips_change.specs.Told.{naming}
 use Rattle.ips_commit.specs.Contents.{AreSeen, AreStanding}
 use Rattle.ips_emit.specs.declared.emitting.Emitted.{Emitted}
 use Rattle.ips_emit.specs.Emitted.{provenance_of, staged_bytes}
-use Rattle.ips_plan_steps.specs.Plan.{IsPlan}
+use Rattle.ips_image_steps.specs.plan_steps.Plan.{IsPlan}
 use Rattle.ips_image_steps.specs.Sources.{HasSources}
 use Rattle.ips_image_steps.specs.declared.fault.StepsFault.{StepsFault}
 use Rattle.ips_image_steps.specs.declared.fault.StepsFault.TheVariants.{FolderFault, Unmovable}

@@ -8,9 +8,9 @@ use Rattle.ips_after.specs.Planned.{IsProperRequest}
 use Rattle.ips_after.specs.Request.{IsRequest, Request, WantDir, is_dir_wanted}
 use Rattle.ips_after.specs.Salvage.{salvaged, side_at}
 use Rattle.ips_change.specs.Told.{naming}
-use Rattle.ips_survey.specs.declared.row.Row.{Row}
-use Rattle.ips_survey.specs.declared.said.Said.{Said}
-use Rattle.ips_survey.specs.Tables.{IsTable}
+use Rattle.ips_change.specs.declared.survey.row.Row.{Row}
+use Rattle.ips_change.specs.declared.survey.said.Said.{Said}
+use Rattle.ips_change.specs.survey.Tables.{IsTable}
 use Rattle.ips_laying.specs.Laying.{Laid, LaysFor}
 use Rattle.ips_due.specs.Apart.{LeavesSalvage}
 use Rattle.ips_due.specs.Due.{is_own}

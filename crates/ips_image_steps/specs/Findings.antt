@@ -10,19 +10,19 @@ use Rattle.ips_after.specs.Planned.{IsProperRequest, plan_order}
 use Rattle.ips_after.specs.Request.{IsRequest, Request}
 use Rattle.ips_after.specs.Salvage.{Aside, IsAsides, has_long_side, is_unmovable, salvaged, side_at}
 use Rattle.ips_change.specs.Told.{naming}
-use Rattle.ips_survey.specs.declared.row.Row.{Row}
-use Rattle.ips_survey.specs.declared.said.Said.{Said}
-use Rattle.ips_survey.specs.Marks.{row_paths}
-use Rattle.ips_survey.specs.Rows.{HasLooked}
-use Rattle.ips_survey.specs.Tables.{IsTable}
-use Rattle.ips_survey.specs.declared.table.Table.{Table}
-use Rattle.ips_emptied.specs.Emptying.{marked_in}
-use Rattle.ips_emptied.specs.declared.settled.Settled.{Settled}
-use Rattle.ips_emptied.specs.Joining.{SettlesRows}
+use Rattle.ips_change.specs.declared.survey.row.Row.{Row}
+use Rattle.ips_change.specs.declared.survey.said.Said.{Said}
+use Rattle.ips_change.specs.survey.Marks.{row_paths}
+use Rattle.ips_change.specs.survey.Rows.{HasLooked}
+use Rattle.ips_change.specs.survey.Tables.{IsTable}
+use Rattle.ips_change.specs.declared.survey.table.Table.{Table}
+use Rattle.ips_links.specs.emptied.Emptying.{marked_in}
+use Rattle.ips_links.specs.declared.emptied.settled.Settled.{Settled}
+use Rattle.ips_links.specs.emptied.Joining.{SettlesRows}
 use Rattle.ips_found.specs.Found.{AreThings, thing_paths}
 use Rattle.ips_found.specs.declared.found.Thing.{Thing}
-use Rattle.ips_sides.specs.declared.side.Side.{Side}
-use Rattle.ips_sides.specs.Sides.{AreSides}
+use Rattle.ips_aside.specs.declared.sides.side.Side.{Side}
+use Rattle.ips_aside.specs.sides.Sides.{AreSides}
 use Rattle.ips_aside.specs.declared.ways.Ways.{Ways}
 use Rattle.ips_aside.specs.declared.lost.LostName.{LostName}
 use Rattle.ips_aside.specs.Lost.{AreNamesOf}
@@ -30,7 +30,7 @@ use Rattle.ips_aside.specs.Ways.{is_way}
 use Rattle.ips_movable.specs.First.{IsFirstPath}
 use Rattle.ips_emit.specs.declared.emitting.Emitted.{Emitted}
 use Rattle.ips_emit.specs.Emitted.{IsEmitted, Provenance}
-use Rattle.ips_draft.specs.Drafting.{turns_of, turns_saving}
+use Rattle.ips_image_steps.specs.draft.Drafting.{turns_of, turns_saving}
 use Rattle.ips_image_steps.specs.Sources.{HasSources}
 
 -- The rows know what stands, and what becomes of each is what a request of the table makes of it.

@@ -6,8 +6,8 @@ use Rattle.ips_after.specs.Request.{Request}
 use Rattle.ips_after.specs.Salvage.{Aside}
 use Rattle.ips_change.specs.Told.{naming}
 use Rattle.ips_emit.specs.Emitted.{FromFile, FromPayload, OwnBytes, Provenance, contents_in}
-use Rattle.ips_draft.specs.Drafting.{turns_saving}
-use Rattle.ips_saving.specs.Saving.{IsSavedFrom}
+use Rattle.ips_image_steps.specs.draft.Drafting.{turns_saving}
+use Rattle.ips_image_steps.specs.saving.Saving.{IsSavedFrom}
 
 -- A content is no copy of a file of the image: it is a payload, or bytes of its own.
 abbrev pub IsNoCopy : Provenance → Type 0

@@ -5,20 +5,20 @@ ghost use Rattle.std.specs.List.{AllByRecursion};
 ghost use Rattle.ips_outside.specs.Image.{Image};
 ghost use Rattle.ips_outside.specs.Outside.{Reads};
 ghost use Rattle.ips_after.specs.Request.{Request};
-ghost use Rattle.ips_lost.specs.Moments.{NamesMoment};
-ghost use Rattle.ips_content.specs.Failing.{HasFailed};
-ghost use Rattle.ips_survey.specs.Rows.{HasLooked};
+ghost use Rattle.ips_aside.specs.lost_and_found.Moments.{NamesMoment};
+ghost use Rattle.ips_change.specs.content.Failing.{HasFailed};
+ghost use Rattle.ips_change.specs.survey.Rows.{HasLooked};
 ghost use Rattle.ips_emit.specs.Emitted.{IsEmitted};
 ghost use Rattle.ips_image_steps.specs.Asked.{HasOwnFolder, HasRequest, IsAsked};
 ghost use Rattle.ips_image_steps.specs.Answers.{IsAnswer};
 
 use crate::saved::add_settled;
+use ips_change::survey::Table;
 use ips_emit::Emitted;
-use ips_emptied::settle;
 use ips_folder::Folder;
 use ips_laying::Laying;
+use ips_links::emptied::settle;
 use ips_outside::Failed;
-use ips_survey::Table;
 use ips_text::{Or, RelPath};
 use std::alloc::Global;
 

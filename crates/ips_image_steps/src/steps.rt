@@ -6,8 +6,8 @@ ghost use Rattle.std.specs.List.{AllByRecursion};
 ghost use Rattle.ips_text.specs.declared.refusal.Or.TheVariants.{Bad};
 ghost use Rattle.ips_outside.specs.Outside.{Reads};
 ghost use Rattle.ips_after.specs.Request.{Request};
-ghost use Rattle.ips_lost.specs.Moments.{NamesMoment};
-ghost use Rattle.ips_survey.specs.Rows.{HasLooked};
+ghost use Rattle.ips_aside.specs.lost_and_found.Moments.{NamesMoment};
+ghost use Rattle.ips_change.specs.survey.Rows.{HasLooked};
 ghost use Rattle.ips_image_steps.specs.Asked.{HasOwnFolder, HasRequest, IsAsked};
 ghost use Rattle.ips_image_steps.specs.Answers.{CanBeListed, HasSteps, IfUnmovable, IsHindered};
 ghost use Rattle.ips_image_steps.specs.declared.fault.StepsFault.TheVariants as fault;
@@ -15,11 +15,11 @@ ghost use Rattle.ips_image_steps.specs.declared.fault.StepsFault.TheVariants as 
 use crate::fault::StepsFault;
 use crate::listed::can_be_listed;
 use crate::settled::add_steps;
+use ips_change::survey::Table;
 use ips_emit::Emitted;
 use ips_folder::Folder;
 use ips_laying::Laying;
 use ips_outside::Failed;
-use ips_survey::Table;
 use ips_text::Or;
 use std::alloc::Global;
 

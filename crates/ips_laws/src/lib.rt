@@ -1,6 +1,14 @@
 //! Laws of what packages mean: one list of entries, but for the room of texts; and where they mean something, they have no fault.
+//!
+//! Above them, each a module of its own: what is loaded (`recorded`), what a command comes to (`next_laws`), plans (`plan_laws`), the records that they
+//! leave (`record_laws`), and answers of runs (`answers`).
 #![tactic(auto)]
 
+pub mod answers;
 mod law;
+pub mod next_laws;
+pub mod plan_laws;
+pub mod record_laws;
+pub mod recorded;
 
 pub use law::{meaning_is_one, meaning_or_fault};

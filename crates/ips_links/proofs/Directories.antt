@@ -7,12 +7,12 @@ use Rattle.ips_after.specs.Change.{Change}
 use Rattle.ips_after.specs.Lists.{listed}
 use Rattle.ips_after.specs.Request.{Request, WantDir, WantFile, WantHard, WantLink, Wanted}
 use Rattle.ips_change.specs.Told.{naming}
-use Rattle.ips_survey.specs.declared.row.Row.{Row}
-use Rattle.ips_survey.specs.Marks.{row_paths}
-use Rattle.ips_survey.specs.declared.said.Said.{Said}
-use Rattle.ips_survey.specs.Said.{said_as}
-use Rattle.ips_survey.specs.Tables.{IsTable}
-use Rattle.ips_survey.proofs.Marked.{is_spoken}
+use Rattle.ips_change.specs.declared.survey.row.Row.{Row}
+use Rattle.ips_change.specs.survey.Marks.{row_paths}
+use Rattle.ips_change.specs.declared.survey.said.Said.{Said}
+use Rattle.ips_change.specs.survey.Said.{said_as}
+use Rattle.ips_change.specs.survey.Tables.{IsTable}
+use Rattle.ips_change.proofs.survey.Marked.{is_spoken}
 use Rattle.ips_after.proofs.Unseen.{and_second}
 use Rattle.ips_links.proofs.Linked.{is_bare, is_silent}
 use Rattle.ips_links.specs.Supporting.{begins_taken, supported_by}

@@ -4,8 +4,8 @@ use Rattle.ips_after.specs.Request.{Wanted}
 use Rattle.ips_change.specs.declared.change.Change.{Change}
 use Rattle.ips_change.specs.declared.change.Change.TheVariants as told
 use Rattle.ips_change.specs.Fitting.{Fits, made_mode}
-use Rattle.ips_survey.specs.declared.row.Row.{Row}
-use Rattle.ips_survey.specs.Rows.{row_pair}
+use Rattle.ips_change.specs.declared.survey.row.Row.{Row}
+use Rattle.ips_change.specs.survey.Rows.{row_pair}
 use Rattle.ips_links.specs.Fitting.{AllFit, FitsSupported, support_mode}
 
 made_supports : (new : Option Wanted) (mode : ℕ) → made_mode new ≡ Some mode → support_mode new ≡ Some mode

@@ -14,12 +14,12 @@ use Rattle.ips_after.specs.Request.{IsRequest, Request, WantDir, WantFile, WantH
 use Rattle.ips_after.proofs.Fits.{any_from, any_of}
 use Rattle.ips_steps.proofs.Lists.{clash, same_path-sym}
 use Rattle.ips_change.specs.Told.{naming}
-use Rattle.ips_survey.specs.declared.row.Row.{Row}
-use Rattle.ips_survey.specs.Marks.{row_paths}
-use Rattle.ips_survey.proofs.Marking.{map_same}
-use Rattle.ips_survey.specs.declared.said.Said.{Said}
-use Rattle.ips_survey.specs.Tables.{IsTable}
-use Rattle.ips_survey.proofs.Filling.{rows_more}
+use Rattle.ips_change.specs.declared.survey.row.Row.{Row}
+use Rattle.ips_change.specs.survey.Marks.{row_paths}
+use Rattle.ips_change.proofs.survey.Marking.{map_same}
+use Rattle.ips_change.specs.declared.survey.said.Said.{Said}
+use Rattle.ips_change.specs.survey.Tables.{IsTable}
+use Rattle.ips_change.proofs.survey.Filling.{rows_more}
 use Rattle.ips_links.specs.Leading.{hard_to, is_led, is_that}
 
 pub leads_that : (w : Option Wanted) (p : List ℕ) → leads_to p w ≡ is_that (hard_to w) p

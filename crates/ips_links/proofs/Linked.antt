@@ -14,14 +14,14 @@ use Rattle.ips_after.specs.Request.{IsRequest, Request, WantDir, WantFile, WantH
 use Rattle.ips_after.proofs.Unseen.{and_second}
 use Rattle.ips_after.proofs.Fits.{any_of}
 use Rattle.ips_change.specs.Told.{naming}
-use Rattle.ips_survey.specs.declared.row.Row.{Row}
-use Rattle.ips_survey.specs.Marks.{holds_below, row_paths}
-use Rattle.ips_survey.proofs.Marking.{map_same}
-use Rattle.ips_survey.specs.declared.said.Said.{Said}
-use Rattle.ips_survey.specs.Said.{said_as, says_laid}
-use Rattle.ips_survey.specs.Tables.{IsTable}
-use Rattle.ips_survey.proofs.Filling.{or_none}
-use Rattle.ips_survey.proofs.Marked.{is_laid}
+use Rattle.ips_change.specs.declared.survey.row.Row.{Row}
+use Rattle.ips_change.specs.survey.Marks.{holds_below, row_paths}
+use Rattle.ips_change.proofs.survey.Marking.{map_same}
+use Rattle.ips_change.specs.declared.survey.said.Said.{Said}
+use Rattle.ips_change.specs.survey.Said.{said_as, says_laid}
+use Rattle.ips_change.specs.survey.Tables.{IsTable}
+use Rattle.ips_change.proofs.survey.Filling.{or_none}
+use Rattle.ips_change.proofs.survey.Marked.{is_laid}
 use Rattle.ips_links.specs.Leading.{hard_to, is_led, linked_by}
 use Rattle.ips_links.specs.Made.{is_made}
 use Rattle.ips_links.proofs.Led.{leads_at, led_wanted, same_any, wanted_row}

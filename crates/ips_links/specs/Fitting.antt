@@ -4,8 +4,8 @@ use Rattle.ips_after.specs.Request.{Wanted}
 use Rattle.ips_change.specs.declared.change.Change.{Change}
 use Rattle.ips_change.specs.declared.change.Change.TheVariants as told
 use Rattle.ips_change.specs.Fitting.{Fits, made_mode}
-use Rattle.ips_survey.specs.declared.row.Row.{Row}
-use Rattle.ips_survey.specs.Rows.{row_pair}
+use Rattle.ips_change.specs.declared.survey.row.Row.{Row}
+use Rattle.ips_change.specs.survey.Rows.{row_pair}
 
 -- The mode of a directory that is made for what is below it: the wanted one's, or 0755 where nothing is wanted.
 abbrev pub support_mode : Option Wanted → Option ℕ

@@ -3,14 +3,14 @@
 ghost use Rattle.std.specs.Prelude.{◌≡◌, ℕ, List};
 ghost use Rattle.std.specs.Option.{option_map};
 ghost use Rattle.ips_after.specs.Change as changes;
-ghost use Rattle.ips_wanted.specs.Wanted.{wanted_of};
+ghost use Rattle.ips_change.specs.wanted.Wanted.{wanted_of};
 ghost use Rattle.ips_change.specs.Told.{change_told};
-ghost use Rattle.ips_survey.specs.Said.{says_laid};
+ghost use Rattle.ips_change.specs.survey.Said.{says_laid};
 ghost use Rattle.ips_links.specs.Leading.{hard_to};
 
 use ips_change::Change;
+use ips_change::survey::Said;
 use ips_meaning::Entry;
-use ips_survey::Said;
 use ips_text::RelPath;
 
 /// Whether something is made at a path of which this becomes.

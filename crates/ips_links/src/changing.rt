@@ -6,17 +6,17 @@ ghost use Rattle.std.specs.Option.{option_map};
 ghost use Rattle.ips_outside.specs.Image.{Image};
 ghost use Rattle.ips_after.specs.After as after;
 ghost use Rattle.ips_after.specs.Request.{Request};
-ghost use Rattle.ips_wanted.specs.Wanted.{wanted_of};
+ghost use Rattle.ips_change.specs.wanted.Wanted.{wanted_of};
 ghost use Rattle.ips_change.specs.Fitting.{Fits};
 ghost use Rattle.ips_change.specs.Told.{change_told, naming};
-ghost use Rattle.ips_survey.specs.Rows.{IsRowOf, row_pair};
-ghost use Rattle.ips_survey.specs.Marks.{row_paths};
+ghost use Rattle.ips_change.specs.survey.Rows.{IsRowOf, row_pair};
+ghost use Rattle.ips_change.specs.survey.Marks.{row_paths};
 ghost use Rattle.ips_links.specs.Fitting.{AllFit, FitsSupported};
 ghost use Rattle.ips_links.specs.Supporting.{supported_by};
 
 use ips_change::Change;
+use ips_change::survey::{Row, Table};
 use ips_meaning::Entry;
-use ips_survey::{Row, Table};
 use std::alloc::{AllocError, Global};
 
 /// What becomes of each row's path, where these do with hard links, and where a directory is made for what is made below, as the marks say.

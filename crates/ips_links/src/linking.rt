@@ -10,20 +10,20 @@ ghost use Rattle.ips_outside.specs.Image.{Image};
 ghost use Rattle.ips_after.specs.After as after;
 ghost use Rattle.ips_after.specs.Change as changes;
 ghost use Rattle.ips_after.specs.Request.{IsRequest, Request};
-ghost use Rattle.ips_wanted.specs.Wanted.{wanted_of};
+ghost use Rattle.ips_change.specs.wanted.Wanted.{wanted_of};
 ghost use Rattle.ips_change.specs.Fitting.{Fits};
 ghost use Rattle.ips_change.specs.Told.{change_told, naming};
-ghost use Rattle.ips_survey.specs.Rows.{HasLooked, IsRowOf, row_pair};
-ghost use Rattle.ips_survey.specs.Marks.{IsMarkOf, row_paths};
-ghost use Rattle.ips_survey.specs.Said.{says_laid};
-ghost use Rattle.ips_survey.specs.Tables.{IsTable};
+ghost use Rattle.ips_change.specs.survey.Rows.{HasLooked, IsRowOf, row_pair};
+ghost use Rattle.ips_change.specs.survey.Marks.{IsMarkOf, row_paths};
+ghost use Rattle.ips_change.specs.survey.Said.{says_laid};
+ghost use Rattle.ips_change.specs.survey.Tables.{IsTable};
 ghost use Rattle.ips_links.specs.Fitting.{AllFit};
 ghost use Rattle.ips_links.specs.Leading.{linked_by};
 
 use crate::asking::{lays, lead, makes};
 use ips_change::Change;
+use ips_change::survey::{Row, Said, Table, is_marked};
 use ips_meaning::Entry;
-use ips_survey::{Row, Said, Table, is_marked};
 use std::alloc::{AllocError, Global};
 
 /// What becomes of each row's path, with the files that hard links need, as these marks say, and the hard links of files that are laid.

@@ -6,14 +6,14 @@ ghost use Rattle.ips_after.specs.After as after;
 ghost use Rattle.ips_after.specs.Change as changes;
 ghost use Rattle.ips_after.specs.Request.{IsRequest, Request};
 ghost use Rattle.ips_change.specs.Told.{change_told, naming};
-ghost use Rattle.ips_survey.specs.Marks.{IsMarkOf, holds_below, row_paths};
-ghost use Rattle.ips_survey.specs.Said.{says_laid};
-ghost use Rattle.ips_survey.specs.Tables.{IsTable};
+ghost use Rattle.ips_change.specs.survey.Marks.{IsMarkOf, holds_below, row_paths};
+ghost use Rattle.ips_change.specs.survey.Said.{says_laid};
+ghost use Rattle.ips_change.specs.survey.Tables.{IsTable};
 ghost use Rattle.ips_links.specs.Made as spec;
 
 use crate::asking::{lays, makes};
 use ips_change::Change;
-use ips_survey::{Said, Table};
+use ips_change::survey::{Said, Table};
 use std::alloc::{AllocError, Global};
 
 /// The marks of the rows at which something is made, by what becomes of each with hard links, or as an account file or a record. What is made

@@ -12,16 +12,16 @@ ghost use Rattle.ips_outside.specs.Outside.{Reads};
 ghost use Rattle.ips_after.specs.After.{itself, leads_to, needs_file};
 ghost use Rattle.ips_after.specs.Change as changes;
 ghost use Rattle.ips_after.specs.Request.{IsRequest, Request};
-ghost use Rattle.ips_content.specs.Failing.{HasFailed};
+ghost use Rattle.ips_change.specs.content.Failing.{HasFailed};
 ghost use Rattle.ips_change.specs.Told.{naming};
-ghost use Rattle.ips_survey.specs.Rows.{HasLooked, IsRowOf};
-ghost use Rattle.ips_survey.specs.Marks.{row_paths};
-ghost use Rattle.ips_survey.specs.Tables.{IsTable};
+ghost use Rattle.ips_change.specs.survey.Rows.{HasLooked, IsRowOf};
+ghost use Rattle.ips_change.specs.survey.Marks.{row_paths};
+ghost use Rattle.ips_change.specs.survey.Tables.{IsTable};
 ghost use Rattle.ips_links.specs.Leading.{is_led, is_that};
 
 use crate::asking::{lead, makes};
+use ips_change::survey::{Row, Said, Table, is_file_at, mark};
 use ips_outside::{Failed, Source};
-use ips_survey::{Row, Said, Table, is_file_at, mark};
 use ips_text::{Or, RelPath};
 use std::alloc::{AllocError, Global};
 

@@ -9,17 +9,17 @@ ghost use Rattle.ips_outside.specs.Image as image;
 ghost use Rattle.ips_outside.specs.Outside.{Reads};
 ghost use Rattle.ips_after.specs.After as after;
 ghost use Rattle.ips_after.specs.Request.{IsRequest, Request};
-ghost use Rattle.ips_content.specs.Failing.{HasFailed};
+ghost use Rattle.ips_change.specs.content.Failing.{HasFailed};
 ghost use Rattle.ips_change.specs.Told.{change_told, naming};
-ghost use Rattle.ips_survey.specs.Rows.{HasLooked};
-ghost use Rattle.ips_survey.specs.Marks.{row_paths};
-ghost use Rattle.ips_survey.specs.Tables.{IsTable};
+ghost use Rattle.ips_change.specs.survey.Rows.{HasLooked};
+ghost use Rattle.ips_change.specs.survey.Marks.{row_paths};
+ghost use Rattle.ips_change.specs.survey.Tables.{IsTable};
 
 use crate::making::made;
 use crate::taking::taken;
 use ips_change::Change;
+use ips_change::survey::{Row, Said, Table, is_dir_at, marked_below};
 use ips_outside::{Failed, Source};
-use ips_survey::{Row, Said, Table, is_dir_at, marked_below};
 use ips_text::Or;
 use std::alloc::Global;
 

@@ -9,12 +9,12 @@ ghost use Rattle.ips_outside.specs.Image.{Image};
 ghost use Rattle.ips_after.specs.After as after;
 ghost use Rattle.ips_after.specs.Request.{Request};
 ghost use Rattle.ips_change.specs.Told.{naming};
-ghost use Rattle.ips_survey.specs.Rows.{HasLooked, IsRowOf};
-ghost use Rattle.ips_survey.specs.Marks.{IsMarkOf, row_paths};
-ghost use Rattle.ips_survey.specs.Tables.{IsTable};
+ghost use Rattle.ips_change.specs.survey.Rows.{HasLooked, IsRowOf};
+ghost use Rattle.ips_change.specs.survey.Marks.{IsMarkOf, row_paths};
+ghost use Rattle.ips_change.specs.survey.Tables.{IsTable};
 ghost use Rattle.ips_links.specs.Supporting.{begins_taken};
 
-use ips_survey::{Row, Said, Table, is_reached, is_top};
+use ips_change::survey::{Row, Said, Table, is_reached, is_top};
 use std::alloc::{AllocError, Global};
 
 /// At each row whether a directory that stands there goes: at or above its path one with a stated mode does, or account files and

@@ -7,7 +7,7 @@ ghost use Rattle.ips_after.specs.Findings.{is_account_path};
 ghost use Rattle.ips_plan_limits.specs.Limits as spec;
 ghost use Rattle.ips_plan_limits.specs.Limits.{large_told, lesser_large};
 
-use ips_content::is_same;
+use ips_change::content::is_same;
 use ips_journal::Staged;
 use ips_steps::Step;
 use ips_text::{RelPath, Which, covers};

@@ -11,8 +11,8 @@ use Rattle.ips_books.specs.Reading.{Texts}
 use Rattle.ips_outside.specs.Image.{File}
 use Rattle.ips_after.specs.Findings.{is_account_path}
 use Rattle.ips_due.specs.Due.{DueFile, account_at}
-use Rattle.ips_ledger.specs.Editing.{due_book, due_books}
-use Rattle.ips_ledger.specs.declared.outdated.Modes.{Modes}
+use Rattle.ips_account_files.specs.ledger.Editing.{due_book, due_books}
+use Rattle.ips_account_files.specs.declared.ledger.outdated.Modes.{Modes}
 use Rattle.ips_request_due.specs.RequestDue.{AreAccountFiles}
 
 -- The file stands at the path of an account file, and its mode is permission bits.

@@ -9,24 +9,24 @@ ghost use Rattle.ips_due.specs.Due.{HasProperDue, IsDue, MeansSame};
 ghost use Rattle.ips_due.specs.Delivered as due;
 ghost use Rattle.ips_due.specs.Delivered.{CanBeNamed, Delivered, delivered_records};
 ghost use Rattle.ips_due.specs.State.{renewed_by};
-ghost use Rattle.ips_outstanding.specs.Parts.{due_file, due_record};
-ghost use Rattle.ips_delivered.specs.Delivering.{HasUnknownOwner};
-ghost use Rattle.ips_withdrawn.specs.Withdrawn.{IsDeliveredBy};
+ghost use Rattle.ips_due.specs.outstanding.Parts.{due_file, due_record};
+ghost use Rattle.ips_request_due.specs.delivered.Delivering.{HasUnknownOwner};
+ghost use Rattle.ips_request_due.specs.withdrawn.Withdrawn.{IsDeliveredBy};
 ghost use Rattle.ips_request_due.specs.RequestDue.{AreAccountFiles, IsRequestDue, LeavesAlone};
 
+use crate::delivered::{UnknownOwner, delivered, names_are_one};
 use crate::kept::KeptDue;
+use crate::state_due::places_mean_the_records;
+use crate::withdrawn::withdrawn;
 use ips_books::Books;
-use ips_delivered::{UnknownOwner, delivered, names_are_one};
+use ips_due::outstanding::{AccountFile, DueRecord};
 use ips_due::{
     due_is_told_by_paths, requests_hang_together, requests_have_proper_due, requests_leave_salvage,
 };
 use ips_entries::places;
 use ips_load::path_of;
-use ips_outstanding::{AccountFile, DueRecord};
 use ips_state::State;
-use ips_state_due::places_mean_the_records;
 use ips_text::{Or, RelPath};
-use ips_withdrawn::withdrawn;
 use std::alloc::{AllocError, Global};
 
 /// What is due behind a request from the old state to the new one, with these account files, and with the texts that account files will have: the records

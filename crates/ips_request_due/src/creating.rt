@@ -7,15 +7,15 @@ ghost use Rattle.ips_state.specs.Lawful.{IsLawful};
 ghost use Rattle.ips_due.specs.Due.{HasProperDue, IsDue, MeansSame, Own};
 ghost use Rattle.ips_due.specs.Delivered as due;
 ghost use Rattle.ips_due.specs.Delivered.{drivers_path, first_folders, owners_path};
-ghost use Rattle.ips_outstanding.specs.Parts.{due_record};
+ghost use Rattle.ips_due.specs.outstanding.Parts.{due_record};
 
 use crate::kept::KeptDue;
+use crate::state_due::places_mean_the_records;
+use ips_due::outstanding::{Content, DueRecord};
 use ips_due::{creations_hang_together, creations_have_proper_due, due_is_told_by_paths};
 use ips_entries::places;
 use ips_load::path_of;
-use ips_outstanding::{Content, DueRecord};
 use ips_state::State;
-use ips_state_due::places_mean_the_records;
 use ips_text::RelPath;
 use std::alloc::{AllocError, Global};
 

@@ -1,12 +1,12 @@
 //! What is due, kept.
 
 ghost use Rattle.std.specs.Prelude.{◌≡◌};
-ghost use Rattle.ips_outstanding.specs.Parts.{due_of};
+ghost use Rattle.ips_due.specs.outstanding.Parts.{due_of};
 
+use crate::state_due::StateRecords;
+use ips_due::outstanding::{AccountFile, DueParts, DueRecord};
 use ips_entries::Place;
-use ips_outstanding::{AccountFile, DueParts, DueRecord};
 use ips_state::State;
-use ips_state_due::StateRecords;
 use ips_text::RelPath;
 use std::marker::Model;
 
@@ -25,9 +25,9 @@ pub struct KeptDue<'a> {
 impl<'a> Model for KeptDue<'a> {
     ghost use Rattle.std.specs.Prelude.{map};
     ghost use Rattle.ips_due.specs.Due.{Due};
-    ghost use Rattle.ips_outstanding.specs.Parts.{due_file};
+    ghost use Rattle.ips_due.specs.outstanding.Parts.{due_file};
     ghost use Rattle.ips_state.specs.State.{recorded};
-    ghost use Rattle.ips_state_due.specs.Parts.{HasPlaces, placed_records};
+    ghost use Rattle.ips_request_due.specs.state_due.Parts.{HasPlaces, placed_records};
 
     ghost Value = { Due };
 

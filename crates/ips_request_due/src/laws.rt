@@ -2,8 +2,8 @@
 
 ghost use Rattle.std.specs.Prelude.{◌<◌};
 ghost use Rattle.ips_books.specs.Reading.{Texts};
-ghost use Rattle.ips_ledger.specs.Editing.{due_books};
-ghost use Rattle.ips_ledger.specs.declared.outdated.Modes.{Modes};
+ghost use Rattle.ips_account_files.specs.ledger.Editing.{due_books};
+ghost use Rattle.ips_account_files.specs.declared.ledger.outdated.Modes.{Modes};
 ghost use Rattle.ips_request_due.specs.RequestDue.{AreAccountFiles};
 
 /// The account files whose text changes are such as a request asks for, where their modes are permission bits.

@@ -6,13 +6,13 @@ ghost use Rattle.ips_state.specs.State.{recorded};
 ghost use Rattle.ips_state.specs.Lawful.{IsLawful};
 ghost use Rattle.ips_state.specs.Records.{history_path};
 ghost use Rattle.ips_due.specs.Due.{HasProperDue, IsDue, Own};
-ghost use Rattle.ips_outstanding.specs.Parts.{due_record};
-ghost use Rattle.ips_repair_due.specs.Repairing as spec;
+ghost use Rattle.ips_due.specs.outstanding.Parts.{due_record};
+ghost use Rattle.ips_request_due.specs.repairs.Repairing as spec;
 
 use crate::kept::KeptDue;
+use crate::repairs::repairs_hang_together;
+use ips_due::outstanding::{Content, DueRecord};
 use ips_load::path_of;
-use ips_outstanding::{Content, DueRecord};
-use ips_repair_due::repairs_hang_together;
 use ips_state::{State, texts_text};
 use std::alloc::{AllocError, Global};
 

@@ -9,9 +9,9 @@ use Rattle.ips_text.proofs.Truths.{or_false}
 use Rattle.std.proofs.lemmas.List.Folds.{list_any-append}
 use Rattle.ips_outside.specs.Image.{Image}
 use Rattle.ips_after.specs.Lists.{listed}
-use Rattle.ips_survey.specs.declared.row.Row.{Row}
-use Rattle.ips_survey.specs.Marks.{row_paths}
-use Rattle.ips_survey.proofs.Filling.{rows_more}
+use Rattle.ips_change.specs.declared.survey.row.Row.{Row}
+use Rattle.ips_change.specs.survey.Marks.{row_paths}
+use Rattle.ips_change.proofs.survey.Filling.{rows_more}
 use Rattle.ips_found.specs.declared.found.Thing.{Thing}
 use Rattle.ips_strays.specs.Strays.{Adds}
 use Rattle.ips_strays.proofs.Gathered.{Test, adds_as, adds_then}

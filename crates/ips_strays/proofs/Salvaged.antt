@@ -18,14 +18,14 @@ use Rattle.ips_after.proofs.Ordered.{above_parent}
 use Rattle.ips_after.proofs.Saved.{comparable}
 use Rattle.ips_steps.proofs.Lists.{clash}
 use Rattle.ips_change.specs.Told.{naming}
-use Rattle.ips_wanted.specs.Named.{is_payload_of}
-use Rattle.ips_survey.specs.declared.row.Row.{Row}
-use Rattle.ips_survey.specs.Marks.{IsMarkOf, row_paths}
-use Rattle.ips_survey.specs.declared.said.Said.{Said}
-use Rattle.ips_survey.specs.Tables.{IsTable}
+use Rattle.ips_change.specs.wanted.Named.{is_payload_of}
+use Rattle.ips_change.specs.declared.survey.row.Row.{Row}
+use Rattle.ips_change.specs.survey.Marks.{IsMarkOf, row_paths}
+use Rattle.ips_change.specs.declared.survey.said.Said.{Said}
+use Rattle.ips_change.specs.survey.Tables.{IsTable}
 use Rattle.ips_links.proofs.Linked.{is_bare}
-use Rattle.ips_salvage.specs.Destroying.{destroys_else, goes_else}
-use Rattle.ips_salvage.proofs.Salvageable.{salvaged_here, top_none}
+use Rattle.ips_strays.specs.salvage.Destroying.{destroys_else, goes_else}
+use Rattle.ips_strays.proofs.salvage.Salvageable.{salvaged_here, top_none}
 use Rattle.ips_strays.specs.Strays.{branch, hangs, hangs_among, opens}
 use Rattle.ips_strays.proofs.Branches.{below_child, branch_only, branch_over, branch_parent, dir_above}
 

@@ -1,1 +1,3 @@
 pub mod Strays
+pub mod foreign
+pub mod salvage

@@ -4,17 +4,17 @@ ghost use Rattle.std.specs.Prelude.{◌≡◌, false, IsTrue, IfOk, Some};
 ghost use Rattle.std.specs.Option.{option_map};
 ghost use Rattle.ips_outside.specs.Outside.{Reads, look_of};
 ghost use Rattle.ips_outside.specs.declared.outside.Look.TheVariants as look;
-ghost use Rattle.ips_content.specs.Failing.{HasFailed};
-ghost use Rattle.ips_survey.specs.Rows.{HasLooked};
+ghost use Rattle.ips_change.specs.content.Failing.{HasFailed};
+ghost use Rattle.ips_change.specs.survey.Rows.{HasLooked};
 ghost use Rattle.ips_found.specs.Found.{found_of, found_told};
 ghost use Rattle.ips_strays.specs.Strays.{is_told};
 
 use ips_change::Stands;
-use ips_content::look_at;
+use ips_change::content::look_at;
+use ips_change::survey::Row;
 use ips_folder::{Folder, ListFault};
 use ips_found::Found;
 use ips_outside::{Failed, Look};
-use ips_survey::Row;
 use ips_text::{Or, RelPath};
 use std::alloc::Global;
 

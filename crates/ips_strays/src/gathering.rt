@@ -5,12 +5,12 @@ ghost use Rattle.ips_text.specs.Ancestry.{covers};
 ghost use Rattle.ips_outside.specs.Image.{Dir};
 ghost use Rattle.ips_outside.specs.Outside.{Reads};
 ghost use Rattle.ips_folder.specs.Listing.{IsListing};
-ghost use Rattle.ips_content.specs.Failing.{HasFailed};
+ghost use Rattle.ips_change.specs.content.Failing.{HasFailed};
 ghost use Rattle.ips_strays.specs.Strays.{Adds};
 
 use crate::adding::add;
 use crate::finding::link_at;
-use ips_content::look_at;
+use ips_change::content::look_at;
 use ips_folder::{Folder, ListFault, Listing};
 use ips_found::{Found, Thing};
 use ips_outside::{Failed, Look};

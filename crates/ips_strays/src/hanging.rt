@@ -9,16 +9,16 @@ ghost use Rattle.ips_text.specs.Ancestry.{covers};
 ghost use Rattle.ips_outside.specs.Outside.{Reads};
 ghost use Rattle.ips_outside.specs.Children.{path_bytes};
 ghost use Rattle.ips_after.specs.Lists.{listed};
-ghost use Rattle.ips_content.specs.Failing.{HasFailed};
-ghost use Rattle.ips_survey.specs.Rows.{HasLooked};
-ghost use Rattle.ips_survey.specs.Marks.{row_paths};
+ghost use Rattle.ips_change.specs.content.Failing.{HasFailed};
+ghost use Rattle.ips_change.specs.survey.Rows.{HasLooked};
+ghost use Rattle.ips_change.specs.survey.Marks.{row_paths};
 ghost use Rattle.ips_strays.specs.Strays.{Adds, hangs};
 
 use crate::gathering::gather;
+use ips_change::survey::{Row, is_dir_at, place};
 use ips_folder::{Folder, ListFault};
 use ips_found::Thing;
 use ips_outside::Failed;
-use ips_survey::{Row, is_dir_at, place};
 use ips_text::{Or, RelPath};
 use std::alloc::Global;
 

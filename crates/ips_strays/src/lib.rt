@@ -3,14 +3,19 @@
 //! In reading order: what stands at a path (`finding`), a thing that is added (`adding`), all that stands at or below a path (`gathering`), what
 //! stands below a row without a row of its own (`hanging`), all of it where something goes (`straying`), what stands at rows (`marked`), and all
 //! that is salvaged as one list (`joining`).
+//!
+//! Below it, with its own contracts: what is salvaged at the paths that a request is about (`salvage`). Above it: directories with names that are no
+//! paths (`foreign`).
 #![tactic(auto)]
 
 mod adding;
 mod finding;
+pub mod foreign;
 mod gathering;
 mod hanging;
 mod joining;
 mod marked;
+pub mod salvage;
 mod straying;
 
 pub use gathering::gather;

@@ -4,18 +4,18 @@ ghost use Rattle.std.specs.Prelude.{◌≡◌, ◌&&◌, ℕ, Bool, IsTrue, OnOk
 ghost use Rattle.std.specs.List.{AllByRecursion, list_any};
 ghost use Rattle.ips_text.specs.Ancestry.{same_path};
 ghost use Rattle.ips_outside.specs.Outside.{Reads};
-ghost use Rattle.ips_content.specs.Failing.{HasFailed};
-ghost use Rattle.ips_survey.specs.Rows.{HasLooked};
-ghost use Rattle.ips_survey.specs.Marks.{row_paths};
+ghost use Rattle.ips_change.specs.content.Failing.{HasFailed};
+ghost use Rattle.ips_change.specs.survey.Rows.{HasLooked};
+ghost use Rattle.ips_change.specs.survey.Marks.{row_paths};
 ghost use Rattle.ips_found.specs.Found.{AreThings};
 ghost use Rattle.ips_strays.specs.Strays.{Adds};
 
 use crate::adding::add;
 use crate::finding::found_at;
+use ips_change::survey::Row;
 use ips_folder::Folder;
 use ips_found::Thing;
 use ips_outside::Failed;
-use ips_survey::Row;
 use ips_text::Or;
 use std::alloc::Global;
 

@@ -21,9 +21,9 @@ use Rattle.ips_run.specs.declared.ending.Ending.TheVariants as ending
 use Rattle.ips_run.specs.Ending.{HasPayloadFault, TellsAsSaid, claim_of, is_folder_fault, is_left, is_refused, is_source_fault, is_spawn_fault, is_unneeded}
 use Rattle.ips_run.specs.Comes.{Comes, IsBackTo, IsCarriedTo, IsUnopened}
 use Rattle.ips_run.specs.Comes as comes
-use Rattle.ips_told.specs.Told.{IsToldAs, Manner, blames_folder, blames_source, blames_spawner, claimed, claims_refused, claims_unfinished, manner_of, told_as}
-use Rattle.ips_told.proofs.Alike.{manner_as, manner_told, claims_as, blames_folder_as, blames_source_as, blames_spawner_as}
-use Rattle.ips_telling.specs.Finishing.{IsEarly, IsToldFor}
+use Rattle.ips_operations.specs.told.Told.{IsToldAs, Manner, blames_folder, blames_source, blames_spawner, claimed, claims_refused, claims_unfinished, manner_of, told_as}
+use Rattle.ips_operations.proofs.told.Alike.{manner_as, manner_told, claims_as, blames_folder_as, blames_source_as, blames_spawner_as}
+use Rattle.ips_operations.specs.telling.Finishing.{IsEarly, IsToldFor}
 use Rattle.ips_top.specs.Performed.{ComesAs}
 
 -- ---- which endings are early

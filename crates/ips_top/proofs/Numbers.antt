@@ -10,7 +10,7 @@ use Rattle.ips_kinds.specs.Acts.{same_sort}
 use Rattle.ips_kinds.specs.Tallies.{Carrier, all_counted, counted, taken, tally_of_all}
 use Rattle.ips_kinds.proofs.Counting.{taken_stays, room_of, steps_together}
 use Rattle.ips_commit.proofs.Going.{counted_on}
-use Rattle.ips_told.specs.Laying.{sorts_among}
+use Rattle.ips_operations.specs.told.Laying.{sorts_among}
 use Rattle.ips_top.specs.Carried.{AreFinished, number_in}
 use Rattle.ips_text.specs.declared.text.Text.{Text}
 use Rattle.ips_report.specs.declared.outcome.Outcome.TheVariants.{Shown}

@@ -12,13 +12,13 @@ use Rattle.ips_history.specs.declared.effect.Effect.{Effect}
 use Rattle.ips_history.specs.declared.effect.Effect.TheVariants as effect
 use Rattle.ips_report.specs.declared.outcome.Outcome.{Outcome}
 use Rattle.ips_report.specs.declared.outcome.Outcome.TheVariants as outcome
-use Rattle.ips_told.specs.Told.{claimed, manner_of}
+use Rattle.ips_operations.specs.told.Told.{claimed, manner_of}
 use Rattle.ips_words.specs.declared.command.Command.{Command}
 use Rattle.ips_words.specs.declared.what.What.{What}
 use Rattle.ips_words.specs.declared.what.What.TheVariants as what
 use Rattle.ips_kinds.specs.Tallies.{Carrier}
 use Rattle.ips_top.specs.Generated.{IsTried, Starved, Summed}
-use Rattle.ips_creating.specs.Creations.{makes_image}
+use Rattle.ips_operations.specs.creating.Creations.{makes_image}
 use Rattle.ips_top.specs.Histories.{Requested, Means, Stays, Led, Made, Mended}
 use Rattle.ips_top.specs.Performed.{At}
 use Rattle.ips_top.specs.Runs.{Does, IsAnswer, IsAnswered, goes_by_image, is_answered}

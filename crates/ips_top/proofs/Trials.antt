@@ -18,7 +18,7 @@ use Rattle.ips_run.specs.declared.operation.Decision.TheVariants as decision
 use Rattle.ips_run.specs.declared.ending.Ending.{Ending}
 use Rattle.ips_run.specs.declared.ending.Ending.TheVariants as ending
 use Rattle.ips_run.specs.Comes.{Comes, IsBackTo, IsCarriedTo, IsUnopened, IsUnready, Unopened, Unfinished, Back, NotDirectory, Unready, Carried}
-use Rattle.ips_told.specs.Laying.{TellsItsSteps, sorts_among}
+use Rattle.ips_operations.specs.told.Laying.{TellsItsSteps, sorts_among}
 use Rattle.ips_top.specs.Carried.{AreFinished, number_in}
 use Rattle.ips_top.proofs.Numbers.{number_among}
 

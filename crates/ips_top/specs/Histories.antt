@@ -2,13 +2,13 @@
 use Rattle.std.specs.Prelude.{◌≡◌, ℕ, Bool, Some, IsTrue}
 use Rattle.ips_outside.specs.Image.{Image}
 use Rattle.ips_words.specs.declared.command.Command.{Command}
-use Rattle.ips_showing.specs.Asked.{Asked, asked_by}
-use Rattle.ips_changing.specs.Commands.{is_changing}
-use Rattle.ips_changing.specs.Leads.{LeadsWhere}
-use Rattle.ips_creating.specs.Creations.{Creation, creating_at}
-use Rattle.ips_creating.specs.Decides.{makes_of}
-use Rattle.ips_fixing.specs.Fixes.{Repairing, fixing_at}
-use Rattle.ips_fixing.specs.Decides.{repairs_of}
+use Rattle.ips_operations.specs.showing.Asked.{Asked, asked_by}
+use Rattle.ips_operations.specs.changing.Commands.{is_changing}
+use Rattle.ips_operations.specs.changing.Leads.{LeadsWhere}
+use Rattle.ips_operations.specs.creating.Creations.{Creation, creating_at}
+use Rattle.ips_operations.specs.creating.Decides.{makes_of}
+use Rattle.ips_operations.specs.fixing.Fixes.{Repairing, fixing_at}
+use Rattle.ips_operations.specs.fixing.Decides.{repairs_of}
 
 -- A command at a moment, over a repository that tells what it holds, or doesn't.
 pub record Requested : Type 0 where

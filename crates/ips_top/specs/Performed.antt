@@ -13,7 +13,7 @@ use Rattle.ips_run.specs.declared.operation.Decision.{Decision}
 use Rattle.ips_run.specs.declared.ending.Ending.{Ending}
 use Rattle.ips_run.specs.Comes.{Comes, HasRun}
 use Rattle.ips_run.specs.Phases.{HasFailedInCommit, HasFailedInRecovery, IsKeptOrSettled}
-use Rattle.ips_told.specs.Told.{blames_folder, blames_source, blames_spawner, claimed, claims_refused, claims_unfinished, manner_of, told_as}
+use Rattle.ips_operations.specs.told.Told.{blames_folder, blames_source, blames_spawner, claimed, claims_refused, claims_unfinished, manner_of, told_as}
 
 -- The outcome tells an ending that comes.
 abbrev pub ComesAs : (Ending Outcome → Type 0) → Outcome → Type 0

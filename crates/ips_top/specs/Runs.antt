@@ -12,15 +12,15 @@ use Rattle.ips_words.specs.declared.command.Command.{Command}
 use Rattle.ips_words.specs.declared.what.What.{What}
 use Rattle.ips_words.specs.declared.what.What.TheVariants as what
 use Rattle.ips_words.specs.declared.what.Usage.{Usage}
-use Rattle.ips_showing.specs.Asked.{Asked, asked_by}
-use Rattle.ips_showing.specs.Shows as showing
-use Rattle.ips_changing.specs.Commands.{is_changing}
-use Rattle.ips_changing.specs.Decides.{Decides, asked_of}
-use Rattle.ips_changing.specs.Leads.{LeadsWhere}
-use Rattle.ips_creating.specs.Creations.{Creation, creating_at}
-use Rattle.ips_creating.specs.Decides as creating
-use Rattle.ips_fixing.specs.Fixes.{Repairing, fixing_at}
-use Rattle.ips_fixing.specs.Decides as fixing
+use Rattle.ips_operations.specs.showing.Asked.{Asked, asked_by}
+use Rattle.ips_operations.specs.showing.Shows as showing
+use Rattle.ips_operations.specs.changing.Commands.{is_changing}
+use Rattle.ips_operations.specs.changing.Decides.{Decides, asked_of}
+use Rattle.ips_operations.specs.changing.Leads.{LeadsWhere}
+use Rattle.ips_operations.specs.creating.Creations.{Creation, creating_at}
+use Rattle.ips_operations.specs.creating.Decides as creating
+use Rattle.ips_operations.specs.fixing.Fixes.{Repairing, fixing_at}
+use Rattle.ips_operations.specs.fixing.Decides as fixing
 use Rattle.ips_top.specs.Generated.{IsTried}
 use Rattle.ips_top.specs.Performed.{At, IsPerformed}
 

@@ -2,14 +2,14 @@
 
 ghost use Rattle.std.specs.Prelude.{ℕ, Bool, true, Some, IsTrue, IsFalse};
 ghost use Rattle.ips_steps.specs.Private.{visible};
-ghost use Rattle.ips_creating.specs.Creations.{makes_image};
+ghost use Rattle.ips_operations.specs.creating.Creations.{makes_image};
 ghost use Rattle.ips_history.specs.Directories.{creates};
 ghost use Rattle.ips_history.specs.History.{History, IsMeantBy, IsRestored, Last};
 ghost use Rattle.ips_history.specs.Run.{IsRun};
 ghost use Rattle.ips_history.specs.declared.effect.Effect.{Effect};
 ghost use Rattle.ips_report.specs.declared.outcome.Outcome.{Outcome};
 ghost use Rattle.ips_report.specs.declared.outcome.Outcome.TheVariants as outcome;
-ghost use Rattle.ips_told.specs.Told.{claimed, claims_done, manner_of};
+ghost use Rattle.ips_operations.specs.told.Told.{claimed, claims_done, manner_of};
 ghost use Rattle.ips_words.specs.declared.command.Command.{Command};
 ghost use Rattle.ips_top.specs.Histories.{Means, Requested};
 ghost use Rattle.ips_top.specs.Performed.{At};

@@ -6,17 +6,17 @@ ghost use Rattle.ips_kinds.specs.Tallies.{seen_by, taken};
 ghost use Rattle.ips_report.specs.Report.{report_text};
 ghost use Rattle.ips_report.specs.declared.outcome.Outcome.{Outcome as OutcomeMeant};
 ghost use Rattle.ips_run.specs.declared.operation.Decision.{Decision};
-ghost use Rattle.ips_told.specs.Told.{IsToldAs};
-ghost use Rattle.ips_telling.specs.Telling.{Tells};
+ghost use Rattle.ips_operations.specs.told.Told.{IsToldAs};
+ghost use Rattle.ips_operations.specs.telling.Telling.{Tells};
 ghost use Rattle.ips_top.specs.Performed.{IsPerformed};
 
 use ips_folder::Folder;
 use ips_kinds::Kind;
+use ips_operations::telling::finish;
+use ips_operations::told::{outcome_of, outcomes_blame_alike, outcomes_claim_alike};
 use ips_outside::{Sink, Source, Spawner};
 use ips_report::{Outcome, Status};
 use ips_run::{Operation, perform};
-use ips_telling::finish;
-use ips_told::{outcome_of, outcomes_blame_alike, outcomes_claim_alike};
 use std::alloc::Global;
 
 /// Carries out an operation and writes its report. Its decisions have to be told by outcomes of their manners, and each sort of step has to have a kind that

@@ -3,7 +3,7 @@
 ghost use Rattle.std.specs.Prelude.{ℕ, true, IsTrue};
 ghost use Rattle.ips_report.specs.declared.outcome.Outcome.{Outcome};
 ghost use Rattle.ips_report.specs.declared.outcome.Outcome.TheVariants as outcome;
-ghost use Rattle.ips_told.specs.Told.{claims_unfinished, manner_of};
+ghost use Rattle.ips_operations.specs.told.Told.{claims_unfinished, manner_of};
 ghost use Rattle.ips_words.specs.declared.command.Command.{Command};
 ghost use Rattle.ips_top.specs.Performed.{At};
 ghost use Rattle.ips_top.specs.Counted.{TakeAll};

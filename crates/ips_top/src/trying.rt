@@ -6,18 +6,18 @@ ghost use Rattle.ips_steps.specs.declared.step.Sort.{Sort};
 ghost use Rattle.ips_kinds.specs.Tallies.{seen_by, taken};
 ghost use Rattle.ips_report.specs.declared.outcome.Outcome.{Outcome as OutcomeMeant};
 ghost use Rattle.ips_run.specs.declared.operation.Decision.{Decision};
-ghost use Rattle.ips_told.specs.Laying.{TellsItsSteps};
+ghost use Rattle.ips_operations.specs.told.Laying.{TellsItsSteps};
 ghost use Rattle.ips_top.specs.Carried.{AreFinished, number_in};
 
 use crate::worded::command_of;
 use crate::world::World;
-use ips_changing::Changing;
 use ips_counts::Sorts;
-use ips_creating::Creating;
 use ips_kinds::Kind;
+use ips_operations::changing::Changing;
+use ips_operations::creating::Creating;
+use ips_operations::showing::Showing;
 use ips_report::Outcome;
 use ips_run::{Ending, Operation, perform};
-use ips_showing::Showing;
 use std::alloc::Global;
 
 /// The moment of each command: the beginning of the year 2024.

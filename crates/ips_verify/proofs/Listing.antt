@@ -12,8 +12,8 @@ use Rattle.ips_after.specs.Findings.{Damage, Finding, finding, finding_as, findi
 use Rattle.ips_after.specs.Request.{Want, Wanted}
 use Rattle.ips_after.proofs.Sorted.{sorted_once}
 use Rattle.ips_meaning.specs.declared.entry.Entry.{Entry}
-use Rattle.ips_wanted.specs.Wanted.{want_of, wanted_among, wanted_of}
-use Rattle.ips_wanted.proofs.Found.{found_at}
+use Rattle.ips_change.specs.wanted.Wanted.{want_of, wanted_among, wanted_of}
+use Rattle.ips_change.proofs.wanted.Found.{found_at}
 
 with_more : (q : List ℕ) (d : Option Damage) (found more : List Finding) → with_finding q d (found ++ more) ≡ with_finding q d found ++ more
 with_more q (Some d) found more = refl

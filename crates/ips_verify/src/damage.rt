@@ -10,13 +10,13 @@ ghost use Rattle.ips_digest.specs.Name.{spelling};
 ghost use Rattle.ips_after.specs.After.{is_kind};
 ghost use Rattle.ips_after.specs.Findings as after;
 ghost use Rattle.ips_after.specs.Request.{Wanted, WantDir, WantFile, WantHard, WantLink};
-ghost use Rattle.ips_wanted.specs.Wanted.{wanted_of};
-ghost use Rattle.ips_wanted.specs.Named.{is_payload_of};
-ghost use Rattle.ips_content.specs.Failing.{HasFailed};
+ghost use Rattle.ips_change.specs.wanted.Wanted.{wanted_of};
+ghost use Rattle.ips_change.specs.wanted.Named.{is_payload_of};
+ghost use Rattle.ips_change.specs.content.Failing.{HasFailed};
 ghost use Rattle.ips_verify.specs.Verified.{damage_told};
 
 use ips_action::Preserve;
-use ips_content::{has_content, is_same, look_at};
+use ips_change::content::{has_content, is_same, look_at};
 use ips_digest::PayloadName;
 use ips_folder::{Folder, ListFault};
 use ips_meaning::{Damage, Entry};

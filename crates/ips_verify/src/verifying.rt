@@ -3,9 +3,9 @@
 ghost use Rattle.std.specs.Prelude.{◌≡◌, ◌<◌, ◌++◌, [], Some, IsTrue, IfOk, OnOk, length, map};
 ghost use Rattle.ips_outside.specs.Outside.{Reads};
 ghost use Rattle.ips_after.specs.Findings as after;
-ghost use Rattle.ips_wanted.specs.Wanted.{want_of, wanted_of};
-ghost use Rattle.ips_wanted.specs.Named.{is_payload_of};
-ghost use Rattle.ips_content.specs.Failing.{HasFailed};
+ghost use Rattle.ips_change.specs.wanted.Wanted.{want_of, wanted_of};
+ghost use Rattle.ips_change.specs.wanted.Named.{is_payload_of};
+ghost use Rattle.ips_change.specs.content.Failing.{HasFailed};
 ghost use Rattle.ips_verify.specs.Verified.{damage_told, finding_told};
 
 use crate::damage::damage_at;

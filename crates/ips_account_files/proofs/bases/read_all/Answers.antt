@@ -2,8 +2,8 @@ use Rattle.std.proofs.Common.{false, subst, ap, ◌∙◌}
 use Rattle.std.specs.Prelude.{codes}
 use Rattle.ips_books.specs.Reading.{Texts}
 use Rattle.ips_after.specs.Request.{Request}
-use Rattle.ips_ledger.specs.declared.outdated.Modes.{Modes}
-use Rattle.ips_ledger.proofs.Answered.{fault_as}
+use Rattle.ips_account_files.specs.declared.ledger.outdated.Modes.{Modes}
+use Rattle.ips_account_files.proofs.ledger.Answered.{fault_as}
 use Rattle.ips_account_files.specs.Around.{Around, IsSilentOver, around}
 use Rattle.ips_account_files.specs.Finding.{IsFound, IsLost, mode_found, text_found}
 use Rattle.ips_account_files.proofs.Arounds.{around_kept}

@@ -1,7 +1,7 @@
 use Rattle.std.proofs.Common.{Bool, ⊎_elim, inl, inr, sym, subst, ◌∙◌}
 use Rattle.ips_outside.specs.State.{State}
-use Rattle.ips_ledger.specs.Base.{IsBase, IsBaseUnread}
-use Rattle.ips_ledger.proofs.Answered.{fault_as}
+use Rattle.ips_account_files.specs.ledger.Base.{IsBase, IsBaseUnread}
+use Rattle.ips_account_files.proofs.ledger.Answered.{fault_as}
 use Rattle.ips_account_files.proofs.finding.find_at.Goals as goal
 
 pub returns-in-Ok-base_at-clause-found : goal.returns-in-Ok-base_at-clause-found

@@ -4,9 +4,9 @@ use Rattle.ips_text.specs.Reading.{IfBad}
 use Rattle.ips_text.specs.declared.refusal.Or.{Or}
 use Rattle.ips_text.specs.declared.refusal.Or.TheVariants.{Bad, OutOfMemory}
 use Rattle.ips_books.specs.Seen.{texts}
-use Rattle.ips_ledger.specs.declared.fault.LedgerFault.{LedgerFault}
-use Rattle.ips_ledger.specs.Editing.{due_books, edited_where}
-use Rattle.ips_ledger.proofs.Answered.{fault_as, if_both}
+use Rattle.ips_account_files.specs.declared.ledger.fault.LedgerFault.{LedgerFault}
+use Rattle.ips_account_files.specs.ledger.Editing.{due_books, edited_where}
+use Rattle.ips_account_files.proofs.ledger.Answered.{fault_as, if_both}
 use Rattle.ips_account_files.specs.Behind.{IsEditRefused, files_seen}
 use Rattle.ips_account_files.proofs.Refused.{edit_refused, refused_by}
 use Rattle.ips_account_files.proofs.giving.read_and_edit.Goals as goal

@@ -1,5 +1,5 @@
 use Rattle.std.proofs.Common.{◌∙◌}
-use Rattle.ips_ledger.proofs.Bases.{base_is}
+use Rattle.ips_account_files.proofs.ledger.Bases.{base_is}
 use Rattle.ips_account_files.proofs.laws.bases_are_files.Goals as goal
 
 pub returns : goal.returns

@@ -3,8 +3,8 @@ use Rattle.std.specs.List.{AllByRecursion}
 use Rattle.ips_outside.proofs.Children.{sorted_none}
 use Rattle.ips_outside.specs.State.{State}
 use Rattle.ips_folder.specs.Memory.{mem_folder}
-use Rattle.ips_survey.specs.declared.row.Row.{Row}
-use Rattle.ips_survey.specs.Rows.{HasLooked}
+use Rattle.ips_change.specs.declared.survey.row.Row.{Row}
+use Rattle.ips_change.specs.survey.Rows.{HasLooked}
 use Rattle.ips_after_tests.proofs.plan.write_plan.Goals as goal
 
 pub merge-requires-clause-spoken : goal.merge-requires-clause-spoken

@@ -1,5 +1,5 @@
 use Rattle.std.proofs.Common.{◌++◌, List, take_all, ◌∙◌, ap, arith}
-use Rattle.ips_sides.specs.declared.side.Side.{Side}
+use Rattle.ips_aside.specs.declared.sides.side.Side.{Side}
 use Rattle.ips_aside.specs.Lost.{lost_of}
 use Rattle.ips_aside.proofs.FirstFree.{gathered}
 use Rattle.ips_aside.proofs.finding.gather.Goals as goal

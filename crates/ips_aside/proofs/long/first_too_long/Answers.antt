@@ -1,6 +1,6 @@
 use Rattle.std.proofs.Common.{◌+◌, ◌&&◌, List, take, take_all, subst, arith}
 use Rattle.ips_text.specs.Ancestry.{same_path}
-use Rattle.ips_sides.specs.declared.side.Side.{Side}
+use Rattle.ips_aside.specs.declared.sides.side.Side.{Side}
 use Rattle.ips_aside.specs.Long.{IsFirstAt, is_too_long_name, too_long_at}
 use Rattle.ips_aside.proofs.Firsts.{any_more, first_as, path_of}
 use Rattle.ips_aside.proofs.long.first_too_long.Goals as goal

@@ -5,7 +5,7 @@ use Rattle.ips_text.specs.Path.{IsPath}
 use Rattle.ips_outside.specs.Image.{is_dir}
 use Rattle.ips_outside.specs.State.{State}
 use Rattle.ips_outside.proofs.Reading.{reads_none, reads_then}
-use Rattle.ips_content.specs.Failing.{HasFailed}
+use Rattle.ips_change.specs.content.Failing.{HasFailed}
 use Rattle.ips_conflict.proofs.Marked.{height, height_falls}
 use Rattle.ips_aside.proofs.Above.{AreLeft, found_above, left_begins, left_on, up_above, up_path}
 use Rattle.ips_aside.proofs.ways.standing_above.Goals as goal

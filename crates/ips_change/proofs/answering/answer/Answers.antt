@@ -6,7 +6,7 @@ use Rattle.ips_preserve.specs.Keep.{keep}
 use Rattle.ips_digest.specs.Name.{spelling}
 use Rattle.ips_meaning.specs.declared.entry.Entry.{Entry}
 use Rattle.ips_after.specs.After.{event_of, has_new_payload}
-use Rattle.ips_wanted.specs.Wanted.{wanted_of}
+use Rattle.ips_change.specs.wanted.Wanted.{wanted_of}
 use Rattle.ips_change.specs.Stands.{standing_seen}
 use Rattle.ips_change.proofs.Answered.{answered, case_of}
 use Rattle.ips_change.proofs.answering.answer.Goals as goal

@@ -2,8 +2,8 @@ use Rattle.std.proofs.Common.{Option, Some, sym, ◌∙◌, ap, Bor}
 use Rattle.std.specs.Option.{option_map}
 use Rattle.ips_meaning.specs.declared.entry.Entry.{Entry}
 use Rattle.ips_after.specs.After as after
-use Rattle.ips_wanted.specs.Named.{is_payload_of}
-use Rattle.ips_wanted.specs.Wanted.{wanted_of}
+use Rattle.ips_change.specs.wanted.Named.{is_payload_of}
+use Rattle.ips_change.specs.wanted.Wanted.{wanted_of}
 use Rattle.ips_change.specs.Stands.{stands_of}
 use Rattle.ips_change.specs.Told.{naming}
 use Rattle.ips_change.proofs.Ruled.{changed_if}

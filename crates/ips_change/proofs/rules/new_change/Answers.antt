@@ -5,8 +5,8 @@ use Rattle.ips_preserve.specs.declared.keep.Keep.{Keep}
 use Rattle.ips_digest.specs.Name.{spelling}
 use Rattle.ips_meaning.specs.declared.entry.Entry.{Entry}
 use Rattle.ips_after.specs.After as after
-use Rattle.ips_wanted.specs.Named.{is_payload_of}
-use Rattle.ips_wanted.specs.Wanted.{wanted_of}
+use Rattle.ips_change.specs.wanted.Named.{is_payload_of}
+use Rattle.ips_change.specs.wanted.Wanted.{wanted_of}
 use Rattle.ips_change.specs.Fitting.{Fits}
 use Rattle.ips_change.specs.Stands.{is_file_seen, seen_of}
 use Rattle.ips_change.specs.Told.{naming}

@@ -4,8 +4,8 @@ use Rattle.ips_digest.specs.Name.{spelling}
 use Rattle.ips_meaning.specs.declared.entry.Entry.{Entry}
 use Rattle.ips_after.specs.Request.{WantFile, Wanted}
 use Rattle.ips_after.specs.Salvage.{copies, saved_as}
-use Rattle.ips_wanted.specs.Named.{is_payload_of}
-use Rattle.ips_wanted.specs.Wanted.{wanted_of}
+use Rattle.ips_change.specs.wanted.Named.{is_payload_of}
+use Rattle.ips_change.specs.wanted.Wanted.{wanted_of}
 use Rattle.ips_change.specs.Stands.{has_fresh, is_unasked, seen_of}
 use Rattle.ips_change.specs.Told.{naming}
 use Rattle.ips_change.proofs.Ruled.{file_there, fresh_there, saved_there}

@@ -1,7 +1,7 @@
 use Rattle.std.proofs.Common.{nat_cmp, sym, rules}
 use Rattle.std.specs.Cmp.Lexicographic.{slice_cmp}
 use Rattle.std.proofs.lemmas.Fn.{always_returns_same}
-use Rattle.ips_outstanding.specs.declared.verdict.Named.{Named}
+use Rattle.ips_due.specs.declared.outstanding.verdict.Named.{Named}
 use Rattle.ips_due_laying.proofs.Searched.{found_at, not_found, searchable}
 use Rattle.ips_due_laying.proofs.laying.verdict_at.Goals as goal
 

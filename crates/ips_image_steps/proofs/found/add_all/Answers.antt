@@ -1,8 +1,8 @@
 use Rattle.std.proofs.Common.{◌++◌, [], length, refl, sym, ◌∙◌, ap}
 use Rattle.std.proofs.lemmas.Result.{on_ok_weaker}
 use Rattle.std.proofs.lemmas.List.{length-map}
-use Rattle.ips_survey.specs.Marks.{row_paths}
-use Rattle.ips_draft.specs.Drafting.{provenances_in, turns_saving}
+use Rattle.ips_change.specs.survey.Marks.{row_paths}
+use Rattle.ips_image_steps.specs.draft.Drafting.{provenances_in, turns_saving}
 use Rattle.ips_emit.specs.Emitted.{provenance_of, staged_bytes}
 use Rattle.ips_image_steps.proofs.Asked.{settled_targets}
 use Rattle.ips_image_steps.proofs.Staged.{none_copied}

@@ -1,6 +1,6 @@
 use Rattle.std.proofs.Common.{map, ◌∙◌, ap}
 use Rattle.ips_change.specs.Told.{change_told, naming}
-use Rattle.ips_survey.specs.Marks.{row_paths}
+use Rattle.ips_change.specs.survey.Marks.{row_paths}
 use Rattle.ips_image_steps.proofs.Hindered.{losing}
 use Rattle.ips_image_steps.proofs.found.first_hindered.Goals as goal
 

@@ -3,7 +3,7 @@ use Rattle.std.specs.Prelude.{IfOk}
 use Rattle.ips_outside.specs.Image.{Image}
 use Rattle.ips_outside.specs.State.{State}
 use Rattle.ips_after.specs.Request.{Request}
-use Rattle.ips_sides.specs.declared.side.Side.{Side}
+use Rattle.ips_aside.specs.declared.sides.side.Side.{Side}
 use Rattle.ips_image_steps.specs.Asked.{HasOwnFolder, IsAsked}
 use Rattle.ips_image_steps.specs.Answers.{IsAnswer}
 use Rattle.ips_image_steps.specs.Findings.{AreFiles}

@@ -3,8 +3,8 @@ use Rattle.std.proofs.lemmas.List.{map-append}
 use Rattle.ips_after.specs.After as after
 use Rattle.ips_change.specs.Fitting.{Fits}
 use Rattle.ips_change.specs.Told.{change_told, naming}
-use Rattle.ips_survey.specs.declared.row.Row.{Row}
-use Rattle.ips_survey.specs.Rows.{IsRowOf}
+use Rattle.ips_change.specs.declared.survey.row.Row.{Row}
+use Rattle.ips_change.specs.survey.Rows.{IsRowOf}
 use Rattle.ips_links.specs.Fitting.{FitsSupported}
 use Rattle.ips_links.proofs.Fitted.{fit_here, fit_more}
 use Rattle.ips_links.proofs.Linked.{all_here, at_path, at_row, by_rows, one_more, row_more, told_here}

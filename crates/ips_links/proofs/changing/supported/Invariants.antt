@@ -5,8 +5,8 @@ use Rattle.ips_after.specs.After as after
 use Rattle.ips_after.specs.Request.{Request}
 use Rattle.ips_change.specs.Fitting.{Fits}
 use Rattle.ips_change.specs.Told.{change_told, naming}
-use Rattle.ips_survey.specs.Rows.{IsRowOf}
-use Rattle.ips_survey.specs.Marks.{row_paths}
+use Rattle.ips_change.specs.survey.Rows.{IsRowOf}
+use Rattle.ips_change.specs.survey.Marks.{row_paths}
 use Rattle.ips_links.specs.Fitting.{AllFit, FitsSupported}
 use Rattle.ips_links.proofs.Linked.{at_path}
 use Rattle.ips_links.proofs.changing.supported.Given as goal

@@ -1,6 +1,6 @@
 use Rattle.std.proofs.Common.{◌∙◌}
 use Rattle.ips_change.specs.Told.{change_told}
-use Rattle.ips_survey.specs.Rows.{row_pair}
+use Rattle.ips_change.specs.survey.Rows.{row_pair}
 use Rattle.ips_links.proofs.Directories.{supported_is}
 use Rattle.ips_links.proofs.changing.supported_at.Goals as goal
 

@@ -2,9 +2,9 @@ use Rattle.std.proofs.Common.{◌<◌, false, List, get_or, length, map, take_al
 use Rattle.ips_after.specs.After.{has_laid, needs_file}
 use Rattle.ips_after.specs.Change.{makes}
 use Rattle.ips_change.specs.Told.{change_told, naming}
-use Rattle.ips_survey.specs.declared.row.Row.{Row}
-use Rattle.ips_survey.specs.Rows.{HasLooked, IsRowOf}
-use Rattle.ips_survey.proofs.Filling.{said_at}
+use Rattle.ips_change.specs.declared.survey.row.Row.{Row}
+use Rattle.ips_change.specs.survey.Rows.{HasLooked, IsRowOf}
+use Rattle.ips_change.proofs.survey.Filling.{said_at}
 use Rattle.ips_links.proofs.Linked.{all_here, at_path, at_row, by_rows, laid_here, laid_none, one_more, row_more}
 use Rattle.ips_links.proofs.linking.laid.Goals as goal
 

@@ -4,7 +4,7 @@ use Rattle.std.proofs.lemmas.Option.{same_Some}
 use Rattle.ips_text.specs.declared.path.RelPath.{RelPath}
 use Rattle.ips_after.specs.After as after
 use Rattle.ips_change.specs.Told.{change_told, naming}
-use Rattle.ips_survey.specs.Rows.{row_pair}
+use Rattle.ips_change.specs.survey.Rows.{row_pair}
 use Rattle.ips_links.proofs.Linked.{linked_is}
 use Rattle.ips_links.proofs.linking.linked_at.Goals as goal
 use Rattle.ips_links.proofs.linking.linked_at.Goals.{in-Some, in-None}

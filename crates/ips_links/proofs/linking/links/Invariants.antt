@@ -5,9 +5,9 @@ use Rattle.ips_after.specs.After as after
 use Rattle.ips_after.specs.Request.{IsRequest, Request}
 use Rattle.ips_change.specs.Fitting.{Fits}
 use Rattle.ips_change.specs.Told.{change_told, naming}
-use Rattle.ips_survey.specs.Rows.{HasLooked}
-use Rattle.ips_survey.specs.Marks.{row_paths}
-use Rattle.ips_survey.specs.Tables.{IsTable}
+use Rattle.ips_change.specs.survey.Rows.{HasLooked}
+use Rattle.ips_change.specs.survey.Marks.{row_paths}
+use Rattle.ips_change.specs.survey.Tables.{IsTable}
 use Rattle.ips_links.specs.Fitting.{AllFit}
 use Rattle.ips_links.proofs.Linked.{at_path}
 use Rattle.ips_links.proofs.linking.links.Given as goal

@@ -3,8 +3,8 @@ use Rattle.std.proofs.lemmas.Option.{get_or_from_slice_get}
 use Rattle.ips_text.proofs.Lists.{element}
 use Rattle.ips_after.specs.After as after
 use Rattle.ips_change.specs.Told.{change_told, naming}
-use Rattle.ips_survey.specs.declared.row.Row.{Row}
-use Rattle.ips_survey.proofs.Filling.{said_at}
+use Rattle.ips_change.specs.declared.survey.row.Row.{Row}
+use Rattle.ips_change.proofs.survey.Filling.{said_at}
 use Rattle.ips_links.specs.Made.{is_made}
 use Rattle.ips_links.proofs.Linked.{at_path, at_row, by_rows, made_below, made_here, made_none, one_more, row_more, told_here}
 use Rattle.ips_links.proofs.making.made.Goals as goal

@@ -3,8 +3,8 @@ use Rattle.ips_outside.specs.Image.{Image}
 use Rattle.ips_after.specs.After as after
 use Rattle.ips_after.specs.Request.{Request}
 use Rattle.ips_change.specs.Told.{change_told, naming}
-use Rattle.ips_survey.specs.Marks.{row_paths}
-use Rattle.ips_survey.specs.Tables.{IsTable}
+use Rattle.ips_change.specs.survey.Marks.{row_paths}
+use Rattle.ips_change.specs.survey.Tables.{IsTable}
 use Rattle.ips_links.specs.Made.{is_made}
 use Rattle.ips_links.proofs.Linked.{at_path}
 use Rattle.ips_links.proofs.making.made.Given as goal

@@ -1,5 +1,5 @@
 use Rattle.std.proofs.Common.{◌∙◌}
-use Rattle.ips_survey.specs.Marks.{row_paths}
+use Rattle.ips_change.specs.survey.Marks.{row_paths}
 use Rattle.ips_links.proofs.Led.{leads_at, mark_led}
 use Rattle.ips_links.proofs.needing.add.Goals as goal
 

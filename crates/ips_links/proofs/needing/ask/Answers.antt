@@ -2,11 +2,11 @@ use Rattle.std.proofs.Common.{◌<◌, false, List, get_or, length, map, take_al
 use Rattle.ips_outside.specs.Image.{Image}
 use Rattle.ips_outside.specs.State.{State}
 use Rattle.ips_outside.proofs.Reading.{reads_then}
-use Rattle.ips_content.specs.Failing.{HasFailed}
-use Rattle.ips_survey.specs.declared.row.Row.{Row}
-use Rattle.ips_survey.specs.Rows.{HasLooked}
-use Rattle.ips_survey.specs.Marks.{row_paths}
-use Rattle.ips_survey.proofs.Filling.{said_at}
+use Rattle.ips_change.specs.content.Failing.{HasFailed}
+use Rattle.ips_change.specs.declared.survey.row.Row.{Row}
+use Rattle.ips_change.specs.survey.Rows.{HasLooked}
+use Rattle.ips_change.specs.survey.Marks.{row_paths}
+use Rattle.ips_change.proofs.survey.Filling.{said_at}
 use Rattle.ips_links.specs.Leading.{is_led}
 use Rattle.ips_links.proofs.Linked.{all_here, at_path, at_row, by_rows, needs_at, needs_here, one_more, row_more}
 use Rattle.ips_links.proofs.needing.ask.Goals as goal

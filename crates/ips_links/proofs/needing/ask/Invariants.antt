@@ -2,9 +2,9 @@ use Rattle.std.proofs.Common.{◌≡◌, IsTrue, length, map, take}
 use Rattle.std.specs.List.{AllByRecursion}
 use Rattle.ips_outside.specs.Outside.{Reads}
 use Rattle.ips_after.specs.Request.{Request}
-use Rattle.ips_survey.specs.Rows.{HasLooked}
-use Rattle.ips_survey.specs.Marks.{row_paths}
-use Rattle.ips_survey.specs.Tables.{IsTable}
+use Rattle.ips_change.specs.survey.Rows.{HasLooked}
+use Rattle.ips_change.specs.survey.Marks.{row_paths}
+use Rattle.ips_change.specs.survey.Tables.{IsTable}
 use Rattle.ips_links.specs.Leading.{is_led}
 use Rattle.ips_links.proofs.Linked.{at_path, needs_at}
 use Rattle.ips_links.proofs.needing.ask.Given as goal

@@ -1,7 +1,7 @@
 use Rattle.std.proofs.Common.{◌<◌, List, length, map, take, take_all, ◌∙◌, ap, arith}
-use Rattle.ips_survey.specs.declared.row.Row.{Row}
-use Rattle.ips_survey.specs.Rows.{HasLooked, IsRowOf}
-use Rattle.ips_survey.specs.Marks.{row_paths}
+use Rattle.ips_change.specs.declared.survey.row.Row.{Row}
+use Rattle.ips_change.specs.survey.Rows.{HasLooked, IsRowOf}
+use Rattle.ips_change.specs.survey.Marks.{row_paths}
 use Rattle.ips_links.specs.Leading.{is_led}
 use Rattle.ips_links.proofs.Led.{led_more}
 use Rattle.ips_links.proofs.Linked.{all_here}

@@ -2,8 +2,8 @@ use Rattle.std.proofs.Common.{◌≡◌, length, map, take}
 use Rattle.std.specs.List.{AllByRecursion}
 use Rattle.ips_outside.specs.Image.{Image}
 use Rattle.ips_after.specs.Request.{Request}
-use Rattle.ips_survey.specs.Rows.{HasLooked, IsRowOf}
-use Rattle.ips_survey.specs.Marks.{row_paths}
+use Rattle.ips_change.specs.survey.Rows.{HasLooked, IsRowOf}
+use Rattle.ips_change.specs.survey.Marks.{row_paths}
 use Rattle.ips_links.specs.Leading.{is_led}
 use Rattle.ips_links.proofs.needing.follow.Given as goal
 

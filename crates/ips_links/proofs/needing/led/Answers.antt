@@ -1,7 +1,7 @@
 use Rattle.std.proofs.Common.{length, false, ◌∙◌}
 use Rattle.std.proofs.lemmas.Simd.{splat_is_map}
-use Rattle.ips_survey.specs.Marks.{row_paths}
-use Rattle.ips_survey.proofs.Placed.{count}
+use Rattle.ips_change.specs.survey.Marks.{row_paths}
+use Rattle.ips_change.proofs.survey.Placed.{count}
 use Rattle.ips_links.proofs.needing.led.Goals as goal
 
 pub follow-requires-clause-none : goal.follow-requires-clause-none

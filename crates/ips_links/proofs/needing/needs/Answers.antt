@@ -1,8 +1,8 @@
 use Rattle.std.proofs.Common.{◌≡◌, List, map, sym, ◌∙◌, subst}
 use Rattle.std.specs.List.{AllByRecursion}
-use Rattle.ips_survey.specs.declared.row.Row.{Row}
-use Rattle.ips_survey.specs.Rows.{HasLooked, IsRowOf}
-use Rattle.ips_survey.specs.Marks.{row_paths}
+use Rattle.ips_change.specs.declared.survey.row.Row.{Row}
+use Rattle.ips_change.specs.survey.Rows.{HasLooked, IsRowOf}
+use Rattle.ips_change.specs.survey.Marks.{row_paths}
 use Rattle.ips_links.specs.Leading.{is_led}
 use Rattle.ips_links.proofs.Linked.{needs_wanted}
 use Rattle.ips_links.proofs.needing.needs.Goals as goal

@@ -3,11 +3,11 @@ use Rattle.ips_outside.specs.Image.{Image, is_dir}
 use Rattle.ips_outside.specs.State.{State}
 use Rattle.ips_outside.proofs.Reading.{reads_then}
 use Rattle.ips_after.specs.After as after
-use Rattle.ips_content.specs.Failing.{HasFailed}
+use Rattle.ips_change.specs.content.Failing.{HasFailed}
 use Rattle.ips_change.specs.Told.{naming}
-use Rattle.ips_survey.specs.declared.row.Row.{Row}
-use Rattle.ips_survey.specs.Rows.{HasLooked}
-use Rattle.ips_survey.proofs.Filling.{said_at}
+use Rattle.ips_change.specs.declared.survey.row.Row.{Row}
+use Rattle.ips_change.specs.survey.Rows.{HasLooked}
+use Rattle.ips_change.proofs.survey.Filling.{said_at}
 use Rattle.ips_links.proofs.Linked.{all_here, at_path, at_row, by_rows, one_more, row_more}
 use Rattle.ips_links.proofs.Directories.{support_here}
 use Rattle.ips_links.proofs.supporting.ask.Goals as goal

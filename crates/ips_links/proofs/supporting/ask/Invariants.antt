@@ -4,9 +4,9 @@ use Rattle.ips_outside.specs.Outside.{Reads}
 use Rattle.ips_after.specs.After as after
 use Rattle.ips_after.specs.Request.{Request}
 use Rattle.ips_change.specs.Told.{naming}
-use Rattle.ips_survey.specs.Rows.{HasLooked}
-use Rattle.ips_survey.specs.Marks.{row_paths}
-use Rattle.ips_survey.specs.Tables.{IsTable}
+use Rattle.ips_change.specs.survey.Rows.{HasLooked}
+use Rattle.ips_change.specs.survey.Marks.{row_paths}
+use Rattle.ips_change.specs.survey.Tables.{IsTable}
 use Rattle.ips_links.proofs.Linked.{at_path}
 use Rattle.ips_links.proofs.supporting.ask.Given as goal
 

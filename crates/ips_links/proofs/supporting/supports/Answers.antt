@@ -1,9 +1,9 @@
 use Rattle.std.proofs.Common.{◌≡◌, Bool, List, map, sym, ◌∙◌, subst}
 use Rattle.ips_after.specs.After as after
 use Rattle.ips_change.specs.Told.{naming}
-use Rattle.ips_survey.specs.declared.row.Row.{Row}
-use Rattle.ips_survey.specs.Marks.{IsMarkOf, holds_below, row_paths}
-use Rattle.ips_survey.proofs.Marking.{map_same}
+use Rattle.ips_change.specs.declared.survey.row.Row.{Row}
+use Rattle.ips_change.specs.survey.Marks.{IsMarkOf, holds_below, row_paths}
+use Rattle.ips_change.proofs.survey.Marking.{map_same}
 use Rattle.ips_links.specs.Made.{is_made}
 use Rattle.ips_links.proofs.supporting.supports.Goals as goal
 

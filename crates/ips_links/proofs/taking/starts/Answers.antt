@@ -1,9 +1,9 @@
 use Rattle.std.proofs.Common.{◌<◌, List, length, map, take_all, refl, ◌∙◌, ap, arith}
 use Rattle.ips_after.specs.After as after
 use Rattle.ips_change.specs.Told.{naming}
-use Rattle.ips_survey.specs.declared.row.Row.{Row}
-use Rattle.ips_survey.specs.Rows.{HasLooked, IsRowOf}
-use Rattle.ips_survey.proofs.Filling.{said_at}
+use Rattle.ips_change.specs.declared.survey.row.Row.{Row}
+use Rattle.ips_change.specs.survey.Rows.{HasLooked, IsRowOf}
+use Rattle.ips_change.proofs.survey.Filling.{said_at}
 use Rattle.ips_links.proofs.Linked.{all_here, at_path, at_row, by_rows, one_more, row_more}
 use Rattle.ips_links.specs.Supporting.{begins_taken}
 use Rattle.ips_links.proofs.Directories.{begins_here, begins_none}

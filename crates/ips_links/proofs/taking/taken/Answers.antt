@@ -2,8 +2,8 @@ use Rattle.std.proofs.Common.{◌<◌, Bool, List, length, map, take_all, sym, �
 use Rattle.ips_after.specs.After as after
 use Rattle.ips_after.specs.Change.{reached}
 use Rattle.ips_change.specs.Told.{naming}
-use Rattle.ips_survey.specs.declared.row.Row.{Row}
-use Rattle.ips_survey.specs.Marks.{IsMarkOf, row_paths}
+use Rattle.ips_change.specs.declared.survey.row.Row.{Row}
+use Rattle.ips_change.specs.survey.Marks.{IsMarkOf, row_paths}
 use Rattle.ips_links.proofs.Linked.{at_path, by_rows, one_more, row_more}
 use Rattle.ips_links.specs.Supporting.{begins_taken}
 use Rattle.ips_links.proofs.taking.taken.Goals as goal

@@ -4,8 +4,8 @@ use Rattle.ips_outside.specs.Image.{Image}
 use Rattle.ips_after.specs.After.{is_taken}
 use Rattle.ips_after.specs.Request.{Request}
 use Rattle.ips_change.specs.Told.{naming}
-use Rattle.ips_survey.specs.Rows.{HasLooked}
-use Rattle.ips_survey.specs.Tables.{IsTable}
+use Rattle.ips_change.specs.survey.Rows.{HasLooked}
+use Rattle.ips_change.specs.survey.Tables.{IsTable}
 use Rattle.ips_links.proofs.Linked.{at_path}
 use Rattle.ips_links.proofs.taking.taken.Given as goal
 

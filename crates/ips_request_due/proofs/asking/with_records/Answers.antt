@@ -1,11 +1,11 @@
 use Rattle.std.proofs.Common.{◌==◌, ℕ, List, map, ap, sym, subst}
 use Rattle.ips_text.specs.Kept.{Kept}
 use Rattle.ips_state.specs.State.{recorded}
-use Rattle.ips_state_due.specs.Parts.{placed_records}
+use Rattle.ips_request_due.specs.state_due.Parts.{placed_records}
 use Rattle.ips_due.specs.Due.{Content, MeansSame, record_at}
 use Rattle.ips_due.specs.Delivered.{request_due}
 use Rattle.ips_due.specs.State.{renewed_by}
-use Rattle.ips_outstanding.specs.Parts.{due_file}
+use Rattle.ips_due.specs.outstanding.Parts.{due_file}
 use Rattle.ips_request_due.proofs.asking.with_records.Goals as goal
 
 pub returns-clause-means : goal.returns-clause-means

@@ -1,7 +1,7 @@
 use Rattle.std.proofs.Common.{◌≡◌, sym, subst}
 use Rattle.std.proofs.lemmas.Result.{IfOk-weaker}
 use Rattle.ips_due.specs.Due.{Due, HasProperDue, IsDue}
-use Rattle.ips_repair_due.specs.Repairing.{repair_due}
+use Rattle.ips_request_due.specs.repairs.Repairing.{repair_due}
 use Rattle.ips_request_due.proofs.repairing.repair_due.Goals as goal
 
 pub returns-clause-together : goal.returns-clause-together

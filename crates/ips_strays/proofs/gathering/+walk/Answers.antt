@@ -8,7 +8,7 @@ use Rattle.ips_outside.specs.Outside.{Reads}
 use Rattle.ips_outside.specs.State.{State}
 use Rattle.ips_outside.proofs.Reading.{reads_none, reads_then}
 use Rattle.ips_outside.proofs.Rooms.{path_fits}
-use Rattle.ips_content.specs.Failing.{HasFailed}
+use Rattle.ips_change.specs.content.Failing.{HasFailed}
 use Rattle.ips_found.specs.declared.found.Thing.{Thing}
 use Rattle.ips_found.specs.Found.{found_of, found_told}
 use Rattle.ips_found.specs.declared.found.Found.{Found as Told}

@@ -3,7 +3,7 @@ use Rattle.std.specs.List.{list_any}
 use Rattle.ips_text.specs.Ancestry.{covers}
 use Rattle.ips_outside.specs.Outside.{Reads}
 use Rattle.ips_after.specs.Lists.{listed}
-use Rattle.ips_survey.specs.Marks.{row_paths}
+use Rattle.ips_change.specs.survey.Marks.{row_paths}
 use Rattle.ips_strays.specs.Strays.{Adds}
 use Rattle.ips_strays.proofs.Gathered.{first_of}
 use Rattle.ips_strays.proofs.hanging.gather_bare.Given as goal

@@ -6,7 +6,7 @@ use Rattle.ips_outside.specs.Image.{Image}
 use Rattle.ips_outside.specs.State.{State}
 use Rattle.ips_outside.proofs.Trees.{on_ok_to}
 use Rattle.ips_after.specs.Lists.{listed}
-use Rattle.ips_survey.specs.Marks.{row_paths}
+use Rattle.ips_change.specs.survey.Marks.{row_paths}
 use Rattle.ips_strays.specs.Strays.{Adds, hangs}
 use Rattle.ips_strays.proofs.Gathered.{adds_hanging}
 use Rattle.ips_strays.proofs.hanging.gather_below.Goals as goal

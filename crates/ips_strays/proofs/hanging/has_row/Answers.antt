@@ -1,6 +1,6 @@
 use Rattle.std.proofs.Common.{◌∙◌, ap}
 use Rattle.ips_after.specs.Lists.{listed}
-use Rattle.ips_survey.specs.Marks.{row_paths}
+use Rattle.ips_change.specs.survey.Marks.{row_paths}
 use Rattle.ips_strays.proofs.Rowed.{found_listed}
 use Rattle.ips_strays.proofs.hanging.has_row.Goals as goal
 

@@ -6,8 +6,8 @@ use Rattle.ips_outside.specs.State.{State}
 use Rattle.ips_after.specs.Lists.{listed}
 use Rattle.ips_after.specs.Salvage as salvage
 use Rattle.ips_change.specs.Told.{naming}
-use Rattle.ips_survey.specs.declared.row.Row.{Row}
-use Rattle.ips_survey.specs.Marks.{row_paths}
+use Rattle.ips_change.specs.declared.survey.row.Row.{Row}
+use Rattle.ips_change.specs.survey.Marks.{row_paths}
 use Rattle.ips_found.specs.Found.{AreThings, thing_paths}
 use Rattle.ips_strays.specs.Strays.{Adds}
 use Rattle.ips_strays.proofs.Saving.{saved_among}

@@ -2,7 +2,7 @@ use Rattle.std.proofs.Common.{◌≡◌, ◌&&◌, ℕ, Bool, IsTrue, List, map,
 use Rattle.std.specs.List.{list_any}
 use Rattle.ips_text.specs.Ancestry.{same_path}
 use Rattle.ips_outside.specs.Outside.{Reads}
-use Rattle.ips_survey.specs.Marks.{row_paths}
+use Rattle.ips_change.specs.survey.Marks.{row_paths}
 use Rattle.ips_found.specs.Found.{AreThings}
 use Rattle.ips_strays.specs.Strays.{Adds}
 use Rattle.ips_strays.proofs.marked.add_marked.Given as goal

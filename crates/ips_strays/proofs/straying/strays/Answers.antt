@@ -1,6 +1,6 @@
 use Rattle.std.proofs.Common.{◌&&◌, ◌||◌, List, is_some, sym, ◌∙◌, ap, subst}
 use Rattle.ips_after.specs.Lists.{listed}
-use Rattle.ips_survey.specs.Marks.{row_paths}
+use Rattle.ips_change.specs.survey.Marks.{row_paths}
 use Rattle.ips_found.specs.declared.found.Thing.{Thing}
 use Rattle.ips_found.specs.Found.{AreThings, thing_paths}
 use Rattle.ips_strays.specs.Strays.{hangs_among, opens}

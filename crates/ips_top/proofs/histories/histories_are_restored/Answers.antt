@@ -2,7 +2,7 @@ use Rattle.std.proofs.Common.{true, Some, refl}
 use Rattle.std.proofs.lemmas.Bool.{false_from_ne_true}
 use Rattle.ips_report.specs.declared.outcome.Outcome.TheVariants as outcome
 use Rattle.ips_steps.proofs.Lists.{clash}
-use Rattle.ips_told.specs.Told.{claims_done, manner_of}
+use Rattle.ips_operations.specs.told.Told.{claims_done, manner_of}
 use Rattle.ips_history.proofs.Histories.{known, restored, recovered_restored, done_restored}
 use Rattle.ips_top.specs.Histories.{Means}
 use Rattle.ips_top.proofs.Runs.{is_a_run}

@@ -1,8 +1,8 @@
 use Rattle.std.proofs.Common.{Bool, IsTrue, sym, ◌∙◌, subst}
 use Rattle.ips_outside.specs.Outside.{HasCause, Reads}
 use Rattle.ips_report.specs.declared.outcome.Outcome.{Outcome}
-use Rattle.ips_told.specs.Told.{IsToldAs}
-use Rattle.ips_telling.specs.Finishing.{IsToldFor}
+use Rattle.ips_operations.specs.told.Told.{IsToldAs}
+use Rattle.ips_operations.specs.telling.Finishing.{IsToldFor}
 use Rattle.ips_top.proofs.Endings.{early_comes, comes_as, run_told, folder_alike, source_alike, spawner_alike, unfinished_alike, refused_alike, says_less}
 use Rattle.ips_top.proofs.performing.performed.Goals as goal
 

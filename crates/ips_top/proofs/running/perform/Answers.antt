@@ -1,5 +1,5 @@
 use Rattle.std.proofs.Common.{refl, sym}
-use Rattle.ips_showing.specs.Asked.{asked}
+use Rattle.ips_operations.specs.showing.Asked.{asked}
 use Rattle.ips_top.specs.Runs as does
 use Rattle.ips_top.proofs.Commands.{changes_so, tried_told}
 use Rattle.ips_top.proofs.running.perform.Goals as goal

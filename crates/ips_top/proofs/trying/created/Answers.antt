@@ -1,4 +1,4 @@
-use Rattle.ips_creating.proofs.Telling.{creation_tells}
+use Rattle.ips_operations.proofs.creating.Telling.{creation_tells}
 use Rattle.ips_top.proofs.trying.created.Goals as goal
 
 pub carry_out-requires-clause-tells : goal.carry_out-requires-clause-tells

@@ -1,4 +1,4 @@
-use Rattle.ips_changing.proofs.Telling.{change_tells}
+use Rattle.ips_operations.proofs.changing.Telling.{change_tells}
 use Rattle.ips_top.proofs.trying.installed.Goals as goal
 
 pub carry_out-requires-clause-tells : goal.carry_out-requires-clause-tells

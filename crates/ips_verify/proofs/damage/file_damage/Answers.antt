@@ -2,7 +2,7 @@ use Rattle.std.proofs.Common.{None, not, ◌&&◌}
 use Rattle.ips_outside.proofs.Reading.{reads_none}
 use Rattle.ips_digest.specs.Name.{spelling}
 use Rattle.ips_after.specs.Findings as after
-use Rattle.ips_wanted.specs.Named.{is_payload_of}
+use Rattle.ips_change.specs.wanted.Named.{is_payload_of}
 use Rattle.ips_verify.proofs.damage.file_damage.Goals as goal
 
 pub returns-in_default : goal.returns-in_default

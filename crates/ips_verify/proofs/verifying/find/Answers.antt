@@ -3,9 +3,9 @@ use Rattle.ips_outside.specs.Image.{Image}
 use Rattle.ips_outside.specs.State.{State}
 use Rattle.ips_outside.proofs.Reading.{reads_then}
 use Rattle.ips_after.specs.Findings.{finding_as, with_finding}
-use Rattle.ips_wanted.specs.Wanted.{wanted_of}
-use Rattle.ips_wanted.specs.Named.{is_payload_of}
-use Rattle.ips_content.specs.Failing.{HasFailed}
+use Rattle.ips_change.specs.wanted.Wanted.{wanted_of}
+use Rattle.ips_change.specs.wanted.Named.{is_payload_of}
+use Rattle.ips_change.specs.content.Failing.{HasFailed}
 use Rattle.ips_verify.specs.Verified.{finding_told}
 use Rattle.ips_verify.proofs.Listing.{found_next}
 use Rattle.ips_verify.proofs.verifying.find.Goals as goal

@@ -1,8 +1,8 @@
 use Rattle.std.proofs.Common.{◌≡◌, ◌<◌, ◌++◌, IsTrue, length, map, take}
 use Rattle.ips_outside.specs.Outside.{Reads}
 use Rattle.ips_after.specs.Findings as after
-use Rattle.ips_wanted.specs.Wanted.{want_of}
-use Rattle.ips_wanted.specs.Named.{is_payload_of}
+use Rattle.ips_change.specs.wanted.Wanted.{want_of}
+use Rattle.ips_change.specs.wanted.Named.{is_payload_of}
 use Rattle.ips_verify.specs.Verified.{finding_told}
 use Rattle.ips_verify.proofs.verifying.find.Given as goal
 

@@ -1,8 +1,8 @@
 use Rattle.std.proofs.Common.{List, ◌++◌, map, ◌∙◌, ap}
 use Rattle.ips_meaning.specs.declared.finding.Finding as told_finding
 use Rattle.ips_after.specs.Findings.{findings}
-use Rattle.ips_wanted.specs.Wanted.{want_of}
-use Rattle.ips_wanted.specs.Named.{is_payload_of}
+use Rattle.ips_change.specs.wanted.Wanted.{want_of}
+use Rattle.ips_change.specs.wanted.Named.{is_payload_of}
 use Rattle.ips_verify.specs.Verified.{finding_told}
 use Rattle.ips_verify.proofs.verifying.findings.Goals as goal
 

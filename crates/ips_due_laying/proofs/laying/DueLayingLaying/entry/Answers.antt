@@ -4,7 +4,7 @@ use Rattle.std.proofs.lemmas.Result.{IfOk-weaker}
 use Rattle.ips_due.specs.Due.{Due}
 use Rattle.ips_laying.specs.Laying.{laid_told}
 use Rattle.ips_laying.specs.declared.laying.Laid.{Laid}
-use Rattle.ips_outstanding.specs.Parts.{due_of}
+use Rattle.ips_due.specs.outstanding.Parts.{due_of}
 use Rattle.ips_due_laying.specs.Laying.{Place, laid_at, laid_by, laid_for, verdict_at}
 use Rattle.ips_due_laying.proofs.LaidDue.{sought}
 use Rattle.ips_due_laying.proofs.laying.DueLayingLaying.entry.Goals as goal

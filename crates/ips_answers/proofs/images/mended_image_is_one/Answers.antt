@@ -1,5 +1,0 @@
-use Rattle.ips_answers.proofs.Behind.{repaired_once}
-use Rattle.ips_answers.proofs.images.mended_image_is_one.Goals as goal
-
-pub returns : goal.returns
-returns c = repaired_once c.repaired_image_is_one.ensures

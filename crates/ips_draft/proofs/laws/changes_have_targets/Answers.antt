@@ -1,5 +1,0 @@
-use Rattle.ips_draft.proofs.Targets.{all_targets}
-use Rattle.ips_draft.proofs.laws.changes_have_targets.Goals as goal
-
-pub returns : goal.returns
-returns c = λ r rows changes proper of long fit. all_targets r rows changes proper of long fit

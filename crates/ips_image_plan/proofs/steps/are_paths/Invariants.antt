@@ -1,7 +1,0 @@
-use Rattle.std.proofs.Common.{take}
-use Rattle.std.specs.List.{AllByRecursion}
-use Rattle.ips_text.specs.Path.{IsPath}
-use Rattle.ips_image_plan.proofs.steps.are_paths.Given as goal
-
-abbrev pub invariant-loop-item : goal.invariant-loop-item
-invariant-loop-item l = AllByRecursion (λ s. IsPath s.path.now.bytes) (take l.item-index l.spoken)

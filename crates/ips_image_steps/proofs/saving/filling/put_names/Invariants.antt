@@ -1,0 +1,7 @@
+use Rattle.std.proofs.Common.{◌≡◌, ℕ, List, take}
+use Rattle.std.specs.List.{flat_map}
+use Rattle.ips_image_steps.specs.saving.Saving.{last_at, saved_at, name_placed}
+use Rattle.ips_image_steps.proofs.saving.filling.put_names.Given as goal
+
+abbrev pub invariant-loop-i : goal.invariant-loop-i
+invariant-loop-i l = record { so_far : (q : List ℕ) → saved_at l.saved q ≡ last_at (flat_map name_placed (take l.i l.names)) q (saved_at l.fn.saved q) }

@@ -1,5 +1,0 @@
-use Rattle.ips_plan_laws.proofs.Repaired.{unrepaired_one}
-use Rattle.ips_plan_laws.proofs.repairs.unrepaired_is_one.Goals as goal
-
-pub returns : goal.returns
-returns c = λ told moment a b history want other t why cause tell same means also h k hw hc. unrepaired_one a b same want other means also history t told tell moment why cause h k hw hc

@@ -1,8 +1,0 @@
-use Rattle.ips_recorded.proofs.OneFault.{search_fault_one, state_fault_one}
-use Rattle.ips_recorded.proofs.law.first_fault_is_one.Goals as goal
-
-pub returns-clause-state : goal.returns-clause-state
-returns-clause-state c = state_fault_one
-
-pub returns-clause-search : goal.returns-clause-search
-returns-clause-search c = search_fault_one

@@ -1,9 +1,0 @@
-use Rattle.ips_recorded.proofs.NoFault.{no_fault}
-use Rattle.ips_recorded.proofs.OneFault.{searched_good}
-use Rattle.ips_recorded.proofs.law.held_has_no_fault.Goals as goal
-
-pub returns-clause-state : goal.returns-clause-state
-returns-clause-state c = λ t r fault held bad. no_fault t r held fault bad
-
-pub returns-clause-search : goal.returns-clause-search
-returns-clause-search c = λ t index fault head are holds bad. searched_good t index head are holds fault bad

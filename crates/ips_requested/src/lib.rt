@@ -1,6 +1,0 @@
-//! A request as it is carried out: its plan can be staged, and what is seen once it is laid is the image after the request.
-#![tactic(auto)]
-
-mod requested;
-
-pub use requested::plan;

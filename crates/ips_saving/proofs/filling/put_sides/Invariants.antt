@@ -1,7 +1,0 @@
-use Rattle.std.proofs.Common.{◌≡◌, ℕ, List, take}
-use Rattle.std.specs.List.{flat_map}
-use Rattle.ips_saving.specs.Saving.{last_at, saved_at, side_placed}
-use Rattle.ips_saving.proofs.filling.put_sides.Given as goal
-
-abbrev pub invariant-loop-i : goal.invariant-loop-i
-invariant-loop-i l = record { so_far : (q : List ℕ) → saved_at l.saved q ≡ last_at (flat_map side_placed (take l.i l.sides)) q (saved_at l.fn.saved q) }
