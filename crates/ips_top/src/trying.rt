@@ -93,13 +93,13 @@ fn carry_out<C: Operation<Outcome>>(
 fn number_of(steps: &Sorts) -> u64
     ensures { result ≡ number_in steps.now }
 {
-    steps
-        .gone
-        .saturating_add(steps.fresh)
-        .saturating_add(steps.mode)
-        .saturating_add(steps.put)
-        .saturating_add(steps.link)
-        .saturating_add(steps.hard)
+    let laid = steps.gone as u128 + steps.fresh as u128 + steps.mode as u128;
+    let all = laid + steps.put as u128 + steps.link as u128 + steps.hard as u128;
+    if all < u64::MAX as u128 {
+        all as u64
+    } else {
+        u64::MAX
+    }
 }
 
 /// How much of the image isn't as its packages say; None where that isn't told.
