@@ -1,4 +1,8 @@
-"""The definitions of crates/*/specs: their text, their sentences, and what each cites. Used by the checks beside it."""
+"""The definitions of crates/*/specs: their text, their sentences, and what each cites. Used by the checks beside it.
+
+They stand in units. A unit is a crate, or a module of it that has specs of its own, as `crate::module`: its code stands in src/module.rt
+and src/module/, its specs in specs/module.antt and specs/module/, its proofs likewise. What is in no such module belongs to the crate.
+"""
 import glob, os, re
 
 BEGINS = re.compile(r"(abbrev pub|unfoldable pub|pub record|pub data|abbrev|unfoldable|record|data|pub(?= [^ ]+ :)) ([^ :({]+)")
@@ -6,16 +10,31 @@ HEADS = ("abbrev", "unfoldable", "record", "data", "pub")
 WORD = re.compile(r"[\w◌>=<&|+∷-]+(?:\.\w+)?")
 
 
+def unit(file, top="."):
+    """The unit of a file, which is given from the top on: crates/NAME/src/.., say."""
+    _, crate, _, part = file.split("/")[:4]
+    name = part.partition(".")[0]
+    own = [os.path.join(top, "crates", crate, place) for place in (f"src/{name}.rt", f"specs/{name}.antt")]
+    return f"{crate}::{name}" if all(map(os.path.exists, own)) else crate
+
+
+def folder(unit):
+    """Where the specs of a unit stand."""
+    crate, _, name = unit.partition("::")
+    return f"crates/{crate}/specs/{name}".rstrip("/")
+
+
+def module(file):
+    """The name by which other files cite a file of specs."""
+    return "Rattle." + file[len("crates/"):-len(".antt")].replace("/", ".")
+
+
 class Definition:
-    """A definition or law of a spec: its name, file, place, sentence and lines; `use` gives what other modules lend to its file."""
+    """A definition or law of a spec: its name, unit, file, place, sentence and lines; `use` gives what other modules lend to its file."""
 
-    def __init__(self, name, kind, module, file, number, sentence, use):
-        self.name, self.kind, self.module, self.file, self.number = name, kind, module, file, number
-        self.sentence, self.use, self.lines = sentence, use, []
-
-    @property
-    def crate(self):
-        return self.file.split("/")[1]
+    def __init__(self, name, kind, unit, file, number, sentence, use):
+        self.name, self.kind, self.unit, self.file, self.number = name, kind, unit, file, number
+        self.module, self.sentence, self.use, self.lines = module(file), sentence, use, []
 
     @property
     def text(self):
@@ -44,7 +63,6 @@ def read(top="."):
     found = {}
     for file in sorted(glob.glob(os.path.join(top, "crates/*/specs/**/*.antt"), recursive=True)):
         path = os.path.relpath(file, top)
-        module = "Rattle." + path[len("crates/"):-len(".antt")].replace("/", ".")
         use, comment, now = {}, [], None
         for number, line in enumerate(open(file, encoding="utf-8").read().split("\n"), 1):
             begins = BEGINS.match(line)
@@ -52,9 +70,9 @@ def read(top="."):
                 comment.append(line[2:].strip())
                 now = None
             elif begins:
-                now = Definition(begins.group(2), begins.group(1), module, path, number, " ".join(comment), use)
+                now = Definition(begins.group(2), begins.group(1), unit(path, top), path, number, " ".join(comment), use)
                 now.lines.append(line)
-                found[(module, now.name)] = now
+                found[(now.module, now.name)] = now
                 comment = []
             elif not line.strip():
                 comment, now = [], None
