@@ -1,3 +1,2 @@
-mod Tellings
 mod Adding
 mod Items

@@ -1,9 +1,8 @@
 //! How the report of a run is written to a sink: without memory where anything may have been changed or a call has failed.
 //!
-//! In reading order: texts (`telling`), pieces of reports (`pieces`), the reports that need no memory (`late`), and all of them (`finishing`).
+//! In reading order: pieces of reports (`pieces`), the reports that need no memory (`late`), and all of them (`finishing`).
 mod finishing;
 mod late;
 mod pieces;
-mod telling;
 
 pub use finishing::finish;

@@ -6,7 +6,7 @@ use Rattle.ips_outside.specs.Taking.{Taking}
 use Rattle.ips_kinds.specs.Tallies.{Carrier}
 use Rattle.ips_report.specs.Report.{report_text, status_number}
 use Rattle.ips_report.specs.declared.outcome.Outcome.{Outcome}
-use Rattle.ips_operations.specs.telling.Telling.{Tells}
+use Rattle.ips_files.specs.Telling.{Tells}
 use Rattle.ips_top.specs.Performed.{At}
 use Rattle.ips_top.specs.Runs.{Runs}
 

@@ -7,7 +7,7 @@ ghost use Rattle.ips_report.specs.Report.{report_text};
 ghost use Rattle.ips_report.specs.declared.outcome.Outcome.{Outcome as OutcomeMeant};
 ghost use Rattle.ips_run.specs.declared.operation.Decision.{Decision};
 ghost use Rattle.ips_operations.specs.told.Told.{IsToldAs};
-ghost use Rattle.ips_operations.specs.telling.Telling.{Tells};
+ghost use Rattle.ips_files.specs.Telling.{Tells};
 ghost use Rattle.ips_top.specs.Performed.{IsPerformed};
 
 use ips_folder::Folder;

@@ -5,7 +5,7 @@ ghost use Rattle.ips_steps.specs.declared.step.Sort.{Sort};
 ghost use Rattle.ips_kinds.specs.Tallies.{seen_by, taken};
 ghost use Rattle.ips_report.specs.Report.{report_text};
 ghost use Rattle.ips_asked.specs.Formed.{IsFormedCommand};
-ghost use Rattle.ips_operations.specs.telling.Telling.{Tells};
+ghost use Rattle.ips_files.specs.Telling.{Tells};
 ghost use Rattle.ips_top.specs.Runs.{Does, HasNumber, Runs};
 
 use crate::answering::answered;

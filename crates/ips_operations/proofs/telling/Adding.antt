@@ -2,9 +2,9 @@
 use Rattle.std.proofs.Common.{◌≡◌, ℕ, Bool, true, false, List, [], ◌++◌, sym, subst}
 use Rattle.std.proofs.lemmas.List.{append-nil, append_assoc}
 use Rattle.ips_outside.specs.Taking.{Taking}
-use Rattle.ips_operations.specs.telling.Telling.{Tells}
+use Rattle.ips_files.specs.Telling.{Tells}
 use Rattle.ips_operations.specs.telling.Finishing.{Adds}
-use Rattle.ips_operations.proofs.telling.Tellings.{tells_then, tells_stop}
+use Rattle.ips_files.proofs.Tellings.{tells_then, tells_stop}
 
 module _ {O : Type 0} (t : Taking O) where
   -- A piece that is told whole where all before it was, and else not at all.

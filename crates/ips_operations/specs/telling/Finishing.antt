@@ -4,7 +4,7 @@ use Rattle.ips_outside.specs.Taking.{Taking}
 use Rattle.ips_report.specs.declared.outcome.Outcome.{Outcome}
 use Rattle.ips_report.specs.declared.outcome.Outcome.TheVariants as outcome
 use Rattle.ips_operations.specs.told.Told.{Manner, Wording, Showing, Refusing, Needless, manner_of}
-use Rattle.ips_operations.specs.telling.Telling.{Tells}
+use Rattle.ips_files.specs.Telling.{Tells}
 
 -- Whatever was told before, this piece is told behind it.
 abbrev pub Adds : {O : Type 0} → Taking O → List ℕ → O → Bool → O → Bool → Type 0

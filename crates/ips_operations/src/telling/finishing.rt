@@ -2,10 +2,10 @@
 
 ghost use Rattle.ips_report.specs.Report.{report_text};
 ghost use Rattle.ips_operations.specs.telling.Finishing.{IsToldFor};
-ghost use Rattle.ips_operations.specs.telling.Telling.{Tells};
+ghost use Rattle.ips_files.specs.Telling.{Tells};
 
 use crate::telling::late::tell_late;
-use crate::telling::telling::tell;
+use ips_files::tell;
 use ips_outside::Sink;
 use ips_report::{Outcome, Status, report};
 use std::alloc::Global;

@@ -5,13 +5,13 @@ ghost use Rattle.std.specs.Fmt.{decimal};
 ghost use Rattle.ips_report.specs.Report.{behind_blanks, done_text, failed_text, folder_text, line, report_text, when_text};
 ghost use Rattle.ips_operations.specs.told.Told.{manner_of};
 ghost use Rattle.ips_operations.specs.telling.Finishing.{Adds, IsEarly};
-ghost use Rattle.ips_operations.specs.telling.Telling.{Tells};
+ghost use Rattle.ips_files.specs.Telling.{Tells};
 
 use crate::telling::pieces::{
     put, put_counts, put_lines, put_number, put_numbered, put_sorts, put_words,
 };
-use crate::telling::telling::tell;
 use ips_counts::{Counts, Sorts};
+use ips_files::tell;
 use ips_outside::Sink;
 use ips_report::Outcome;
 use ips_text::Text;

@@ -5,8 +5,8 @@ ghost use Rattle.std.specs.Fmt.{decimal};
 ghost use Rattle.ips_report.specs.Report.{behind_blanks, counts_text, line, prefixed_lines, sorts_text, three};
 ghost use Rattle.ips_operations.specs.telling.Finishing.{Adds};
 
-use crate::telling::telling::tell;
 use ips_counts::{Counts, Sorts};
+use ips_files::tell;
 use ips_outside::Sink;
 use ips_text::Text;
 use itoa::Buffer;

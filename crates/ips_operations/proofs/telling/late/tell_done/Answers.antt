@@ -1,7 +1,7 @@
 use Rattle.std.proofs.Common.{List, ◌++◌, ◌∷◌, [], true}
 use lib.Chars.{codes}
 use Rattle.ips_report.specs.Report.{counts_text, line, prefixed_lines, sorts_text}
-use Rattle.ips_operations.proofs.telling.Tellings.{tells_nothing}
+use Rattle.ips_files.proofs.Tellings.{tells_nothing}
 use Rattle.ips_operations.proofs.telling.late.tell_done.Goals as goal
 
 pub returns : goal.returns

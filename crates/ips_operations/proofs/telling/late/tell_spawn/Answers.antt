@@ -1,7 +1,7 @@
 use Rattle.std.proofs.Common.{ℕ, List, ◌++◌, ◌∷◌, [], subst}
 use lib.Chars.{codes}
 use Rattle.ips_report.specs.Report.{when_text}
-use Rattle.ips_operations.specs.telling.Telling.{Tells}
+use Rattle.ips_files.specs.Telling.{Tells}
 use Rattle.ips_operations.proofs.telling.late.tell_spawn.Goals as goal
 
 pub returns : goal.returns

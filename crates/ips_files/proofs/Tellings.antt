@@ -5,7 +5,7 @@ use Rattle.std.proofs.lemmas.Bool.{eqb-true}
 use Rattle.ips_outside.specs.Outside.{Rose, HasCause}
 use Rattle.ips_outside.specs.Taking.{Taking}
 use Rattle.ips_outside.proofs.Faults.{no_cause, cause_behind}
-use Rattle.ips_operations.specs.telling.Telling.{Tells}
+use Rattle.ips_files.specs.Telling.{Tells}
 
 -- So much of the text is written, and this is left.
 pub record IsTold {O : Type 0} (t : Taking O) (text rest : List ℕ) (old new : O) : Type 0 where

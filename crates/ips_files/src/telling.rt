@@ -1,11 +1,11 @@
 //! Writes texts to a sink.
 
-ghost use Rattle.ips_operations.specs.telling.Telling.{Tells};
+ghost use Rattle.ips_files.specs.Telling.{Tells};
 
 use ips_outside::Sink;
 
 /// Writes the whole text, and answers whether that was done. Where it wasn't, a front of the text was written.
-pub(crate) fn tell<O: Sink>(out: &mut O, text: &[u8]) -> bool
+pub fn tell<O: Sink>(out: &mut O, text: &[u8]) -> bool
     ensures { Tells O.taking text.now out.old out.new result }
 {
     let mut rest = text;

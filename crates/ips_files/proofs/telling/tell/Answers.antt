@@ -1,6 +1,6 @@
 use Rattle.std.proofs.Common.{refl, sym}
-use Rattle.ips_operations.proofs.telling.Tellings.{nothing_told, more_told, less_left, some_left, told_whole, told_front}
-use Rattle.ips_operations.proofs.telling.telling.tell.Goals as goal
+use Rattle.ips_files.proofs.Tellings.{nothing_told, more_told, less_left, some_left, told_whole, told_front}
+use Rattle.ips_files.proofs.telling.tell.Goals as goal
 
 pub loop-rest-init : goal.loop-rest-init
 loop-rest-init g c = nothing_told g.O.Sink.taking c.args.text.now c.args.out.now
