@@ -3,7 +3,7 @@ use Rattle.std.proofs.Common.{◌≡◌, ℕ, Bool, List, ap, ◌∙◌}
 use Rattle.ips_outside.specs.Outside.{Outside}
 use Rattle.ips_outside.specs.State.{State}
 use Rattle.ips_change.specs.declared.survey.row.Row.{Row}
-use Rattle.ips_links.specs.declared.emptied.settled.Settled.{Settled}
+use Rattle.ips_emptied.specs.declared.settled.Settled.{Settled}
 use Rattle.ips_account_files.specs.ledger.Left.{emptied_by}
 use Rattle.ips_account_files.specs.Around.{Around, around}
 

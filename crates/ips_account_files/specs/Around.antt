@@ -10,8 +10,8 @@ use Rattle.ips_after.specs.Request.{IsRequest, Request}
 use Rattle.ips_change.specs.declared.survey.row.Row.{Row}
 use Rattle.ips_change.specs.declared.survey.said.Said.{Said}
 use Rattle.ips_change.specs.survey.Tables.{IsTable}
-use Rattle.ips_links.specs.declared.emptied.settled.Settled.{Settled}
-use Rattle.ips_links.specs.emptied.Joining.{SettlesRows}
+use Rattle.ips_emptied.specs.declared.settled.Settled.{Settled}
+use Rattle.ips_emptied.specs.Joining.{SettlesRows}
 use Rattle.ips_account_files.specs.ledger.Left.{AreReplaced, IsSilent, emptied_by}
 
 -- The action is a user or a group.

@@ -12,7 +12,7 @@ ghost use Rattle.ips_books.specs.Seen.{texts};
 ghost use Rattle.ips_after.specs.Request.{Request};
 ghost use Rattle.ips_change.specs.survey.Rows.{HasLooked};
 ghost use Rattle.ips_change.specs.survey.Marks.{row_paths};
-ghost use Rattle.ips_links.specs.emptied.Joining.{HasAll};
+ghost use Rattle.ips_emptied.specs.Joining.{HasAll};
 ghost use Rattle.ips_account_files.specs.declared.ledger.fault.LedgerFault.TheVariants as fault;
 ghost use Rattle.ips_account_files.specs.Around.{AreMarks, IsSilentOver, around};
 ghost use Rattle.ips_account_files.specs.Bases.{AreBases, IsFirstUnread, new_modes, no_texts};

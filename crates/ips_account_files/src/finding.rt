@@ -12,15 +12,15 @@ ghost use Rattle.ips_outside.specs.Outside.{Reads};
 ghost use Rattle.ips_after.specs.Request.{Request};
 ghost use Rattle.ips_change.specs.survey.Rows.{HasLooked};
 ghost use Rattle.ips_change.specs.survey.Marks.{row_paths};
-ghost use Rattle.ips_links.specs.emptied.Joining.{HasAll};
+ghost use Rattle.ips_emptied.specs.Joining.{HasAll};
 ghost use Rattle.ips_account_files.specs.declared.ledger.fault.LedgerFault.TheVariants as fault;
 ghost use Rattle.ips_account_files.specs.Around.{AreMarks, IsSilentOver, around};
 ghost use Rattle.ips_account_files.specs.Finding.{IsFound, IsLost};
 
 use crate::ledger::{BaseFile, LedgerFault, base_at, is_blocked};
 use ips_change::survey::Row;
+use ips_emptied::Settled;
 use ips_folder::Folder;
-use ips_links::emptied::Settled;
 use ips_outside::Source;
 use ips_text::{Or, RelPath};
 use std::alloc::Global;

@@ -4,8 +4,8 @@ use Rattle.std.specs.List.{AllByRecursion}
 use Rattle.ips_change.specs.declared.survey.row.Row.{Row}
 use Rattle.ips_change.specs.declared.survey.said.Said.{Said}
 use Rattle.ips_emit.specs.Emitted.{HasTarget}
-use Rattle.ips_links.specs.declared.emptied.settled.Settled.{Settled}
-use Rattle.ips_links.specs.emptied.Joining.{HasAll}
+use Rattle.ips_emptied.specs.declared.settled.Settled.{Settled}
+use Rattle.ips_emptied.specs.Joining.{HasAll}
 use Rattle.ips_image_steps.proofs.draft.Targets.{all_targets}
 use Rattle.ips_image_steps.specs.Asked.{HasRequest}
 

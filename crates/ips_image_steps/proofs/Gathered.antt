@@ -23,8 +23,8 @@ use Rattle.ips_change.specs.Told.{naming}
 use Rattle.ips_change.specs.declared.survey.table.Table.{Table}
 use Rattle.ips_change.specs.survey.Marks.{row_paths}
 use Rattle.ips_laying.specs.Laying.{Laid}
-use Rattle.ips_links.specs.emptied.Emptying.{marked_in}
-use Rattle.ips_links.specs.declared.emptied.settled.Settled.{Settled}
+use Rattle.ips_emptied.specs.Emptying.{marked_in}
+use Rattle.ips_emptied.specs.declared.settled.Settled.{Settled}
 use Rattle.ips_found.specs.Found.{AreThings, FoundLink, found_of, found_told, thing_paths}
 use Rattle.ips_found.specs.declared.found.Thing.{Thing}
 use Rattle.ips_movable.specs.First.{IsFirstPath}

@@ -6,7 +6,7 @@ use Rattle.ips_text.specs.Kept.{Kept}
 use Rattle.ips_outside.specs.Image.{Image}
 use Rattle.ips_after.specs.Request.{Request}
 use Rattle.ips_after.specs.Salvage.{Aside}
-use Rattle.ips_links.specs.emptied.Emptying.{marked_in}
+use Rattle.ips_emptied.specs.Emptying.{marked_in}
 use Rattle.ips_movable.specs.First.{IsFirstPath, loses_foreign}
 use Rattle.ips_aside.specs.Long.{IsFirstAt}
 

@@ -16,9 +16,9 @@ use Rattle.ips_change.specs.survey.Marks.{row_paths}
 use Rattle.ips_change.specs.survey.Rows.{HasLooked}
 use Rattle.ips_change.specs.survey.Tables.{IsTable}
 use Rattle.ips_change.specs.declared.survey.table.Table.{Table}
-use Rattle.ips_links.specs.emptied.Emptying.{marked_in}
-use Rattle.ips_links.specs.declared.emptied.settled.Settled.{Settled}
-use Rattle.ips_links.specs.emptied.Joining.{SettlesRows}
+use Rattle.ips_emptied.specs.Emptying.{marked_in}
+use Rattle.ips_emptied.specs.declared.settled.Settled.{Settled}
+use Rattle.ips_emptied.specs.Joining.{SettlesRows}
 use Rattle.ips_found.specs.Found.{AreThings, thing_paths}
 use Rattle.ips_found.specs.declared.found.Thing.{Thing}
 use Rattle.ips_aside.specs.declared.sides.side.Side.{Side}

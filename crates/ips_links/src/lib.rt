@@ -3,17 +3,13 @@
 //! In reading order: questions of changes and entries (`asking`), the files that hard links need (`needing`), what becomes of each path
 //! with hard links and the files that they need (`linking`), and the marks of paths at which something is made (`making`); the directories that go
 //! (`taking`), the paths at which one is made for what is made below (`supporting`), and what becomes of a path with it (`changing`).
-//!
-//! Above it, each with its own contracts: the order of a plan (`order`), and the directories that are emptied (`emptied`).
 #![tactic(auto)]
 
 mod asking;
 mod changing;
-pub mod emptied;
 mod linking;
 mod making;
 mod needing;
-pub mod order;
 mod supporting;
 mod taking;
 

@@ -24,8 +24,8 @@ use Rattle.ips_change.specs.survey.Marks.{IsMarkOf, row_paths}
 use Rattle.ips_change.specs.declared.survey.said.Said.{Said}
 use Rattle.ips_change.specs.survey.Tables.{IsTable}
 use Rattle.ips_links.proofs.Linked.{is_bare}
-use Rattle.ips_strays.specs.salvage.Destroying.{destroys_else, goes_else}
-use Rattle.ips_strays.proofs.salvage.Salvageable.{salvaged_here, top_none}
+use Rattle.ips_salvage.specs.Destroying.{destroys_else, goes_else}
+use Rattle.ips_salvage.proofs.Salvageable.{salvaged_here, top_none}
 use Rattle.ips_strays.specs.Strays.{branch, hangs, hangs_among, opens}
 use Rattle.ips_strays.proofs.Branches.{below_child, branch_only, branch_over, branch_parent, dir_above}
 

@@ -1,3 +1,2 @@
 pub mod Strays
 pub mod foreign
-pub mod salvage

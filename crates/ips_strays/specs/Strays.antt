@@ -8,7 +8,7 @@ use Rattle.ips_after.specs.Lists.{listed}
 use Rattle.ips_after.specs.Request.{Request, takes}
 use Rattle.ips_after.specs.Salvage.{salvaged}
 use Rattle.ips_change.specs.Told.{naming}
-use Rattle.ips_strays.specs.salvage.Destroying.{goes_else}
+use Rattle.ips_salvage.specs.Destroying.{goes_else}
 use Rattle.ips_change.specs.declared.stands.Stands.{Stands}
 use Rattle.ips_change.specs.declared.stands.Stands.TheVariants as stands
 use Rattle.ips_found.specs.Found.{AreThings, Found, found_told, thing_paths}

@@ -14,17 +14,17 @@ ghost use Rattle.ips_change.specs.Told.{naming};
 ghost use Rattle.ips_change.specs.survey.Rows.{HasLooked};
 ghost use Rattle.ips_change.specs.survey.Marks.{IsMarkOf, row_paths};
 ghost use Rattle.ips_change.specs.survey.Tables.{IsTable};
-ghost use Rattle.ips_strays.specs.salvage.Destroying.{destroys_else};
+ghost use Rattle.ips_salvage.specs.Destroying.{destroys_else};
 ghost use Rattle.ips_found.specs.Found.{AreThings, thing_paths};
 ghost use Rattle.ips_strays.specs.Strays.{saved_at};
 
 use crate::marked::add_marked;
-use crate::salvage::salvaged;
 use crate::straying::{sort, strays};
 use ips_change::survey::Table;
 use ips_folder::Folder;
 use ips_found::Thing;
 use ips_outside::Failed;
+use ips_salvage::salvaged;
 use ips_text::Or;
 use std::alloc::Global;
 

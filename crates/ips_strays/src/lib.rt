@@ -4,8 +4,8 @@
 //! stands below a row without a row of its own (`hanging`), all of it where something goes (`straying`), what stands at rows (`marked`), and all
 //! that is salvaged as one list (`joining`).
 //!
-//! Below it, with its own contracts: what is salvaged at the paths that a request is about (`salvage`). Above it: directories with names that are no
-//! paths (`foreign`).
+//! What is salvaged at the paths that a request is about stands in `ips_salvage`, below it. Above it, with its own contracts: directories with names
+//! that are no paths (`foreign`).
 #![tactic(auto)]
 
 mod adding;
@@ -15,7 +15,6 @@ mod gathering;
 mod hanging;
 mod joining;
 mod marked;
-pub mod salvage;
 mod straying;
 
 pub use gathering::gather;

@@ -15,16 +15,16 @@ ghost use Rattle.ips_change.specs.Told.{naming};
 ghost use Rattle.ips_change.specs.survey.Rows.{HasLooked};
 ghost use Rattle.ips_change.specs.survey.Marks.{IsMarkOf, row_paths};
 ghost use Rattle.ips_change.specs.survey.Tables.{IsTable};
-ghost use Rattle.ips_strays.specs.salvage.Destroying.{destroys_else, goes_else};
+ghost use Rattle.ips_salvage.specs.Destroying.{destroys_else, goes_else};
 ghost use Rattle.ips_found.specs.Found.{AreThings, thing_paths};
 ghost use Rattle.ips_strays.specs.Strays.{Adds, hangs_among, opens};
 
 use crate::hanging::gather_below;
-use crate::salvage::{going, taken_away};
 use ips_change::survey::{Row, Table, is_reached};
 use ips_folder::Folder;
 use ips_found::Thing;
 use ips_outside::Failed;
+use ips_salvage::{going, taken_away};
 use ips_text::Or;
 use std::alloc::{AllocError, Global};
 

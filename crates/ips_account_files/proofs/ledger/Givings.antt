@@ -16,7 +16,7 @@ use Rattle.ips_after.specs.Request.{IsRequest, Request, Want, WantDir, WantFile,
 use Rattle.ips_after.proofs.Changed.{reached_from}
 use Rattle.ips_after.proofs.Fits.{given_but, target_plain}
 use Rattle.ips_change.specs.Fitting.{stated_mode}
-use Rattle.ips_links.proofs.order.Filtered.{same_filtered}
+use Rattle.ips_emptied.proofs.order.Filtered.{same_filtered}
 use Rattle.ips_change.specs.declared.survey.row.Row.{Row}
 use Rattle.ips_change.proofs.survey.Filling.{rows_more}
 use Rattle.ips_change.specs.declared.survey.said.Said.{Said}

@@ -21,9 +21,9 @@ use Rattle.ips_change.specs.survey.Marks.{row_paths}
 use Rattle.ips_change.specs.survey.Tables.{IsTable}
 use Rattle.ips_change.proofs.survey.Marking.{mark_there}
 use Rattle.ips_links.proofs.Linked.{all_here}
-use Rattle.ips_links.proofs.emptied.Remaining.{settled_bare}
-use Rattle.ips_links.specs.declared.emptied.settled.Settled.{Settled}
-use Rattle.ips_links.specs.emptied.Joining.{HasAll, SettlesRows}
+use Rattle.ips_emptied.proofs.Remaining.{settled_bare}
+use Rattle.ips_emptied.specs.declared.settled.Settled.{Settled}
+use Rattle.ips_emptied.specs.Joining.{HasAll, SettlesRows}
 use Rattle.ips_account_files.specs.ledger.Left.{FitsFile, IsSilent, changes_by, emptied_by}
 
 -- the path of the row at a place

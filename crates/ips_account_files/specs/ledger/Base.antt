@@ -7,7 +7,7 @@ use Rattle.ips_digest.specs.Name.{spelling}
 use Rattle.ips_files.specs.Files.{file_at}
 use Rattle.ips_repo.specs.Payload.{IsPayload}
 use Rattle.ips_change.specs.declared.survey.row.Row.{Row}
-use Rattle.ips_links.specs.declared.emptied.settled.Settled.{Settled}
+use Rattle.ips_emptied.specs.declared.settled.Settled.{Settled}
 use Rattle.ips_account_files.specs.declared.ledger.left.Left.{Left}
 use Rattle.ips_account_files.specs.declared.ledger.left.Left.TheVariants.{Nothing, Standing, Laid}
 use Rattle.ips_account_files.specs.declared.ledger.fault.LedgerFault.{LedgerFault}

@@ -17,9 +17,9 @@ use Rattle.ips_change.specs.declared.survey.said.Said.{Said}
 use Rattle.ips_change.specs.survey.Rows.{IsRowOf}
 use Rattle.ips_change.specs.survey.Marks.{IsMarkOf, row_paths}
 use Rattle.ips_change.specs.survey.Tables.{IsTable}
-use Rattle.ips_links.specs.emptied.Emptying.{marked_in}
-use Rattle.ips_links.specs.declared.emptied.settled.Settled.{Settled}
-use Rattle.ips_links.specs.emptied.Joining.{SettlesRows}
+use Rattle.ips_emptied.specs.Emptying.{marked_in}
+use Rattle.ips_emptied.specs.declared.settled.Settled.{Settled}
+use Rattle.ips_emptied.specs.Joining.{SettlesRows}
 use Rattle.ips_account_files.specs.declared.ledger.left.Left.{Left}
 use Rattle.ips_account_files.specs.declared.ledger.left.Left.TheVariants.{Nothing, Standing, Laid}
 

@@ -13,12 +13,12 @@ ghost use Rattle.ips_change.specs.declared.survey.said.Said as saying;
 ghost use Rattle.ips_change.specs.survey.Rows.{IsRowOf};
 ghost use Rattle.ips_change.specs.survey.Marks.{row_paths};
 ghost use Rattle.ips_change.specs.survey.Tables.{IsTable};
-ghost use Rattle.ips_links.specs.emptied.Joining.{HasAll, SettlesRows};
+ghost use Rattle.ips_emptied.specs.Joining.{HasAll, SettlesRows};
 ghost use Rattle.ips_account_files.specs.ledger.Left.{AreReplaced, FitsFile, IsSilent, changes_by};
 
 use ips_change::Change;
 use ips_change::survey::{Row, place};
-use ips_links::emptied::Settled;
+use ips_emptied::Settled;
 use std::alloc::{AllocError, Global};
 
 /// The marks of the rows at which what stands goes or is replaced, where nothing is said of any path.

@@ -15,7 +15,7 @@ ghost use Rattle.ips_change.specs.Told.{change_told};
 ghost use Rattle.ips_change.specs.survey.Rows.{HasLooked, IsRowOf, row_pair};
 ghost use Rattle.ips_change.specs.survey.Marks.{IsMarkOf, row_paths};
 ghost use Rattle.ips_change.specs.survey.Kinds.{is_file_looked};
-ghost use Rattle.ips_links.specs.emptied.Joining.{HasAll};
+ghost use Rattle.ips_emptied.specs.Joining.{HasAll};
 ghost use Rattle.ips_account_files.specs.ledger.Left as spec;
 ghost use Rattle.ips_account_files.specs.ledger.Left.{AreSmallWanted, FitsFile, GivesMode};
 
@@ -23,8 +23,8 @@ use crate::ledger::changing::settled_at;
 use ips_change::content::is_same;
 use ips_change::survey::{Row, is_reached};
 use ips_change::{Change, Stands};
+use ips_emptied::Settled;
 use ips_folder::Folder;
-use ips_links::emptied::Settled;
 use ips_outside::{Failed, Look, Source};
 use ips_text::RelPath;
 

@@ -7,8 +7,8 @@ ghost use Rattle.ips_change.specs.Told.{naming};
 ghost use Rattle.ips_change.specs.declared.survey.row.Row as rows_of;
 ghost use Rattle.ips_change.specs.declared.survey.said.Said as saying;
 ghost use Rattle.ips_change.specs.survey.Tables.{IsTable};
-ghost use Rattle.ips_links.specs.declared.emptied.settled.Settled as settled_of;
-ghost use Rattle.ips_links.specs.emptied.Joining.{SettlesRows};
+ghost use Rattle.ips_emptied.specs.declared.settled.Settled as settled_of;
+ghost use Rattle.ips_emptied.specs.Joining.{SettlesRows};
 ghost use Rattle.ips_account_files.specs.ledger.Base.{ArePayloads, IsBase, IsFileRead};
 ghost use Rattle.ips_account_files.specs.ledger.Left.{AreReplaced, IsSilent, emptied_by, own_left};
 

@@ -12,7 +12,7 @@ ghost use Rattle.ips_after.specs.Request.{Request, Wanted};
 ghost use Rattle.ips_change.specs.Told.{change_told};
 ghost use Rattle.ips_change.specs.survey.Rows.{HasLooked, IsRowOf};
 ghost use Rattle.ips_change.specs.survey.Marks.{row_paths};
-ghost use Rattle.ips_links.specs.emptied.Joining.{HasAll};
+ghost use Rattle.ips_emptied.specs.Joining.{HasAll};
 ghost use Rattle.ips_account_files.specs.ledger.Base.{mode_left};
 ghost use Rattle.ips_account_files.specs.ledger.Left.{AreSmallWanted, FitsFile, IsLeft, IsLeftStanding, IsOwnLeft, left_told, only_file};
 
@@ -22,8 +22,8 @@ use crate::ledger::left::Left;
 use crate::ledger::name::named;
 use ips_change::Change;
 use ips_change::survey::{Row, is_reached};
+use ips_emptied::Settled;
 use ips_folder::Folder;
-use ips_links::emptied::Settled;
 use ips_outside::{Failed, Look, Source};
 use ips_text::RelPath;
 

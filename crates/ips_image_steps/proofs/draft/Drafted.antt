@@ -14,7 +14,7 @@ use Rattle.ips_change.specs.Told.{change_told, naming}
 use Rattle.ips_change.specs.declared.survey.said.Said.{Said}
 use Rattle.ips_change.specs.declared.survey.said.Said.TheVariants.{Lays, Takes}
 use Rattle.ips_change.specs.survey.Said.{said_as}
-use Rattle.ips_links.specs.order.Chosen.{path_in}
+use Rattle.ips_emptied.specs.order.Chosen.{path_in}
 use Rattle.ips_emit.specs.declared.emitting.Emitted.{Emitted}
 use Rattle.ips_emit.specs.Emitted.{IsEmitted, Provenance, Turn, provenances_told}
 use Rattle.ips_image_steps.specs.draft.Drafting.{provenances_at, provenances_in, provenances_laid, provenances_of, turns_of}

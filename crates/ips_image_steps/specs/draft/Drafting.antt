@@ -10,7 +10,7 @@ use Rattle.ips_change.specs.declared.change.Change.TheVariants as told
 use Rattle.ips_change.specs.declared.survey.said.Said.{Said}
 use Rattle.ips_change.specs.declared.survey.said.Said.TheVariants.{Lays, Takes}
 use Rattle.ips_laying.specs.Laying.{Laid, LaidDir, LaidFile, LaidPayload}
-use Rattle.ips_links.specs.order.Chosen.{path_in}
+use Rattle.ips_emptied.specs.order.Chosen.{path_in}
 use Rattle.ips_emit.specs.Emitted.{FromPayload, OwnBytes, Provenance, Turn, provenances_told}
 
 -- The paths with what becomes of each after the request, where these directories are emptied.

@@ -7,12 +7,12 @@ use Rattle.ips_change.specs.Told.{naming}
 use Rattle.ips_change.specs.declared.survey.table.Table.{Table}
 use Rattle.ips_change.specs.survey.Marks.{row_paths}
 use Rattle.ips_laying.specs.Laying.{Laid}
-use Rattle.ips_links.specs.order.Chosen.{path_in}
+use Rattle.ips_emptied.specs.order.Chosen.{path_in}
 use Rattle.ips_emit.specs.Emitted.{IsEmitted, Provenance, Turn}
 use Rattle.ips_emit.specs.declared.emitting.Emitted.{Emitted}
 use Rattle.ips_image_steps.specs.draft.Drafting.{provenances_in, turns_of}
-use Rattle.ips_links.specs.emptied.Emptying.{marked_in}
-use Rattle.ips_links.specs.declared.emptied.settled.Settled.{Settled}
+use Rattle.ips_emptied.specs.Emptying.{marked_in}
+use Rattle.ips_emptied.specs.declared.settled.Settled.{Settled}
 
 -- Behind these paths with what becomes of each come those of the plan in its order, which are the rows at these places; each content comes from where what is
 -- said of its row, or else becomes of it, has it.

@@ -12,7 +12,7 @@ ghost use Rattle.ips_change.specs.survey.Marks.{row_paths};
 ghost use Rattle.ips_change.specs.survey.Said.{said_as};
 ghost use Rattle.ips_change.specs.survey.Tables.{IsTable};
 ghost use Rattle.ips_laying.specs.Laying.{LaysFor, entry_laid};
-ghost use Rattle.ips_links.specs.order.Chosen.{path_in};
+ghost use Rattle.ips_emptied.specs.order.Chosen.{path_in};
 ghost use Rattle.ips_emit.specs.Emitted.{HasTarget, IsEmitted, Provenance, Turn};
 ghost use Rattle.ips_image_steps.specs.draft.Drafting.{provenances_at, provenances_in, provenances_laid, turns_of};
 

@@ -12,15 +12,15 @@ ghost use Rattle.ips_change.specs.survey.Marks.{row_paths};
 ghost use Rattle.ips_change.specs.survey.Tables.{IsTable};
 ghost use Rattle.ips_laying.specs.Laying.{LaysFor};
 ghost use Rattle.ips_emit.specs.Emitted.{HasTarget, IsEmitted, Provenance, Turn};
-ghost use Rattle.ips_links.specs.emptied.Joining.{HasAll, SettlesRows};
+ghost use Rattle.ips_emptied.specs.Joining.{HasAll, SettlesRows};
 ghost use Rattle.ips_image_steps.specs.plan_steps.Drawing.{AddsPlan};
 
 use crate::draft::draft;
 use ips_change::survey::Table;
 use ips_emit::Emitted;
+use ips_emptied::Settled;
+use ips_emptied::order::{accounts, order};
 use ips_laying::Laying;
-use ips_links::emptied::Settled;
-use ips_links::order::{accounts, order};
 use std::alloc::{AllocError, Global};
 
 /// Adds the steps of the rows of a table in the order of a plan: of what account files and records say, else of what becomes of the path.

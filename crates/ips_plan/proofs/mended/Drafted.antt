@@ -15,7 +15,7 @@ use Rattle.ips_after.specs.Request.{Want, WantLink, Wanted}
 use Rattle.ips_change.specs.declared.change.Change.{Change as Told}
 use Rattle.ips_change.specs.declared.change.Change.TheVariants as told
 use Rattle.ips_change.specs.Fitting.{Fits}
-use Rattle.ips_links.specs.order.Chosen.{path_in}
+use Rattle.ips_emptied.specs.order.Chosen.{path_in}
 use Rattle.ips_emit.specs.Emitted.{HasTarget, Provenance, Turn, provenances_told}
 use Rattle.ips_plan.specs.mended.Drafting.{sources_in, turns_mended}
 use Rattle.ips_plan.specs.mended.Mending.{AllFitAt}

@@ -23,9 +23,9 @@ use Rattle.ips_after.proofs.Fits.{any_of}
 use Rattle.ips_after.proofs.Order.{filter_none}
 use Rattle.ips_meaning.specs.declared.entry.Entry.{Entry}
 use Rattle.ips_change.specs.wanted.Wanted.{want_of, wanted_of}
-use Rattle.ips_links.specs.order.Chosen.{chosen, path_in}
-use Rattle.ips_links.proofs.order.Filtered.{same_filtered}
-use Rattle.ips_links.proofs.order.Places.{chosen_paths, chosen_within}
+use Rattle.ips_emptied.specs.order.Chosen.{chosen, path_in}
+use Rattle.ips_emptied.proofs.order.Filtered.{same_filtered}
+use Rattle.ips_emptied.proofs.order.Places.{chosen_paths, chosen_within}
 use Rattle.ips_change.proofs.survey.Marking.{mark_there}
 use Rattle.ips_plan.proofs.mended.Merged.{entry_there}
 use Rattle.ips_plan.specs.declared.mended.ordering.Group.{Group}

@@ -6,7 +6,7 @@ ghost use Rattle.ips_outside.specs.Image.{Image};
 ghost use Rattle.ips_after.specs.Repaired.{IsRepair, Repair, relinked_as};
 ghost use Rattle.ips_change.specs.wanted.Wanted.{want_of};
 ghost use Rattle.ips_change.specs.Told.{change_told};
-ghost use Rattle.ips_links.specs.order.Chosen.{path_in};
+ghost use Rattle.ips_emptied.specs.order.Chosen.{path_in};
 ghost use Rattle.ips_emit.specs.Emitted.{HasTarget, IsEmitted, Provenance, Turn};
 ghost use Rattle.ips_plan.specs.mended.Drafting.{sources_in, turns_mended};
 

@@ -3,7 +3,7 @@
 ghost use Rattle.std.specs.Prelude.{◌≡◌, ◌++◌, ◌<◌, Some, IfOk, OnOk, length, map};
 ghost use Rattle.std.specs.List.{AllByRecursion};
 ghost use Rattle.ips_change.specs.wanted.Wanted.{want_of, wanted_of};
-ghost use Rattle.ips_links.specs.order.Chosen.{chosen, path_in};
+ghost use Rattle.ips_emptied.specs.order.Chosen.{chosen, path_in};
 ghost use Rattle.ips_plan.specs.mended.Ordering.{is_of, is_of_at, wanted_order};
 
 use ips_meaning::{Entry, Want};

@@ -18,9 +18,9 @@ use Rattle.ips_change.specs.declared.survey.said.Said.{Said}
 use Rattle.ips_change.specs.survey.Tables.{IsTable}
 use Rattle.std.specs.Prelude.{Option}
 use Rattle.ips_links.proofs.Linked.{at_row}
-use Rattle.ips_links.specs.emptied.Emptying.{marked_in}
-use Rattle.ips_links.proofs.emptied.Placed.{marks_are, unmarked}
-use Rattle.ips_links.proofs.emptied.Remaining.{settled_bare}
+use Rattle.ips_emptied.specs.Emptying.{marked_in}
+use Rattle.ips_emptied.proofs.Placed.{marks_are, unmarked}
+use Rattle.ips_emptied.proofs.Remaining.{settled_bare}
 
 -- what stands goes where the directory is emptied, or else as it is settled
 pub goes_either : (e : Bool) (c : Change) → replaces (cond e Removed c) ≡ (e || replaces c)

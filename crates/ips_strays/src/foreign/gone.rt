@@ -11,8 +11,8 @@ ghost use Rattle.ips_after.specs.Request.{IsRequest, Request};
 ghost use Rattle.ips_change.specs.Told.{change_told, naming};
 ghost use Rattle.ips_change.specs.survey.Marks.{IsMarkOf, row_paths};
 ghost use Rattle.ips_change.specs.survey.Tables.{IsTable};
-ghost use Rattle.ips_links.specs.emptied.Emptying.{marked_in};
-ghost use Rattle.ips_links.specs.emptied.Settling.{replaces_by};
+ghost use Rattle.ips_emptied.specs.Emptying.{marked_in};
+ghost use Rattle.ips_emptied.specs.Settling.{replaces_by};
 
 use ips_change::Change;
 use ips_change::survey::{Said, Table};

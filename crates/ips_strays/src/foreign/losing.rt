@@ -13,7 +13,7 @@ ghost use Rattle.ips_change.specs.Told.{change_told, naming};
 ghost use Rattle.ips_change.specs.survey.Rows.{HasLooked};
 ghost use Rattle.ips_change.specs.survey.Marks.{row_paths};
 ghost use Rattle.ips_change.specs.survey.Tables.{IsTable};
-ghost use Rattle.ips_links.specs.emptied.Emptying.{marked_in};
+ghost use Rattle.ips_emptied.specs.Emptying.{marked_in};
 ghost use Rattle.ips_found.specs.Found.{AreThings};
 ghost use Rattle.ips_strays.specs.foreign.Foreign as spec;
 ghost use Rattle.ips_strays.specs.foreign.Foreign.{Gathers, IsFirstThing};
@@ -21,13 +21,13 @@ ghost use Rattle.ips_movable.specs.First.{IsFirstPath, loses_foreign};
 
 use crate::foreign::asking::{ask, is_of_records};
 use crate::foreign::gone::marked_gone;
-use crate::salvage::taken_away;
 use crate::sort;
 use ips_change::Change;
 use ips_change::survey::Table;
 use ips_folder::Folder;
 use ips_found::{Found, Thing};
 use ips_outside::Failed;
+use ips_salvage::taken_away;
 use ips_text::{Or, RelPath};
 use std::alloc::{AllocError, Global};
 

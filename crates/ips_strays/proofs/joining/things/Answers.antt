@@ -5,7 +5,7 @@ use Rattle.ips_after.specs.Lists.{listed}
 use Rattle.ips_after.specs.Salvage as salvage
 use Rattle.ips_change.specs.Told.{naming}
 use Rattle.ips_change.specs.survey.Marks.{IsMarkOf, row_paths}
-use Rattle.ips_strays.specs.salvage.Destroying.{destroys_else}
+use Rattle.ips_salvage.specs.Destroying.{destroys_else}
 use Rattle.ips_found.specs.Found.{thing_paths}
 use Rattle.ips_strays.specs.Strays.{saved_at}
 use Rattle.ips_strays.proofs.Saving.{either_way}

@@ -5,7 +5,7 @@ use Rattle.ips_change.specs.Told.{naming}
 use Rattle.ips_change.specs.declared.survey.row.Row.{Row}
 use Rattle.ips_change.specs.survey.Marks.{IsMarkOf, row_paths}
 use Rattle.ips_change.specs.survey.Tables.{IsTable}
-use Rattle.ips_strays.specs.salvage.Destroying.{destroys_else, goes_else}
+use Rattle.ips_salvage.specs.Destroying.{destroys_else, goes_else}
 use Rattle.ips_strays.specs.Strays.{Adds, hangs_among, opens}
 use Rattle.ips_strays.proofs.straying.gather_all.Goals as goal
 

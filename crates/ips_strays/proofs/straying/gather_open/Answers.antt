@@ -8,7 +8,7 @@ use Rattle.ips_change.specs.Told.{naming}
 use Rattle.ips_after.specs.Request.{Request, takes}
 use Rattle.ips_change.specs.survey.Marks.{IsMarkOf, row_paths}
 use Rattle.ips_links.proofs.Linked.{at_row}
-use Rattle.ips_strays.specs.salvage.Destroying.{goes_else}
+use Rattle.ips_salvage.specs.Destroying.{goes_else}
 use Rattle.ips_found.specs.declared.found.Thing.{Thing}
 use Rattle.ips_found.specs.Found.{AreThings}
 use Rattle.ips_strays.specs.Strays.{Adds, hangs, hangs_among, opens}

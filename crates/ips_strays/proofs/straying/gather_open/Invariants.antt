@@ -3,7 +3,7 @@ use Rattle.ips_outside.specs.Outside.{Reads}
 use Rattle.ips_after.specs.Request.{Request, takes}
 use Rattle.ips_change.specs.Told.{naming}
 use Rattle.ips_change.specs.survey.Marks.{IsMarkOf, row_paths}
-use Rattle.ips_strays.specs.salvage.Destroying.{goes_else}
+use Rattle.ips_salvage.specs.Destroying.{goes_else}
 use Rattle.ips_found.specs.Found.{AreThings}
 use Rattle.ips_strays.specs.Strays.{Adds, hangs_among, opens}
 use Rattle.ips_strays.proofs.straying.gather_open.Given as goal

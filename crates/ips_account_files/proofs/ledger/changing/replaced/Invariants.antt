@@ -3,7 +3,7 @@ use Rattle.ips_outside.specs.Image.{Image}
 use Rattle.ips_after.specs.Change.{replaces}
 use Rattle.ips_after.specs.Request.{Request}
 use Rattle.ips_links.proofs.Linked.{at_path}
-use Rattle.ips_links.specs.emptied.Joining.{SettlesRows}
+use Rattle.ips_emptied.specs.Joining.{SettlesRows}
 use Rattle.ips_account_files.specs.ledger.Left.{IsSilent, changes_by}
 use Rattle.ips_account_files.proofs.ledger.changing.replaced.Given as goal
 

@@ -6,7 +6,7 @@ use Rattle.ips_after.specs.Change.{with_given}
 use Rattle.ips_after.specs.Request.{Request}
 use Rattle.ips_change.specs.survey.Rows.{IsRowOf}
 use Rattle.ips_change.specs.survey.Marks.{row_paths}
-use Rattle.ips_links.specs.emptied.Joining.{SettlesRows}
+use Rattle.ips_emptied.specs.Joining.{SettlesRows}
 use Rattle.ips_account_files.specs.ledger.Left.{AreReplaced, AreSmallWanted, IsSilent, changes_by, is_ranked}
 use Rattle.ips_account_files.proofs.ledger.given.given.Given as goal
 

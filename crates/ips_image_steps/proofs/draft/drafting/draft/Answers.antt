@@ -6,7 +6,7 @@ use Rattle.ips_change.specs.Told.{change_told, naming}
 use Rattle.ips_change.specs.survey.Marks.{row_paths}
 use Rattle.ips_change.proofs.survey.Placed.{path_at}
 use Rattle.ips_change.proofs.survey.Filling.{said_at}
-use Rattle.ips_links.specs.order.Chosen.{path_in}
+use Rattle.ips_emptied.specs.order.Chosen.{path_in}
 use Rattle.ips_emit.specs.Emitted.{IsEmitted, Provenance, Turn}
 use Rattle.ips_links.proofs.Linked.{at_row, told_here}
 use Rattle.ips_image_steps.specs.draft.Drafting.{provenances_at, provenances_in, turns_of}

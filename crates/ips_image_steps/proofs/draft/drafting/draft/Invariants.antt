@@ -6,7 +6,7 @@ use Rattle.ips_change.specs.Told.{change_told, naming}
 use Rattle.ips_change.specs.survey.Marks.{row_paths}
 use Rattle.ips_change.specs.survey.Tables.{IsTable}
 use Rattle.ips_laying.specs.Laying.{LaysFor}
-use Rattle.ips_links.specs.order.Chosen.{path_in}
+use Rattle.ips_emptied.specs.order.Chosen.{path_in}
 use Rattle.ips_emit.specs.Emitted.{IsEmitted, Provenance, Turn}
 use Rattle.ips_image_steps.specs.draft.Drafting.{provenances_in, turns_of}
 use Rattle.ips_image_steps.proofs.draft.drafting.draft.Given as goal

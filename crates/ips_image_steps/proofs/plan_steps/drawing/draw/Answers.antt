@@ -10,11 +10,11 @@ use Rattle.ips_change.specs.declared.survey.row.Row.{Row}
 use Rattle.ips_change.specs.survey.Marks.{row_paths}
 use Rattle.ips_change.specs.survey.Tables.{IsTable}
 use Rattle.ips_laying.specs.Laying.{Laid, LaysFor}
-use Rattle.ips_links.specs.order.Chosen.{path_in}
+use Rattle.ips_emptied.specs.order.Chosen.{path_in}
 use Rattle.ips_emit.specs.Emitted.{IsEmitted, Provenance, Turn}
 use Rattle.ips_image_steps.specs.draft.Drafting.{provenances_in, turns_of}
-use Rattle.ips_links.specs.emptied.Emptying.{marked_in}
-use Rattle.ips_links.specs.emptied.Joining.{SettlesRows}
+use Rattle.ips_emptied.specs.Emptying.{marked_in}
+use Rattle.ips_emptied.specs.Joining.{SettlesRows}
 use Rattle.ips_image_steps.specs.plan_steps.Drawing.{AddsPlan}
 use Rattle.ips_image_steps.proofs.plan_steps.drawing.draw.Goals as goal
 

@@ -14,7 +14,7 @@ use Rattle.ips_change.specs.declared.change.Change.TheVariants as told
 use Rattle.ips_change.specs.Told.{change_told}
 use Rattle.ips_meaning.specs.declared.entry.Entry.{Entry}
 use Rattle.ips_change.specs.wanted.Wanted.{want_of}
-use Rattle.ips_links.specs.order.Chosen.{path_in}
+use Rattle.ips_emptied.specs.order.Chosen.{path_in}
 use Rattle.ips_emit.specs.Emitted.{IsEmitted, Provenance, Turn, provenances_told}
 use Rattle.ips_plan.specs.mended.Drafting.{sources_in, turns_mended}
 use Rattle.ips_plan.proofs.mended.Drafted.{path_there, sources_on, turn_is, turns_on}

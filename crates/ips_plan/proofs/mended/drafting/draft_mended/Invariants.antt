@@ -3,7 +3,7 @@ use Rattle.ips_outside.specs.Image.{Image}
 use Rattle.ips_after.specs.Repaired.{IsRepair, Repair, relinked_as}
 use Rattle.ips_change.specs.wanted.Wanted.{want_of}
 use Rattle.ips_change.specs.Told.{change_told}
-use Rattle.ips_links.specs.order.Chosen.{path_in}
+use Rattle.ips_emptied.specs.order.Chosen.{path_in}
 use Rattle.ips_emit.specs.Emitted.{IsEmitted, Provenance, Turn}
 use Rattle.ips_plan.specs.mended.Drafting.{sources_in, turns_mended}
 use Rattle.ips_plan.proofs.mended.drafting.draft_mended.Given as goal

@@ -1,7 +1,7 @@
 use Rattle.std.proofs.Common.{◌<◌, true, false, length, map, sym, ap, ◌∙◌, arith}
 use Rattle.std.proofs.lemmas.List.{append-nil}
 use Rattle.ips_change.specs.wanted.Wanted.{want_of}
-use Rattle.ips_links.proofs.order.Places.{place_on}
+use Rattle.ips_emptied.proofs.order.Places.{place_on}
 use Rattle.ips_plan.specs.mended.Ordering.{is_of_at}
 use Rattle.ips_plan.proofs.mended.Ordered.{long_as, marked_here}
 use Rattle.ips_plan.proofs.mended.ordering.add.Goals.{then-is_in+in_ok-push, else-is_in}

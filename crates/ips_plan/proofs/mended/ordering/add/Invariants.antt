@@ -1,6 +1,6 @@
 use Rattle.std.proofs.Common.{◌≡◌, ◌++◌, map, take}
 use Rattle.ips_change.specs.wanted.Wanted.{want_of}
-use Rattle.ips_links.specs.order.Chosen.{chosen}
+use Rattle.ips_emptied.specs.order.Chosen.{chosen}
 use Rattle.ips_plan.specs.mended.Ordering.{is_of_at}
 use Rattle.ips_plan.proofs.mended.ordering.add.Given as goal
 

@@ -3,7 +3,7 @@ use Rattle.std.proofs.lemmas.Result.{on_ok_weaker}
 use Rattle.ips_emit.specs.Emitted.{IsEmitted}
 use Rattle.ips_plan.specs.mended.Drafting.{sources_in, turns_mended}
 use Rattle.ips_plan.specs.mended.Ordering.{wanted_order}
-use Rattle.ips_links.specs.order.Chosen.{path_in}
+use Rattle.ips_emptied.specs.order.Chosen.{path_in}
 use Rattle.ips_change.specs.wanted.Wanted.{want_of}
 use Rattle.ips_plan.proofs.repaired.drawing.add_wanted.Goals as goal
 

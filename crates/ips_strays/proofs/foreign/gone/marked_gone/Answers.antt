@@ -8,9 +8,9 @@ use Rattle.ips_change.specs.declared.survey.row.Row.{Row}
 use Rattle.ips_change.specs.survey.Marks.{row_paths}
 use Rattle.ips_change.proofs.survey.Filling.{said_at}
 use Rattle.ips_links.proofs.Linked.{at_path, at_row, by_rows, one_more, row_more, told_here}
-use Rattle.ips_links.specs.emptied.Emptying.{marked_in}
-use Rattle.ips_links.specs.emptied.Settling.{replaces_by}
-use Rattle.ips_links.proofs.emptied.Remaining.{replaces_same, settled_here}
+use Rattle.ips_emptied.specs.Emptying.{marked_in}
+use Rattle.ips_emptied.specs.Settling.{replaces_by}
+use Rattle.ips_emptied.proofs.Remaining.{replaces_same, settled_here}
 use Rattle.ips_strays.proofs.foreign.Going.{goes_either, goes_none, mark_here}
 use Rattle.ips_strays.proofs.foreign.gone.marked_gone.Goals as goal
 

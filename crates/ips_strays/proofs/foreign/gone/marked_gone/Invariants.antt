@@ -7,7 +7,7 @@ use Rattle.ips_change.specs.Told.{change_told, naming}
 use Rattle.ips_change.specs.survey.Marks.{row_paths}
 use Rattle.ips_change.specs.survey.Tables.{IsTable}
 use Rattle.ips_links.proofs.Linked.{at_path}
-use Rattle.ips_links.specs.emptied.Emptying.{marked_in}
+use Rattle.ips_emptied.specs.Emptying.{marked_in}
 use Rattle.ips_strays.proofs.foreign.gone.marked_gone.Given as goal
 
 abbrev pub invariant-loop-i : goal.invariant-loop-i

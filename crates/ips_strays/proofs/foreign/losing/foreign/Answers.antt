@@ -1,6 +1,6 @@
 use Rattle.std.proofs.Common.{List, sym, subst}
 use Rattle.ips_change.specs.survey.Marks.{row_paths}
-use Rattle.ips_links.specs.emptied.Emptying.{marked_in}
+use Rattle.ips_emptied.specs.Emptying.{marked_in}
 use Rattle.ips_found.specs.Found.{AreThings}
 use Rattle.ips_found.specs.declared.found.Thing.{Thing}
 use Rattle.ips_strays.specs.foreign.Foreign.{Gathers, IsFirstThing}

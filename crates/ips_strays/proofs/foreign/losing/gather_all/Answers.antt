@@ -7,7 +7,7 @@ use Rattle.ips_change.specs.Told.{naming}
 use Rattle.ips_change.specs.declared.survey.row.Row.{Row}
 use Rattle.ips_change.specs.survey.Rows.{IsRowOf}
 use Rattle.ips_change.specs.survey.Marks.{IsMarkOf, row_paths}
-use Rattle.ips_links.specs.emptied.Emptying.{marked_in}
+use Rattle.ips_emptied.specs.Emptying.{marked_in}
 use Rattle.ips_strays.specs.Strays.{Adds}
 use Rattle.ips_strays.specs.foreign.Foreign.{asks_among}
 use Rattle.ips_strays.proofs.foreign.losing.gather_all.Goals as goal

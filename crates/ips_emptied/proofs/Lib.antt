@@ -1,0 +1,5 @@
+pub mod Remaining
+pub mod Placed
+pub mod Leaving
+pub mod Asked
+pub mod order

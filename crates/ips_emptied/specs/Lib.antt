@@ -1,0 +1,4 @@
+pub mod Settling
+pub mod Emptying
+pub mod Joining
+pub mod order

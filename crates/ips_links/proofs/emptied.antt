@@ -1,4 +1,0 @@
-pub mod Remaining
-pub mod Placed
-pub mod Leaving
-pub mod Asked

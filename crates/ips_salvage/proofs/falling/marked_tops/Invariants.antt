@@ -1,0 +1,16 @@
+use Rattle.std.proofs.Common.{◌≡◌, length, map, take}
+use Rattle.std.specs.List.{AllByRecursion}
+use Rattle.ips_outside.specs.Image.{Image}
+use Rattle.ips_after.specs.After.{is_top}
+use Rattle.ips_after.specs.Request.{Request}
+use Rattle.ips_change.specs.Told.{naming}
+use Rattle.ips_change.specs.survey.Rows.{HasLooked}
+use Rattle.ips_change.specs.survey.Tables.{IsTable}
+use Rattle.ips_links.proofs.Linked.{at_path}
+use Rattle.ips_salvage.proofs.falling.marked_tops.Given as goal
+
+abbrev pub invariant-loop-i : goal.invariant-loop-i
+invariant-loop-i l = record {
+  long : length l.marks.items ≡ l.i;
+  so_far : (r : Request) (t : Image) → IsTable r l.table.rows.items l.table.said.items → AllByRecursion (HasLooked t) l.table.rows.items → l.marks.items ≡ map (at_path (is_top (naming r) t)) (take l.i l.table.rows.items);
+}
