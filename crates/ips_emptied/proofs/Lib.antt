@@ -2,4 +2,3 @@ pub mod Remaining
 pub mod Placed
 pub mod Leaving
 pub mod Asked
-pub mod order
