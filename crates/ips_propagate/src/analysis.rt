@@ -1,13 +1,12 @@
 //! Why literals went, and what follows from that: one resolution is one line.
 
-use crate::board::{Board, Conflict, Why};
+use crate::board::{Board, Conflict, Stem, Why};
 use crate::gathered::Gathered;
 use crate::learned::Learned;
 use crate::lines::Lines;
-use crate::numbers::{NONE, at};
+use crate::numbers::{NONE, pushed};
 use crate::tables::Tables;
 use ips_refute::Reason;
-use std::alloc::{AllocError, Global};
 
 /// What is known of a puzzle: which literals are left, its tests, what was learned, and the lines that show it.
 #[derive(Drop)]
@@ -18,111 +17,90 @@ pub struct Known {
     pub lines: Lines,
 }
 
-/// The set that is resolved, and room for the sets of lines that it rests on.
+/// The set that is resolved, and room for the sets of lines that it rests on. Once the set is lost, what is said here is void.
 #[derive(Drop)]
 pub struct Work {
     pub set: Gathered,
-    inner: Gathered,
-    stack: Vec<u32>,
-}
-
-impl Work {
-    /// Without sets.
-    pub fn new(alloc: Global, stems: u32) -> Result<Work, AllocError> {
-        Ok(Work {
-            set: Gathered::new(alloc, stems)?,
-            inner: Gathered::new(alloc, stems)?,
-            stack: Vec::new(alloc),
-        })
-    }
+    pub inner: Gathered,
+    pub stack: Vec<u32>,
 }
 
 // Adds a literal of a value.
-fn add(board: &Board, set: &mut Gathered, literal: u32) -> Result<(), AllocError> {
-    set.add(literal, board.stem(literal))
+fn add(board: &Board, set: &mut Gathered, literal: u32) {
+    set.add(literal, board.literal(literal).stem);
 }
 
 // Adds all of these literals but one.
-fn add_others(
-    board: &Board,
-    set: &mut Gathered,
-    members: &[u32],
-    literal: u32,
-) -> Result<(), AllocError> {
+fn add_others(board: &Board, set: &mut Gathered, members: &[u32], literal: u32) {
     for member in members {
         if *member != literal {
-            add(board, set, *member)?;
+            add(board, set, *member);
         }
     }
-    Ok(())
 }
 
 // Adds the values of all of these stems but one.
-fn add_values(
-    board: &Board,
-    set: &mut Gathered,
-    stems: &[u32],
-    stem: u32,
-) -> Result<(), AllocError> {
+fn add_values(board: &Board, set: &mut Gathered, stems: &[u32], stem: u32) {
     for other in stems {
         if *other != stem {
-            add(board, set, board.value(*other))?;
+            add(board, set, board.value(*other));
         }
     }
-    Ok(())
 }
 
 // Adds the values on which it rests that a literal went, which is the reason.
-fn explain(known: &Known, set: &mut Gathered, literal: u32) -> Result<Reason, AllocError> {
+fn explain(known: &Known, set: &mut Gathered, literal: u32) -> Reason {
     let board = &known.board;
     let tables = &known.tables;
-    match board.why(literal) {
+    let gone = board.literal(literal);
+    match gone.why {
         Why::Test(place) => {
-            let own = tables.own_at(place);
-            if own == literal {
-                add(board, set, tables.bad_at(place))?;
-            } else {
-                add(board, set, own)?;
-            }
-            Ok(Reason::Test(tables.number_at(place)))
+            let bad = tables.bad(place);
+            let own = tables.narrow(bad.test).own;
+            add(board, set, if own == literal { bad.literal } else { own });
+            Reason::Test(bad.number)
         }
         Why::Support(test) => {
-            let value = board.value(at(&tables.other, test));
-            add(board, set, value)?;
-            Ok(Reason::Test(tables.number_at(tables.bad_place(test, value))))
+            let value = board.value(tables.narrow(test).other);
+            add(board, set, value);
+            Reason::Test(tables.bad(tables.bad_place(test, value)).number)
         }
         Why::Wide(wide) => {
-            add_values(board, set, tables.stems(wide), board.stem(literal))?;
-            Ok(Reason::Test(at(&tables.wide_number, wide)))
+            add_values(board, set, tables.stems(wide), gone.stem);
+            Reason::Test(tables.wide(wide).number)
         }
         Why::Learned(learned) => {
-            add_others(board, set, known.learned.members(learned), literal)?;
-            known.learned.reason(learned)
+            add_others(board, set, known.learned.members(learned), literal);
+            known.learned.set(learned).reason
         }
         Why::Line(line) => {
-            add_others(board, set, known.lines.members(line), literal)?;
-            Ok(Reason::Earlier(line))
+            add_others(board, set, known.lines.members(line), literal);
+            Reason::Earlier(line)
         }
-        Why::Left | Why::Decided => Err(AllocError),
+        Why::Left | Why::Decided => {
+            set.is_lost = true;
+            Reason::Test(NONE)
+        }
     }
 }
 
 // The test for want of whose good literals this one went, where no value of the other stem tells it.
 fn unsupported(known: &Known, literal: u32) -> Option<u32> {
-    let Why::Support(test) = known.board.why(literal) else {
+    let gone = known.board.literal(literal);
+    let Why::Support(test) = gone.why else {
         return None;
     };
-    let other = at(&known.tables.other, test);
-    let told = known.board.value(other) != NONE
-        && known.board.valued_at(other) <= known.board.removed_at(literal);
-    if told { None } else { Some(test) }
+    let other = known.board.stem(known.tables.narrow(test).other);
+    if other.value != NONE && other.valued_at <= gone.removed_at {
+        return None;
+    }
+    Some(test)
 }
 
 // A good literal of the test by which this one went, whose own line is to be made first.
-fn unsupported_below(known: &Known, literal: u32) -> Option<u32> {
-    let test = unsupported(known, literal)?;
-    let other = at(&known.tables.other, test);
-    for good in known.board.first(other)..known.board.end(other) {
+fn unsupported_below(known: &Known, test: u32) -> Option<u32> {
+    let Stem { first, end, .. } = known.board.stem(known.tables.narrow(test).other);
+    for good in first..end {
         if unsupported(known, good).is_some() && known.tables.bad_place(test, good) == NONE {
             return Some(good);
         }
@@ -131,47 +109,45 @@ fn unsupported_below(known: &Known, literal: u32) -> Option<u32> {
 }
 
 // Makes a line of it that no good literal of the test is left.
-fn support_line(
-    known: &mut Known,
-    inner: &mut Gathered,
-    literal: u32,
-    test: u32,
-) -> Result<(), AllocError> {
+fn support_line(known: &mut Known, inner: &mut Gathered, literal: u32, test: u32) {
     inner.clear();
-    add(&known.board, inner, literal)?;
-    let other = at(&known.tables.other, test);
-    for good in known.board.first(other)..known.board.end(other) {
+    add(&known.board, inner, literal);
+    let other = known.tables.narrow(test).other;
+    let Stem { first, end, .. } = known.board.stem(other);
+    for good in first..end {
         let place = known.tables.bad_place(test, good);
         let reason = if place == NONE {
-            explain(known, inner, good)?
+            explain(known, inner, good)
         } else {
-            Reason::Test(known.tables.number_at(place))
+            Reason::Test(known.tables.bad(place).number)
         };
-        known.lines.add_reason(reason)?;
+        known.lines.add_reason(reason);
     }
-    let line = known.lines.close(&inner.members, other)?;
+    let line = known.lines.close(&inner.members, other);
     known.board.explain(literal, Why::Line(line));
-    Ok(())
 }
 
 // Makes the lines on which it rests that a literal went.
-fn settle(known: &mut Known, work: &mut Work, literal: u32) -> Result<(), AllocError> {
+fn settle(known: &mut Known, work: &mut Work, literal: u32) {
     work.stack.clear();
-    work.stack.push(literal)?;
+    let mut fits = pushed(&mut work.stack, literal);
     for _ in 0..u64::MAX {
         let Some(top) = work.stack.last().copied() else {
             break;
         };
-        if let Some(below) = unsupported_below(known, top) {
-            work.stack.push(below)?;
-            continue;
-        }
         if let Some(test) = unsupported(known, top) {
-            support_line(known, &mut work.inner, top, test)?;
+            if let Some(below) = unsupported_below(known, test) {
+                fits = pushed(&mut work.stack, below);
+                if fits {
+                    continue;
+                }
+                break;
+            }
+            support_line(known, &mut work.inner, top, test);
         }
         work.stack.pop();
     }
-    Ok(())
+    work.set.is_lost |= !fits;
 }
 
 // The set with the reasons why the stem's literals went, in place of the one with that reason, if there is one.
@@ -181,121 +157,103 @@ fn resolve(
     stem: u32,
     resolved: u32,
     reason: Option<Reason>,
-) -> Result<Reason, AllocError> {
-    let first = known.board.first(stem);
-    let end = known.board.end(stem);
+) -> Reason {
+    let Stem { first, end, .. } = known.board.stem(stem);
     for literal in first..end {
-        settle(known, work, literal)?;
+        settle(known, work, literal);
     }
     work.set.remove(resolved, stem);
     for literal in first..end {
         let why = match reason {
             Some(reason) if literal == resolved => reason,
-            _ => explain(known, &mut work.set, literal)?,
+            _ => explain(known, &mut work.set, literal),
         };
-        known.lines.add_reason(why)?;
+        known.lines.add_reason(why);
     }
-    let line = known.lines.close(&work.set.members, stem)?;
-    Ok(Reason::Earlier(line))
+    Reason::Earlier(known.lines.close(&work.set.members, stem))
 }
 
 // The value that was forced last among those of the last level; none where at most one is of it, beyond the first level.
-fn last_forced(board: &Board, members: &[u32]) -> Option<u32> {
+fn last_forced(board: &Board, set: &Gathered) -> Option<u32> {
     let mut count = 0_u32;
     let mut best = None;
     let mut best_at = 0;
-    for literal in members {
-        if board.level_of(*literal) != board.level {
+    for literal in &set.members {
+        let stem = board.stem_of(*literal);
+        if stem.level != board.level {
             continue;
         }
         count = count.saturating_add(1);
-        let stem = board.stem(*literal);
-        let here = board.valued_at(stem);
-        if !board.is_decided(stem) && here >= best_at {
+        if !stem.decided && stem.valued_at >= best_at {
             best = Some(*literal);
-            best_at = here;
+            best_at = stem.valued_at;
         }
     }
-    if board.level > 0 && count <= 1 {
+    if set.is_lost || (board.level > 0 && count <= 1) {
         None
     } else {
         best
     }
 }
 
-// The value that was forced last among those of this stem and later ones, but for one literal; an error where it was decided on.
-fn last_ahead(
-    board: &Board,
-    members: &[u32],
-    from: u32,
-    but: u32,
-) -> Result<Option<u32>, AllocError> {
+// The value that was forced last among those of this stem and later ones, but for one literal. The set is lost where one of them
+// was decided on.
+fn last_ahead(board: &Board, set: &mut Gathered, from: u32, but: u32) -> Option<u32> {
     let mut best = None;
     let mut best_at = 0;
-    for literal in members {
-        let stem = board.stem(*literal);
-        if *literal == but || stem < from {
+    for literal in &set.members {
+        let number = board.literal(*literal).stem;
+        if *literal == but || number < from {
             continue;
         }
-        if board.is_decided(stem) {
-            return Err(AllocError);
-        }
-        let here = board.valued_at(stem);
-        if here >= best_at {
+        let stem = board.stem(number);
+        set.is_lost |= stem.decided;
+        if stem.valued_at >= best_at {
             best = Some(*literal);
-            best_at = here;
+            best_at = stem.valued_at;
         }
     }
-    Ok(best)
+    if set.is_lost { None } else { best }
 }
 
 /// The set of values that a conflict gives, with at most one of the last level, and why no solution has it.
-pub fn analyse(
-    known: &mut Known,
-    work: &mut Work,
-    conflict: Conflict,
-) -> Result<Reason, AllocError> {
+pub fn analyse(known: &mut Known, work: &mut Work, conflict: Conflict) -> Reason {
     let Conflict { literal, why } = conflict;
-    let stem = known.board.stem(literal);
-    known.board.explain_now(literal, why);
+    let stem = known.board.literal(literal).stem;
+    known.board.explain(literal, why);
     work.set.clear();
-    let mut reason = if known.board.is_decided(stem) {
-        settle(known, work, literal)?;
-        let reason = explain(known, &mut work.set, literal)?;
-        work.set.add(literal, stem)?;
+    let mut reason = if known.board.stem(stem).decided {
+        settle(known, work, literal);
+        let reason = explain(known, &mut work.set, literal);
+        work.set.add(literal, stem);
         reason
     } else {
-        resolve(known, work, stem, literal, None)?
+        resolve(known, work, stem, literal, None)
     };
     known.board.explain(literal, Why::Left);
     for _ in 0..u64::MAX {
-        let Some(forced) = last_forced(&known.board, &work.set.members) else {
+        let Some(forced) = last_forced(&known.board, &work.set) else {
             break;
         };
-        let at = known.board.stem(forced);
-        reason = resolve(known, work, at, forced, Some(reason))?;
+        let at = known.board.literal(forced).stem;
+        reason = resolve(known, work, at, forced, Some(reason));
     }
-    Ok(reason)
+    reason
 }
 
 /// The set of a literal that went and of values of stems before its own, and why no solution has it.
-pub fn down_to_front(
-    known: &mut Known,
-    work: &mut Work,
-    literal: u32,
-) -> Result<Reason, AllocError> {
-    let stem = known.board.stem(literal);
-    settle(known, work, literal)?;
+pub fn down_to_front(known: &mut Known, work: &mut Work, literal: u32) -> Reason {
+    let stem = known.board.literal(literal).stem;
+    settle(known, work, literal);
     work.set.clear();
-    let mut reason = explain(known, &mut work.set, literal)?;
-    work.set.add(literal, stem)?;
+    let mut reason = explain(known, &mut work.set, literal);
+    work.set.add(literal, stem);
     for _ in 0..u64::MAX {
-        let ahead = last_ahead(&known.board, &work.set.members, stem, literal)?;
-        let Some(forced) = ahead else {
+        let Some(forced) = last_ahead(&known.board, &mut work.set, stem, literal) else {
             break;
         };
-        let at = known.board.stem(forced);
-        reason = resolve(known, work, at, forced, Some(reason))?;
+        let at = known.board.literal(forced).stem;
+        reason = resolve(known, work, at, forced, Some(reason));
     }
-    Ok(reason)
+    reason
 }

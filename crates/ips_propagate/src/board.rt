@@ -2,8 +2,9 @@
 
 use crate::numbers::{NONE, at, counted, put};
 use crate::order::Order;
+use crate::trail::Trail;
 use ips_refute::{Pair, Puzzle};
-use std::alloc::{AllocError, Global};
+use std::alloc::Global;
 
 /// Why a candidate isn't left.
 #[derive(Clone, Copy)]
@@ -32,33 +33,39 @@ pub struct Conflict {
     pub why: Why,
 }
 
-/// The candidates of all stems, each by its number, its literal. A stem for which one candidate is left has a value.
+/// A stem: its literals, how many of them are left, and its value once that is one.
+#[derive(Clone, Copy)]
+pub struct Stem {
+    pub first: u32,
+    /// The first literal that isn't the stem's any more.
+    pub end: u32,
+    pub left: u32,
+    pub value: u32,
+    /// The value that it had last.
+    pub phase: u32,
+    /// Whether the value was decided on, at which level it came, and how many literals had been removed by then.
+    pub decided: bool,
+    pub level: u32,
+    pub valued_at: u32,
+}
+
+/// A candidate of a stem.
+#[derive(Clone, Copy)]
+pub struct Literal {
+    pub stem: u32,
+    pub why: Why,
+    /// How many literals had been removed before this one was.
+    pub removed_at: u32,
+}
+
+/// The candidates of all stems, each by its number. A stem for which one candidate is left has a value.
 #[derive(Drop)]
 pub struct Board {
-    // By stem, its first literal; one more at the end.
-    offsets: Vec<u32>,
-    // By literal.
-    stems: Vec<u32>,
-    why: Vec<Why>,
-    removed_at: Vec<u32>,
-    // By stem.
-    left: Vec<u32>,
-    values: Vec<u32>,
-    decided: Vec<bool>,
-    valued_at: Vec<u32>,
-    levels: Vec<u32>,
-    phases: Vec<u32>,
-    // Literals in the order of their removal, and stems in the order in which they got their value.
-    trail: Vec<u32>,
-    trail_count: u32,
-    truths: Vec<u32>,
-    truth_count: u32,
-    // How many of these were gone through.
-    trail_done: u32,
-    truths_done: u32,
-    // By level, how many there were before its decision.
-    trail_marks: Vec<u32>,
-    truth_marks: Vec<u32>,
+    pub stems: Vec<Stem>,
+    pub literals: Vec<Literal>,
+    /// Literals in the order of their removal, and stems in the order in which they got their value.
+    pub removed: Trail,
+    pub valued: Trail,
     /// How many decisions stand.
     pub level: u32,
     /// Each stem below this one has a value.
@@ -67,175 +74,124 @@ pub struct Board {
     pub standing: u32,
 }
 
-// By stem, the number of its first literal, and one more at the end.
-fn offsets_of<P: Puzzle>(alloc: Global, puzzle: &P) -> Result<Vec<u32>, AllocError> {
-    let stems = puzzle.stems();
-    let mut offsets = Vec::with_capacity(alloc, stems as usize)?;
-    let mut end: u32 = 0;
-    offsets.push(end)?;
-    for stem in 0..stems {
-        let count = puzzle.candidates(stem);
-        end = counted(end as usize + count as usize)?;
-        offsets.push(end)?;
-    }
-    Ok(offsets)
-}
-
-// By literal, its stem.
-fn stems_of(alloc: Global, offsets: &[u32], stems: u32) -> Result<Vec<u32>, AllocError> {
-    let count = at(offsets, stems);
-    let mut all = Vec::with_capacity(alloc, count as usize)?;
-    let mut stem = 0_u32;
-    for literal in 0..count {
-        for _ in 0..stems {
-            if literal < at(offsets, stem.saturating_add(1)) {
-                break;
-            }
-            stem = stem.saturating_add(1);
-        }
-        all.push(stem)?;
-    }
-    Ok(all)
-}
-
 impl Board {
-    /// All candidates of the puzzle are left.
-    pub fn new<P: Puzzle>(alloc: Global, puzzle: &P) -> Result<Board, AllocError> {
-        let stem_count = puzzle.stems();
-        let offsets = offsets_of(alloc, puzzle)?;
-        let stems = stems_of(alloc, &offsets, stem_count)?;
-        let count = stem_count as usize;
-        let literals = stems.len();
-        let mut left = Vec::with_capacity(alloc, count)?;
-        for stem in 0..stem_count {
-            left.push(puzzle.candidates(stem))?;
-        }
-        Ok(Board {
-            offsets,
-            stems,
-            why: vec![in alloc; Why::Left; literals]?,
-            removed_at: vec![in alloc; 0; literals]?,
-            left,
-            values: vec![in alloc; NONE; count]?,
-            decided: vec![in alloc; false; count]?,
-            valued_at: vec![in alloc; 0; count]?,
-            levels: vec![in alloc; 0; count]?,
-            phases: vec![in alloc; NONE; count]?,
-            trail: vec![in alloc; NONE; literals]?,
-            trail_count: 0,
-            truths: vec![in alloc; NONE; count]?,
-            truth_count: 0,
-            trail_done: 0,
-            truths_done: 0,
-            trail_marks: vec![in alloc; 0; count]?,
-            truth_marks: vec![in alloc; 0; count]?,
+    /// Without stems.
+    pub fn new(alloc: Global) -> Board {
+        Board {
+            stems: Vec::new(alloc),
+            literals: Vec::new(alloc),
+            removed: Trail::new(alloc),
+            valued: Trail::new(alloc),
             level: 0,
             lowest: 0,
             standing: 0,
+        }
+    }
+
+    /// Takes the stems of a puzzle, with all candidates left; false where there is no room.
+    pub fn lay_out<P: Puzzle>(&mut self, puzzle: &P) -> bool {
+        for stem in 0..puzzle.stems() {
+            if !self.add_stem(stem, puzzle.candidates(stem)) {
+                return false;
+            }
+        }
+        let stems = self.stems.len();
+        self.removed.lay_out(self.literals.len(), stems) && self.valued.lay_out(stems, stems)
+    }
+
+    fn add_stem(&mut self, stem: u32, count: u32) -> bool {
+        let first = counted(self.literals.len());
+        let end = counted(self.literals.len().saturating_add(count as usize));
+        if end == NONE {
+            return false;
+        }
+        let literal = Literal {
+            stem,
+            why: Why::Left,
+            removed_at: 0,
+        };
+        let stem = Stem {
+            first,
+            end,
+            left: count,
+            value: NONE,
+            phase: NONE,
+            decided: false,
+            level: 0,
+            valued_at: 0,
+        };
+        self.literals.resize(end as usize, literal).is_ok() && self.stems.push(stem).is_ok()
+    }
+
+    /// The stem of a number.
+    pub fn stem(&self, number: u32) -> Stem {
+        self.stems.get(number as usize).copied().unwrap_or(Stem {
+            first: NONE,
+            end: NONE,
+            left: NONE,
+            value: NONE,
+            phase: NONE,
+            decided: false,
+            level: NONE,
+            valued_at: NONE,
         })
     }
 
-    /// How many literals there are.
-    pub fn literals(&self) -> usize {
-        self.stems.len()
+    /// The literal of a number.
+    pub fn literal(&self, number: u32) -> Literal {
+        self.literals
+            .get(number as usize)
+            .copied()
+            .unwrap_or(Literal {
+                stem: NONE,
+                why: Why::Left,
+                removed_at: NONE,
+            })
     }
 
-    /// The first literal of a stem.
-    pub fn first(&self, stem: u32) -> u32 {
-        at(&self.offsets, stem)
-    }
-
-    /// The first literal that isn't the stem's any more.
-    pub fn end(&self, stem: u32) -> u32 {
-        at(&self.offsets, stem.saturating_add(1))
-    }
-
-    /// The stem of a literal.
-    pub fn stem(&self, literal: u32) -> u32 {
-        at(&self.stems, literal)
-    }
-
-    /// The literal of a pair.
-    pub fn literal(&self, pair: Pair) -> u32 {
-        let literal = self.first(pair.stem).saturating_add(pair.candidate);
-        if literal < self.end(pair.stem) {
-            literal
-        } else {
-            NONE
-        }
+    /// The number of a pair's literal.
+    pub fn number(&self, pair: Pair) -> u32 {
+        let stem = self.stem(pair.stem);
+        let number = stem.first.saturating_add(pair.candidate);
+        if number < stem.end { number } else { NONE }
     }
 
     /// The pair of a literal.
     pub fn pair(&self, literal: u32) -> Pair {
-        let stem = self.stem(literal);
+        let stem = self.literal(literal).stem;
         Pair {
             stem,
-            candidate: literal.saturating_sub(self.first(stem)),
+            candidate: literal.saturating_sub(self.stem(stem).first),
         }
     }
 
     /// The value of a stem.
     pub fn value(&self, stem: u32) -> u32 {
-        at(&self.values, stem)
+        self.stem(stem).value
     }
 
-    /// The value that a stem had last.
-    pub fn phase(&self, stem: u32) -> u32 {
-        at(&self.phases, stem)
-    }
-
-    /// The level at which a stem got its value.
-    pub fn level_of(&self, literal: u32) -> u32 {
-        at(&self.levels, self.stem(literal))
-    }
-
-    /// How many literals had been removed as the stem got its value.
-    pub fn valued_at(&self, stem: u32) -> u32 {
-        at(&self.valued_at, stem)
-    }
-
-    /// How many literals had been removed before this one was.
-    pub fn removed_at(&self, literal: u32) -> u32 {
-        at(&self.removed_at, literal)
-    }
-
-    /// Whether the stem's value was decided on.
-    pub fn is_decided(&self, stem: u32) -> bool {
-        self.decided.get(stem as usize).copied().unwrap_or(false)
-    }
-
-    /// Why a literal isn't left.
-    pub fn why(&self, literal: u32) -> Why {
-        self.why.get(literal as usize).copied().unwrap_or(Why::Left)
-    }
-
-    /// Writes why a literal isn't left.
-    pub fn explain(&mut self, literal: u32, why: Why) {
-        let place = literal as usize;
-        if place < self.why.len() {
-            self.why[place] = why;
-        }
-    }
-
-    /// Writes why the last literal of a stem is to go, as if it had gone by now.
-    pub fn explain_now(&mut self, literal: u32, why: Why) {
-        self.explain(literal, why);
-        put(&mut self.removed_at, literal, self.trail_count);
+    /// The stem of which a literal is.
+    pub fn stem_of(&self, literal: u32) -> Stem {
+        self.stem(self.literal(literal).stem)
     }
 
     /// Whether the literal is left.
     pub fn is_left(&self, literal: u32) -> bool {
-        matches!(self.why(literal), Why::Left)
+        matches!(self.literal(literal).why, Why::Left)
     }
 
-    /// Whether the literal is its stem's value.
-    pub fn is_true(&self, literal: u32) -> bool {
-        self.value(self.stem(literal)) == literal
+    /// Writes why a literal isn't left, as if it had gone by now.
+    pub fn explain(&mut self, literal: u32, why: Why) {
+        if let Some(it) = self.literals.get_mut(literal as usize) {
+            it.why = why;
+            it.removed_at = self.removed.count;
+        }
     }
 
     /// The first literal of the stem that is left.
     pub fn first_left(&self, stem: u32) -> u32 {
-        for literal in self.first(stem)..self.end(stem) {
+        let Stem { first, end, .. } = self.stem(stem);
+        for literal in first..end {
             if self.is_left(literal) {
                 return literal;
             }
@@ -257,25 +213,23 @@ impl Board {
 
     /// Gives a stem its value.
     pub fn set(&mut self, stem: u32, literal: u32, decided: bool) {
-        let place = stem as usize;
-        if place < self.decided.len() {
-            self.decided[place] = decided;
+        if let Some(it) = self.stems.get_mut(stem as usize) {
+            it.value = literal;
+            it.decided = decided;
+            it.level = self.level;
+            it.valued_at = self.removed.count;
         }
-        put(&mut self.values, stem, literal);
-        put(&mut self.valued_at, stem, self.trail_count);
-        put(&mut self.levels, stem, self.level);
-        put(&mut self.truths, self.truth_count, stem);
-        self.truth_count = self.truth_count.saturating_add(1);
+        self.valued.push(stem);
     }
 
     // The literal goes.
     fn strike(&mut self, literal: u32, why: Why) {
-        let stem = self.stem(literal);
-        self.explain_now(literal, why);
-        put(&mut self.trail, self.trail_count, literal);
-        self.trail_count = self.trail_count.saturating_add(1);
-        let left = at(&self.left, stem);
-        put(&mut self.left, stem, left.saturating_sub(1));
+        let stem = self.literal(literal).stem;
+        self.explain(literal, why);
+        self.removed.push(literal);
+        if let Some(it) = self.stems.get_mut(stem as usize) {
+            it.left = it.left.saturating_sub(1);
+        }
     }
 
     /// Removes a literal that is left; false where its stem has no other.
@@ -283,8 +237,8 @@ impl Board {
         if !self.is_left(literal) {
             return true;
         }
-        let stem = self.stem(literal);
-        let left = at(&self.left, stem);
+        let stem = self.literal(literal).stem;
+        let left = self.stem(stem).left;
         if left <= 1 {
             return false;
         }
@@ -298,24 +252,23 @@ impl Board {
 
     /// Decides on a literal.
     pub fn decide(&mut self, literal: u32) {
-        let stem = self.stem(literal);
-        put(&mut self.trail_marks, self.level, self.trail_count);
-        put(&mut self.truth_marks, self.level, self.truth_count);
+        let stem = self.literal(literal).stem;
+        put(&mut self.removed.marks, self.level, self.removed.count);
+        put(&mut self.valued.marks, self.level, self.valued.count);
         self.level = self.level.saturating_add(1);
         self.set(stem, literal, true);
-        for other in self.first(stem)..self.end(stem) {
+        let Stem { first, end, .. } = self.stem(stem);
+        for other in first..end {
             if other != literal && self.is_left(other) {
                 self.strike(other, Why::Decided);
             }
         }
     }
 
-    /// The literal that was decided on at the last level.
+    /// The stem that was decided on at the last level.
     pub fn last_decision(&self) -> u32 {
-        match self.level.checked_sub(1) {
-            None => NONE,
-            Some(last) => self.value(at(&self.truths, at(&self.truth_marks, last))),
-        }
+        let last = at(&self.valued.marks, self.level.wrapping_sub(1));
+        at(&self.valued.items, last)
     }
 
     /// Takes back all decisions beyond this level.
@@ -323,60 +276,40 @@ impl Board {
         if level >= self.level {
             return;
         }
-        let truths = at(&self.truth_marks, level);
-        let removed = at(&self.trail_marks, level);
-        self.undo_truths(truths, order);
-        for place in removed..self.trail_count {
-            let literal = at(&self.trail, place);
-            let stem = self.stem(literal);
+        let removed = at(&self.removed.marks, level);
+        self.undo_values(level, order);
+        for place in removed..self.removed.count {
+            let literal = at(&self.removed.items, place);
+            let stem = self.literal(literal).stem;
             self.explain(literal, Why::Left);
-            let left = at(&self.left, stem);
-            put(&mut self.left, stem, left.saturating_add(1));
+            if let Some(it) = self.stems.get_mut(stem as usize) {
+                it.left = it.left.saturating_add(1);
+            }
         }
         self.level = level;
-        self.trail_count = removed;
-        self.trail_done = removed;
+        self.removed.cut(removed);
     }
 
-    fn undo_truths(&mut self, from: u32, order: &mut Order) {
-        for place in from..self.truth_count {
-            let stem = at(&self.truths, place);
-            let value = self.value(stem);
-            put(&mut self.phases, stem, value);
-            put(&mut self.values, stem, NONE);
+    fn undo_values(&mut self, level: u32, order: &mut Order) {
+        let valued = at(&self.valued.marks, level);
+        for place in valued..self.valued.count {
+            let stem = at(&self.valued.items, place);
+            if let Some(it) = self.stems.get_mut(stem as usize) {
+                it.phase = it.value;
+                it.value = NONE;
+            }
             self.lowest = self.lowest.min(stem);
             self.standing = self.standing.min(stem);
             order.push(stem);
         }
-        self.truth_count = from;
-        self.truths_done = from;
-    }
-
-    /// The next stem that got a value and wasn't gone through.
-    pub fn next_truth(&mut self) -> Option<u32> {
-        if self.truths_done >= self.truth_count {
-            return None;
-        }
-        let stem = at(&self.truths, self.truths_done);
-        self.truths_done = self.truths_done.saturating_add(1);
-        Some(stem)
-    }
-
-    /// The next literal that was removed and wasn't gone through.
-    pub fn next_removed(&mut self) -> Option<u32> {
-        if self.trail_done >= self.trail_count {
-            return None;
-        }
-        let literal = at(&self.trail, self.trail_done);
-        self.trail_done = self.trail_done.saturating_add(1);
-        Some(literal)
+        self.valued.cut(valued);
     }
 
     /// A copy of all values.
     pub fn copy_values(&self, into: &mut Vec<u32>) {
-        for (place, value) in self.values.iter().enumerate() {
+        for (place, stem) in self.stems.iter().enumerate() {
             if place < into.len() {
-                into[place] = *value;
+                into[place] = stem.value;
             }
         }
     }

@@ -1,13 +1,8 @@
 //! The engine: it seeks a solution, and says of each candidate that comes before the solution's why it fails.
 
-use crate::analysis::{Known, down_to_front};
-use crate::board::Board;
-use crate::learned::Learned;
-use crate::lines::Lines;
-use crate::numbers::{NONE, at, counted};
+use crate::analysis::down_to_front;
+use crate::numbers::{NONE, at, counted, extended, filled};
 use crate::searching::{End, Search};
-use crate::spreading::Watches;
-use crate::tables::Tables;
 use ips_refute::{Nogood, Pair, Puzzle, Reason};
 use std::alloc::{AllocError, Global};
 
@@ -36,6 +31,17 @@ enum Stage {
     Silent,
 }
 
+// What the choice asks of the engine.
+#[derive(Clone, Copy)]
+enum Question {
+    // Nothing: the solution that is known has it.
+    Answered,
+    // Whether this literal, which comes before the solution's, fails.
+    Fails(u32),
+    // Nothing that it could say: something comes behind the solution's, which is none then.
+    Beyond,
+}
+
 /// An engine over a puzzle, which it is lent at each call: always the same.
 #[derive(Drop)]
 pub struct Engine {
@@ -56,28 +62,23 @@ pub struct Engine {
 impl Engine {
     /// An engine that may meet so many conflicts.
     pub fn new<P: Puzzle>(alloc: Global, puzzle: &P, effort: u64) -> Result<Engine, AllocError> {
-        let stems = puzzle.stems();
-        let board = Board::new(alloc, puzzle)?;
-        let tables = Tables::new(alloc, puzzle, &board)?;
-        let learned = Learned::new(alloc, board.literals())?;
-        let known = Known {
-            board,
-            tables,
-            learned,
-            lines: Lines::new(alloc)?,
-        };
-        let watches = Watches::new(alloc, &known, stems)?;
-        Ok(Engine {
-            search: Search::new(alloc, known, watches, stems)?,
+        let mut engine = Engine {
+            search: Search::new(alloc),
             stage: Stage::New,
-            model: vec![in alloc; NONE; stems as usize]?,
+            model: Vec::new(alloc),
             agreed: 0,
             last: NONE,
             reason: Reason::Test(0),
             core: Vec::new(alloc),
             effort,
             expected: 0,
-        })
+        };
+        let stems = puzzle.stems() as usize;
+        if engine.search.lay_out(alloc, puzzle) && filled(&mut engine.model, stems, NONE) {
+            Ok(engine)
+        } else {
+            Err(AllocError)
+        }
     }
 
     /// What to know before a candidate is put to a choice, where so many lines are kept. Once it can't go on, as for want of
@@ -90,13 +91,17 @@ impl Engine {
         more: Pair,
         kept: usize,
     ) -> Found {
-        match self.answer(alloc, puzzle, choice, more, kept) {
-            Ok(found) => found,
-            Err(_) => {
-                self.stage = Stage::Silent;
-                nothing(alloc)
-            }
+        let mut found = Found {
+            lines: Vec::new(alloc),
+            failure: None,
+        };
+        let goes_on = self.answer(alloc, puzzle, choice, more, kept, &mut found);
+        if !goes_on || self.search.is_lost() {
+            self.stage = Stage::Silent;
+            found.lines.clear();
+            found.failure = None;
         }
+        found
     }
 
     /// Whether it says nothing more.
@@ -104,6 +109,7 @@ impl Engine {
         matches!(self.stage, Stage::Silent)
     }
 
+    // Writes what to know; false where it can't go on.
     fn answer<P: Puzzle>(
         &mut self,
         alloc: Global,
@@ -111,198 +117,174 @@ impl Engine {
         choice: &[u32],
         more: Pair,
         kept: usize,
-    ) -> Result<Found, AllocError> {
+        found: &mut Found,
+    ) -> bool {
         if kept < self.expected {
-            return Err(AllocError);
+            return false;
         }
         if let Stage::New = self.stage {
-            self.begin(puzzle)?;
-        }
-        if let Stage::Silent = self.stage {
-            return Ok(nothing(alloc));
+            self.begin(puzzle);
         }
         if let Stage::Refuted(reason) = self.stage {
             self.core.clear();
-            return self.tell(alloc, reason, more, kept);
+            return self.tell(alloc, reason, more, kept, found);
         }
         for _ in 0..u64::MAX {
-            let Some(literal) = self.question(choice, more)? else {
+            if self.is_silent() {
                 break;
-            };
-            if self.is_failing(puzzle, choice, literal)? {
-                let reason = self.reason;
-                return self.tell(alloc, reason, more, kept);
             }
-        }
-        Ok(nothing(alloc))
-    }
-
-    // Seeks a solution.
-    fn begin<P: Puzzle>(&mut self, puzzle: &P) -> Result<(), AllocError> {
-        self.stage = Stage::Silent;
-        let end = self.first_end(puzzle)?;
-        match end {
-            End::Full => {
-                self.search.known.board.copy_values(&mut self.model);
-                self.stage = Stage::First;
-            }
-            End::Refuted(reason) => self.stage = Stage::Refuted(reason),
-            End::Fallen | End::Tired => {
-                self.search.undo(0);
-                match self.search.by_activity(puzzle, 0, self.effort)? {
-                    End::Full => {
-                        self.search.known.board.copy_values(&mut self.model);
-                        self.search.undo(0);
-                        self.stage = Stage::Any;
+            match self.question(choice, more) {
+                Question::Answered => return true,
+                Question::Beyond => break,
+                Question::Fails(literal) => {
+                    if self.is_failing(puzzle, choice, literal) {
+                        let reason = self.reason;
+                        return self.tell(alloc, reason, more, kept, found);
                     }
-                    End::Refuted(reason) => self.stage = Stage::Refuted(reason),
-                    End::Fallen | End::Tired => {}
                 }
             }
         }
-        Ok(())
+        false
     }
 
-    // Seeks the first solution in the stems' order.
-    fn first_end<P: Puzzle>(&mut self, puzzle: &P) -> Result<End, AllocError> {
-        let most = self.effort.min(PATIENCE);
-        let (refuted, conflict) = self.search.begin(puzzle)?;
-        if let Some(reason) = refuted {
-            return Ok(End::Refuted(reason));
+    // Seeks a solution.
+    fn begin<P: Puzzle>(&mut self, puzzle: &P) {
+        let mut found = Stage::First;
+        let mut end = self.search.begin(puzzle, self.effort.min(PATIENCE));
+        if let End::Fallen | End::Tired = end {
+            self.search.undo(0);
+            found = Stage::Any;
+            end = self.search.by_activity(puzzle, 0, self.effort);
         }
-        if let Some(end) = self.search.quiet(puzzle, conflict, most)? {
-            return Ok(end);
+        self.stage = match end {
+            End::Full => found,
+            End::Refuted(reason) => Stage::Refuted(reason),
+            End::Fallen | End::Tired | End::Lost => Stage::Silent,
+        };
+        if let End::Full = end {
+            self.search.known.board.copy_values(&mut self.model);
         }
-        self.search.by_reach(puzzle, most)
+        if let Stage::Any = self.stage {
+            self.search.undo(0);
+        }
     }
 
-    // The first literal of the choice and the candidate that comes before the solution's; none where there is none.
-    fn question(&mut self, choice: &[u32], more: Pair) -> Result<Option<u32>, AllocError> {
-        let count = counted(choice.len())?;
+    // The first literal of the choice and the candidate that comes before the solution's.
+    fn question(&mut self, choice: &[u32], more: Pair) -> Question {
+        let count = counted(choice.len());
+        if count == NONE {
+            return Question::Beyond;
+        }
         self.agreed = self.agreed.min(count);
         for stem in self.agreed..count {
-            let candidate = choice.get(stem as usize).copied().unwrap_or(NONE);
-            let pair = Pair { stem, candidate };
-            if !self.search.is_at(&self.model, pair) {
-                return self.before_model(pair);
+            let candidate = at(choice, stem);
+            let asked = self.question_of(Pair { stem, candidate });
+            if !matches!(asked, Question::Answered) {
+                return asked;
             }
             self.agreed = stem.saturating_add(1);
         }
-        if self.search.is_at(&self.model, more) {
-            return Ok(None);
-        }
-        self.before_model(more)
+        self.question_of(more)
     }
 
-    // The literal of a pair that comes before the solution's; a later one shows that the solution is none.
-    fn before_model(&self, pair: Pair) -> Result<Option<u32>, AllocError> {
-        let literal = self.search.known.board.literal(pair);
-        if literal < at(&self.model, pair.stem) {
-            Ok(Some(literal))
+    fn question_of(&self, pair: Pair) -> Question {
+        let literal = self.search.known.board.number(pair);
+        let known = at(&self.model, pair.stem);
+        if literal == known {
+            Question::Answered
+        } else if literal < known {
+            Question::Fails(literal)
         } else {
-            Err(AllocError)
+            Question::Beyond
         }
     }
 
-    // Whether a literal before the solution's fails after the choice for the stems before it; else there is a new solution.
-    fn is_failing<P: Puzzle>(
-        &mut self,
-        puzzle: &P,
-        choice: &[u32],
-        literal: u32,
-    ) -> Result<bool, AllocError> {
+    // Whether a literal before the solution's fails after the choice for the stems before it; else there is a new solution, or
+    // nothing more to say.
+    fn is_failing<P: Puzzle>(&mut self, puzzle: &P, choice: &[u32], literal: u32) -> bool {
         if literal == self.last && self.is_core_chosen(choice) {
-            return Ok(true);
+            return true;
         }
         if let Stage::Any = self.stage
-            && !self.is_ruled_out(puzzle, choice, literal)?
+            && !self.is_ruled_out(puzzle, choice, literal)
         {
-            return Ok(false);
+            return false;
         }
-        let search = &mut self.search;
-        self.reason = down_to_front(&mut search.known, &mut search.work, literal)?;
+        let Search { known, work, .. } = &mut self.search;
+        self.reason = down_to_front(known, work, literal);
         self.last = literal;
         self.core.clear();
-        self.core.extend_from_slice(&self.search.work.set.members)?;
+        work.set.is_lost |= !extended(&mut self.core, &work.set.members);
         self.core.sort_unstable();
-        Ok(true)
+        true
     }
 
     // Whether the choice still has what the last failure rests on.
     fn is_core_chosen(&self, choice: &[u32]) -> bool {
         for literal in &self.core {
             let pair = self.search.known.board.pair(*literal);
-            let chosen = choice.get(pair.stem as usize).copied();
-            if *literal != self.last && chosen != Some(pair.candidate) {
+            if *literal != self.last && at(choice, pair.stem) != pair.candidate {
                 return false;
             }
         }
         true
     }
 
-    // Whether no solution has the literal behind the choice for the stems before it; else there is a new solution.
-    fn is_ruled_out<P: Puzzle>(
-        &mut self,
-        puzzle: &P,
-        choice: &[u32],
-        literal: u32,
-    ) -> Result<bool, AllocError> {
-        let stem = self.search.known.board.stem(literal);
+    // Whether no solution has the literal behind the choice for the stems before it; else there is a new solution, or nothing more
+    // to say.
+    fn is_ruled_out<P: Puzzle>(&mut self, puzzle: &P, choice: &[u32], literal: u32) -> bool {
+        let stem = self.search.known.board.literal(literal).stem;
         let front = choice.get(..stem as usize).unwrap_or(choice);
         for _ in 0..u64::MAX {
-            self.search.stand(puzzle, front, self.effort)?;
-            if !self.search.known.board.is_left(literal) {
+            if !self.search.stand(puzzle, front, self.effort) {
                 break;
             }
-            if !self.search.known.board.is_true(literal) {
-                self.search.known.board.decide(literal);
+            let board = &mut self.search.known.board;
+            if !board.is_left(literal) {
+                return true;
             }
-            let base = self.search.known.board.level;
-            match self.search.by_activity(puzzle, base, self.effort)? {
+            if board.value(stem) != literal {
+                board.decide(literal);
+            }
+            let base = board.level;
+            match self.search.by_activity(puzzle, base, self.effort) {
                 End::Full => {
                     self.search.known.board.copy_values(&mut self.model);
                     self.search.undo(base);
-                    return Ok(false);
+                    return false;
                 }
                 End::Fallen => {}
-                End::Refuted(_) | End::Tired => return Err(AllocError),
+                End::Refuted(_) | End::Tired | End::Lost => break,
             }
         }
-        Ok(true)
+        self.stage = Stage::Silent;
+        false
     }
 
-    // Hands over the lines on which the failure of a candidate rests, and the failure.
+    // Hands over the lines on which the failure of a candidate rests, and the failure; false where there is no room.
     fn tell(
         &mut self,
         alloc: Global,
         reason: Reason,
         more: Pair,
         kept: usize,
-    ) -> Result<Found, AllocError> {
+        found: &mut Found,
+    ) -> bool {
         let known = &mut self.search.known;
-        let lines = known
-            .lines
-            .tell(alloc, &known.board, reason, counted(kept)?)?;
-        let mut core = Vec::with_capacity(alloc, self.core.len())?;
+        let start = counted(kept);
+        let mut fits = start != NONE
+            && known
+                .lines
+                .tell(alloc, &known.board, reason, start, &mut found.lines);
+        let mut core = Vec::new(alloc);
         for literal in &self.core {
             let pair = known.board.pair(*literal);
             if pair != more {
-                core.push(pair)?;
+                fits &= core.push(pair).is_ok();
             }
         }
-        self.expected = kept.saturating_add(lines.len());
-        let reason = known.lines.told(reason);
-        Ok(Found {
-            lines,
-            failure: Some((reason, core)),
-        })
-    }
-}
-
-// Nothing to know.
-fn nothing(alloc: Global) -> Found {
-    Found {
-        lines: Vec::new(alloc),
-        failure: None,
+        self.expected = kept.saturating_add(found.lines.len());
+        found.failure = Some((known.lines.told(reason), core));
+        fits
     }
 }

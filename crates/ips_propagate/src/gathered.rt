@@ -1,7 +1,7 @@
 //! Sets of literals that are being gathered.
 
-use crate::numbers::{NONE, at, put};
-use std::alloc::{AllocError, Global};
+use crate::numbers::{NONE, at, counted, filled, pushed, put, swap};
+use std::alloc::Global;
 
 /// A set of literals, at most one of each stem.
 #[derive(Drop)]
@@ -10,16 +10,24 @@ pub struct Gathered {
     /// The stems whose literals were members since the set was cleared.
     pub met: Vec<u32>,
     marks: Vec<u32>,
+    /// Whether something was ever left out that had no room or no place here.
+    pub is_lost: bool,
 }
 
 impl Gathered {
-    /// The empty set.
-    pub fn new(alloc: Global, stems: u32) -> Result<Gathered, AllocError> {
-        Ok(Gathered {
+    /// The empty set of no stems.
+    pub fn new(alloc: Global) -> Gathered {
+        Gathered {
             members: Vec::new(alloc),
             met: Vec::new(alloc),
-            marks: vec![in alloc; NONE; stems as usize]?,
-        })
+            marks: Vec::new(alloc),
+            is_lost: false,
+        }
+    }
+
+    /// Makes room for literals of so many stems; false where there is none.
+    pub fn lay_out(&mut self, stems: usize) -> bool {
+        filled(&mut self.marks, stems, NONE)
     }
 
     /// Empties the set.
@@ -32,28 +40,29 @@ impl Gathered {
     }
 
     /// Adds a literal of a stem.
-    pub fn add(&mut self, literal: u32, stem: u32) -> Result<(), AllocError> {
+    pub fn add(&mut self, literal: u32, stem: u32) {
         let mark = at(&self.marks, stem);
         if mark == literal {
-            return Ok(());
+            return;
         }
-        if mark != NONE || stem as usize >= self.marks.len() {
-            return Err(AllocError);
-        }
+        let fits = mark == NONE
+            && (stem as usize) < self.marks.len()
+            && pushed(&mut self.members, literal)
+            && pushed(&mut self.met, stem);
         put(&mut self.marks, stem, literal);
-        self.members.push(literal)?;
-        self.met.push(stem)?;
-        Ok(())
+        self.is_lost |= !fits;
     }
 
     /// Takes a literal of a stem out.
     pub fn remove(&mut self, literal: u32, stem: u32) {
         put(&mut self.marks, stem, NONE);
-        let found = self.members.iter().position(|member| *member == literal);
-        if let Some(place) = found
-            && place < self.members.len()
-        {
-            self.members.swap_remove(place);
+        let count = counted(self.members.len());
+        for place in 0..count {
+            if at(&self.members, place) == literal {
+                swap(&mut self.members, place, count - 1);
+                self.members.pop();
+                return;
+            }
         }
     }
 }

@@ -17,5 +17,6 @@ mod order;
 mod searching;
 mod spreading;
 mod tables;
+mod trail;
 
 pub use engine::{Engine, Found};

@@ -1,12 +1,12 @@
 //! Lists of numbers, which are read and written at any place.
 
-use std::alloc::{AllocError, Global};
+use std::alloc::Global;
 
 /// No number.
 pub const NONE: u32 = u32::MAX;
 
-// The most numbers of one list.
-const MOST: usize = 1 << 23;
+/// The most numbers of one list. Past that the engine gives up, as for want of memory.
+pub const MOST: u32 = 1 << 23;
 
 /// The number at a place, `NONE` past the end.
 pub fn at(list: &[u32], place: u32) -> u32 {
@@ -21,12 +21,48 @@ pub fn put(list: &mut Vec<u32>, place: u32, number: u32) {
     }
 }
 
-/// A length as a number. A list that grew too long is an error: the engine gives up.
-pub fn counted(length: usize) -> Result<u32, AllocError> {
-    if length > MOST {
-        return Err(AllocError);
+/// A length as a number, `NONE` where no list may be so long.
+pub fn counted(length: usize) -> u32 {
+    if length > MOST as usize {
+        return NONE;
     }
-    Ok(length as u32)
+    length as u32
+}
+
+/// Puts a number to the end of a list; false where there is no room.
+pub fn pushed(list: &mut Vec<u32>, number: u32) -> bool {
+    list.len() < MOST as usize && list.push(number).is_ok()
+}
+
+/// Puts numbers to the end of a list; false where there is no room.
+pub fn extended(list: &mut Vec<u32>, numbers: &[u32]) -> bool {
+    list.len().saturating_add(numbers.len()) <= MOST as usize
+        && list.extend_from_slice(numbers).is_ok()
+}
+
+/// Gives an empty list this number so many times; false where there is no room.
+pub fn filled(list: &mut Vec<u32>, count: usize, number: u32) -> bool {
+    list.resize(count, number).is_ok()
+}
+
+/// The part of a list between two places.
+pub fn between(list: &[u32], start: u32, end: u32) -> &[u32] {
+    let start = start as usize;
+    let end = end as usize;
+    if start <= end && end <= list.len() {
+        &list[start..end]
+    } else {
+        &[]
+    }
+}
+
+/// Swaps the numbers at two places.
+pub fn swap(list: &mut Vec<u32>, one: u32, two: u32) {
+    let first = one as usize;
+    let second = two as usize;
+    if first < list.len() && second < list.len() {
+        list.swap(first, second);
+    }
 }
 
 /// Items in chains, each item in one.
@@ -37,18 +73,22 @@ pub struct Chains {
 }
 
 impl Chains {
-    /// So many chains, without items.
-    pub fn new(alloc: Global, count: usize) -> Result<Chains, AllocError> {
-        Ok(Chains {
-            heads: vec![in alloc; NONE; count]?,
+    /// No chains.
+    pub fn new(alloc: Global) -> Chains {
+        Chains {
+            heads: Vec::new(alloc),
             links: Vec::new(alloc),
-        })
+        }
     }
 
-    /// A further item, which is in no chain.
-    pub fn grow(&mut self) -> Result<(), AllocError> {
-        self.links.push(NONE)?;
-        Ok(())
+    /// Makes so many chains and so many items, which are in no chain; false where there is no room.
+    pub fn lay_out(&mut self, chains: usize, items: usize) -> bool {
+        filled(&mut self.heads, chains, NONE) && filled(&mut self.links, items, NONE)
+    }
+
+    /// A further item, which is in no chain; false where there is no room.
+    pub fn grow(&mut self) -> bool {
+        self.links.push(NONE).is_ok()
     }
 
     /// Puts an item into a chain.

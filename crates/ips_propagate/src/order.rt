@@ -1,7 +1,7 @@
 //! Stems by activity: how often they had a part in a conflict of late.
 
-use crate::numbers::{NONE, at, put};
-use std::alloc::{AllocError, Global};
+use crate::numbers::{NONE, at, filled, put};
+use std::alloc::Global;
 
 // Where activities are made smaller.
 const HIGH: u64 = 1 << 60;
@@ -17,16 +17,27 @@ pub struct Order {
 }
 
 impl Order {
-    /// Of so many stems, none of them in the heap.
-    pub fn new(alloc: Global, stems: u32) -> Result<Order, AllocError> {
-        let count = stems as usize;
-        Ok(Order {
-            heap: vec![in alloc; NONE; count]?,
+    /// Without stems.
+    pub fn new(alloc: Global) -> Order {
+        Order {
+            heap: Vec::new(alloc),
             count: 0,
-            places: vec![in alloc; NONE; count]?,
-            activity: vec![in alloc; 0; count]?,
+            places: Vec::new(alloc),
+            activity: Vec::new(alloc),
             step: 1024,
-        })
+        }
+    }
+
+    /// Takes so many stems, all of them in the heap; false where there is no room.
+    pub fn lay_out(&mut self, stems: u32) -> bool {
+        let count = stems as usize;
+        let fits = filled(&mut self.heap, count, NONE)
+            && filled(&mut self.places, count, NONE)
+            && self.activity.resize(count, 0).is_ok();
+        for stem in 0..stems {
+            self.push(stem);
+        }
+        fits
     }
 
     /// Puts a stem into the heap, where it isn't there.
@@ -52,8 +63,15 @@ impl Order {
         Some(first)
     }
 
-    /// The stem had a part in a conflict.
-    pub fn raise(&mut self, stem: u32) {
+    /// The stems had a part in a conflict. What comes later counts for more.
+    pub fn raise_all(&mut self, stems: &[u32]) {
+        for stem in stems {
+            self.raise(*stem);
+        }
+        self.step = self.step.saturating_add(self.step / 16);
+    }
+
+    fn raise(&mut self, stem: u32) {
         let active = self.active(stem).saturating_add(self.step);
         let place = stem as usize;
         if place < self.activity.len() {
@@ -66,11 +84,6 @@ impl Order {
         if place != NONE {
             self.rise(place);
         }
-    }
-
-    /// What comes later counts for more.
-    pub fn age(&mut self) {
-        self.step = self.step.saturating_add(self.step / 16);
     }
 
     fn lower(&mut self) {

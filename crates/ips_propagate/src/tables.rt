@@ -1,91 +1,108 @@
 //! What the tests take, asked once.
 
-use crate::board::Board;
-use crate::numbers::{Chains, NONE, at, counted, put};
+use crate::board::{Board, Stem};
+use crate::numbers::{Chains, MOST, NONE, at, between, counted, extended, pushed, swap};
 use ips_refute::{Hint, Pair, Puzzle, is_broken};
-use std::alloc::{AllocError, Global};
+use std::alloc::Global;
 
 // So many hints of a test are asked for at most.
 const MOST_HINTS: u32 = 1 << 16;
 
+/// A test of two stems: its own literal, the other stem, and where its bad literals stand. Tests of the puzzle that stand in a row
+/// and have both in common are one.
+#[derive(Clone, Copy)]
+pub struct Narrow {
+    pub own: u32,
+    pub other: u32,
+    pub start: u32,
+    pub end: u32,
+}
+
+/// A literal that breaks a test of two stems with the test's own one, and the test's number in the puzzle.
+#[derive(Clone, Copy)]
+pub struct Bad {
+    pub literal: u32,
+    pub test: u32,
+    pub number: u32,
+}
+
+/// A wide test: its number in the puzzle, its own literal where it has one, and where its stems stand.
+#[derive(Clone, Copy)]
+pub struct Wide {
+    pub number: u32,
+    pub own: u32,
+    pub start: u32,
+    pub end: u32,
+}
+
 /// The tests. Those of two stems are broken by a literal of their own and the bad literals of the other stem; the others are wide.
 #[derive(Drop)]
 pub struct Tables {
-    /// By test of two stems: its own literal, the other stem, and where its bad literals begin (with one more at the end). Tests of
-    /// the puzzle that stand in a row and have both in common are one.
-    pub own: Vec<u32>,
-    pub other: Vec<u32>,
-    starts: Vec<u32>,
-    bads: Vec<u32>,
-    // By place in `bads`, the test, and its number in the puzzle.
-    bad_tests: Vec<u32>,
-    bad_numbers: Vec<u32>,
-    by_own: Chains,
-    by_bad: Chains,
-    /// By wide test: its number in the puzzle, its own literal where it has one, and where its stems begin.
-    pub wide_number: Vec<u32>,
-    pub wide_own: Vec<u32>,
-    wide_starts: Vec<u32>,
-    // Its stems, ascending, and the same with the two watched ones in front.
+    pub narrows: Vec<Narrow>,
+    bads: Vec<Bad>,
+    /// The tests of two stems by their own literal, and the places of the bad literals by literal.
+    pub by_own: Chains,
+    pub by_bad: Chains,
+    pub wides: Vec<Wide>,
+    // The stems of the wide tests, of each ascending, and the same with the two watched ones in front.
     wide_stems: Vec<u32>,
     watched_stems: Vec<u32>,
-}
-
-// The stems of a test, ascending, each once, and the pair that its first hint gives.
-fn hints_of<P: Puzzle>(
-    puzzle: &P,
-    test: u32,
-    stems: &mut Vec<u32>,
-) -> Result<Option<Hint>, AllocError> {
-    stems.clear();
-    let first = puzzle.hint(test, 0);
-    for place in 0..MOST_HINTS {
-        let Some(hint) = puzzle.hint(test, place) else {
-            break;
-        };
-        if hint.stem >= puzzle.stems() {
-            stems.clear();
-            return Ok(None);
-        }
-        stems.push(hint.stem)?;
-    }
-    stems.sort_unstable();
-    stems.dedup();
-    Ok(first)
+    // Whether something had no room.
+    is_lost: bool,
 }
 
 impl Tables {
-    fn without_tests(alloc: Global, board: &Board) -> Result<Tables, AllocError> {
-        let literals = board.literals();
-        let mut tables = Tables {
-            own: Vec::new(alloc),
-            other: Vec::new(alloc),
-            starts: Vec::new(alloc),
+    /// Without tests.
+    pub fn new(alloc: Global) -> Tables {
+        Tables {
+            narrows: Vec::new(alloc),
             bads: Vec::new(alloc),
-            bad_tests: Vec::new(alloc),
-            bad_numbers: Vec::new(alloc),
-            by_own: Chains::new(alloc, literals)?,
-            by_bad: Chains::new(alloc, literals)?,
-            wide_number: Vec::new(alloc),
-            wide_own: Vec::new(alloc),
-            wide_starts: Vec::new(alloc),
+            by_own: Chains::new(alloc),
+            by_bad: Chains::new(alloc),
+            wides: Vec::new(alloc),
             wide_stems: Vec::new(alloc),
             watched_stems: Vec::new(alloc),
-        };
-        tables.starts.push(0)?;
-        tables.wide_starts.push(0)?;
-        Ok(tables)
+            is_lost: false,
+        }
     }
 
-    /// The tests of a puzzle.
-    pub fn new<P: Puzzle>(alloc: Global, puzzle: &P, board: &Board) -> Result<Tables, AllocError> {
-        let mut tables = Tables::without_tests(alloc, board)?;
+    /// Takes the tests of a puzzle; false where there is no room.
+    pub fn lay_out<P: Puzzle>(&mut self, alloc: Global, puzzle: &P, board: &Board) -> bool {
+        let literals = board.literals.len();
+        self.is_lost = !(self.by_own.lay_out(literals, 0) && self.by_bad.lay_out(literals, 0));
         let mut stems = Vec::new(alloc);
         for test in 0..puzzle.tests() {
-            let first = hints_of(puzzle, test, &mut stems)?;
-            tables.add(puzzle, board, test, first, &stems)?;
+            if self.is_lost {
+                break;
+            }
+            let first = self.gather_hints(puzzle, test, &mut stems);
+            self.add(puzzle, board, test, first, &stems);
         }
-        Ok(tables)
+        !self.is_lost
+    }
+
+    // The stems of a test, ascending, each once, and the pair that its first hint gives.
+    fn gather_hints<P: Puzzle>(
+        &mut self,
+        puzzle: &P,
+        test: u32,
+        stems: &mut Vec<u32>,
+    ) -> Option<Hint> {
+        stems.clear();
+        let first = puzzle.hint(test, 0);
+        for place in 0..MOST_HINTS {
+            let Some(hint) = puzzle.hint(test, place) else {
+                break;
+            };
+            if hint.stem >= puzzle.stems() {
+                stems.clear();
+                return None;
+            }
+            self.is_lost |= !pushed(stems, hint.stem);
+        }
+        stems.sort_unstable();
+        stems.dedup();
+        first
     }
 
     fn add<P: Puzzle>(
@@ -95,7 +112,7 @@ impl Tables {
         test: u32,
         first: Option<Hint>,
         stems: &[u32],
-    ) -> Result<(), AllocError> {
+    ) {
         let own = match first {
             Some(
                 Hint {
@@ -109,10 +126,10 @@ impl Tables {
             },
         };
         match stems {
-            [] => Ok(()),
+            [] => {}
             [one, two] if own.stem == *one => self.add_narrow(puzzle, board, test, own, *two),
             [one, two] if own.stem == *two => self.add_narrow(puzzle, board, test, own, *one),
-            _ => self.add_wide(test, board.literal(own), stems),
+            _ => self.add_wide(test, board.number(own), stems),
         }
     }
 
@@ -123,125 +140,137 @@ impl Tables {
         test: u32,
         own: Pair,
         other: u32,
-    ) -> Result<(), AllocError> {
-        let literal = board.literal(own);
-        let narrow = self.narrow_of(literal, other)?;
-        let before = self.bads.len();
-        for bad in board.first(other)..board.end(other) {
+    ) {
+        let literal = board.number(own);
+        let narrow = self.narrow_of(literal, other);
+        let start = counted(self.bads.len());
+        let Stem { first, end, .. } = board.stem(other);
+        for bad in first..end {
             if is_broken(puzzle, test, &[own], board.pair(bad))
                 && self.bad_place(narrow, bad) == NONE
             {
-                self.add_bad(narrow, bad, test)?;
+                self.add_bad(Bad {
+                    literal: bad,
+                    test: narrow,
+                    number: test,
+                });
             }
         }
-        let end = counted(self.bads.len())?;
-        if self.bads.len() > before && narrow as usize == self.own.len() {
-            self.own.push(literal)?;
-            self.other.push(other)?;
-            self.starts.push(end)?;
-            self.by_own.grow()?;
-            self.by_own.put(literal, narrow);
-        }
-        put(&mut self.starts, narrow.saturating_add(1), end);
-        Ok(())
+        let narrow_end = counted(self.bads.len());
+        let made = Narrow {
+            own: literal,
+            other,
+            start,
+            end: narrow_end,
+        };
+        self.end_narrow(narrow, made);
     }
 
     // The last test, where it has these in common, or the number of the next one.
-    fn narrow_of(&self, literal: u32, other: u32) -> Result<u32, AllocError> {
-        let next = counted(self.own.len())?;
+    fn narrow_of(&self, literal: u32, other: u32) -> u32 {
+        let next = counted(self.narrows.len());
         let last = next.wrapping_sub(1);
-        if at(&self.own, last) == literal && at(&self.other, last) == other {
-            return Ok(last);
+        let Narrow {
+            own,
+            other: same,
+            ..
+        } = self.narrow(last);
+        if own == literal && same == other {
+            last
+        } else {
+            next
         }
-        Ok(next)
     }
 
-    fn add_bad(&mut self, narrow: u32, bad: u32, test: u32) -> Result<(), AllocError> {
-        let place = counted(self.bads.len())?;
-        self.bads.push(bad)?;
-        self.bad_tests.push(narrow)?;
-        self.bad_numbers.push(test)?;
-        self.by_bad.grow()?;
-        self.by_bad.put(bad, place);
-        Ok(())
+    fn add_bad(&mut self, bad: Bad) {
+        let place = counted(self.bads.len());
+        let fits = place < MOST && self.bads.push(bad).is_ok() && self.by_bad.grow();
+        self.is_lost |= !fits;
+        self.by_bad.put(bad.literal, place);
     }
 
-    fn add_wide(&mut self, test: u32, own: u32, stems: &[u32]) -> Result<(), AllocError> {
-        self.wide_number.push(test)?;
-        self.wide_own.push(own)?;
-        self.wide_stems.extend_from_slice(stems)?;
-        self.watched_stems.extend_from_slice(stems)?;
-        self.wide_starts.push(counted(self.wide_stems.len())?)?;
-        Ok(())
+    // The test got its bad literals. One of which nothing is bad yet is none.
+    fn end_narrow(&mut self, number: u32, narrow: Narrow) {
+        if let Some(it) = self.narrows.get_mut(number as usize) {
+            it.end = narrow.end;
+        } else if narrow.start < narrow.end {
+            self.is_lost |= !(self.narrows.push(narrow).is_ok() && self.by_own.grow());
+            self.by_own.put(narrow.own, number);
+        }
     }
 
-    /// The first test of two stems whose own literal this is.
-    pub fn first_of(&self, literal: u32) -> u32 {
-        self.by_own.first(literal)
+    fn add_wide(&mut self, number: u32, own: u32, stems: &[u32]) {
+        let start = counted(self.wide_stems.len());
+        let fits = extended(&mut self.wide_stems, stems)
+            && extended(&mut self.watched_stems, stems);
+        let end = counted(self.wide_stems.len());
+        let wide = Wide {
+            number,
+            own,
+            start,
+            end,
+        };
+        self.is_lost |= !(fits && self.wides.push(wide).is_ok());
     }
 
-    /// The next one.
-    pub fn next_of(&self, test: u32) -> u32 {
-        self.by_own.after(test)
+    /// The test of two stems of a number.
+    pub fn narrow(&self, number: u32) -> Narrow {
+        self.narrows
+            .get(number as usize)
+            .copied()
+            .unwrap_or(Narrow {
+                own: NONE,
+                other: NONE,
+                start: NONE,
+                end: NONE,
+            })
     }
 
-    /// The first place of the literal among the bad ones.
-    pub fn first_bad(&self, literal: u32) -> u32 {
-        self.by_bad.first(literal)
-    }
-
-    /// The next one.
-    pub fn next_bad(&self, place: u32) -> u32 {
-        self.by_bad.after(place)
-    }
-
-    /// The own literal of the test at a place of the bad literals.
-    pub fn own_at(&self, place: u32) -> u32 {
-        at(&self.own, at(&self.bad_tests, place))
-    }
-
-    /// The literal at a place of the bad ones.
-    pub fn bad_at(&self, place: u32) -> u32 {
-        at(&self.bads, place)
-    }
-
-    /// The number in the puzzle of the test at a place of the bad literals.
-    pub fn number_at(&self, place: u32) -> u32 {
-        at(&self.bad_numbers, place)
-    }
-
-    /// Where the bad literals of a test of two stems begin.
-    pub fn start(&self, test: u32) -> u32 {
-        at(&self.starts, test)
+    /// The bad literal at a place.
+    pub fn bad(&self, place: u32) -> Bad {
+        self.bads.get(place as usize).copied().unwrap_or(Bad {
+            literal: NONE,
+            test: NONE,
+            number: NONE,
+        })
     }
 
     /// The place of a literal among the bad ones of a test; `NONE` where the test takes it.
     pub fn bad_place(&self, test: u32, literal: u32) -> u32 {
-        let mut place = self.start(test);
-        for bad in between(&self.bads, &self.starts, test) {
-            if *bad == literal {
+        let Narrow { start, end, .. } = self.narrow(test);
+        for place in start..end {
+            if self.bad(place).literal == literal {
                 return place;
             }
-            place = place.saturating_add(1);
         }
         NONE
     }
 
+    /// The wide test of a number.
+    pub fn wide(&self, number: u32) -> Wide {
+        self.wides.get(number as usize).copied().unwrap_or(Wide {
+            number: NONE,
+            own: NONE,
+            start: NONE,
+            end: NONE,
+        })
+    }
+
     /// The stems of a wide test, ascending.
     pub fn stems(&self, wide: u32) -> &[u32] {
-        between(&self.wide_stems, &self.wide_starts, wide)
+        let Wide { start, end, .. } = self.wide(wide);
+        between(&self.wide_stems, start, end)
     }
 
     /// The watched stem of a wide test, the first or the second.
     pub fn watched(&self, wide: u32, side: u32) -> u32 {
-        let start = at(&self.wide_starts, wide);
+        let start = self.wide(wide).start;
         at(&self.watched_stems, start.saturating_add(side))
     }
 
     /// Watches another stem in place of this one, where one has no value yet: the stem that is watched now.
     pub fn watch_another(&mut self, board: &Board, wide: u32, side: u32) -> u32 {
-        let start = at(&self.wide_starts, wide);
-        let end = at(&self.wide_starts, wide.saturating_add(1));
+        let Wide { start, end, .. } = self.wide(wide);
         let here = start.saturating_add(side);
         for place in start.saturating_add(2)..end {
             let stem = at(&self.watched_stems, place);
@@ -251,25 +280,5 @@ impl Tables {
             }
         }
         at(&self.watched_stems, here)
-    }
-}
-
-/// The part of a list that begins at the start of this number and ends at the next one.
-pub fn between<'a>(list: &'a [u32], starts: &[u32], number: u32) -> &'a [u32] {
-    let start = at(starts, number) as usize;
-    let end = at(starts, number.saturating_add(1)) as usize;
-    if start <= end && end <= list.len() {
-        &list[start..end]
-    } else {
-        &[]
-    }
-}
-
-/// Swaps the numbers at two places.
-pub fn swap(list: &mut Vec<u32>, one: u32, two: u32) {
-    let first = one as usize;
-    let second = two as usize;
-    if first < list.len() && second < list.len() {
-        list.swap(first, second);
     }
 }
