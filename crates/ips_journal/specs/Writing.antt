@@ -1,6 +1,7 @@
 -- How far a journal is written.
-use Rattle.std.specs.Prelude.{◌≡◌, ℕ, ◌-◌, ◌^◌, min, List, ◌++◌, length, Some}
+use Rattle.std.specs.Prelude.{◌≡◌, ℕ, ◌-◌, ◌^◌, min, IsTrue, List, ◌++◌, length, Some}
 use Rattle.ips_outside.specs.Image.{Image, file_bytes}
+use Rattle.ips_outside.specs.State.{State}
 use Rattle.ips_folder.specs.Calls.{IsSole}
 use Rattle.ips_steps.specs.Steps.{Step}
 use Rattle.ips_steps.specs.Private.{journal_name}
@@ -15,3 +16,7 @@ pub record IsWritten (w : JournalWriter) (t : Image) (steps : List Step) : Type 
   pub sole : IsSole t journal_name
   pub text : (rest : List ℕ) → (file ++ w.gathered.items) ++ rest ≡ headed steps rest
   pub counted : w.steps ≡ min (length steps) (2 ^ 64 - 1)
+
+-- what was touched is touched still
+abbrev pub KeepsTouched : State → State → Type 0
+KeepsTouched old new = (q : List ℕ) → IsTrue (old.whole q) → IsTrue (new.whole q)

@@ -10,7 +10,7 @@ ghost use Rattle.ips_steps.specs.Steps.{Step as StepMeant};
 ghost use Rattle.ips_steps.specs.Private.{journal_name};
 ghost use Rattle.ips_steps.specs.View.{step_of};
 ghost use Rattle.ips_journal.specs.Text.{journal_text};
-ghost use Rattle.ips_journal.specs.Writing.{IsWritten};
+ghost use Rattle.ips_journal.specs.Writing.{IsWritten, KeepsTouched};
 
 use crate::writer::JournalWriter;
 use crate::writing::{LINE_BYTES, put_end, put_line};
@@ -47,6 +47,7 @@ impl JournalWriter {
         ensures written { IsTrue (F.outside.tells folder.old) → (steps : List StepMeant) → IsWritten self.old (F.outside.state folder.old).held steps
             → OnOk result (IsWritten self.new (F.outside.state folder.new).held (steps ++ step_of step.now ∷ [])) }
         ensures any_moment { IsTrue (F.outside.tells folder.old) → ChangesOnly F.outside (covers journal_name) nowhere folder.old folder.new }
+        ensures touched { IsTrue (F.outside.tells folder.old) → KeepsTouched (F.outside.state folder.old) (F.outside.state folder.new) }
         ensures cause { HasCause (F.outside.faults folder.old) (F.outside.faults folder.new) (IsErr result) }
         ensures same_kind { F.outside.tells folder.new ≡ F.outside.tells folder.old }
         ensures changes { F.outside.changes folder.old ≤ F.outside.changes folder.new }
@@ -63,6 +64,7 @@ impl JournalWriter {
         ensures written { IsTrue (F.outside.tells folder.old) → (steps : List StepMeant) → IsWritten self.old (F.outside.state folder.old).held steps → length steps < 2 ^ 64
             → OnOk result (file_bytes ((F.outside.state folder.new).held.look journal_name) ≡ Some (journal_text steps)) }
         ensures any_moment { IsTrue (F.outside.tells folder.old) → ChangesOnly F.outside (covers journal_name) nowhere folder.old folder.new }
+        ensures touched { IsTrue (F.outside.tells folder.old) → KeepsTouched (F.outside.state folder.old) (F.outside.state folder.new) }
         ensures cause { HasCause (F.outside.faults folder.old) (F.outside.faults folder.new) (IsErr result) }
         ensures same_kind { F.outside.tells folder.new ≡ F.outside.tells folder.old }
         ensures changes { F.outside.changes folder.old ≤ F.outside.changes folder.new }
@@ -81,6 +83,7 @@ impl JournalWriter {
             → OnOk result (IsWritten self.new (F.outside.state folder.new).held steps) }
         ensures sole { IsTrue (F.outside.tells folder.old) → OnOk result (IsSole (F.outside.state folder.new).held journal_name) }
         ensures any_moment { IsTrue (F.outside.tells folder.old) → ChangesOnly F.outside (covers journal_name) nowhere folder.old folder.new }
+        ensures touched { IsTrue (F.outside.tells folder.old) → KeepsTouched (F.outside.state folder.old) (F.outside.state folder.new) }
         ensures cause { HasCause (F.outside.faults folder.old) (F.outside.faults folder.new) (IsErr result) }
         ensures same_kind { F.outside.tells folder.new ≡ F.outside.tells folder.old }
         ensures changes { F.outside.changes folder.old ≤ F.outside.changes folder.new }
