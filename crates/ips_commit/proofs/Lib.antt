@@ -16,5 +16,6 @@ pub mod Stuck
 pub mod Rolls
 pub mod Committed
 pub mod Staged
+pub mod Unready
 pub mod Places
 pub mod Rolled

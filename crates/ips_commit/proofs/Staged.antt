@@ -131,7 +131,7 @@ mark_journal : (d : List ℕ) → covers journal_name (mark_front ++ d) ≡ fals
 unfolding journal_name mark_front
 mark_journal d = refl
 
-journal_staged : covers stage_name journal_name ≡ false
+pub journal_staged : covers stage_name journal_name ≡ false
 unfolding stage_name journal_name
 journal_staged = refl
 
@@ -161,7 +161,7 @@ below_unlisted q below =
     let cut = behind_front stage_name q (begins_below stage_name stage_name q stage_itself (and_parts (covers stage_name q) _ below).0) in
     ap (covers journal_name) cut.1 ∙ front_unlisted cut.0
 
-journal_is_swept : is_swept journal_name ≡ true
+pub journal_is_swept : is_swept journal_name ≡ true
 unfolding stage_name journal_name
 journal_is_swept = refl
 

@@ -1,5 +1,5 @@
 -- What can be staged, and what then stands ready.
-use Rattle.std.specs.Prelude.{◌≡◌, ◌≢◌, ℕ, ◌<◌, Bool, false, IsTrue, List, length, Some, None, is_some}
+use Rattle.std.specs.Prelude.{◌≡◌, ◌≢◌, ◌⊎◌, ℕ, ◌<◌, Bool, false, IsTrue, List, length, Some, None, is_some}
 use Rattle.ips_text.specs.Ancestry.{is_below}
 use Rattle.ips_outside.specs.Image.{Image, Dir, is_dir, file_bytes}
 use Rattle.ips_outside.specs.State.{State, IsSettled}
@@ -28,6 +28,14 @@ pub record IsStaged (steps : List Step) (a : Image) (s : State) : Type 0 where
   pub shut : s.held.look gate_name ≡ None
   pub unmarked : (q : List ℕ) → IsTrue (begins mark_front q) → s.held.look q ≡ None
   pub ready : IsReady journal_text steps 0 a s.held
+
+-- no list of steps stands ready
+abbrev pub NothingReady : State → Type 0
+NothingReady s = (steps : List Step) (a : Image) → IsStaged steps a s → ⊥
+
+-- nothing stands ready, unless the image is the one from before
+abbrev pub NoMoreReady : State → State → Type 0
+NoMoreReady old new = NothingReady new ⊎ (new.held ≡ old.held)
 
 -- nothing stands below the stage but the first so many contents
 abbrev pub HoldsOnly : ℕ → Image → Type 0

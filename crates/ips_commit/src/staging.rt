@@ -1,6 +1,6 @@
 //! A list of steps staged, with all that it puts.
 
-ghost use Rattle.std.specs.Prelude.{◌≡◌, ◌⊎◌, ◌<◌, ◌≤◌, [], Option, false, Some, IsTrue, IsErr, OnOk, length, map};
+ghost use Rattle.std.specs.Prelude.{◌≡◌, ◌⊎◌, ◌<◌, ◌≤◌, [], Option, false, Some, IsTrue, IsErr, OnOk, OnErr, length, map};
 ghost use Rattle.ips_text.specs.Ancestry.{covers};
 ghost use Rattle.ips_outside.specs.Image.{Image, is_dir, file_bytes};
 ghost use Rattle.ips_outside.specs.State.{IsSettled, ChangedWithin, nowhere, settled};
@@ -11,11 +11,11 @@ ghost use Rattle.ips_steps.specs.Journal.{IsJournal};
 ghost use Rattle.ips_steps.specs.Owed.{FolderOwes};
 ghost use Rattle.ips_steps.specs.View.{step_of};
 ghost use Rattle.ips_journal.specs.Text.{journal_text};
-ghost use Rattle.ips_journal.specs.Writing.{IsWritten};
+ghost use Rattle.ips_journal.specs.Writing.{IsWritten, KeepsTouched};
 ghost use Rattle.ips_commit.specs.Answers.{IsBad};
 ghost use Rattle.ips_commit.specs.Pending.{IsBehindGate, is_swept};
 ghost use Rattle.ips_commit.specs.Contents.{AreStanding, AreSeen};
-ghost use Rattle.ips_commit.specs.Staging.{CanStage, HasStaged, IsCleared, IsFilled};
+ghost use Rattle.ips_commit.specs.Staging.{CanStage, HasStaged, IsCleared, IsFilled, NothingReady, NoMoreReady};
 ghost use Rattle.ips_commit.specs.Calls.{Stages};
 
 use crate::contents::write_contents;
@@ -54,6 +54,9 @@ pub fn stage<S: Source, F: Folder>(
     // Done: the list stands ready with its contents.
     ensures staged { IsTrue (F.outside.tells folder.old) → OnOk result
         (HasStaged (S.outside.tells source.old) (S.outside.state source.old).held publisher.now (map step_of steps.now) staged.now (F.outside.state folder.old).held (F.outside.state folder.new)) }
+
+    // Refused: no list stands ready, unless the image is the one from before.
+    ensures unready { IsTrue (F.outside.tells folder.old) → OnErr result (NoMoreReady (F.outside.state folder.old) (F.outside.state folder.new)) }
 
     // Each payload is intact, and each refusal has its cause.
     ensures stages { Stages S.outside F.outside publisher.now staged.now source.old source.new folder.old folder.new result }
@@ -101,6 +104,7 @@ fn write_stage<S: Source, F: Folder>(
     ensures within { IsTrue (F.outside.tells folder.old) → OnOk result (ChangedWithin is_swept nowhere (settled (F.outside.state folder.old)) (F.outside.state folder.new)) }
     ensures filled { IsTrue (F.outside.tells folder.old) → OnOk result
         (IsFilled (S.outside.tells source.old) (S.outside.state source.old).held publisher.now (journal_text (map step_of steps.now)) staged.now (F.outside.state folder.old).held (F.outside.state folder.new)) }
+    ensures unready { IsTrue (F.outside.tells folder.old) → OnErr result (NoMoreReady (F.outside.state folder.old) (F.outside.state folder.new)) }
     ensures stages { Stages S.outside F.outside publisher.now staged.now source.old source.new folder.old folder.new result }
     ensures changed { risen (F.outside.changes folder.old) ≤ F.outside.changes folder.new }
 {
@@ -120,6 +124,7 @@ fn settle<F: Folder>(alloc: Global, folder: &mut F, names: &OwnNames) -> Result<
     ensures any_moment { IsTrue (F.outside.tells folder.old) → Throughout F.outside folder.old folder.new (IsBehindGate (F.outside.state folder.old)) }
     ensures within { IsTrue (F.outside.tells folder.old) → OnOk result (ChangedWithin is_swept nowhere (settled (F.outside.state folder.old)) (F.outside.state folder.new)) }
     ensures cleared { IsTrue (F.outside.tells folder.old) → OnOk result (IsCleared (F.outside.state folder.new).held) }
+    ensures unready { IsTrue (F.outside.tells folder.old) → OnErr result (NoMoreReady (F.outside.state folder.old) (F.outside.state folder.new)) }
     ensures cause { HasCause (F.outside.faults folder.old) (F.outside.faults folder.new) (IsBad result) }
     ensures same_kind { F.outside.tells folder.new ≡ F.outside.tells folder.old }
     ensures changes { F.outside.changes folder.old ≤ F.outside.changes folder.new }
@@ -155,6 +160,7 @@ fn fill<S: Source, F: Folder>(
     ensures filled { IsTrue (F.outside.tells folder.old) → OnOk result
         (IsFilled (S.outside.tells source.old) (S.outside.state source.old).held publisher.now (journal_text (map step_of steps.now)) staged.now (F.outside.state folder.old).held (F.outside.state folder.new)) }
     ensures any_moment { IsTrue (F.outside.tells folder.old) → ChangesOnly F.outside is_swept nowhere folder.old folder.new }
+    ensures unready { IsTrue (F.outside.tells folder.old) → OnErr result (NothingReady (F.outside.state folder.new)) }
     ensures stages { Stages S.outside F.outside publisher.now staged.now source.old source.new folder.old folder.new result }
 {
     let Ok(()) = folder.make_dir(&names.stage, 0o700) else {
@@ -180,6 +186,7 @@ fn write_journal<F: Folder>(
     ensures written { IsTrue (F.outside.tells folder.old) → OnOk result (file_bytes ((F.outside.state folder.new).held.look journal_name) ≡ Some (journal_text (map step_of steps.now))) }
     ensures safe { IsTrue (F.outside.tells folder.old) → OnOk result (IsSettled (F.outside.state folder.new)) }
     ensures any_moment { IsTrue (F.outside.tells folder.old) → ChangesOnly F.outside (covers journal_name) nowhere folder.old folder.new }
+    ensures unready { IsTrue (F.outside.tells folder.old) → OnErr result (NothingReady (F.outside.state folder.new)) }
     ensures cause { HasCause (F.outside.faults folder.old) (F.outside.faults folder.new) (IsBad result) }
     ensures same_kind { F.outside.tells folder.new ≡ F.outside.tells folder.old }
     ensures changes { F.outside.changes folder.old ≤ F.outside.changes folder.new }
@@ -206,6 +213,7 @@ fn write_safely<F: Folder>(
     ensures written { IsTrue (F.outside.tells folder.old) → OnOk result (file_bytes ((F.outside.state folder.new).held.look journal_name) ≡ Some (journal_text (map step_of steps.now))) }
     ensures safe { IsTrue (F.outside.tells folder.old) → OnOk result (IsSettled (F.outside.state folder.new)) }
     ensures any_moment { IsTrue (F.outside.tells folder.old) → ChangesOnly F.outside (covers journal_name) nowhere folder.old folder.new }
+    ensures unready { IsTrue (F.outside.tells folder.old) → OnErr result (NothingReady (F.outside.state folder.new)) }
     ensures cause { HasCause (F.outside.faults folder.old) (F.outside.faults folder.new) (IsErr result) }
     ensures same_kind { F.outside.tells folder.new ≡ F.outside.tells folder.old }
     ensures changes { F.outside.changes folder.old ≤ F.outside.changes folder.new }
@@ -226,6 +234,7 @@ fn write_steps<F: Folder>(
     requires { IsTrue (F.outside.tells folder.old) → IsWritten writer.old (F.outside.state folder.old).held [] }
     ensures written { IsTrue (F.outside.tells folder.old) → OnOk result (IsWritten writer.new (F.outside.state folder.new).held (map step_of steps.now)) }
     ensures any_moment { IsTrue (F.outside.tells folder.old) → ChangesOnly F.outside (covers journal_name) nowhere folder.old folder.new }
+    ensures touched { IsTrue (F.outside.tells folder.old) → KeepsTouched (F.outside.state folder.old) (F.outside.state folder.new) }
     ensures cause { HasCause (F.outside.faults folder.old) (F.outside.faults folder.new) (IsErr result) }
     ensures same_kind { F.outside.tells folder.new ≡ F.outside.tells folder.old }
     ensures changes { F.outside.changes folder.old ≤ F.outside.changes folder.new }

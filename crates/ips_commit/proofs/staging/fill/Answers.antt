@@ -8,6 +8,8 @@ use Rattle.ips_steps.specs.Private.{journal_name}
 use Rattle.ips_steps.specs.View.{step_of}
 use Rattle.ips_journal.specs.Text.{journal_text}
 use Rattle.ips_commit.proofs.Staged.{can_make_stage, can_make_journal, made_dir, made_entry, made_empty, standing_staged, stage_made, stage_kept, journal_kept, all_filled}
+use Rattle.ips_commit.proofs.Unready.{unlisted}
+use Rattle.ips_commit.proofs.GateOpens.{on_err}
 use Rattle.ips_commit.proofs.staging.fill.Goals as goal
 
 pub make_dir-requires-clause-can : goal.make_dir-requires-clause-can
@@ -101,3 +103,26 @@ returns-in-Ok-write_journal-clause-filled g c = λ told.
     (c.requires.cleared told) c.requires.seen made.now.agrees run.now.agrees (c.write_journal.ensures.any_moment told_2).now.agrees (c.in_ok-write_contents.ensures.written told_1)
     (c.in_ok-write_contents.ensures.stands told_1 ∙ made_entry c.args.names.now.stage.bytes (o.state c.args.folder.now).held (o.state c.make_dir.new.self).held c.args.names.now.stage_is (ap (λ (s : State). s.held) (c.in-Ok.ensures.done told)))
     (c.in_ok-write_contents.ensures.only told_1) (c.in-Ok-write_journal.ensures.written told_2) (c.in-Ok-write_journal.ensures.safe told_2)
+
+pub returns-in_default-clause-unready : goal.returns-in_default-clause-unready
+returns-in_default-clause-unready g c = λ told.
+    let o = g.F.Source.outside in
+    let made = stage_made o g.met.F.Source.sane c.args.names.now.stage.bytes c.args.names.now.stage_is c.args.folder.now c.make_dir.new.self _ c.make_dir.result told c.make_dir.ensures in
+    unlisted (o.state c.args.folder.now).held (o.state c.make_dir.new.self) (c.requires.cleared told) made.now.agrees
+
+pub returns-in_err-write_contents-clause-unready : goal.returns-in_err-write_contents-clause-unready
+returns-in_err-write_contents-clause-unready g c = λ told.
+    let o = g.F.Source.outside in
+    let run : ChangesOnly o (covers stage_name) nowhere c.args.folder.now c.write_contents.new.folder =
+    keeps_then o (covers stage_name) nowhere c.args.folder.now c.make_dir.new.self c.write_contents.new.folder
+    (stage_made o g.met.F.Source.sane c.args.names.now.stage.bytes c.args.names.now.stage_is c.args.folder.now c.make_dir.new.self _ c.make_dir.result told c.make_dir.ensures)
+    (c.write_contents.ensures.any_moment (c.make_dir.ensures.call.same_kind ∙ told)) in
+    on_err _ _ (unlisted (o.state c.args.folder.now).held (o.state c.write_contents.new.folder) (c.requires.cleared told) run.now.agrees)
+
+pub returns-in-Err-OutOfMemory-clause-unready : goal.returns-in-Err-OutOfMemory-clause-unready
+returns-in-Err-OutOfMemory-clause-unready g c = λ told.
+    c.in-Err-OutOfMemory.ensures.unready (c.write_contents.ensures.stages.same_kind ∙ c.make_dir.ensures.call.same_kind ∙ told)
+
+pub returns-in-Err-Bad-clause-unready : goal.returns-in-Err-Bad-clause-unready
+returns-in-Err-Bad-clause-unready g c = λ told.
+    c.in-Err-Bad.ensures.unready (c.write_contents.ensures.stages.same_kind ∙ c.make_dir.ensures.call.same_kind ∙ told)

@@ -1,10 +1,12 @@
-use Rattle.std.proofs.Common.{◌≡◌, List, sym, ◌∙◌, ap, subst}
+use Rattle.std.proofs.Common.{◌≡◌, inr, List, sym, ◌∙◌, ap, subst}
 use Rattle.ips_text.specs.Kept.{Kept}
 use Rattle.ips_outside.specs.Image.{Image}
 use Rattle.ips_outside.specs.State.{State}
 use Rattle.ips_outside.specs.Children.{path_bytes}
 use Rattle.ips_commit.specs.Pending.{HasNoOtherMark, IsSwept}
 use Rattle.ips_commit.proofs.Staged.{synced_swept, swept_now, cleared_by}
+use Rattle.ips_commit.proofs.Unready.{same_until}
+use Rattle.ips_commit.proofs.GateOpens.{on_err}
 use Rattle.ips_commit.proofs.staging.settle.Goals as goal
 
 pub returns-clause-any_moment : goal.returns-clause-any_moment
@@ -31,3 +33,15 @@ returns-clause-cleared g c = λ told.
     let swept : IsSwept (path_bytes c.in_ok-marks.marks.items) t (o.state c.sweep.new.folder).held = subst (λ (l : List Kept). IsSwept (path_bytes l) t (o.state c.sweep.new.folder).held) c.deref.ensures.value
     (c.in-Ok-sweep.ensures.swept (c.marks.ensures.reads.call.same_kind ∙ told_1)) in
     cleared_by (path_bytes c.in_ok-marks.marks.items) t (o.state c.sweep.new.folder).held others swept
+
+pub returns-in_default-clause-unready : goal.returns-in_default-clause-unready
+returns-in_default-clause-unready g c = λ told. inr (ap (λ (s : State). s.held) c.in_default.ensures.kept)
+
+pub returns-in_err-marks-clause-unready : goal.returns-in_err-marks-clause-unready
+returns-in_err-marks-clause-unready g c = λ told. on_err _ _ (inr (ap (λ (s : State). s.held) (c.marks.ensures.reads.kept ∙ c.in-Ok.ensures.done told)))
+
+pub returns-in_default-sweep-clause-unready : goal.returns-in_default-sweep-clause-unready
+returns-in_default-sweep-clause-unready g c = λ told.
+    let o = g.F.Source.outside in
+    same_until (o.state c.args.folder.now) (o.state c.marks.new.folder) (o.state c.sweep.new.folder) (ap (λ (s : State). s.held) (c.marks.ensures.reads.kept ∙ c.in-Ok.ensures.done told))
+    (c.in_default-sweep.ensures.unready (c.marks.ensures.reads.call.same_kind ∙ c.sync.ensures.call.same_kind ∙ told))

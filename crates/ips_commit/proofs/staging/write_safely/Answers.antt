@@ -9,6 +9,8 @@ use Rattle.ips_folder.proofs.Runs.{keeps_then, one_sync}
 use Rattle.ips_steps.specs.Private.{journal_name}
 use Rattle.ips_folder.proofs.Filled.{sole_placed}
 use Rattle.ips_commit.proofs.Swept.{wrote}
+use Rattle.ips_commit.proofs.Unready.{journal_touched, touched_by, not_made}
+use Rattle.ips_commit.proofs.GateOpens.{on_err}
 use Rattle.ips_commit.proofs.staging.write_safely.Goals as goal
 
 at_journal : (p : List ℕ) → p ≡ journal_name → (q : List ℕ) → covers journal_name q ≡ false → covers p q ≡ false
@@ -80,3 +82,30 @@ returns-clause-written g c = λ told.
     let told_2 = c.write_steps.ensures.same_kind ∙ told_1 in
     ap (λ (s : State). file_bytes (s.held.look journal_name)) (c.in_ok-sync.ensures.done (c.finish.ensures.same_kind ∙ told_2))
     ∙ c.in_ok-finish.ensures.written told_2 _ (c.in_ok-write_steps.ensures.written told_1) c.requires.lists.count
+
+pub returns-in_err-make_file-clause-unready : goal.returns-in_err-make_file-clause-unready
+returns-in_err-make_file-clause-unready g c = λ told.
+    let o = g.F.Source.outside in
+    on_err _ _ (not_made c.args.names.now.journal.bytes c.args.names.now.journal_is (o.state c.args.folder.now) (o.state c.make_file.new.self) (c.requires.can told).absent (c.make_file.ensures.only told))
+
+pub returns-in_err-write_steps-clause-unready : goal.returns-in_err-write_steps-clause-unready
+returns-in_err-write_steps-clause-unready g c = λ told.
+    let o = g.F.Source.outside in
+    let made = touched_by c.args.names.now.journal.bytes c.args.names.now.journal_is _ (o.state c.args.folder.now) (o.state c.make_file.new.self) (c.in_ok-make_file.ensures.done told) in
+    on_err _ _ (journal_touched (o.state c.write_steps.new.folder) (c.write_steps.ensures.touched (c.make_file.ensures.call.same_kind ∙ told) journal_name made))
+
+pub returns-in_err-finish-clause-unready : goal.returns-in_err-finish-clause-unready
+returns-in_err-finish-clause-unready g c = λ told.
+    let o = g.F.Source.outside in
+    let told_1 = c.make_file.ensures.call.same_kind ∙ told in
+    let made = touched_by c.args.names.now.journal.bytes c.args.names.now.journal_is _ (o.state c.args.folder.now) (o.state c.make_file.new.self) (c.in_ok-make_file.ensures.done told) in
+    on_err _ _ (journal_touched (o.state c.finish.new.folder)
+    (c.finish.ensures.touched (c.write_steps.ensures.same_kind ∙ told_1) journal_name (c.write_steps.ensures.touched told_1 journal_name made)))
+
+pub returns-in_err-sync-clause-unready : goal.returns-in_err-sync-clause-unready
+returns-in_err-sync-clause-unready g c = λ told.
+    let o = g.F.Source.outside in
+    let told_1 = c.make_file.ensures.call.same_kind ∙ told in
+    let made = touched_by c.args.names.now.journal.bytes c.args.names.now.journal_is _ (o.state c.args.folder.now) (o.state c.make_file.new.self) (c.in_ok-make_file.ensures.done told) in
+    on_err _ _ (journal_touched (o.state c.sync.new.self) (ap (λ (s : State). s.whole journal_name) c.in_err-sync.ensures.kept
+    ∙ c.finish.ensures.touched (c.write_steps.ensures.same_kind ∙ told_1) journal_name (c.write_steps.ensures.touched told_1 journal_name made)))

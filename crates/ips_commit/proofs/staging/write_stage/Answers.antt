@@ -1,10 +1,11 @@
-use Rattle.std.proofs.Common.{map, ◌∙◌, sym}
+use Rattle.std.proofs.Common.{map, inl, ◌∙◌, sym}
 use Rattle.ips_outside.proofs.Moments.{within_then}
 use Rattle.ips_outside.specs.State.{nowhere, settled}
 use Rattle.ips_steps.specs.View.{step_of}
 use Rattle.ips_journal.specs.Text.{journal_text}
 use Rattle.ips_commit.specs.Pending.{is_swept}
 use Rattle.ips_commit.proofs.Staged.{standing_swept, records_swept, behind_then, filled_swept}
+use Rattle.ips_commit.proofs.GateOpens.{on_err}
 use Rattle.ips_commit.proofs.staging.write_stage.Goals as goal
 
 pub fill-requires-clause-records : goal.fill-requires-clause-records
@@ -41,3 +42,6 @@ returns-clause-filled g c = λ told.
     filled_swept (g.S.Source.outside.tells c.args.source.now) (g.S.Source.outside.state c.args.source.now).held c.args.publisher.now (journal_text (map step_of c.args.steps.now)) c.args.staged.now
     (o.state c.args.folder.now).held (o.state c.settle.new.folder).held (o.state c.fill.new.folder) (c.in-Ok.ensures.within told).agrees c.requires.seen
     (c.in_ok-fill.ensures.filled (c.settle.ensures.same_kind ∙ told))
+
+pub returns-in_err-fill-clause-unready : goal.returns-in_err-fill-clause-unready
+returns-in_err-fill-clause-unready g c = λ told. on_err _ _ (inl (c.in_err-fill.ensures.unready (c.settle.ensures.same_kind ∙ told)))

@@ -1,0 +1,64 @@
+-- Why no list of steps stands ready.
+use Rattle.std.proofs.Common.{◌≡◌, ◌⊎◌, inl, inr, ⊎_elim, ℕ, Bool, true, false, ◌||◌, List, Some, None, refl, sym, ◌∙◌, ap}
+use Rattle.ips_text.specs.Ancestry.{covers}
+use Rattle.ips_text.proofs.Ancestry.{covers-self}
+use Rattle.ips_outside.specs.Image.{Image, Agrees, file_bytes}
+use Rattle.ips_outside.specs.Change.{with_entry_at}
+use Rattle.ips_outside.specs.State.{State, MayChange, nowhere, written}
+use Rattle.ips_outside.proofs.Placed.{look_placed}
+use Rattle.ips_steps.specs.Steps.{stage_name}
+use Rattle.ips_steps.specs.Private.{journal_name, mark_front, begins}
+use Rattle.ips_steps.proofs.Lists.{clash}
+use Rattle.ips_journal.specs.Text.{journal_text}
+use Rattle.ips_commit.specs.Staging.{IsCleared, NothingReady, NoMoreReady}
+use Rattle.ips_commit.proofs.Staged.{journal_staged, journal_is_swept}
+
+-- nothing stands at the journal
+pub no_journal : (s : State) → s.held.look journal_name ≡ None → NothingReady s
+no_journal s none steps a staged = let text : None ≡ Some (journal_text steps) = sym (ap file_bytes none) ∙ staged.ready.journal in cc
+
+-- the journal's name is touched
+pub journal_touched : (s : State) → s.whole journal_name ≡ true → NothingReady s
+journal_touched s is steps a staged = clash (s.whole journal_name) is (staged.safe.whole journal_name)
+
+-- ---- the journal is made or taken away
+
+module _ (p : List ℕ) (at : p ≡ journal_name) where
+  covered : covers p journal_name ≡ true
+  covered = ap (λ (x : List ℕ). covers x journal_name) at ∙ covers-self journal_name
+
+  pub touched_by : (u : Image) (old new : State) → new ≡ written p u old → new.whole journal_name ≡ true
+  touched_by u old new done = ap (λ (s : State). s.whole journal_name) done ∙ ap (λ (b : Bool). b || old.whole journal_name) covered
+
+  -- a call that failed there
+  pub failed_at : (old new : State) → MayChange (covers p) nowhere old new → (new ≡ old) ⊎ NothingReady new
+  failed_at old new may = ⊎_elim (λ same. inl same)
+      (λ changed. inr (journal_touched new (ap (λ (f : List ℕ → Bool). f journal_name) changed.whole ∙ ap (λ (b : Bool). b || old.whole journal_name) covered))) may
+
+  pub not_made : (old new : State) → old.held.look journal_name ≡ None → MayChange (covers p) nowhere old new → NothingReady new
+  not_made old new none may = ⊎_elim (λ same. no_journal new (ap (λ (s : State). s.held.look journal_name) same ∙ none)) (λ now. now) (failed_at old new may)
+
+  pub not_gone : (old new : State) → MayChange (covers p) nowhere old new → NoMoreReady old new
+  not_gone old new may = ⊎_elim (λ same. inr (ap (λ (s : State). s.held) same)) (λ now. inl now) (failed_at old new may)
+
+  pub gone_by : (old new : State) → new ≡ written p (with_entry_at p None old.held) old → new.held.look journal_name ≡ None
+  gone_by old new done = ap new.held.look (sym at) ∙ ap (λ (s : State). s.held.look p) done ∙ look_placed p None old.held
+
+-- ---- the journal is absent
+
+pub staged_over : (t u : Image) → Agrees (covers stage_name) nowhere t u → t.look journal_name ≡ None → u.look journal_name ≡ None
+staged_over t u h none = h.look journal_name journal_staged refl ∙ none
+
+pub marks_over : (t u : Image) → Agrees (begins mark_front) nowhere t u → t.look journal_name ≡ None → u.look journal_name ≡ None
+unfolding journal_name mark_front
+marks_over t u h none = h.look journal_name refl refl ∙ none
+
+-- so it is while contents are written
+pub unlisted : (t : Image) (s : State) → IsCleared t → Agrees (covers stage_name) nowhere t s.held → NothingReady s
+unlisted t s cleared h = no_journal s (staged_over t s.held h (cleared journal_name journal_is_swept))
+
+-- ---- behind a sync
+
+-- the image was the same until then
+pub same_until : (old mid new : State) → mid.held ≡ old.held → NoMoreReady mid new → NoMoreReady old new
+same_until old mid new same now = ⊎_elim (λ none. inl none) (λ kept. inr (kept ∙ same)) now
