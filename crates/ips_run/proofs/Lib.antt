@@ -7,4 +7,5 @@ mod Said
 mod Recoveries
 mod Nexts
 mod Performed
+mod Unbegun
 pub mod Exclusive

@@ -13,7 +13,7 @@ use Rattle.ips_journal.specs.Text.{journal_text}
 use Rattle.ips_actuate.specs.declared.running.ActFault.{ActFault}
 use Rattle.ips_actuate.specs.declared.running.ActFault.TheVariants as act_fault
 use Rattle.ips_commit.specs.Contents.{AreIntactContents, SaysOfStage}
-use Rattle.ips_commit.specs.Staging.{IsStaged}
+use Rattle.ips_commit.specs.Staging.{IsStaged, NoMoreReady}
 use Rattle.ips_commit.specs.Due.{DueOnceOpen}
 use Rattle.ips_commit.specs.Recovering.{IsJournalled, CanResume, IsUnfinished}
 use Rattle.ips_commit.specs.declared.fault.StageFault.TheVariants as stage
@@ -125,6 +125,11 @@ pub record IsBack {F T : Type 0} (o : Outside F) (x : Ending T) (before now : Li
 -- nothing has happened to the image, or what was touched is made safe and nothing else has
 abbrev pub IsKeptOrSettled : {F : Type 0} → Outside F → F → F → Type 0
 IsKeptOrSettled o old new = (o.state new ≡ o.state old) ⊎ (o.state new ≡ settled (o.state old))
+
+-- no commit was begun: nothing has happened to the image; or the gate isn't touched, and no list of steps stands ready, unless the image
+-- is the one from before
+abbrev pub IsUnbegun : State → State → Type 0
+IsUnbegun old new = (new ≡ old) ⊎ (IsFalse (new.whole gate_name) × NoMoreReady old new)
 
 -- This moment isn't before a run: neither by the clock nor by a count.
 pub record IsNotBefore {F : Type 0} (o : Outside F) (old at : F) : Type 0 where

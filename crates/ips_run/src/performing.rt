@@ -5,11 +5,12 @@ ghost use Rattle.ips_outside.specs.Outside.{HasCause, OneMore, Reads};
 ghost use Rattle.ips_steps.specs.Private.{gate_name};
 ghost use Rattle.ips_steps.specs.declared.step.Sort.{Sort};
 ghost use Rattle.ips_kinds.specs.Tallies.{seen_by, taken};
-ghost use Rattle.ips_history.specs.Directories.{shows, image_for};
+ghost use Rattle.ips_commit.specs.Pending.{IsBare};
+ghost use Rattle.ips_history.specs.Directories.{shows, creates, fixes, image_for};
 ghost use Rattle.ips_history.specs.Run.{IsRun};
-ghost use Rattle.ips_run.specs.Ending.{HasPayloadFault, TellsAsSaid, claim_of, is_left, is_refused, is_folder_fault, is_source_fault, is_spawn_fault};
+ghost use Rattle.ips_run.specs.Ending.{HasPayloadFault, TellsAsSaid, claim_of, is_left, is_failed, is_refused, is_folder_fault, is_source_fault, is_spawn_fault};
 ghost use Rattle.ips_run.specs.Comes.{Comes, HasRun};
-ghost use Rattle.ips_run.specs.Phases.{HasFailedInCommit, HasFailedInRecovery, IsKeptOrSettled};
+ghost use Rattle.ips_run.specs.Phases.{HasFailedInCommit, HasFailedInRecovery, IsKeptOrSettled, IsUnbegun};
 
 use crate::creating::create;
 use crate::deciding::shown;
@@ -67,6 +68,11 @@ pub fn perform<T: Drop, S: Source, F: Folder, P: Spawner, C: Operation<T>>(
     // Unfinished: since a moment of this run at which a change stood ready, or the gate stood open behind the opening sync, a call failed
     // and one was made that may have changed something.
     ensures begun { IsTrue (F.outside.tells folder.old) → IsTrue (is_left result) → HasFailedInCommit F.outside folder.old folder.new ⊎ HasFailedInRecovery F.outside folder.old folder.new }
+
+    // Unchanged: no commit was begun. The gate isn't touched, and no list of steps stands ready, unless the image is the one from before.
+    ensures unbegun { IsTrue (F.outside.tells folder.old) → IsFalse (creates (C.effect operation.now))
+        → (IsTrue (fixes (C.effect operation.now)) → IsBare (F.outside.state folder.old).held)
+        → IsTrue (is_failed result) → IsUnbegun (F.outside.state folder.old) (F.outside.state folder.new) }
 
     // The opening sync is the only call that may change something, where something is shown, and where an open gate is left as it
     // was; and nothing but that has happened to the image.

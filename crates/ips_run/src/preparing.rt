@@ -1,6 +1,6 @@
 //! A change made ready.
 
-ghost use Rattle.std.specs.Prelude.{◌≡◌, ◌≤◌, Option, None, false, IsTrue, IsFalse, IfOk, OnOk, IfErr, map};
+ghost use Rattle.std.specs.Prelude.{◌≡◌, ◌≤◌, Option, None, false, IsTrue, IsFalse, IfOk, OnOk, OnErr, IfErr, map};
 ghost use Rattle.ips_outside.specs.Image.{Image, is_dir};
 ghost use Rattle.ips_outside.specs.State.{IsSettled};
 ghost use Rattle.ips_outside.specs.Outside.{HasCause, Reads};
@@ -17,7 +17,7 @@ ghost use Rattle.ips_run.specs.declared.operation.Decision.TheVariants as decisi
 ghost use Rattle.ips_run.specs.Planned.{CanBeListed};
 ghost use Rattle.ips_run.specs.Ending.{EndsAs, TellsAsSaid, is_told, IsEarly, is_folder_fault, is_source_fault};
 ghost use Rattle.ips_run.specs.Comes.{IsUnready};
-ghost use Rattle.ips_run.specs.Phases.{IsReadied, IsUnstaged};
+ghost use Rattle.ips_run.specs.Phases.{IsReadied, IsUnbegun, IsUnstaged};
 
 use crate::deciding::decided;
 use crate::ending::Ending;
@@ -60,6 +60,7 @@ pub(crate) fn prepare<T: Drop, S: Source, F: Folder, C: Operation<T>>(
     ensures unready { IsTrue (F.outside.tells folder.old) → IfErr result (IsUnready (C.effect operation.now)
         (C.decides operation.now (S.outside.tells source.old) (S.outside.state source.old).held (F.outside.state folder.old).held)
         (S.outside.tells source.old) (S.outside.state source.old).held) }
+    ensures unbegun { IsTrue (F.outside.tells folder.old) → OnErr result (IsUnbegun (F.outside.state folder.old) (F.outside.state folder.new)) }
     ensures later { F.outside.changes folder.old ≤ F.outside.changes folder.new }
     ensures source { Reads S.outside source.old source.new (EndsAs is_source_fault result) }
     ensures cause { HasCause (F.outside.faults folder.old) (F.outside.faults folder.new) (EndsAs is_folder_fault result) }
@@ -107,6 +108,7 @@ fn ready_for<T: Drop, S: Source, F: Folder>(
     ensures early { IfErr result IsEarly }
     ensures silent { IfErr result (λ x. IsFalse (is_told x)) }
     ensures unstaged { IfErr result (IsUnstaged (S.outside.tells source.old) (S.outside.state source.old).held change.now) }
+    ensures unbegun { IsTrue (F.outside.tells folder.old) → OnErr result (IsUnbegun (F.outside.state folder.old) (F.outside.state folder.new)) }
     ensures later { F.outside.changes folder.old ≤ F.outside.changes folder.new }
     ensures source { Reads S.outside source.old source.new (EndsAs is_source_fault result) }
     ensures cause { HasCause (F.outside.faults folder.old) (F.outside.faults folder.new) (EndsAs is_folder_fault result) }

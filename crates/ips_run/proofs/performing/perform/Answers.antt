@@ -5,11 +5,12 @@ use Rattle.ips_outside.specs.Image.{Image}
 use Rattle.ips_steps.specs.Private.{gate_name}
 use Rattle.ips_steps.proofs.Lists.{clash}
 use Rattle.ips_commit.specs.Pending.{IsBare, IsPending}
-use Rattle.ips_history.specs.Directories.{shows}
+use Rattle.ips_history.specs.Directories.{shows, creates}
 use Rattle.ips_run.specs.declared.ending.Ending.TheVariants as ending
 use Rattle.ips_run.proofs.Opened.{failed_since, since_opened, no_fewer, synced_safe, as_settled, elapses_kept, opened, run_unopened, run_read, run_back, run_asked, run_created}
 use Rattle.ips_run.proofs.Nexts.{shown_of, changed_of, created_of, show_is, change_is, recover_is, create_is}
 use Rattle.ips_run.proofs.Performed.{fault_of, out_of_memory_of, unfinished_of, early_fault, early_out_of_memory, early_unfinished, left_fault, comes_unopened, comes_refused, comes_back, comes_shown, comes_asked, comes_created, image_same, next_as}
+use Rattle.ips_run.proofs.Unbegun.{unbegun_read, unbegun_settled, never_recovers}
 use Rattle.ips_run.proofs.performing.perform.Goals as goal
 
 pub returns-in_default-clause-run : goal.returns-in_default-clause-run
@@ -309,3 +310,32 @@ returns-in-Create-clause-untouched g c = λ told there refused.
 pub returns-in-Create-clause-untouched_kept : goal.returns-in-Create-clause-untouched_kept
 returns-in-Create-clause-untouched_kept g c = λ told there refused.
     absurd (there (ap (λ (s : State). s.held.look gate_name) (sym (c.in-Ok.ensures.done told)) ∙ (created_of (g.F.Source.outside.state c.sync.new.self).held (g.C.Operation.effect c.args.operation.now) c.in-Ok-pending.found (c.in-Ok-pending.ensures.found (c.sync.ensures.call.same_kind ∙ told)) (next_as (g.C.Operation.effect c.args.operation.now) c.effect.result c.in-Ok-pending.found _ c.phase_behind.result c.effect.ensures c.phase_behind.ensures c.in-Create.is)).1))
+
+pub returns-in_default-clause-unbegun : goal.returns-in_default-clause-unbegun
+returns-in_default-clause-unbegun g c = λ told making fixing failed. inl c.in_default.ensures.kept
+
+pub returns-in-Err-Bad-clause-unbegun : goal.returns-in-Err-Bad-clause-unbegun
+returns-in-Err-Bad-clause-unbegun g c = λ told making fixing failed.
+    let o = g.F.Source.outside in
+    unbegun_read (o.state c.args.folder.now) (o.state c.pending.new.folder) (c.pending.ensures.reads.kept ∙ c.in-Ok.ensures.done told)
+
+pub returns-in-Recover-clause-unbegun : goal.returns-in-Recover-clause-unbegun
+returns-in-Recover-clause-unbegun g c = λ told making fixing failed.
+    let o = g.F.Source.outside in
+    absurd (never_recovers (o.state c.sync.new.self).held (g.C.Operation.effect c.args.operation.now) c.in-Ok-pending.found (c.in-Ok-pending.ensures.found (c.sync.ensures.call.same_kind ∙ told)) (next_as (g.C.Operation.effect c.args.operation.now) c.effect.result c.in-Ok-pending.found _ c.phase_behind.result c.effect.ensures c.phase_behind.ensures c.in-Recover.is)
+    (λ fixes. subst (λ (s : State). IsBare s.held) (sym (c.in-Ok.ensures.done told)) (fixing fixes)))
+
+pub returns-in-Show-clause-unbegun : goal.returns-in-Show-clause-unbegun
+returns-in-Show-clause-unbegun g c = λ told making fixing failed.
+    let o = g.F.Source.outside in
+    unbegun_read (o.state c.args.folder.now) (o.state c.shown.new.folder) (c.shown.ensures.reads.kept ∙ c.pending.ensures.reads.kept ∙ c.in-Ok.ensures.done told)
+
+pub returns-in-Change-clause-unbegun : goal.returns-in-Change-clause-unbegun
+returns-in-Change-clause-unbegun g c = λ told making fixing failed.
+    let o = g.F.Source.outside in
+    unbegun_settled (o.state c.args.folder.now) (o.state c.pending.new.folder) (o.state c.request.new.folder) (c.pending.ensures.reads.kept ∙ c.in-Ok.ensures.done told)
+    (c.request.ensures.unbegun (c.pending.ensures.reads.call.same_kind ∙ c.sync.ensures.call.same_kind ∙ told) failed)
+
+pub returns-in-Create-clause-unbegun : goal.returns-in-Create-clause-unbegun
+returns-in-Create-clause-unbegun g c = λ told making fixing failed.
+    absurd (clash (creates (g.C.Operation.effect c.args.operation.now)) (create_is (g.C.Operation.effect c.args.operation.now) c.in-Ok-pending.found (next_as (g.C.Operation.effect c.args.operation.now) c.effect.result c.in-Ok-pending.found _ c.phase_behind.result c.effect.ensures c.phase_behind.ensures c.in-Create.is)).0 making)

@@ -1,8 +1,9 @@
-use Rattle.std.proofs.Common.{sym, ◌∙◌, refl, subst}
+use Rattle.std.proofs.Common.{inl, sym, ◌∙◌, refl, subst}
 use Rattle.ips_outside.specs.State.{State, IsSettled}
 use Rattle.ips_run.proofs.Opened.{stays_owed, owes_seen}
 use Rattle.ips_run.proofs.Carried.{owed_from}
 use Rattle.ips_run.proofs.Told.{unready_behind, readied}
+use Rattle.ips_run.proofs.Unbegun.{unbegun_since}
 use Rattle.ips_run.proofs.preparing.prepare.Goals as goal
 
 pub returns-in-Err-clause-owed : goal.returns-in-Err-clause-owed
@@ -36,3 +37,12 @@ returns-clause-readied g c = λ told.
     (o.state c.args.folder.now) (o.state c.decided.new.folder) (o.state c.ready_for.new.folder) c.in-Ok.change _
     c.decided.ensures.source.call.same_kind c.decided.ensures.source.kept c.decided.ensures.reads.kept (c.in-Ok.ensures.decided told) (c.in-Ok.ensures.planned told)
     refl refl refl (c.in-Ok-ready_for.ensures.staged (c.decided.ensures.reads.call.same_kind ∙ told)) (λ is. c.in-Ok-ready_for.ensures.intact is)
+
+pub returns-in-Err-clause-unbegun : goal.returns-in-Err-clause-unbegun
+returns-in-Err-clause-unbegun g c = λ told. inl c.decided.ensures.reads.kept
+
+pub returns-in-Err-ready_for-clause-unbegun : goal.returns-in-Err-ready_for-clause-unbegun
+returns-in-Err-ready_for-clause-unbegun g c = λ told.
+    let o = g.F.Source.outside in
+    unbegun_since (o.state c.args.folder.now) (o.state c.decided.new.folder) (o.state c.ready_for.new.folder) c.decided.ensures.reads.kept
+    (c.in-Err-ready_for.ensures.unbegun (c.decided.ensures.reads.call.same_kind ∙ told))

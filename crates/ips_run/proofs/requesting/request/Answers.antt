@@ -1,11 +1,12 @@
 use Rattle.std.proofs.Common.{None, refl, sym, ◌∙◌}
 use Rattle.ips_steps.proofs.Lists.{clash}
-use Rattle.ips_run.specs.Ending.{is_left}
+use Rattle.ips_run.specs.Ending.{is_left, is_failed}
 use Rattle.ips_run.specs.Comes.{Unready, Carried}
 use Rattle.ips_run.proofs.Said.{said_of_change}
 use Rattle.ips_run.proofs.Carried.{can_open, unmarked, asked_early, asked_ready}
 use Rattle.ips_run.proofs.Told.{none_run, carried_as}
 use Rattle.ips_run.proofs.Performed.{left_fault}
+use Rattle.ips_run.proofs.Unbegun.{never_failed}
 use Rattle.ips_run.proofs.requesting.request.Goals as goal
 
 pub returns-in-Err-clause-asked : goal.returns-in-Err-clause-asked
@@ -60,3 +61,12 @@ returns-clause-begun g c = λ told clean left.
 
 pub returns-clause-says : goal.returns-clause-says
 returns-clause-says g c = said_of_change (g.C.Operation.says c.args.operation.now) c.in-Ok.prepared.told c.carry_out.result c.in-Ok.ensures.says c.carry_out.ensures.tells
+
+pub returns-in-Err-clause-unbegun : goal.returns-in-Err-clause-unbegun
+returns-in-Err-clause-unbegun g c = λ told failed. c.in-Err.ensures.unbegun told
+
+pub returns-clause-unbegun : goal.returns-clause-unbegun
+returns-clause-unbegun g c = λ told failed.
+    let ready = c.in-Ok.ensures.readied told in
+    absurd (clash (is_failed c.carry_out.result) failed (never_failed _ _ _ _ _ _ _ c.carry_out.result
+    (c.carry_out.ensures.told (c.prepare.ensures.same_kind ∙ told) _ ready.after ready.staged)))
