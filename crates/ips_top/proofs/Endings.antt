@@ -18,10 +18,10 @@ use Rattle.ips_run.specs.declared.operation.Decision.{Decision}
 use Rattle.ips_run.specs.declared.operation.Decision.TheVariants as decision
 use Rattle.ips_run.specs.declared.ending.Ending.{Ending}
 use Rattle.ips_run.specs.declared.ending.Ending.TheVariants as ending
-use Rattle.ips_run.specs.Ending.{HasPayloadFault, TellsAsSaid, claim_of, is_folder_fault, is_left, is_refused, is_source_fault, is_spawn_fault, is_unneeded}
+use Rattle.ips_run.specs.Ending.{HasPayloadFault, TellsAsSaid, claim_of, is_failed, is_folder_fault, is_left, is_refused, is_source_fault, is_spawn_fault, is_unneeded}
 use Rattle.ips_run.specs.Comes.{Comes, IsBackTo, IsCarriedTo, IsUnopened}
 use Rattle.ips_run.specs.Comes as comes
-use Rattle.ips_operations.specs.told.Told.{IsToldAs, Manner, blames_folder, blames_source, blames_spawner, claimed, claims_refused, claims_unfinished, manner_of, told_as}
+use Rattle.ips_operations.specs.told.Told.{IsToldAs, Manner, blames_folder, blames_source, blames_spawner, claimed, claims_failed, claims_refused, claims_unfinished, manner_of, told_as}
 use Rattle.ips_operations.proofs.told.Alike.{manner_as, manner_told, claims_as, blames_folder_as, blames_source_as, blames_spawner_as}
 use Rattle.ips_operations.specs.telling.Finishing.{IsEarly, IsToldFor}
 use Rattle.ips_top.specs.Performed.{ComesAs}
@@ -112,6 +112,23 @@ early_begins_nothing (ending.SpawnFault after) now = absurd now
 early_begins_nothing ending.SourceFault now = absurd now
 early_begins_nothing (ending.FolderFault unfinished) now = absurd now
 early_begins_nothing ending.OutOfMemory now = absurd now
+
+-- No call on the image failed with nothing left unfinished.
+early_unfailed : (x : Ending Outcome) → IsEarly (manner_as x) → is_failed x ≡ false
+early_unfailed (ending.Done told) now = absurd now
+early_unfailed (ending.Shown told) now = refl
+early_unfailed (ending.Refused told) now = refl
+early_unfailed ending.NothingToDo now = refl
+early_unfailed ending.Unfinished now = absurd now
+early_unfailed (ending.BadJournal line) now = absurd now
+early_unfailed (ending.Recovered forward) now = absurd now
+early_unfailed (ending.NotDirectory path) now = refl
+early_unfailed (ending.BadPayload name why) now = refl
+early_unfailed (ending.ActuatorFailed after words status) now = absurd now
+early_unfailed (ending.SpawnFault after) now = absurd now
+early_unfailed ending.SourceFault now = absurd now
+early_unfailed (ending.FolderFault unfinished) now = absurd now
+early_unfailed ending.OutOfMemory now = absurd now
 
 -- It isn't the folder's fault.
 early_folder : (x : Ending Outcome) → IsEarly (manner_as x) → is_folder_fault x ≡ false
@@ -256,6 +273,9 @@ module _ (x : Ending Outcome) (told : Outcome) (says : TellsAsSaid IsToldAs x) (
 
   pub unfinished_alike : IsToldFor (told_as x) told → claims_unfinished (manner_of told) ≡ is_left x
   unfinished_alike = told_alike claims_unfinished (is_left x) (ap (λ (c : Claim). c.unfinished) (claims_as x)) (λ early. sym (early_begins_nothing x early))
+
+  pub failed_alike : IsToldFor (told_as x) told → claims_failed (manner_of told) ≡ is_failed x
+  failed_alike = told_alike claims_failed (is_failed x) (ap (λ (c : Claim). c.failed) (claims_as x)) (λ early. sym (early_unfailed x early))
 
   pub refused_alike : IsToldFor (told_as x) told → claims_refused (manner_of told) ≡ is_refused x
   refused_alike = told_alike claims_refused (is_refused x) (ap (λ (c : Claim). c.refused) (claims_as x)) (λ early. sym (early_refuses x early))

@@ -3,7 +3,7 @@ use Rattle.ips_outside.specs.Outside.{HasCause, Reads}
 use Rattle.ips_report.specs.declared.outcome.Outcome.{Outcome}
 use Rattle.ips_operations.specs.told.Told.{IsToldAs}
 use Rattle.ips_operations.specs.telling.Finishing.{IsToldFor}
-use Rattle.ips_top.proofs.Endings.{early_comes, comes_as, run_told, folder_alike, source_alike, spawner_alike, unfinished_alike, refused_alike, says_less}
+use Rattle.ips_top.proofs.Endings.{early_comes, comes_as, run_told, folder_alike, source_alike, spawner_alike, unfinished_alike, failed_alike, refused_alike, says_less}
 use Rattle.ips_top.proofs.performing.performed.Goals as goal
 
 pub returns-clause-performed : goal.returns-clause-performed
@@ -25,6 +25,7 @@ returns-clause-performed g c =
       shows_unasked = λ is. source_alike x told says payload as_told ∙ e.shows_unasked is;
       shows_unspawned = λ is. spawner_alike x told says payload as_told ∙ e.shows_unspawned is;
       begun = λ tells is. e.begun tells (sym (unfinished_alike x told says payload as_told) ∙ is);
+      unbegun = λ tells creates fixes is. e.unbegun tells creates fixes (sym (failed_alike x told says payload as_told) ∙ is);
       shows_once = e.shows;
       untouched_once = λ tells stands is. e.untouched tells stands (sym (refused_alike x told says payload as_told) ∙ is);
       shows_kept = e.shows_kept;
