@@ -1,5 +1,5 @@
 -- No commit was begun.
-use Rattle.std.proofs.Common.{◌≡◌, inl, inr, ⊎_elim, ℕ, Bool, true, false, List, refl, sym, ◌∙◌, ap, subst}
+use Rattle.std.proofs.Common.{◌≡◌, inl, inr, ⊎_elim, ℕ, true, false, List, refl, sym, ap, subst}
 use Rattle.ips_text.proofs.Ancestry.{covers-self}
 use Rattle.ips_outside.specs.Image.{Image}
 use Rattle.ips_outside.specs.Running.{Run}
@@ -21,7 +21,7 @@ use Rattle.ips_run.specs.declared.ending.Ending.{Ending}
 use Rattle.ips_run.specs.declared.ending.Ending.TheVariants as ending
 use Rattle.ips_run.specs.declared.next.Next.TheVariants as next
 use Rattle.ips_run.specs.Ending.{is_failed}
-use Rattle.ips_run.specs.Comes.{IsStopped, IsCarriedTo}
+use Rattle.ips_run.specs.Comes.{IsCarriedTo}
 use Rattle.ips_run.specs.Phases.{IsUnbegun, next_of}
 use Rattle.ips_run.proofs.Nexts.{stopped_of}
 
