@@ -1,45 +1,61 @@
-use crate::table::{Ask, holds, text, word};
+use crate::table::{Ask, all_hold, put, put_number, text};
 use ips_digest::{Hasher, PayloadName};
 use std::alloc::Global;
 use std::process::Abort;
 
 // What a table asks of payload names.
-#[derive(Drop)]
 enum Asked {
     // How many digits the name of these digits has, and how it is printed over dots.
     Name,
     // The name of a content.
     Sha1,
     Sha256,
+    // The name, like another one, of a million letters that come in pieces.
+    Million,
 }
 
 impl Ask for Asked {
-    fn answer(&mut self, rt: &impl Abort, alloc: Global, question: &str) -> String {
-        let question = text(rt, alloc, question);
-        let question = question.as_str();
+    fn answer(&self, rt: &impl Abort, _: Global, out: &mut String, one: &[u8], two: &[u8]) {
         let name = match self {
-            Asked::Name => PayloadName::parse(question),
-            Asked::Sha1 => digest(&PayloadName::Sha1([0; 20]), question),
-            Asked::Sha256 => digest(&PayloadName::Sha256([0; 32]), question),
+            Asked::Name => PayloadName::parse(text(rt, one)),
+            Asked::Sha1 => digest(&PayloadName::Sha1([0; 20]), one),
+            Asked::Sha256 => digest(&PayloadName::Sha256([0; 32]), one),
+            Asked::Million => million(rt, text(rt, one), two),
         };
         match name {
-            Some(name) => printed(rt, alloc, &name),
-            None => word(rt, alloc, "no name"),
+            Some(name) => put_name(rt, out, &name),
+            None => put(rt, out, "no name"),
         }
     }
 }
 
-fn digest(like: &PayloadName, content: &str) -> Option<PayloadName> {
+fn digest(like: &PayloadName, content: &[u8]) -> Option<PayloadName> {
     let mut hasher = Hasher::new(like);
-    hasher.update(content.as_bytes());
+    hasher.update(content);
     Some(hasher.finish())
 }
 
-fn printed(rt: &impl Abort, alloc: Global, name: &PayloadName) -> String {
-    let mut out = [b'.'; 64];
-    let count = name.print(&mut out);
-    let printed = str::from_utf8(&out).expect(rt, "digits");
-    format!(in alloc; "{count} {printed}").expect(rt, "memory")
+fn million(rt: &impl Abort, like: &str, letters: &[u8]) -> Option<PayloadName> {
+    let mut hasher = Hasher::new(&PayloadName::parse(like)?);
+    for _ in 0..800 {
+        push_pieces(rt, &mut hasher, letters);
+    }
+    Some(hasher.finish())
+}
+
+// 1,250 letters.
+fn push_pieces(rt: &impl Abort, hasher: &mut Hasher, letters: &[u8]) {
+    for size in &[1, 63, 64, 65, 1057] {
+        hasher.update(letters.get(..*size).expect(rt, "letters"));
+    }
+}
+
+fn put_name(rt: &impl Abort, out: &mut String, name: &PayloadName) {
+    let mut digits = [b'.'; 64];
+    let count = name.print(&mut digits);
+    put_number(rt, out, count as u64);
+    put(rt, out, " ");
+    put(rt, out, text(rt, &digits));
 }
 
 // The standard's examples of SHA-1 and of SHA-256.
@@ -53,6 +69,12 @@ const SHA256: &str = "
 -> 64 e3b0c44298fc1c149afbf4c8996fb92427ae41e4649b934ca495991b7852b855
 abc -> 64 ba7816bf8f01cfea414140de5dae2223b00361a396177a9cb410ff61f20015ad
 abcdbcdecdefdefgefghfghighijhijkijkljklmklmnlmnomnopnopq -> 64 248d6a61d20638b8e5c026930c3e6039a33ce45964ff2167f6ecedd419db06c1
+";
+
+// A million `a`.
+const MILLION: &str = "
+34aa973cd4c4daa4f61eeb2bdbad27316534016f | {a*1057} -> 40 34aa973cd4c4daa4f61eeb2bdbad27316534016f{.*24}
+cdc76e5c9914fb9281a1c7e284d73e67f1809a48a497200e046d39ccc7112cd0 | {a*1057} -> 64 cdc76e5c9914fb9281a1c7e284d73e67f1809a48a497200e046d39ccc7112cd0
 ";
 
 // Names are printed as they are read.
@@ -75,38 +97,21 @@ const OTHERS: &str = "
 0123456789abcdef0123456789abcdef0123456789abcdef0123456789abcdeF -> no name
 ";
 
+const TABLES: &[(Asked, u64, &str)] = &[
+    (Asked::Sha1, 3, SHA1),
+    (Asked::Sha256, 3, SHA256),
+    (Asked::Million, 2, MILLION),
+    (Asked::Name, 2, NAMES),
+    (Asked::Name, 10, OTHERS),
+];
+
+const BYTES: [u8; 20] = [
+    0, 1, 2, 3, 4, 5, 6, 7, 8, 9, 10, 11, 12, 13, 14, 15, 16, 17, 18, 19,
+];
+
 #[test]
 fn reads_prints_and_makes_names(rt: HostRuntime) {
-    let alloc = rt.alloc();
-    holds(&rt, alloc, &mut Asked::Sha1, 3, SHA1);
-    holds(&rt, alloc, &mut Asked::Sha256, 3, SHA256);
-    holds(&rt, alloc, &mut Asked::Name, 2, NAMES);
-    holds(&rt, alloc, &mut Asked::Name, 10, OTHERS);
+    all_hold(&rt, rt.alloc(), TABLES);
     let name = PayloadName::parse("000102030405060708090a0b0c0d0e0f10111213");
-    let bytes = [
-        0, 1, 2, 3, 4, 5, 6, 7, 8, 9, 10, 11, 12, 13, 14, 15, 16, 17, 18, 19,
-    ];
-    assert!(rt; name == Some(PayloadName::Sha1(bytes)));
-}
-
-const MILLION: &str = "34aa973cd4c4daa4f61eeb2bdbad27316534016f
-cdc76e5c9914fb9281a1c7e284d73e67f1809a48a497200e046d39ccc7112cd0";
-
-#[test]
-fn a_million_letters_in_pieces(rt: HostRuntime) {
-    let letters = text(&rt, rt.alloc(), "{a*1057}");
-    let mut names = 0_u8;
-    for digits in MILLION.lines() {
-        let name = PayloadName::parse(digits).expect(&rt, "a name");
-        let mut hasher = Hasher::new(&name);
-        for _ in 0..800 {
-            for size in [1, 63, 64, 65, 1057] {
-                let piece = letters.as_str().as_bytes().get(..size);
-                hasher.update(piece.expect(&rt, "letters"));
-            }
-        }
-        assert!(rt; hasher.finish() == name);
-        names = names.saturating_add(1);
-    }
-    assert!(rt; names == 2);
+    assert!(rt; name == Some(PayloadName::Sha1(BYTES)));
 }

@@ -1,4 +1,4 @@
-use crate::table::{Ask, columns, holds, text, word, yes_or_no};
+use crate::table::{Ask, all_hold, put, put_number, put_yes_or_no, text};
 use ips_fmri::{Fmri, FmriFault, Pattern, Version, matches_stars};
 use ips_text::Or;
 use std::alloc::Global;
@@ -6,53 +6,34 @@ use std::cmp::Ordering;
 use std::process::Abort;
 
 // What a table asks of versions, FMRIs and patterns.
-#[derive(Drop)]
 enum Asked {
-    // How the version is printed, or its fault.
+    // How the version is printed, its release, build, branch and timestamp; or its fault.
     Version,
-    // The release, the build, the branch and the timestamp.
-    VersionParts,
-    Incorporates,
-    // How a copy of the FMRI is printed, or its fault.
+    // How the version stands to each of the others, or else to those that ascend: less, the same or greater; and `+` where it
+    // incorporates them.
+    Compared,
+    // How a copy of the FMRI is printed, and its publisher, stem and release where it has all of them; or its fault.
     Fmri,
-    // The publisher, the stem and the version's release.
-    FmriParts,
     // Whether the pattern is anchored and wild, and how a copy of it is printed; or its fault.
     Pattern,
+    // Whether the pattern equals the stem, or matches it.
     Matches,
-    Equals,
     Admits,
     Stars,
 }
 
 impl Ask for Asked {
-    fn answer(&mut self, rt: &impl Abort, alloc: Global, question: &str) -> String {
-        let (one, two) = columns(question);
-        let one = text(rt, alloc, one);
-        let two = text(rt, alloc, two);
-        let (one, two) = (one.as_str(), two.as_str());
+    fn answer(&self, rt: &impl Abort, alloc: Global, out: &mut String, one: &[u8], two: &[u8]) {
+        let one = text(rt, one);
+        let two = text(rt, two);
         match self {
-            Asked::Version => version(rt, alloc, one),
-            Asked::VersionParts => version_parts(rt, alloc, one),
-            Asked::Fmri => fmri(rt, alloc, one),
-            Asked::FmriParts => fmri_parts(rt, alloc, one),
-            Asked::Pattern => pattern(rt, alloc, one),
-            _ => yes_or_no(rt, alloc, self.is_so(rt, alloc, one, two)),
-        }
-    }
-}
-
-impl Asked {
-    // Whether what is asked is so of two texts.
-    fn is_so(&self, rt: &impl Abort, alloc: Global, one: &str, two: &str) -> bool {
-        match self {
-            Asked::Incorporates => {
-                a_version(rt, alloc, one).incorporates(&a_version(rt, alloc, two))
-            }
-            Asked::Matches => a_pattern(rt, alloc, one).matches(two),
-            Asked::Equals => a_pattern(rt, alloc, one).equals(two),
-            Asked::Admits => a_pattern(rt, alloc, one).admits(&a_version(rt, alloc, two)),
-            _ => matches_stars(one, two),
+            Asked::Version => version(rt, alloc, out, one),
+            Asked::Compared => compared(rt, alloc, out, one, two),
+            Asked::Fmri => fmri(rt, alloc, out, one),
+            Asked::Pattern => pattern(rt, alloc, out, one),
+            Asked::Matches => matches(rt, alloc, out, one, two),
+            Asked::Admits => admits(rt, alloc, out, one, two),
+            Asked::Stars => put_yes_or_no(rt, out, matches_stars(one, two)),
         }
     }
 }
@@ -66,78 +47,143 @@ fn a_pattern(rt: &impl Abort, alloc: Global, text: &str) -> Pattern {
 }
 
 // The part in which a text goes wrong, and the place.
-fn fault(rt: &impl Abort, alloc: Global, fault: Or<FmriFault>) -> String {
+fn put_fault(rt: &impl Abort, out: &mut String, fault: Or<FmriFault>) {
     let (part, place) = match fault {
-        Or::Bad(FmriFault::BadStem { place }) => ("stem", place),
-        Or::Bad(FmriFault::BadPublisher { place }) => ("publisher", place),
-        Or::Bad(FmriFault::BadNumber { place }) => ("number", place),
-        Or::Bad(FmriFault::BadTimestamp { place }) => ("timestamp", place),
-        Or::Bad(FmriFault::Trailing { place }) => ("trailing", place),
-        Or::OutOfMemory => ("memory", 0),
+        Or::Bad(FmriFault::BadStem { place }) => ("bad stem ", place),
+        Or::Bad(FmriFault::BadPublisher { place }) => ("bad publisher ", place),
+        Or::Bad(FmriFault::BadNumber { place }) => ("bad number ", place),
+        Or::Bad(FmriFault::BadTimestamp { place }) => ("bad timestamp ", place),
+        Or::Bad(FmriFault::Trailing { place }) => ("bad trailing ", place),
+        Or::OutOfMemory => ("memory ", 0),
     };
-    format!(in alloc; "bad {part} {place}").expect(rt, "memory")
+    put(rt, out, part);
+    put_number(rt, out, place);
 }
 
-fn version(rt: &impl Abort, alloc: Global, text: &str) -> String {
+fn version(rt: &impl Abort, alloc: Global, out: &mut String, text: &str) {
     match Version::parse(alloc, text) {
         Ok(version) => {
             let printed = version.print(alloc).expect(rt, "memory");
-            word(rt, alloc, printed.as_str())
+            put(rt, out, printed.as_str());
+            put_numbers(rt, out, version.release());
+            put_numbers(rt, out, version.build());
+            put_numbers(rt, out, version.branch());
+            put_numbers(rt, out, version.stamp().as_slice());
+            drop(version);
         }
-        Err(found) => fault(rt, alloc, found),
+        Err(found) => put_fault(rt, out, found),
     }
 }
 
-fn version_parts(rt: &impl Abort, alloc: Global, text: &str) -> String {
-    let version = a_version(rt, alloc, text);
-    let (release, build) = (version.release(), version.build());
-    let (branch, stamp) = (version.branch(), version.stamp());
-    format!(in alloc; "{release:?} {build:?} {branch:?} {stamp:?}").expect(rt, "memory")
+// The numbers in brackets, a blank before each.
+fn put_numbers(rt: &impl Abort, out: &mut String, numbers: &[u64]) {
+    put(rt, out, " [");
+    for number in numbers {
+        put(rt, out, " ");
+        put_number(rt, out, *number);
+    }
+    put(rt, out, " ]");
 }
 
-fn fmri(rt: &impl Abort, alloc: Global, text: &str) -> String {
+fn compared(rt: &impl Abort, alloc: Global, out: &mut String, one: &str, others: &str) {
+    let one = a_version(rt, alloc, one);
+    let others = if others.is_empty() { ASCENDING } else { others };
+    for other in others.split_whitespace() {
+        put_compared(rt, alloc, out, &one, other);
+    }
+    drop(one);
+}
+
+fn put_compared(rt: &impl Abort, alloc: Global, out: &mut String, one: &Version, other: &str) {
+    let other = a_version(rt, alloc, other);
+    let copy = one.copy(alloc).expect(rt, "memory");
+    put(rt, out, relation(one, &copy, &other));
+    put(rt, out, if one.incorporates(&other) { "+" } else { "" });
+    drop(copy);
+    drop(other);
+}
+
+fn relation(one: &Version, copy: &Version, other: &Version) -> &'static str {
+    match (one.order(other), copy.at_least(other), copy == other) {
+        (Ordering::Less, false, false) => "<",
+        (Ordering::Equal, true, true) => "=",
+        (Ordering::Greater, true, false) => ">",
+        _ => "?",
+    }
+}
+
+fn fmri(rt: &impl Abort, alloc: Global, out: &mut String, text: &str) {
     match Fmri::parse(alloc, text) {
         Ok(fmri) => {
             let copy = fmri.copy(alloc).expect(rt, "memory");
             let printed = copy.print(alloc).expect(rt, "memory");
-            word(rt, alloc, printed.as_str())
+            put(rt, out, printed.as_str());
+            put_parts(rt, out, &fmri);
+            drop(copy);
+            drop(fmri);
         }
-        Err(found) => fault(rt, alloc, found),
+        Err(found) => put_fault(rt, out, found),
     }
 }
 
-fn fmri_parts(rt: &impl Abort, alloc: Global, text: &str) -> String {
-    let fmri = Fmri::parse(alloc, text).ok().expect(rt, "an FMRI");
-    let publisher = fmri.publisher.as_ref().expect(rt, "a publisher");
-    let version = fmri.version.as_ref().expect(rt, "a version");
-    let (publisher, stem) = (publisher.as_str(), fmri.stem.as_str());
-    let release = version.release();
-    format!(in alloc; "{publisher} {stem} {release:?}").expect(rt, "memory")
+fn put_parts(rt: &impl Abort, out: &mut String, fmri: &Fmri) {
+    if let (Some(publisher), Some(version)) = (&fmri.publisher, &fmri.version) {
+        put(rt, out, " ");
+        put(rt, out, publisher.as_str());
+        put(rt, out, " ");
+        put(rt, out, fmri.stem.as_str());
+        put_numbers(rt, out, version.release());
+    }
 }
 
-fn pattern(rt: &impl Abort, alloc: Global, text: &str) -> String {
+fn pattern(rt: &impl Abort, alloc: Global, out: &mut String, text: &str) {
     match Pattern::parse(alloc, text) {
         Ok(pattern) => {
-            let anchored = if pattern.anchored { "anchored" } else { "free" };
-            let wild = if pattern.is_wild() { "wild" } else { "plain" };
-            let copy = pattern.copy(alloc).expect(rt, "memory");
-            let printed = copy.print(alloc).expect(rt, "memory");
-            let printed = printed.as_str();
-            format!(in alloc; "{anchored} {wild} {printed}").expect(rt, "memory")
+            put_pattern(rt, alloc, out, &pattern);
+            drop(pattern);
         }
-        Err(found) => fault(rt, alloc, found),
+        Err(found) => put_fault(rt, out, found),
     }
 }
 
-// How two versions stand to one another, whether the first is at least the second, and whether it is the second.
-fn compared(
-    rt: &impl Abort,
-    alloc: Global,
-    one: &Version,
-    two: &Version,
-) -> (Ordering, bool, bool) {
-    let copy = one.copy(alloc).expect(rt, "memory");
-    (one.order(two), copy.at_least(two), copy == *two)
+fn put_pattern(rt: &impl Abort, alloc: Global, out: &mut String, pattern: &Pattern) {
+    put(
+        rt,
+        out,
+        if pattern.anchored {
+            "anchored "
+        } else {
+            "free "
+        },
+    );
+    put(rt, out, if pattern.is_wild() { "wild " } else { "plain " });
+    let copy = pattern.copy(alloc).expect(rt, "memory");
+    let printed = copy.print(alloc).expect(rt, "memory");
+    drop(copy);
+    put(rt, out, printed.as_str());
+}
+
+fn matches(rt: &impl Abort, alloc: Global, out: &mut String, pattern: &str, stem: &str) {
+    let pattern = a_pattern(rt, alloc, pattern);
+    put(rt, out, matched(&pattern, stem));
+    drop(pattern);
+}
+
+fn matched(pattern: &Pattern, stem: &str) -> &'static str {
+    match (pattern.matches(stem), pattern.equals(stem)) {
+        (true, true) => "equals",
+        (true, false) => "matches",
+        (false, true) => "equals alone",
+        (false, false) => "no",
+    }
+}
+
+fn admits(rt: &impl Abort, alloc: Global, out: &mut String, pattern: &str, version: &str) {
+    let pattern = a_pattern(rt, alloc, pattern);
+    let version = a_version(rt, alloc, version);
+    put_yes_or_no(rt, out, pattern.admits(&version));
+    drop(pattern);
+    drop(version);
 }
 
 // Each is less than the next one.
@@ -155,52 +201,47 @@ const ASCENDING: &str = "0
 1.9
 1.10";
 
-#[test]
-fn orders_versions_by_release_branch_timestamp_and_build(rt: HostRuntime) {
-    let alloc = rt.alloc();
-    let mut versions = Vec::new(alloc);
-    for line in ASCENDING.lines() {
-        versions
-            .push(a_version(&rt, alloc, line))
-            .expect(&rt, "memory");
-    }
-    assert!(rt; versions.len() == 13);
-    for (i, one) in versions.iter().enumerate() {
-        for (j, two) in versions.iter().enumerate() {
-            assert!(rt;
-                compared(&rt, alloc, one, two) == (i.cmp(&j), i >= j, i == j),
-                "{i} {j}"
-            );
-        }
-    }
-}
-
-// A version is incorporated by what its parts begin with.
-const INCORPORATED: &str = "
-1.2.3 | 1.2 -> yes
-1.2 | 1.2.3 -> no
-1.20 | 1.2 -> no
-1.3 | 1.2 -> no
-1.2-3.4 | 1.2-3 -> yes
-1.2-4 | 1.2-3 -> no
-1.2 | 1.2-3 -> no
-1.2,5-3 | 1.2,6-3 -> yes
-1-2:20240102T030405Z | 1-2 -> yes
-1-2:20240102T030405Z | 1-2:20240102T030405Z -> yes
-1-2 | 1-2:20240102T030405Z -> no
-1.1-2:20240102T030405Z | 1-2:20240102T030405Z -> no
+// How each of those stands to all of them, by release, branch, timestamp and build.
+const ORDERED: &str = "
+0 -> =+<<<<<<<<<<<<
+1 -> >=+<+<<<<<<<<<<
+1,6 -> >>+=+<<<<<<<<<<
+1-2 -> >>+>+=+<<<<<<<<<
+1,5-2:20240102T030405Z -> >>+>+>+=+<+<<<<<<<
+1,6-2:20240102T030405Z -> >>+>+>+>+=+<<<<<<<
+1-2:20240102T030406Z -> >>+>+>+>>=+<<<<<<
+1,5-2.0 -> >>+>+>+>>>=+<<<<<
+1-3 -> >>+>+>>>>>=+<<<<
+1.2 -> >>+>+>>>>>>=+<<<
+1.2.0 -> >>+>+>>>>>>>+=+<<
+1.9 -> >>+>+>>>>>>>>=+<
+1.10 -> >>+>+>>>>>>>>>=+
 ";
 
-const VERSION_PARTS: &str =
-    "1.2,3.4-5.6:20240102T030405Z -> [1, 2] [3, 4] [5, 6] Some(20240102030405)";
+// A version incorporates what its parts begin with.
+const INCORPORATED: &str = "
+1.2.3 | 1.2 -> >+
+1.2 | 1.2.3 -> <
+1.20 | 1.2 -> >
+1.3 | 1.2 -> >
+1.2-3.4 | 1.2-3 -> >+
+1.2-4 | 1.2-3 -> >
+1.2 | 1.2-3 -> <
+1.2,5-3 | 1.2,6-3 -> <+
+1-2:20240102T030405Z | 1-2 -> >+
+1-2:20240102T030405Z | 1-2:20240102T030405Z -> =+
+1-2 | 1-2:20240102T030405Z -> <
+1.1-2:20240102T030405Z | 1-2:20240102T030405Z -> >
+";
 
 const VERSIONS: &str = "
-0 -> 0
-1-2 -> 1-2
-1,2 -> 1,2
-1:20240131T235959Z -> 1:20240131T235959Z
-0.5.11,5.11-0.175.3:00001201T000000Z -> 0.5.11,5.11-0.175.3:00001201T000000Z
-18446744073709551615 -> 18446744073709551615
+1.2,3.4-5.6:20240102T030405Z -> 1.2,3.4-5.6:20240102T030405Z [ 1 2 ] [ 3 4 ] [ 5 6 ] [ 20240102030405 ]
+0 -> 0 [ 0 ] [ ] [ ] [ ]
+1-2 -> 1-2 [ 1 ] [ ] [ 2 ] [ ]
+1,2 -> 1,2 [ 1 ] [ 2 ] [ ] [ ]
+1:20240131T235959Z -> 1:20240131T235959Z [ 1 ] [ ] [ ] [ 20240131235959 ]
+0.5.11,5.11-0.175.3:00001201T000000Z -> 0.5.11,5.11-0.175.3:00001201T000000Z [ 0 5 11 ] [ 5 11 ] [ 0 175 3 ] [ 1201000000 ]
+18446744073709551615 -> 18446744073709551615 [ 18446744073709551615 ] [ ] [ ] [ ]
 ";
 
 // Where a version goes wrong.
@@ -233,21 +274,11 @@ const VERSION_FAULTS: &str = "
 1:20240102T030405Zx -> bad trailing 18
 ";
 
-#[test]
-fn reads_and_prints_versions(rt: HostRuntime) {
-    let alloc = rt.alloc();
-    holds(&rt, alloc, &mut Asked::Incorporates, 12, INCORPORATED);
-    holds(&rt, alloc, &mut Asked::VersionParts, 1, VERSION_PARTS);
-    holds(&rt, alloc, &mut Asked::Version, 6, VERSIONS);
-    holds(&rt, alloc, &mut Asked::Version, 26, VERSION_FAULTS);
-}
-
-const FMRI_PARTS: &str = "pkg://solaris/web/nginx@1.2 -> solaris web/nginx [1, 2]";
-
 const FMRIS: &str = "
+pkg://solaris/web/nginx@1.2 -> pkg://solaris/web/nginx@1.2 solaris web/nginx [ 1 2 ]
 web/nginx@1.2 -> web/nginx@1.2
 pkg:/web/nginx@1.2 -> web/nginx@1.2
-pkg://solaris/web/nginx@1.2,5-3 -> pkg://solaris/web/nginx@1.2,5-3
+pkg://solaris/web/nginx@1.2,5-3 -> pkg://solaris/web/nginx@1.2,5-3 solaris web/nginx [ 1 2 ]
 pkg://solaris/web/nginx -> pkg://solaris/web/nginx
 pkg -> pkg
 pkg@1 -> pkg@1
@@ -300,15 +331,6 @@ a@1,11{.1*125} -> bad trailing 256
 a@11{.1*127}x -> bad number 258
 ";
 
-#[test]
-fn reads_and_prints_fmris(rt: HostRuntime) {
-    let alloc = rt.alloc();
-    holds(&rt, alloc, &mut Asked::FmriParts, 1, FMRI_PARTS);
-    holds(&rt, alloc, &mut Asked::Fmri, 8, FMRIS);
-    holds(&rt, alloc, &mut Asked::Fmri, 23, FMRI_FAULTS);
-    holds(&rt, alloc, &mut Asked::Fmri, 14, BOUNDS);
-}
-
 const PATTERN_BOUNDS: &str = "
 {**85} -> free wild {**85}
 {**86} -> bad stem 86
@@ -327,44 +349,41 @@ pkg://*/a -> bad publisher 6
 *@* -> bad number 2
 ";
 
-// Which stems a pattern matches.
+// Which stems a pattern matches, and which it equals.
 const MATCHES: &str = "
-nginx | web/nginx -> yes
-nginx | web/server/nginx -> yes
-server/nginx | web/server/nginx -> yes
+nginx | web/nginx -> matches
+nginx | web/server/nginx -> matches
+server/nginx | web/server/nginx -> matches
 /nginx | web/nginx -> no
-/web/nginx | web/nginx -> yes
+/web/nginx | web/nginx -> equals
 pkg:/nginx | web/nginx -> no
 pkg://p/nginx | web/nginx -> no
 ginx | web/nginx -> no
 web | web/nginx -> no
-* | web/nginx -> yes
-web*x | web/nginx -> yes
-/w*/*x | web/nginx -> yes
-w?b/nginx | web/nginx -> yes
+* | web/nginx -> matches
+web*x | web/nginx -> matches
+/w*/*x | web/nginx -> matches
+w?b/nginx | web/nginx -> matches
 nginx? | web/nginx -> no
-nginx* | web/nginx -> yes
+nginx* | web/nginx -> matches
 ?nginx | web/nginx -> no
-/a*b*c | abbcbc -> yes
-/a*bc*d | abbcbcd -> yes
+/a*b*c | abbcbc -> matches
+/a*bc*d | abbcbcd -> matches
 /a*bd*c | abbcbc -> no
-/a**c | ac -> yes
+/a**c | ac -> matches
 /a*a | a -> no
-/? | ü -> yes
+/? | ü -> matches
 /?? | ü -> no
 /*? | -> no
-/* | -> yes
+/* | -> matches
+nginx@1.2 | nginx -> equals
+nginx@1.2 | web/nginx -> matches
 ";
 
 // A search that tries each way to share the text among the stars would take longer than any test has.
 const HOSTILE: &str = "
-{*a*63} | {a*2000} -> yes
+{*a*63} | {a*2000} -> matches
 {*a*62}*b | {a/*1000} -> no
-";
-
-const EQUAL_STEMS: &str = "
-nginx@1.2 | nginx -> yes
-nginx@1.2 | web/nginx -> no
 ";
 
 const ADMITTED: &str = "
@@ -387,14 +406,23 @@ facet.loc?le.* | facet.loc?le.de -> yes
 *a*b | üab -> yes
 ";
 
+const TABLES: &[(Asked, u64, &str)] = &[
+    (Asked::Compared, 13, ORDERED),
+    (Asked::Compared, 12, INCORPORATED),
+    (Asked::Version, 7, VERSIONS),
+    (Asked::Version, 26, VERSION_FAULTS),
+    (Asked::Fmri, 9, FMRIS),
+    (Asked::Fmri, 23, FMRI_FAULTS),
+    (Asked::Fmri, 14, BOUNDS),
+    (Asked::Pattern, 2, PATTERN_BOUNDS),
+    (Asked::Pattern, 10, PATTERNS),
+    (Asked::Matches, 27, MATCHES),
+    (Asked::Matches, 2, HOSTILE),
+    (Asked::Admits, 3, ADMITTED),
+    (Asked::Stars, 10, STARS),
+];
+
 #[test]
-fn reads_and_matches_patterns(rt: HostRuntime) {
-    let alloc = rt.alloc();
-    holds(&rt, alloc, &mut Asked::Pattern, 2, PATTERN_BOUNDS);
-    holds(&rt, alloc, &mut Asked::Pattern, 10, PATTERNS);
-    holds(&rt, alloc, &mut Asked::Matches, 25, MATCHES);
-    holds(&rt, alloc, &mut Asked::Matches, 2, HOSTILE);
-    holds(&rt, alloc, &mut Asked::Equals, 2, EQUAL_STEMS);
-    holds(&rt, alloc, &mut Asked::Admits, 3, ADMITTED);
-    holds(&rt, alloc, &mut Asked::Stars, 10, STARS);
+fn versions_fmris_and_patterns(rt: HostRuntime) {
+    all_hold(&rt, rt.alloc(), TABLES);
 }

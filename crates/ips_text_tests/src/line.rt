@@ -1,109 +1,121 @@
-use crate::table::{Ask, holds, text, word};
-use ips_line::{WordFault, Words, push_words, read_words};
+use crate::table::{Ask, all_hold, put, put_number, text};
+use ips_line::{Word, WordFault, Words, push_words, read_words};
 use ips_text::Or;
 use std::alloc::Global;
 use std::process::Abort;
 
-// What a table asks of lines.
-#[derive(Drop)]
-enum Asked {
-    // The name and the payload with their places, and how many pairs there are; or the fault.
-    Words,
-    // The value of the second of two pairs as it is, and spelled canonically.
-    Value,
-}
+// What a table asks of lines: the name and the payload with their places, how many pairs there are and the second one, and the
+// canonical line; or the fault.
+struct Said;
 
-impl Ask for Asked {
-    fn answer(&mut self, rt: &impl Abort, alloc: Global, question: &str) -> String {
-        let question = text(rt, alloc, question);
-        match self {
-            Asked::Words => words(rt, alloc, question.as_str()),
-            Asked::Value => value(rt, alloc, question.as_str()),
+impl Ask for Said {
+    fn answer(&self, rt: &impl Abort, alloc: Global, out: &mut String, one: &[u8], _: &[u8]) {
+        match read_words(alloc, text(rt, one)) {
+            Ok(words) => {
+                put_words(rt, out, &words);
+                put_canonical(rt, out, &words);
+                drop(words);
+            }
+            Err(found) => put_fault(rt, out, found),
         }
     }
 }
 
-fn words(rt: &impl Abort, alloc: Global, line: &str) -> String {
-    match read_words(alloc, line) {
-        Ok(words) => told(rt, alloc, &words),
-        Err(Or::Bad(WordFault::BadWord { place })) => {
-            format!(in alloc; "word {place}").expect(rt, "memory")
-        }
-        Err(Or::Bad(WordFault::OpenQuote { place })) => {
-            format!(in alloc; "quote {place}").expect(rt, "memory")
-        }
-        Err(Or::OutOfMemory) => word(rt, alloc, "out of memory"),
+fn put_fault(rt: &impl Abort, out: &mut String, fault: Or<WordFault>) {
+    let (what, place) = match fault {
+        Or::Bad(WordFault::BadWord { place }) => ("word ", place),
+        Or::Bad(WordFault::OpenQuote { place }) => ("quote ", place),
+        Or::OutOfMemory => ("memory ", 0),
+    };
+    put(rt, out, what);
+    put_number(rt, out, place);
+}
+
+fn put_words(rt: &impl Abort, out: &mut String, words: &Words) {
+    put_word(rt, out, words.name);
+    if let Some(payload) = words.payload {
+        put_word(rt, out, payload);
+    }
+    put_number(rt, out, words.pairs.len() as u64);
+    if let Some(pair) = words.pairs.get(1) {
+        put(rt, out, " ");
+        put(rt, out, pair.key.as_str());
+        put(rt, out, "=[");
+        put(rt, out, pair.value.as_str());
+        put(rt, out, "]");
     }
 }
 
-fn told(rt: &impl Abort, alloc: Global, words: &Words) -> String {
-    let (name, name_place) = (words.name.text, words.name.place);
-    let pairs = words.pairs.len();
-    match words.payload {
-        Some(word) => {
-            let (payload, place) = (word.text, word.place);
-            format!(in alloc; "{name} at {name_place}, {payload} at {place}, {pairs}")
-        }
-        None => format!(in alloc; "{name} at {name_place}, {pairs}"),
-    }
-    .expect(rt, "memory")
+fn put_word(rt: &impl Abort, out: &mut String, word: Word) {
+    put(rt, out, word.text);
+    put(rt, out, " at ");
+    put_number(rt, out, word.place);
+    put(rt, out, ", ");
 }
 
-// The canonical line of what a line says.
-fn canonical(rt: &impl Abort, alloc: Global, line: &str) -> String {
-    let words = read_words(alloc, line).ok().expect(rt, "a line");
+fn put_canonical(rt: &impl Abort, out: &mut String, words: &Words) {
     let payload = match words.payload {
         Some(word) => Some(word.text),
         None => None,
     };
-    let mut out = String::new(alloc);
-    push_words(&mut out, words.name.text, payload, &words.pairs).expect(rt, "memory");
-    out
-}
-
-// The value behind `value=`, in brackets, and how the canonical line spells it, where that line is its own canonical line.
-fn value(rt: &impl Abort, alloc: Global, written: &str) -> String {
-    let line = format!(in alloc; "set name=n  value={written} ").expect(rt, "memory");
-    let once = canonical(rt, alloc, line.as_str());
-    let again = canonical(rt, alloc, once.as_str());
-    let words = read_words(alloc, line.as_str()).ok().expect(rt, "a line");
-    let pair = words.pairs.get(1).expect(rt, "a second pair");
-    let (count, key, value) = (words.pairs.len(), pair.key.as_str(), pair.value.as_str());
-    assert!(rt; count == 2 && key == "value", "{count} {key}");
-    assert!(rt; again.as_str() == once.as_str(), "{once} {again}");
-    let front = "set name=n value=";
-    let spelled = once.as_str().strip_prefix(front).unwrap_or("another line");
-    format!(in alloc; "[{value}] {spelled}").expect(rt, "memory")
+    put(rt, out, ": ");
+    push_words(out, words.name.text, payload, &words.pairs).expect(rt, "memory");
 }
 
 // Names, payloads and pairs.
 const WORDS: &str = r#"
-set -> set at 0, 0
-{blank}{tab} set{tab}{blank} -> set at 3, 0
-file abc path=a -> file at 0, abc at 5, 1
-file  {tab} a"b path=a{blank} -> file at 0, a"b at 8, 1
-dir path=a mode=0755 -> dir at 0, 2
-a=b c=d -> a=b at 0, 1
-"x y=z -> "x at 0, 1
-é ü=ö -> é at 0, 1
+set -> set at 0, 0: set
+{blank}{tab} set{tab}{blank} -> set at 3, 0: set
+file abc path=a -> file at 0, abc at 5, 1: file abc path=a
+file  {tab} a"b path=a{blank} -> file at 0, a"b at 8, 1: file a"b path=a
+dir path=a mode=0755 -> dir at 0, 2 mode=[0755]: dir path=a mode=0755
+a=b c=d -> a=b at 0, 1: a=b c=d
+"x y=z -> "x at 0, 1: "x y=z
+é ü=ö -> é at 0, 1: é ü=ö
 "#;
 
 // Values and how they are spelled canonically.
 const VALUES: &str = r#"
-x -> [x] x
-x=y"z' -> [x=y"z'] "x=y\"z'"
-\ -> [\] "\\"
-"" -> [] ""
-'' -> [] ""
-"a b" -> [a b] "a b"
-'a{tab}b' -> [a{tab}b] "a{tab}b"
-'it\'s' -> [it's] "it's"
-'\"' -> [\"] "\\\""
-"a\"b\\c\d" -> [a"b\c\d] "a\"b\\c\\d"
-"it's" -> [it's] "it's"
-"plain" -> [plain] plain
-a¶b -> [a¶b] a¶b
-"é ü" -> [é ü] "é ü"
+set name=n  value=x{blank} -> set at 0, 2 value=[x]: set name=n value=x
+set name=n  value=x=y"z'{blank} -> set at 0, 2 value=[x=y"z']: set name=n value="x=y\"z'"
+set name=n  value=\{blank} -> set at 0, 2 value=[\]: set name=n value="\\"
+set name=n  value=""{blank} -> set at 0, 2 value=[]: set name=n value=""
+set name=n  value=''{blank} -> set at 0, 2 value=[]: set name=n value=""
+set name=n  value="a b"{blank} -> set at 0, 2 value=[a b]: set name=n value="a b"
+set name=n  value='a{tab}b'{blank} -> set at 0, 2 value=[a{tab}b]: set name=n value="a{tab}b"
+set name=n  value='it\'s'{blank} -> set at 0, 2 value=[it's]: set name=n value="it's"
+set name=n  value='\"'{blank} -> set at 0, 2 value=[\"]: set name=n value="\\\""
+set name=n  value="a\"b\\c\d"{blank} -> set at 0, 2 value=[a"b\c\d]: set name=n value="a\"b\\c\\d"
+set name=n  value="it's"{blank} -> set at 0, 2 value=[it's]: set name=n value="it's"
+set name=n  value="plain"{blank} -> set at 0, 2 value=[plain]: set name=n value=plain
+set name=n  value=a¶b{blank} -> set at 0, 2 value=[a¶b]: set name=n value=a¶b
+set name=n  value="é ü"{blank} -> set at 0, 2 value=[é ü]: set name=n value="é ü"
+"#;
+
+// The canonical lines of all of those are their own ones.
+const CANONICAL: &str = r#"
+set -> set at 0, 0: set
+set -> set at 0, 0: set
+file abc path=a -> file at 0, abc at 5, 1: file abc path=a
+file a"b path=a -> file at 0, a"b at 5, 1: file a"b path=a
+dir path=a mode=0755 -> dir at 0, 2 mode=[0755]: dir path=a mode=0755
+a=b c=d -> a=b at 0, 1: a=b c=d
+"x y=z -> "x at 0, 1: "x y=z
+é ü=ö -> é at 0, 1: é ü=ö
+set name=n value=x -> set at 0, 2 value=[x]: set name=n value=x
+set name=n value="x=y\"z'" -> set at 0, 2 value=[x=y"z']: set name=n value="x=y\"z'"
+set name=n value="\\" -> set at 0, 2 value=[\]: set name=n value="\\"
+set name=n value="" -> set at 0, 2 value=[]: set name=n value=""
+set name=n value="" -> set at 0, 2 value=[]: set name=n value=""
+set name=n value="a b" -> set at 0, 2 value=[a b]: set name=n value="a b"
+set name=n value="a{tab}b" -> set at 0, 2 value=[a{tab}b]: set name=n value="a{tab}b"
+set name=n value="it's" -> set at 0, 2 value=[it's]: set name=n value="it's"
+set name=n value="\\\"" -> set at 0, 2 value=[\"]: set name=n value="\\\""
+set name=n value="a\"b\\c\\d" -> set at 0, 2 value=[a"b\c\d]: set name=n value="a\"b\\c\\d"
+set name=n value="it's" -> set at 0, 2 value=[it's]: set name=n value="it's"
+set name=n value=plain -> set at 0, 2 value=[plain]: set name=n value=plain
+set name=n value=a¶b -> set at 0, 2 value=[a¶b]: set name=n value=a¶b
+set name=n value="é ü" -> set at 0, 2 value=[é ü]: set name=n value="é ü"
 "#;
 
 // A fault is at the first place that no line continues.
@@ -130,10 +142,14 @@ set a=b  c='d\ -> quote 11
 file p a="b" c="d e -> quote 15
 "#;
 
+const TABLES: &[(Said, u64, &str)] = &[
+    (Said, 8, WORDS),
+    (Said, 14, VALUES),
+    (Said, 22, CANONICAL),
+    (Said, 20, FAULTS),
+];
+
 #[test]
 fn reads_words_of_a_line(rt: HostRuntime) {
-    let alloc = rt.alloc();
-    holds(&rt, alloc, &mut Asked::Words, 8, WORDS);
-    holds(&rt, alloc, &mut Asked::Value, 14, VALUES);
-    holds(&rt, alloc, &mut Asked::Words, 20, FAULTS);
+    all_hold(&rt, rt.alloc(), TABLES);
 }

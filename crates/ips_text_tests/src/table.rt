@@ -1,67 +1,72 @@
-//! Tables of cases as texts. A line is a case: `question -> answer`. Empty lines, and those that begin with `#` and say what
-//! the cases below them mean, are no cases.
+//! Tables of cases as texts. A line is a case: `question -> answer`, and a question has one column or two, as `one | two`. Empty
+//! lines, and those that begin with `#` and say what the cases below them mean, are no cases.
 //!
-//! In an answer, and in a question where its kind reads it by `spelled` or `text`, `¶` is the end of a line, `{blank}` and `{tab}`
-//! are what they are called, `{0xff}` is the byte of that number, and `{a*255}` is 255 times `a`.
+//! In each column `¶` is the end of a line, `{blank}` and `{tab}` are what they are called, `{0xff}` is the byte of that number,
+//! and `{a*255}` is 255 times `a`.
 
 use std::alloc::Global;
 use std::process::Abort;
 
 /// A kind of question, whose answers are short texts.
 pub trait Ask {
-    fn answer(&mut self, rt: &impl Abort, alloc: Global, question: &str) -> String;
+    /// Adds the answer to the bytes of the two columns.
+    fn answer(&self, rt: &impl Abort, alloc: Global, out: &mut String, one: &[u8], two: &[u8]);
+}
+
+/// Each of the tables holds: a kind of question, how many cases there are, and the cases.
+pub fn all_hold<Q: Ask>(rt: &impl Abort, alloc: Global, tables: &[(Q, u64, &str)]) {
+    for (kind, cases, table) in tables {
+        holds(rt, alloc, kind, *cases, table);
+    }
 }
 
 /// Each case of the table has its answer, and there are so many cases.
-pub fn holds(rt: &impl Abort, alloc: Global, kind: &mut impl Ask, cases: u64, table: &str) {
+pub fn holds<Q: Ask>(rt: &impl Abort, alloc: Global, kind: &Q, cases: u64, table: &str) {
     let mut count = 0_u64;
     for line in table.lines() {
         let row = line.trim();
-        if row.is_empty() || row.starts_with('#') {
-            continue;
+        if !row.is_empty() && !row.starts_with('#') {
+            case(rt, alloc, kind, row);
+            count = count.saturating_add(1);
         }
-        let (question, wanted) = row.split_once("->").expect(rt, "a case has an answer");
-        let answer = kind.answer(rt, alloc, question.trim());
-        let wanted = spelled(rt, alloc, wanted.trim());
-        assert!(rt;
-            answer.as_str().as_bytes() == wanted.as_slice(),
-            "{row} but {answer}"
-        );
-        count = count.saturating_add(1);
     }
     assert!(rt; count == cases, "{count} cases");
 }
 
-/// The bytes that a column spells.
-pub fn spelled(rt: &impl Abort, alloc: Global, column: &str) -> Vec<u8> {
+fn case<Q: Ask>(rt: &impl Abort, alloc: Global, kind: &Q, row: &str) {
+    let row = row.replace(alloc, '¶', "\n").expect(rt, "memory");
+    let (question, wanted) = row.split_once("->").expect(rt, "a case has an answer");
+    let (one, two) = question.split_once('|').unwrap_or((question, ""));
     let mut bytes = Vec::new(alloc);
-    for (i, piece) in column.split('{').enumerate() {
-        match piece.split_once('}') {
+    spell(rt, &mut bytes, one);
+    let middle = bytes.len();
+    spell(rt, &mut bytes, two);
+    let (one, two) = bytes.split_at_checked(middle).expect(rt, "two columns");
+    let mut answer = String::new(alloc);
+    kind.answer(rt, alloc, &mut answer, one, two);
+    bytes.clear();
+    spell(rt, &mut bytes, wanted);
+    assert!(rt;
+        answer.as_str().as_bytes() == bytes.as_slice(),
+        "{row} but {answer}"
+    );
+}
+
+// Adds the bytes that a column between blanks spells.
+fn spell(rt: &impl Abort, out: &mut Vec<u8>, column: &str) {
+    for (i, piece) in column.trim_matches(' ').split('{').enumerate() {
+        let behind = match piece.split_once('}') {
             Some((name, behind)) => {
-                push_named(rt, &mut bytes, name);
-                push_lines(rt, &mut bytes, behind);
+                push_named(rt, out, name);
+                behind
             }
             None => {
                 assert!(rt; i == 0, "an open brace");
-                push_lines(rt, &mut bytes, piece);
+                piece
             }
-        }
-    }
-    bytes
-}
-
-/// The text that a column spells.
-pub fn text(rt: &impl Abort, alloc: Global, column: &str) -> String {
-    let bytes = spelled(rt, alloc, column);
-    String::from_utf8(bytes).ok().expect(rt, "a text")
-}
-
-fn push_lines(rt: &impl Abort, out: &mut Vec<u8>, text: &str) {
-    for (i, line) in text.split('¶').enumerate() {
-        if i > 0 {
-            out.push(b'\n').expect(rt, "memory");
-        }
-        out.extend_from_slice(line.as_bytes()).expect(rt, "memory");
+        };
+        out.extend_from_slice(behind.as_bytes())
+            .expect(rt, "memory");
     }
 }
 
@@ -84,20 +89,22 @@ fn push_named(rt: &impl Abort, out: &mut Vec<u8>, name: &str) {
     out.push(byte).expect(rt, "memory");
 }
 
-/// The two columns of a question.
-pub fn columns(question: &str) -> (&str, &str) {
-    match question.split_once('|') {
-        Some((one, two)) => (one.trim(), two.trim()),
-        None => (question, ""),
-    }
+/// The text of a column.
+pub fn text<'a>(rt: &impl Abort, column: &'a [u8]) -> &'a str {
+    str::from_utf8(column).expect(rt, "a text")
 }
 
-/// An answer of these words.
-pub fn word(rt: &impl Abort, alloc: Global, words: &str) -> String {
-    String::from_str(alloc, words).expect(rt, "memory")
+/// Adds words to an answer.
+pub fn put(rt: &impl Abort, out: &mut String, words: &str) {
+    out.push_str(words).expect(rt, "memory");
 }
 
-/// `yes` or `no`.
-pub fn yes_or_no(rt: &impl Abort, alloc: Global, is: bool) -> String {
-    word(rt, alloc, if is { "yes" } else { "no" })
+/// Adds a number to an answer.
+pub fn put_number(rt: &impl Abort, out: &mut String, number: u64) {
+    write!(out, "{number}").expect(rt, "memory");
+}
+
+/// Adds `yes` or `no` to an answer.
+pub fn put_yes_or_no(rt: &impl Abort, out: &mut String, is: bool) {
+    put(rt, out, if is { "yes" } else { "no" });
 }

@@ -1,4 +1,6 @@
-use crate::table::{Ask, columns, holds, spelled, word, yes_or_no};
+ghost use Rattle.std.specs.Prelude.{◌≤◌};
+
+use crate::table::{Ask, all_hold, put, put_number, put_yes_or_no, text};
 use ips_text::{
     Or, PathFault, RelPath, Text, covers, decimal, fits_name, number, octal, parent, quote,
     show_path, unquote,
@@ -8,38 +10,35 @@ use std::cmp::Ordering;
 use std::process::Abort;
 
 // What a table asks of bytes.
-#[derive(Drop)]
 enum Asked {
+    // How the path is shown and what it lies below, or its first fault.
     Path,
+    // The path, which keeps room, and what it is behind each of three others that is set in its place, and whether it is greater.
+    Set,
     Covers,
-    Parent,
-    Decimal,
-    Number,
-    Octal,
+    // The decimal number and the mode.
+    Whole,
+    // The number in front and what is behind it, or how much is left where it stops.
+    Front,
+    // How the bytes are quoted, and whether they fit a name then.
     Quoted,
+    // Whether the text is what these bytes are quoted as, or bad.
     Unquoted,
-    FitsName,
-    Shown,
+    // How a copy of one text stands to another one.
     Order,
 }
 
 impl Ask for Asked {
-    fn answer(&mut self, rt: &impl Abort, alloc: Global, question: &str) -> String {
-        let (one, two) = columns(question);
-        let bytes = spelled(rt, alloc, one);
-        let bytes = bytes.as_slice();
+    fn answer(&self, rt: &impl Abort, alloc: Global, out: &mut String, one: &[u8], two: &[u8]) {
         match self {
-            Asked::Path => word(rt, alloc, path(alloc, bytes)),
-            Asked::Covers => yes_or_no(rt, alloc, covers(bytes, two.as_bytes())),
-            Asked::Parent => parent_of(rt, alloc, bytes),
-            Asked::Decimal => decimal_of(rt, alloc, bytes),
-            Asked::Number => number_of(rt, alloc, bytes),
-            Asked::Octal => octal_of(rt, alloc, bytes),
-            Asked::Quoted => quoted(rt, alloc, bytes),
-            Asked::Unquoted => word(rt, alloc, unquoted(alloc, bytes)),
-            Asked::FitsName => yes_or_no(rt, alloc, fits_name(bytes)),
-            Asked::Shown => shown(rt, alloc, bytes),
-            Asked::Order => word(rt, alloc, order(rt, alloc, one, two)),
+            Asked::Path => path(rt, alloc, out, one),
+            Asked::Set => set(rt, alloc, out, one, text(rt, two)),
+            Asked::Covers => put_yes_or_no(rt, out, covers(one, two)),
+            Asked::Whole => whole(rt, out, one),
+            Asked::Front => front(rt, out, one),
+            Asked::Quoted => quoted(rt, alloc, out, one),
+            Asked::Unquoted => unquoted(rt, alloc, out, one, two),
+            Asked::Order => order(rt, alloc, out, text(rt, one), text(rt, two)),
         }
     }
 }
@@ -56,88 +55,111 @@ fn fault(fault: PathFault) -> &'static str {
     }
 }
 
-// Whether the bytes are a path, and one that has those bytes; or their first fault.
-fn path(alloc: Global, bytes: &[u8]) -> &'static str {
+fn path(rt: &impl Abort, alloc: Global, out: &mut String, bytes: &[u8]) {
     match RelPath::parse(alloc, bytes) {
         Ok(path) => {
-            if path.bytes() == bytes {
-                "path"
-            } else {
-                "another path"
-            }
+            let shown = show_path(alloc, &path).expect(rt, "memory");
+            put(rt, out, shown.as_str());
+            put(rt, out, " below ");
+            put(rt, out, text(rt, parent(bytes).unwrap_or(b"none")));
         }
-        Err(Or::Bad(found)) => fault(found),
-        Err(Or::OutOfMemory) => "out of memory",
+        Err(Or::Bad(found)) => put(rt, out, fault(found)),
+        Err(Or::OutOfMemory) => put(rt, out, "out of memory"),
     }
 }
 
-fn parent_of(rt: &impl Abort, alloc: Global, bytes: &[u8]) -> String {
-    let above = parent(bytes).unwrap_or(b"none");
-    word(rt, alloc, str::from_utf8(above).expect(rt, "a text"))
+fn set(rt: &impl Abort, alloc: Global, out: &mut String, first: &[u8], others: &str) {
+    let (second, rest) = others.split_once(' ').expect(rt, "another path");
+    let (third, last) = rest.split_once(' ').expect(rt, "another path");
+    let mut path = RelPath::with_room(alloc, first).ok().expect(rt, "a path");
+    put(rt, out, text(rt, path.bytes()));
+    set_one(rt, alloc, out, &mut path, second);
+    set_one(rt, alloc, out, &mut path, third);
+    set_one(rt, alloc, out, &mut path, last);
 }
 
-fn decimal_of(rt: &impl Abort, alloc: Global, bytes: &[u8]) -> String {
+fn set_one(rt: &impl Abort, alloc: Global, out: &mut String, path: &mut RelPath, other: &str)
+    requires { 1023 ≤ path.old.room }
+    ensures { 1023 ≤ path.new.room }
+{
+    let before = path.copy(alloc).expect(rt, "memory");
+    assert!(rt; before == *path, "another copy");
+    let found = match path.set(other.as_bytes()) {
+        Ok(()) => "set",
+        Err(found) => fault(found),
+    };
+    let is_greater = before < *path;
+    put(rt, out, "; ");
+    put(rt, out, found);
+    put(rt, out, ": ");
+    put(rt, out, text(rt, path.bytes()));
+    put(rt, out, if is_greater { ", greater" } else { "" });
+}
+
+fn whole(rt: &impl Abort, out: &mut String, bytes: &[u8]) {
     match decimal(bytes) {
-        Some(value) => format!(in alloc; "{value}").expect(rt, "memory"),
-        None => word(rt, alloc, "none"),
+        Some(value) => put_number(rt, out, value),
+        None => put(rt, out, "none"),
+    }
+    match octal(bytes) {
+        Some(mode) => write!(out, " {mode:o}").expect(rt, "memory"),
+        None => put(rt, out, " none"),
     }
 }
 
-// The number in front and what is behind it, or how much is left where it stops.
-fn number_of(rt: &impl Abort, alloc: Global, bytes: &[u8]) -> String {
+fn front(rt: &impl Abort, out: &mut String, bytes: &[u8]) {
     match number((), bytes) {
         Ok((value, rest)) => {
-            let rest = str::from_utf8(rest).expect(rt, "a text");
-            format!(in alloc; "{value} and {rest}").expect(rt, "memory")
+            put_number(rt, out, value);
+            put(rt, out, " and ");
+            put(rt, out, text(rt, rest));
         }
         Err(stop) => {
-            let left = stop.left;
-            format!(in alloc; "stops with {left} left").expect(rt, "memory")
+            put_number(rt, out, stop.left as u64);
+            put(rt, out, " left");
         }
     }
 }
 
-fn octal_of(rt: &impl Abort, alloc: Global, bytes: &[u8]) -> String {
-    match octal(bytes) {
-        Some(mode) => format!(in alloc; "{mode:o}").expect(rt, "memory"),
-        None => word(rt, alloc, "none"),
-    }
-}
-
-// The bytes quoted, where that is unquoted to the bytes.
-fn quoted(rt: &impl Abort, alloc: Global, bytes: &[u8]) -> String {
-    let quoted = quote(alloc, bytes).expect(rt, "memory");
-    let back = unquote(alloc, quoted.as_str().as_bytes());
-    let back = back.ok().expect(rt, "a quoted text");
-    let is_back = back.as_slice() == bytes;
-    word(
+fn quoted(rt: &impl Abort, alloc: Global, out: &mut String, bytes: &[u8]) {
+    put(
         rt,
-        alloc,
-        if is_back { quoted.as_str() } else { "not back" },
-    )
+        out,
+        if fits_name(bytes) {
+            "fits: "
+        } else {
+            "too long: "
+        },
+    );
+    let quoted = quote(alloc, bytes).expect(rt, "memory");
+    put(rt, out, quoted.as_str());
 }
 
-fn unquoted(alloc: Global, bytes: &[u8]) -> &'static str {
-    let found = unquote(alloc, bytes);
-    if matches!(found, Err(Or::Bad(_))) {
-        "bad"
-    } else {
-        "good"
-    }
+fn unquoted(rt: &impl Abort, alloc: Global, out: &mut String, quoted: &[u8], bytes: &[u8]) {
+    put(
+        rt,
+        out,
+        match unquote(alloc, quoted) {
+            Ok(found) => if found.as_slice() == bytes {
+                "so"
+            } else {
+                "other bytes"
+            },
+            Err(Or::Bad(_)) => "bad",
+            Err(Or::OutOfMemory) => "out of memory",
+        },
+    );
 }
 
-fn shown(rt: &impl Abort, alloc: Global, bytes: &[u8]) -> String {
-    let path = RelPath::parse(alloc, bytes).ok().expect(rt, "a path");
-    let shown = show_path(alloc, &path).expect(rt, "memory");
-    word(rt, alloc, shown.as_str())
-}
-
-// How a copy of one text stands to another one.
-fn order(rt: &impl Abort, alloc: Global, one: &str, two: &str) -> &'static str {
+fn order(rt: &impl Abort, alloc: Global, out: &mut String, one: &str, two: &str) {
     let one = Text::new(alloc, one).expect(rt, "memory");
     let one = one.copy(alloc).expect(rt, "memory");
     let two = Text::new(alloc, two).expect(rt, "memory");
-    match (one.cmp(&two), one == two) {
+    put(rt, out, relation(&one, &two));
+}
+
+fn relation(one: &Text, two: &Text) -> &'static str {
+    match (one.cmp(two), one == two) {
         (Ordering::Less, false) => "less",
         (Ordering::Equal, true) => "equal",
         (Ordering::Greater, false) => "greater",
@@ -145,14 +167,14 @@ fn order(rt: &impl Abort, alloc: Global, one: &str, two: &str) -> &'static str {
     }
 }
 
-// A path, or the first fault.
+// A path and what it lies below, or the first fault.
 const PATHS: &str = "
-usr/share/hello -> path
-a -> path
-... -> path
-.hidden/..x -> path
-a b -> path
-ü -> path
+usr/share/hello -> usr/share/hello below usr/share
+a -> a below none
+... -> ... below none
+.hidden/..x -> .hidden/..x below .hidden
+a b -> a%20b below none
+ü -> %C3%BC below none
 -> empty
 / -> absolute
 /.. -> absolute
@@ -164,16 +186,26 @@ a//{0x00} -> empty part
 a{0x00}{0xff} -> nul byte
 a{0xff} -> not text
 {0xc0}{0xaf} -> not text
+usr/bin/ls -> usr/bin/ls below usr/bin
+usr/bin -> usr/bin below usr
+usr -> usr below none
+# As they are shown.
+usr/bin/ls -> usr/bin/ls below usr/bin
+a b/c%2F -> a%20b/c%252F below a b
+À/x¶y -> %C3%80/x%0Ay below À
+# The bounds of a part and of a path.
+{a*256} -> too long
+{a*255} -> {a*255} below none
+{a*255}{/a*384} -> {a*255}{/a*384} below {a*255}{/a*383}
+{a*254}{/a*385} -> too long
+a{/a*511} -> a{/a*511} below a{/a*510}
+aa{/a*511} -> too long
 ";
 
-// The bounds of a part and of a path.
-const BOUNDS: &str = "
-{a*256} -> too long
-{a*255} -> path
-{a*255}{/a*384} -> path
-{a*254}{/a*385} -> too long
-a{/a*511} -> path
-aa{/a*511} -> too long
+// What isn't set leaves the path as it was.
+const SET: &str = "
+a | b{/a*511} c/d e/.. -> a; set: b{/a*511}, greater; set: c/d, greater; dot part: c/d
+c | c/d c c/d -> c; set: c/d, greater; set: c; set: c/d, greater
 ";
 
 const COVERING: &str = "
@@ -184,98 +216,73 @@ usr/bin | usr -> no
 usr/b | usr/bin -> no
 ";
 
-const PARENTS: &str = "
-usr/bin/ls -> usr/bin
-usr/bin -> usr
-usr -> none
-";
-
-const SHOWN: &str = "
-usr/bin/ls -> usr/bin/ls
-a b/c%2F -> a%20b/c%252F
-À/x¶y -> %C3%80/x%0Ay
-";
-
-#[test]
-fn reads_places_and_shows_paths(rt: HostRuntime) {
-    let alloc = rt.alloc();
-    holds(&rt, alloc, &mut Asked::Path, 17, PATHS);
-    holds(&rt, alloc, &mut Asked::Path, 6, BOUNDS);
-    holds(&rt, alloc, &mut Asked::Covers, 5, COVERING);
-    holds(&rt, alloc, &mut Asked::Parent, 3, PARENTS);
-    holds(&rt, alloc, &mut Asked::Shown, 3, SHOWN);
-}
-
-#[test]
-fn sets_a_path_that_keeps_room(rt: HostRuntime) {
-    let alloc = rt.alloc();
-    let mut path = RelPath::with_room(alloc, b"a").ok().expect(&rt, "a path");
-    assert!(rt; path.bytes() == b"a".as_slice());
-    let longest = spelled(&rt, alloc, "b{/a*511}");
-    assert!(rt; path.set(&longest).is_ok());
-    assert!(rt; path.bytes() == longest.as_slice());
-    assert!(rt; path.set(b"c/d").is_ok());
-    assert!(rt; path.bytes() == b"c/d".as_slice());
-    assert!(rt; path.set(b"e/..") == Err(PathFault::DotPart));
-    assert!(rt; path.bytes() == b"c/d".as_slice());
-    assert!(rt; path.copy(alloc).expect(&rt, "memory") == path);
-    assert!(rt; RelPath::parse(alloc, b"c").ok().expect(&rt, "a path") < path);
-}
-
-// Whole numbers.
+// Whole numbers, and modes behind them.
 const WHOLE: &str = "
-0 -> 0
-10 -> 10
-18446744073709551615 -> 18446744073709551615
-18446744073709551616 -> none
-007 -> none
-00 -> none
--> none
-+1 -> none
-1x -> none
+0 -> 0 0
+10 -> 10 10
+18446744073709551615 -> 18446744073709551615 none
+18446744073709551616 -> none none
+007 -> none 7
+00 -> none 0
+-> none none
++1 -> none none
+1x -> none none
+# Modes.
+0 -> 0 0
+0755 -> none 755
+755 -> 755 755
+7777 -> 7777 7777
+07777 -> none 7777
+04755 -> none 4755
+14755 -> 14755 none
+004755 -> none none
+-> none none
+8 -> 8 none
+07a5 -> none none
 ";
 
 // Numbers in front of something.
 const FRONTS: &str = "
 12.5 -> 12 and .5
-012 -> stops with 2 left
+012 -> 2 left
 ";
 
-const MODES: &str = "
-0 -> 0
-0755 -> 755
-755 -> 755
-7777 -> 7777
-07777 -> 7777
-04755 -> 4755
-14755 -> none
-004755 -> none
--> none
-8 -> none
-07a5 -> none
-";
-
-#[test]
-fn reads_numbers_and_modes(rt: HostRuntime) {
-    let alloc = rt.alloc();
-    holds(&rt, alloc, &mut Asked::Decimal, 9, WHOLE);
-    holds(&rt, alloc, &mut Asked::Number, 2, FRONTS);
-    holds(&rt, alloc, &mut Asked::Octal, 11, MODES);
-}
-
-// The last two rows are examples of RFC 3986, section 2.5.
+// Texts as they are quoted, and whether they fit a name then.
 const QUOTED: &str = "
-->
-aZ09_.- -> aZ09_.-
-web/nginx -> web%2Fnginx
-1.0,5.11-1:20240101T000000Z -> 1.0%2C5.11-1%3A20240101T000000Z
-a%+~ {0x00}{0xff} -> a%25%2B%7E%20%00%FF
-À -> %C3%80
-ア -> %E3%82%A2
+-> fits:{blank}
+aZ09_.- -> fits: aZ09_.-
+web/nginx -> fits: web%2Fnginx
+1.0,5.11-1:20240101T000000Z -> fits: 1.0%2C5.11-1%3A20240101T000000Z
+a%+~ {0x00}{0xff} -> fits: a%25%2B%7E%20%00%FF
+# Examples of RFC 3986, section 2.5.
+À -> fits: %C3%80
+ア -> fits: %E3%82%A2
+# The bounds of a name.
+{a*255} -> fits: {a*255}
+{a*256} -> too long: {a*256}
+{,*85} -> fits: {%2C*85}
+{,*86} -> too long: {%2C*86}
+-> fits:{blank}
+";
+
+// What is quoted is unquoted to the bytes.
+const UNQUOTED: &str = "
+| -> so
+aZ09_.- | aZ09_.- -> so
+web%2Fnginx | web/nginx -> so
+1.0%2C5.11-1%3A20240101T000000Z | 1.0,5.11-1:20240101T000000Z -> so
+a%25%2B%7E%20%00%FF | a%+~ {0x00}{0xff} -> so
+%C3%80 | À -> so
+%E3%82%A2 | ア -> so
+{a*255} | {a*255} -> so
+{a*256} | {a*256} -> so
+{%2C*85} | {,*85} -> so
+{%2C*86} | {,*86} -> so
+| -> so
 ";
 
 // What is no quoted text.
-const UNQUOTED: &str = "
+const NOT_QUOTED: &str = "
 a%2cb -> bad
 a,b -> bad
 % -> bad
@@ -284,15 +291,6 @@ a,b -> bad
 %GG -> bad
 ü -> bad
 a/b -> bad
-";
-
-// Whether a text fits a name once it is quoted.
-const NAMES: &str = "
-{a*255} -> yes
-{a*256} -> no
-{,*85} -> yes
-{,*86} -> no
--> yes
 ";
 
 // Texts stand in the order of their bytes.
@@ -304,11 +302,19 @@ b/c | b/c0 -> less
 b/c | ü -> less
 ";
 
+const TABLES: &[(Asked, u64, &str)] = &[
+    (Asked::Path, 29, PATHS),
+    (Asked::Set, 2, SET),
+    (Asked::Covers, 5, COVERING),
+    (Asked::Whole, 20, WHOLE),
+    (Asked::Front, 2, FRONTS),
+    (Asked::Quoted, 12, QUOTED),
+    (Asked::Unquoted, 12, UNQUOTED),
+    (Asked::Unquoted, 8, NOT_QUOTED),
+    (Asked::Order, 5, ORDER),
+];
+
 #[test]
-fn quotes_and_orders_texts(rt: HostRuntime) {
-    let alloc = rt.alloc();
-    holds(&rt, alloc, &mut Asked::Quoted, 7, QUOTED);
-    holds(&rt, alloc, &mut Asked::Unquoted, 8, UNQUOTED);
-    holds(&rt, alloc, &mut Asked::FitsName, 5, NAMES);
-    holds(&rt, alloc, &mut Asked::Order, 5, ORDER);
+fn texts_paths_and_numbers(rt: HostRuntime) {
+    all_hold(&rt, rt.alloc(), TABLES);
 }
