@@ -1,12 +1,12 @@
 use crate::records::actions;
-use crate::table::{Ask, columns, holds, spelled};
+use crate::table::{Ask, all_hold, columns, put, put_bytes, put_number, spelled};
 use ips_accounts::{AccountFault, Book, Books, Owners, Unknown, edit, resolve};
 use ips_text::Or;
 use std::alloc::Global;
 use std::process::Abort;
 
 // What a table asks of account files.
-#[derive(Drop)]
+#[derive(Clone, Copy)]
 enum Asked {
     // The files behind an edit: `passwd ! shadow ! group | old actions | new actions`.
     Edited,
@@ -17,86 +17,112 @@ enum Asked {
 }
 
 impl Ask for Asked {
-    fn answer(&mut self, rt: &impl Abort, alloc: Global, question: &str) -> String {
+    fn answer(&mut self, rt: &impl Abort, alloc: Global, out: &mut String, question: &str) {
+        let (files, rest) = columns(question);
+        let base = books(rt, alloc, files);
         match self {
-            Asked::Edited => edited(rt, alloc, question),
-            Asked::Owned => owned(rt, alloc, question, false),
-            Asked::LookedUp => owned(rt, alloc, question, true),
+            Asked::Edited => put_edited(rt, alloc, out, &base, rest),
+            Asked::Owned => put_owned(rt, alloc, out, &base, rest, false),
+            Asked::LookedUp => put_owned(rt, alloc, out, &base, rest, true),
+        }
+        drop(base);
+    }
+}
+
+fn put_edited(rt: &impl Abort, alloc: Global, out: &mut String, base: &Books, lines: &str) {
+    let (old, new) = columns(lines);
+    let old = actions(rt, alloc, old);
+    let new = actions(rt, alloc, new);
+    let edited = edit(alloc, base, &old, &new);
+    put_files(rt, out, &edited);
+    drop(edited);
+}
+
+fn put_files(rt: &impl Abort, out: &mut String, edited: &Result<Books, Or<AccountFault>>) {
+    match edited {
+        Ok(books) => {
+            put_bytes(rt, out, &books.passwd);
+            put(rt, out, "!");
+            put_bytes(rt, out, &books.shadow);
+            put(rt, out, "!");
+            put_bytes(rt, out, &books.group);
+        }
+        Err(Or::Bad(fault)) => put_fault(rt, out, fault),
+        Err(Or::OutOfMemory) => put(rt, out, "out of memory"),
+    }
+}
+
+fn put_fault(rt: &impl Abort, out: &mut String, fault: &AccountFault) {
+    match fault {
+        AccountFault::BadAccountLine { book, line } => {
+            let book = match book {
+                Book::Passwd => "bad passwd ",
+                Book::Shadow => "bad shadow ",
+                Book::Group => "bad group ",
+            };
+            put(rt, out, book);
+            put_number(rt, out, *line);
+        }
+        AccountFault::IdTaken { id } => {
+            put(rt, out, "taken ");
+            put_number(rt, out, u64::from(*id));
+        }
+        AccountFault::UnknownGroup { name } => {
+            put(rt, out, "unknown ");
+            put(rt, out, name.as_str());
         }
     }
 }
 
-fn edited(rt: &impl Abort, alloc: Global, question: &str) -> String {
-    let (base, lines) = columns(question);
-    let (old, new) = columns(lines);
-    let base = books(rt, alloc, base);
-    let old = actions(rt, alloc, old);
-    let new = actions(rt, alloc, new);
-    match edit(alloc, &base, &old, &new) {
-        Ok(books) => files(rt, alloc, &books),
-        Err(Or::Bad(fault)) => told(rt, alloc, &fault),
-        Err(Or::OutOfMemory) => panic!(rt; "memory"),
+fn put_owned(
+    rt: &impl Abort,
+    alloc: Global,
+    out: &mut String,
+    base: &Books,
+    names: &str,
+    by_table: bool,
+) {
+    let (user, group) = names.split_once(" ").expect(rt, "two names");
+    let numbers = if by_table {
+        looked_up(rt, alloc, base, user, group)
+    } else {
+        resolve(base, user, group)
+    };
+    match numbers {
+        Ok((uid, gid)) => {
+            put_number(rt, out, u64::from(uid));
+            put(rt, out, " ");
+            put_number(rt, out, u64::from(gid));
+        }
+        Err(Unknown::Owner) => put(rt, out, "no owner"),
+        Err(Unknown::Group) => put(rt, out, "no group"),
     }
 }
 
-fn owned(rt: &impl Abort, alloc: Global, question: &str, by_table: bool) -> String {
-    let (base, names) = columns(question);
-    let base = books(rt, alloc, base);
-    let (user, group) = names.split_once(" ").expect(rt, "two names");
-    let numbers = if by_table {
-        let owners = Owners::new(alloc, &base).expect(rt, "memory");
-        owners.resolve(user, group)
-    } else {
-        resolve(&base, user, group)
-    };
-    match numbers {
-        Ok((uid, gid)) => format!(in alloc; "{uid} {gid}").expect(rt, "memory"),
-        Err(Unknown::Owner) => String::from_str(alloc, "no owner").expect(rt, "memory"),
-        Err(Unknown::Group) => String::from_str(alloc, "no group").expect(rt, "memory"),
-    }
+fn looked_up(
+    rt: &impl Abort,
+    alloc: Global,
+    base: &Books,
+    user: &str,
+    group: &str,
+) -> Result<(u32, u32), Unknown> {
+    let owners = Owners::new(alloc, base).expect(rt, "memory");
+    let numbers = owners.resolve(user, group);
+    drop(owners);
+    numbers
 }
 
 // The three files that a column spells.
 fn books(rt: &impl Abort, alloc: Global, column: &str) -> Books {
     let (passwd, rest) = column.split_once("!").expect(rt, "three files");
     let (shadow, group) = rest.split_once("!").expect(rt, "three files");
+    let passwd = spelled(rt, alloc, passwd.trim());
+    let shadow = spelled(rt, alloc, shadow.trim());
+    let group = spelled(rt, alloc, group.trim());
     Books {
-        passwd: spelled(rt, alloc, passwd.trim()),
-        shadow: spelled(rt, alloc, shadow.trim()),
-        group: spelled(rt, alloc, group.trim()),
-    }
-}
-
-fn files(rt: &impl Abort, alloc: Global, books: &Books) -> String {
-    let mut out = String::new(alloc);
-    push_file(rt, &mut out, &books.passwd);
-    out.push_str("!").expect(rt, "memory");
-    push_file(rt, &mut out, &books.shadow);
-    out.push_str("!").expect(rt, "memory");
-    push_file(rt, &mut out, &books.group);
-    out
-}
-
-fn push_file(rt: &impl Abort, out: &mut String, bytes: &[u8]) {
-    out.push_str(str::from_utf8(bytes).ok().expect(rt, "a text"))
-        .expect(rt, "memory");
-}
-
-fn told(rt: &impl Abort, alloc: Global, fault: &AccountFault) -> String {
-    match fault {
-        AccountFault::BadAccountLine { book, line } => {
-            let book = match book {
-                Book::Passwd => "passwd",
-                Book::Shadow => "shadow",
-                Book::Group => "group",
-            };
-            format!(in alloc; "bad {book} {line}").expect(rt, "memory")
-        }
-        AccountFault::IdTaken { id } => format!(in alloc; "taken {id}").expect(rt, "memory"),
-        AccountFault::UnknownGroup { name } => {
-            let name = name.as_str();
-            format!(in alloc; "unknown {name}").expect(rt, "memory")
-        }
+        passwd,
+        shadow,
+        group,
     }
 }
 
@@ -159,10 +185,13 @@ root:x:7:1::/:¶root:x:8:1::/:¶ !! g::9: | root g -> 7 9
 !! | root daemon -> no group
 ";
 
+const TABLES: &[(Asked, u64, &str)] = &[
+    (Asked::Edited, 28, ACCOUNTS_ARE_EDITED),
+    (Asked::Owned, 6, OWNERS_HAVE_NUMBERS),
+    (Asked::LookedUp, 6, OWNERS_HAVE_NUMBERS),
+];
+
 #[test]
 fn edits_account_files(rt: HostRuntime) {
-    let alloc = rt.alloc();
-    holds(&rt, alloc, &mut Asked::Edited, 28, ACCOUNTS_ARE_EDITED);
-    holds(&rt, alloc, &mut Asked::Owned, 6, OWNERS_HAVE_NUMBERS);
-    holds(&rt, alloc, &mut Asked::LookedUp, 6, OWNERS_HAVE_NUMBERS);
+    all_hold(&rt, rt.alloc(), TABLES);
 }

@@ -1,11 +1,11 @@
-use crate::table::{Ask, columns, counted, holds, text, word};
+use crate::table::{Ask, all_hold, columns, put, put_bytes, put_number, text};
 use ips_action::{Action, ActionFault, Attrs, Preserve, leads_to, parse_line, print_line};
-use ips_text::Or;
+use ips_text::{Or, Text};
 use std::alloc::Global;
 use std::process::Abort;
 
 // What a table asks of actions.
-#[derive(Drop)]
+#[derive(Clone, Copy)]
 enum Asked {
     // What is told of a line.
     Told,
@@ -24,76 +24,81 @@ enum Asked {
 }
 
 impl Ask for Asked {
-    fn answer(&mut self, rt: &impl Abort, alloc: Global, question: &str) -> String {
+    fn answer(&mut self, rt: &impl Abort, alloc: Global, out: &mut String, question: &str) {
         let spelled = text(rt, alloc, question);
         let spelled = spelled.as_str();
         match self {
-            Asked::Told => told(rt, alloc, spelled),
-            Asked::Canonical => canonical(rt, alloc, spelled),
-            Asked::Leads => leads(rt, alloc, spelled),
-            Asked::Key => key(rt, alloc, spelled),
-            Asked::Kept => word(rt, alloc, kept(rt, alloc, spelled)),
-            Asked::Values(line) => values(rt, alloc, line, spelled),
-            Asked::Behind(front) => behind(rt, alloc, front, spelled),
+            Asked::Told => put_told(rt, alloc, out, spelled),
+            Asked::Canonical => put_canonical(rt, alloc, out, spelled),
+            Asked::Leads => put_leads(rt, alloc, out, spelled),
+            Asked::Key => put_key(rt, alloc, out, spelled),
+            Asked::Kept => put(rt, out, kept(rt, alloc, spelled)),
+            Asked::Values(line) => put_values(rt, alloc, out, line, spelled),
+            Asked::Behind(front) => put_behind(rt, alloc, out, front, spelled),
         }
     }
 }
 
 // The canonical line of what the line says, or its fault.
-fn told(rt: &impl Abort, alloc: Global, line: &str) -> String {
-    match parse_line(alloc, line) {
+fn put_told(rt: &impl Abort, alloc: Global, out: &mut String, line: &str) {
+    let read = parse_line(alloc, line);
+    put_read(rt, alloc, out, &read);
+    drop(read);
+}
+
+fn put_read(
+    rt: &impl Abort,
+    alloc: Global,
+    out: &mut String,
+    read: &Result<Action, Or<ActionFault>>,
+) {
+    match read {
         Ok(action) => {
-            let printed = print_line(alloc, &action).expect(rt, "memory");
-            word(rt, alloc, printed.as_str())
+            let printed = print_line(alloc, action).expect(rt, "memory");
+            put(rt, out, printed.as_str());
         }
-        Err(Or::OutOfMemory) => word(rt, alloc, "out of memory"),
-        Err(Or::Bad(fault)) => fault_told(rt, alloc, &fault),
+        Err(Or::OutOfMemory) => put(rt, out, "out of memory"),
+        Err(Or::Bad(fault)) => put_fault(rt, out, fault),
     }
 }
 
-fn fault_told(rt: &impl Abort, alloc: Global, fault: &ActionFault) -> String {
-    match fault {
-        ActionFault::UnknownAction { place } => format!(in alloc; "unknown {place}"),
-        ActionFault::BadWord { place } => format!(in alloc; "word {place}"),
-        ActionFault::OpenQuote { place } => format!(in alloc; "quote {place}"),
-        ActionFault::MissingKey { name } => {
-            let name = name.as_str();
-            format!(in alloc; "missing {name}")
-        }
-        ActionFault::BadValue { name } => {
-            let name = name.as_str();
-            format!(in alloc; "bad {name}")
-        }
-    }
-    .expect(rt, "memory")
+fn put_fault(rt: &impl Abort, out: &mut String, fault: &ActionFault) {
+    let (what, place) = match fault {
+        ActionFault::UnknownAction { place } => ("unknown ", *place),
+        ActionFault::BadWord { place } => ("word ", *place),
+        ActionFault::OpenQuote { place } => ("quote ", *place),
+        ActionFault::MissingKey { name } => return put_named(rt, out, "missing ", name),
+        ActionFault::BadValue { name } => return put_named(rt, out, "bad ", name),
+    };
+    put(rt, out, what);
+    put_number(rt, out, place);
 }
 
-fn canonical(rt: &impl Abort, alloc: Global, line: &str) -> String {
-    let once = told(rt, alloc, line);
-    let again = told(rt, alloc, once.as_str());
-    assert!(rt; once.as_str() == again.as_str(), "{once} {again}");
-    once
+fn put_named(rt: &impl Abort, out: &mut String, what: &str, name: &Text) {
+    put(rt, out, what);
+    put(rt, out, name.as_str());
 }
 
-fn behind(rt: &impl Abort, alloc: Global, front: &str, question: &str) -> String {
+fn put_canonical(rt: &impl Abort, alloc: Global, out: &mut String, line: &str) {
+    let mut again = String::new(alloc);
+    put_told(rt, alloc, out, line);
+    put_told(rt, alloc, &mut again, out.as_str());
+    assert!(rt; out.as_str() == again.as_str(), "{out} {again}");
+}
+
+fn put_behind(rt: &impl Abort, alloc: Global, out: &mut String, front: &str, question: &str) {
     let line = format!(in alloc; "{front}{question}").expect(rt, "memory");
-    let told = told(rt, alloc, line.as_str());
-    if told.as_str() == line.as_str() {
-        word(rt, alloc, "good")
-    } else {
-        told
-    }
+    let mut told = String::new(alloc);
+    put_told(rt, alloc, &mut told, line.as_str());
+    let is_good = told.as_str() == line.as_str();
+    put(rt, out, if is_good { "good" } else { told.as_str() });
 }
 
-fn leads(rt: &impl Abort, alloc: Global, question: &str) -> String {
+fn put_leads(rt: &impl Abort, alloc: Global, out: &mut String, question: &str) {
     let (path, target) = columns(question);
-    match leads_to(alloc, path.as_bytes(), target.as_bytes()).expect(rt, "memory") {
-        Some(found) => word(
-            rt,
-            alloc,
-            str::from_utf8(found.bytes()).expect(rt, "a text"),
-        ),
-        None => word(rt, alloc, "none"),
+    match &leads_to(alloc, path.as_bytes(), target.as_bytes()).expect(rt, "memory") {
+        Some(found) => put_bytes(rt, out, found.bytes()),
+        None => put(rt, out, "none"),
     }
 }
 
@@ -102,13 +107,17 @@ fn action(rt: &impl Abort, alloc: Global, line: &str) -> Action {
     parse_line(alloc, line).ok().expect(rt, "an action")
 }
 
-fn key(rt: &impl Abort, alloc: Global, line: &str) -> String {
+fn put_key(rt: &impl Abort, alloc: Global, out: &mut String, line: &str) {
     let action = action(rt, alloc, line);
-    word(rt, alloc, action.key().unwrap_or("none"))
+    put(rt, out, action.key().unwrap_or("none"));
+    drop(action);
 }
 
 fn kept(rt: &impl Abort, alloc: Global, line: &str) -> &'static str {
-    match action(rt, alloc, line).preserve() {
+    let action = action(rt, alloc, line);
+    let preserve = action.preserve();
+    drop(action);
+    match preserve {
         Preserve::None => "None",
         Preserve::True => "True",
         Preserve::RenameOld => "RenameOld",
@@ -120,19 +129,26 @@ fn kept(rt: &impl Abort, alloc: Global, line: &str) -> &'static str {
 }
 
 // Of a copy of the action.
-fn values(rt: &impl Abort, alloc: Global, line: &str, question: &str) -> String {
-    let action = action(rt, alloc, line).copy(alloc).expect(rt, "memory");
+fn put_values(rt: &impl Abort, alloc: Global, out: &mut String, line: &str, question: &str) {
+    let action = action(rt, alloc, line);
+    let copy = action.copy(alloc).expect(rt, "memory");
+    drop(action);
+    put_value(rt, out, &copy, question);
+    drop(copy);
+}
+
+fn put_value(rt: &impl Abort, out: &mut String, action: &Action, question: &str) {
     let (what, name) = question.split_once(' ').unwrap_or((question, ""));
     let found = match what {
-        "count" => return counted(rt, alloc, action.count(name)),
-        "attributes" => return counted(rt, alloc, attributes(&action.attrs)),
+        "count" => return put_number(rt, out, action.count(name) as u64),
+        "attributes" => return put_number(rt, out, attributes(&action.attrs) as u64),
         "first" => action.get(name),
         "second" => action.nth(name, 1),
         "third" => action.nth(name, 2),
         "key" => action.key(),
         _ => Some("no such question"),
     };
-    word(rt, alloc, found.unwrap_or("none"))
+    put(rt, out, found.unwrap_or("none"));
 }
 
 // How many attributes there are.
@@ -191,14 +207,6 @@ dir group=g mode=1 owner=o path=/{a*255}/{a*240} -> dir group=g mode=1 owner=o p
 dir group=g mode=1 owner=o path=/{a*256}/a -> bad path
 dir group=g mode=1 owner=o path=/a/{a*241} -> bad path
 ";
-
-#[test]
-fn tells_the_canonical_line_or_the_first_fault(rt: HostRuntime) {
-    let alloc = rt.alloc();
-    holds(&rt, alloc, &mut Asked::Canonical, 11, CANONICAL);
-    holds(&rt, alloc, &mut Asked::Told, 18, FAULTS);
-    holds(&rt, alloc, &mut Asked::Told, 5, BOUNDS);
-}
 
 // Where the target of a hardlink leads.
 const LEADS: &str = "
@@ -261,18 +269,6 @@ file da39a3ee5e6b4b0d3255bfef95601890afd80709 path=f mode=1 owner=o group=g pres
 file da39a3ee5e6b4b0d3255bfef95601890afd80709 path=f mode=1 owner=o group=g -> None
 driver name=d preserve=true -> None
 ";
-
-#[test]
-fn gives_values_and_what_they_mean(rt: HostRuntime) {
-    let alloc = rt.alloc();
-    holds(&rt, alloc, &mut Asked::Leads, 11, LEADS);
-    let mut set = Asked::Values("set value=b name=n value=a z=1 a=2");
-    holds(&rt, alloc, &mut set, 9, VALUES);
-    let mut beside = Asked::Values("set x=ö value=日本 name=é value='' value=ø y.z=w");
-    holds(&rt, alloc, &mut beside, 9, VALUES_BESIDE);
-    holds(&rt, alloc, &mut Asked::Key, 7, KEYS);
-    holds(&rt, alloc, &mut Asked::Kept, 8, KEPT);
-}
 
 // A table for each action: good lines, and a line for each way in which one can be bad. A good line is its own canonical line.
 const SETS: &str = "
@@ -495,28 +491,49 @@ signature a -> bad payload
 signature facet.x=maybe -> bad facet.x
 ";
 
+const TABLES: &[(Asked, u64, &str)] = &[
+    (Asked::Canonical, 11, CANONICAL),
+    (Asked::Told, 18, FAULTS),
+    (Asked::Told, 5, BOUNDS),
+    (Asked::Leads, 11, LEADS),
+    (
+        Asked::Values("set value=b name=n value=a z=1 a=2"),
+        9,
+        VALUES,
+    ),
+    (
+        Asked::Values("set x=ö value=日本 name=é value='' value=ø y.z=w"),
+        9,
+        VALUES_BESIDE,
+    ),
+    (Asked::Key, 7, KEYS),
+    (Asked::Kept, 8, KEPT),
+    (Asked::Behind("set "), 8, SETS),
+    (Asked::Behind("depend "), 8, DEPENDS),
+    (Asked::Behind("dir "), 23, DIRS),
+    (
+        Asked::Behind("file ba7816bf8f01cfea414140de5dae2223b00361a396177a9cb410ff61f20015ad "),
+        17,
+        FILES,
+    ),
+    (Asked::Behind("file "), 7, FILE_PAYLOADS),
+    (Asked::Behind("link "), 20, LINKS),
+    (Asked::Behind("link path=a target="), 2, LINK_TARGETS),
+    (Asked::Behind("hardlink "), 21, HARDLINKS),
+    (Asked::Behind("user "), 26, USERS),
+    (Asked::Behind("group "), 9, GROUPS),
+    (Asked::Behind("driver "), 5, DRIVERS),
+    (
+        Asked::Behind("license a9993e364706816aba3e25717850c26c9cd0d89d "),
+        11,
+        LICENSES,
+    ),
+    (Asked::Behind("license "), 4, LICENSE_NAMES),
+    (Asked::Behind("legacy "), 9, LEGACIES),
+    (Asked::Behind(""), 4, SIGNATURES),
+];
+
 #[test]
-fn each_action_is_good_or_bad(rt: HostRuntime) {
-    let alloc = rt.alloc();
-    let sha256 = "file ba7816bf8f01cfea414140de5dae2223b00361a396177a9cb410ff61f20015ad ";
-    let sha1 = "license a9993e364706816aba3e25717850c26c9cd0d89d ";
-    for (front, cases, table) in [
-        ("set ", 8, SETS),
-        ("depend ", 8, DEPENDS),
-        ("dir ", 23, DIRS),
-        (sha256, 17, FILES),
-        ("file ", 7, FILE_PAYLOADS),
-        ("link ", 20, LINKS),
-        ("link path=a target=", 2, LINK_TARGETS),
-        ("hardlink ", 21, HARDLINKS),
-        ("user ", 26, USERS),
-        ("group ", 9, GROUPS),
-        ("driver ", 5, DRIVERS),
-        (sha1, 11, LICENSES),
-        ("license ", 4, LICENSE_NAMES),
-        ("legacy ", 9, LEGACIES),
-        ("", 4, SIGNATURES),
-    ] {
-        holds(&rt, alloc, &mut Asked::Behind(front), cases, table);
-    }
+fn actions_are_told(rt: HostRuntime) {
+    all_hold(&rt, rt.alloc(), TABLES);
 }

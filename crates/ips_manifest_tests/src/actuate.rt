@@ -1,5 +1,5 @@
 use crate::records::actions;
-use crate::table::{Ask, columns, holds};
+use crate::table::{Ask, columns, holds, put, put_number};
 use ips_actuate::{ActFault, Words, run_all, words};
 use ips_outside::MemSpawner;
 use ips_text::Text;
@@ -7,26 +7,37 @@ use std::alloc::Global;
 use std::process::Abort;
 
 // How a list of actuators was run, and what ran: `statuses ! calls that fail ! room | services`. Each service is started again.
-#[derive(Drop)]
+#[derive(Clone, Copy)]
 struct Ran;
 
 impl Ask for Ran {
-    fn answer(&mut self, rt: &impl Abort, alloc: Global, question: &str) -> String {
+    fn answer(&mut self, rt: &impl Abort, alloc: Global, out: &mut String, question: &str) {
         let (outside, services) = columns(question);
         let mut spawner = spawner(rt, alloc, outside);
-        let list = restarts(rt, alloc, services);
-        let mut out = match run_all(&mut spawner, &list) {
-            Ok(()) => String::from_str(alloc, "done:").expect(rt, "memory"),
-            Err(ActFault::Failed { index, status }) => {
-                format!(in alloc; "failed {index} {status}:").expect(rt, "memory")
-            }
-            Err(ActFault::Spawn { index }) => {
-                format!(in alloc; "spawn {index}:").expect(rt, "memory")
-            }
-        };
-        push_ran(rt, &mut out, spawner.ran());
-        out
+        let runs = restarts(rt, alloc, services);
+        let end = run_all(&mut spawner, &runs.1);
+        put_end(rt, out, end);
+        put_ran(rt, out, spawner.ran());
+        drop(runs);
+        drop(spawner);
     }
+}
+
+fn put_end(rt: &impl Abort, out: &mut String, end: Result<(), ActFault>) {
+    match end {
+        Ok(()) => put(rt, out, "done"),
+        Err(ActFault::Failed { index, status }) => {
+            put(rt, out, "failed ");
+            put_number(rt, out, index as u64);
+            put(rt, out, " ");
+            put_number(rt, out, u64::from(status));
+        }
+        Err(ActFault::Spawn { index }) => {
+            put(rt, out, "spawn ");
+            put_number(rt, out, index as u64);
+        }
+    }
+    put(rt, out, ":");
 }
 
 fn spawner(rt: &impl Abort, alloc: Global, outside: &str) -> MemSpawner {
@@ -34,44 +45,45 @@ fn spawner(rt: &impl Abort, alloc: Global, outside: &str) -> MemSpawner {
     let (fails, room) = rest.split_once("!").expect(rt, "three parts");
     let mut ends = Vec::new(alloc);
     for status in statuses.split_ascii_whitespace() {
-        ends.push(status.parse::<u8>().ok().expect(rt, "a status"))
-            .expect(rt, "memory");
+        let status = status.parse::<u8>().expect(rt, "a status");
+        ends.push(status).expect(rt, "memory");
     }
     let mut failing = Vec::new(alloc);
     for call in fails.split_ascii_whitespace() {
-        failing
-            .push(call.parse::<u64>().ok().expect(rt, "a call"))
-            .expect(rt, "memory");
+        let call = call.parse::<u64>().expect(rt, "a call");
+        failing.push(call).expect(rt, "memory");
     }
-    let room = room.trim().parse::<usize>().ok().expect(rt, "a room");
+    let room = room.trim().parse::<usize>().expect(rt, "a room");
     MemSpawner::new(alloc, room, ends, failing).expect(rt, "memory")
 }
 
-// The runs that start the services again, by the bytes of their names.
-fn restarts(rt: &impl Abort, alloc: Global, services: &str) -> Vec<Words> {
-    let mut line = String::from_str(alloc, "driver name=d").expect(rt, "memory");
+// The runs before and behind a change that start the services again, by the bytes of their names.
+fn restarts(rt: &impl Abort, alloc: Global, services: &str) -> (Vec<Words>, Vec<Words>) {
+    let mut line = String::new(alloc);
+    put(rt, &mut line, "driver name=d");
     for service in services.split_ascii_whitespace() {
-        line.push_str(" restart_fmri=").expect(rt, "memory");
-        line.push_str(service).expect(rt, "memory");
+        put(rt, &mut line, " restart_fmri=");
+        put(rt, &mut line, service);
     }
     let new = actions(rt, alloc, line.as_str());
     let program = Text::new(alloc, "run").expect(rt, "memory");
-    let (_, after) = words(alloc, &[], &new, Some(&program)).expect(rt, "memory");
-    after
+    words(alloc, &[], &new, Some(&program)).expect(rt, "memory")
 }
 
 // Each run in brackets, its words ended by blanks.
-fn push_ran(rt: &impl Abort, out: &mut String, ran: &[u8]) {
-    let text = str::from_utf8(ran).ok().expect(rt, "a text");
+fn put_ran(rt: &impl Abort, out: &mut String, ran: &[u8]) {
+    let text = str::from_utf8(ran).expect(rt, "a text");
     for run in text.lines() {
-        out.push_str(" (").expect(rt, "memory");
-        for (i, word) in run.split('\0').enumerate() {
-            if i > 0 {
-                out.push_str(" ").expect(rt, "memory");
-            }
-            out.push_str(word).expect(rt, "memory");
-        }
-        out.push_str(")").expect(rt, "memory");
+        put(rt, out, " (");
+        put_words(rt, out, run);
+        put(rt, out, ")");
+    }
+}
+
+fn put_words(rt: &impl Abort, out: &mut String, run: &str) {
+    for (i, word) in run.split('\0').enumerate() {
+        put(rt, out, if i > 0 { " " } else { "" });
+        put(rt, out, word);
     }
 }
 
@@ -100,6 +112,5 @@ const ACTUATORS_RUN_IN_ORDER: &str = "
 
 #[test]
 fn actuators_run_in_order(rt: HostRuntime) {
-    let alloc = rt.alloc();
-    holds(&rt, alloc, &mut Ran, 15, ACTUATORS_RUN_IN_ORDER);
+    holds(&rt, rt.alloc(), &mut Ran, 15, ACTUATORS_RUN_IN_ORDER);
 }

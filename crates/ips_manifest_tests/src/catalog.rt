@@ -1,11 +1,11 @@
-use crate::table::{Ask, holds, spelled};
+use crate::table::{Ask, all_hold, put, put_number, spelled};
 use ips_catalog::{Catalog, CatalogFault};
 use ips_text::{Or, Text};
 use std::alloc::Global;
 use std::process::Abort;
 
 // What a table asks of catalogs.
-#[derive(Drop)]
+#[derive(Clone, Copy)]
 enum Asked {
     // Of this catalog: how many stems and how many versions there are, the stem at a place, or the versions of a stem.
     Listed(&'static str),
@@ -18,70 +18,79 @@ enum Asked {
 }
 
 impl Ask for Asked {
-    fn answer(&mut self, rt: &impl Abort, alloc: Global, question: &str) -> String {
+    fn answer(&mut self, rt: &impl Abort, alloc: Global, out: &mut String, question: &str) {
         match self {
-            Asked::Listed(text) => listed(rt, alloc, &read(rt, alloc, text), question),
-            Asked::Sizes(stem) => sizes(rt, alloc, &read(rt, alloc, question), stem),
-            Asked::Fault(publisher) => fault(rt, alloc, question.as_bytes(), publisher),
-            Asked::Spelled => fault(rt, alloc, spelled(rt, alloc, question).as_slice(), "test"),
+            Asked::Listed(text) => put_listed(rt, alloc, out, text, question),
+            Asked::Sizes(stem) => put_listed(rt, alloc, out, question, stem),
+            Asked::Fault(publisher) => put_fault(rt, alloc, out, question.as_bytes(), publisher),
+            Asked::Spelled => {
+                let bytes = spelled(rt, alloc, question);
+                put_fault(rt, alloc, out, &bytes, "test");
+            }
         }
     }
 }
 
-fn read(rt: &impl Abort, alloc: Global, text: &str) -> Catalog {
-    Catalog::read(alloc, text.as_bytes(), "test")
-        .ok()
-        .expect(rt, "an answer")
+// What is asked of the catalog that the text is; a question of one word is of the sizes and of a stem.
+fn put_listed(rt: &impl Abort, alloc: Global, out: &mut String, text: &str, question: &str) {
+    let catalog = Catalog::read(alloc, text.as_bytes(), "test").ok();
+    let catalog = catalog.expect(rt, "an answer");
+    match question.split_once(' ') {
+        Some(("stem", place)) => {
+            let place = place.parse::<usize>().expect(rt, "a place");
+            put(rt, out, catalog.stem(place).unwrap_or("none"));
+        }
+        Some(("versions", stem)) => put_versions(rt, alloc, out, &catalog, stem),
+        Some(_) => put(rt, out, "no such question"),
+        None => {
+            put_number(rt, out, catalog.stems() as u64);
+            put(rt, out, " ");
+            put_number(rt, out, catalog.count() as u64);
+            put(rt, out, ":");
+            put_versions(rt, alloc, out, &catalog, question);
+        }
+    }
+    drop(catalog);
 }
 
 // The versions of the stem, each behind a blank.
-fn versions(rt: &impl Abort, alloc: Global, catalog: &Catalog, stem: &str) -> String {
-    let mut out = String::new(alloc);
+fn put_versions(rt: &impl Abort, alloc: Global, out: &mut String, catalog: &Catalog, stem: &str) {
     for version in catalog.versions(stem) {
-        out.push_str(" ").expect(rt, "memory");
-        out.push_str(version.print(alloc).expect(rt, "memory").as_str())
-            .expect(rt, "memory");
-    }
-    out
-}
-
-fn listed(rt: &impl Abort, alloc: Global, catalog: &Catalog, question: &str) -> String {
-    let (what, of) = question.split_once(' ').unwrap_or((question, ""));
-    match what {
-        "stems" => sizes(rt, alloc, catalog, "none"),
-        "stem" => {
-            let stem = catalog.stem(of.parse::<usize>().ok().expect(rt, "a number or a path"));
-            String::from_str(alloc, stem.unwrap_or("none")).expect(rt, "memory")
-        }
-        "versions" => versions(rt, alloc, catalog, of),
-        _ => panic!(rt; "no such question"),
+        let printed = version.print(alloc).expect(rt, "memory");
+        put(rt, out, " ");
+        put(rt, out, printed.as_str());
     }
 }
 
-fn sizes(rt: &impl Abort, alloc: Global, catalog: &Catalog, stem: &str) -> String {
-    let (stems, count) = (catalog.stems(), catalog.count());
-    let versions = versions(rt, alloc, catalog, stem);
-    format!(in alloc; "{stems} {count}:{versions}").expect(rt, "memory")
+fn put_fault(rt: &impl Abort, alloc: Global, out: &mut String, bytes: &[u8], publisher: &str) {
+    let fault = Catalog::read(alloc, bytes, publisher).err();
+    match &fault {
+        None => put(rt, out, "a catalog"),
+        Some(Or::OutOfMemory) => put(rt, out, "out of memory"),
+        Some(Or::Bad(fault)) => put_told(rt, out, fault),
+    }
+    drop(fault);
 }
 
-fn fault(rt: &impl Abort, alloc: Global, bytes: &[u8], publisher: &str) -> String {
-    match Catalog::read(alloc, bytes, publisher) {
-        Ok(_) => String::from_str(alloc, "a catalog").expect(rt, "memory"),
-        Err(Or::OutOfMemory) => panic!(rt; "memory"),
-        Err(Or::Bad(CatalogFault::NotJson)) => String::from_str(alloc, "no json").expect(
-            rt, "memory",
-        ),
-        Err(Or::Bad(CatalogFault::WrongShape { pointer })) => {
-            let pointer = pointer.as_str();
-            format!(in alloc; "shape '{pointer}'").expect(rt, "memory")
+fn put_told(rt: &impl Abort, out: &mut String, fault: &CatalogFault) {
+    match fault {
+        CatalogFault::NotJson => put(rt, out, "no json"),
+        CatalogFault::WrongShape { pointer } => {
+            put(rt, out, "shape '");
+            put(rt, out, pointer.as_str());
+            put(rt, out, "'");
         }
-        Err(Or::Bad(CatalogFault::BadVersion { stem, place })) => {
-            let stem = stem.as_str();
-            format!(in alloc; "bad version of {stem} at {place}").expect(rt, "memory")
+        CatalogFault::BadVersion { stem, place } => {
+            put(rt, out, "bad version of ");
+            put(rt, out, stem.as_str());
+            put(rt, out, " at ");
+            put_number(rt, out, *place);
         }
-        Err(Or::Bad(CatalogFault::Repeated { stem, version })) => {
-            let (stem, version) = (stem.as_str(), version.as_str());
-            format!(in alloc; "repeated {stem} {version}").expect(rt, "memory")
+        CatalogFault::Repeated { stem, version } => {
+            put(rt, out, "repeated ");
+            put(rt, out, stem.as_str());
+            put(rt, out, " ");
+            put(rt, out, version.as_str());
         }
     }
 }
@@ -194,91 +203,68 @@ const POINTS_TO_LATE_ENTRIES_LONG_STEMS_AND_ODD_PUBLISHERS_ODD: &str = r#"
 {"a/~b": 0} -> shape '/a~1~0b'
 "#;
 
-#[test]
-fn tells_bad_and_repeated_versions(rt: HostRuntime) {
-    let alloc = rt.alloc();
-    let table = r#"
-        {"test": {"a": [{"version": ""}]}} -> bad version of a at 0
-        {"test": {"a": [{"version": "1.x"}]}} -> bad version of a at 2
-        {"test": {"a": [{"version": "1"}, {"version": "1:2024"}, 3]}} -> bad version of a at 6
-        {"test": {"b": 1, "a/b": [{"version": "01"}]}} -> bad version of a/b at 1
-        {"test": {"a": [{"version": "1"}, {"version": "1"}]}} -> repeated a 1
-        {"test": {"a": [{"version": "1,2-3"}, {"version": "\u0031,2-3"}]}} -> repeated a 1,2-3
-        {"test": {"a": [{"version": "2"}, {"version": "1"}, {"version": "3"}, {"version": "1"}, {"version": "2"}]}} -> repeated a 1
-        {"test": {"a": [{"version": "2"}, {"version": "2"}, {"version": "x"}], "b": 1}} -> repeated a 2
-    "#;
-    holds(&rt, alloc, &mut Asked::Fault("test"), 8, table);
-    let copied = CatalogFault::WrongShape {
-        pointer: Text::new(alloc, "/test").expect(&rt, "memory"),
-    };
-    let read = Catalog::read(alloc, br#"{"test": 1}"#, "test");
-    assert!(rt; read.err() == Some(Or::Bad(copied)));
-}
+const TELLS_BAD_AND_REPEATED_VERSIONS: &str = r#"
+{"test": {"a": [{"version": ""}]}} -> bad version of a at 0
+{"test": {"a": [{"version": "1.x"}]}} -> bad version of a at 2
+{"test": {"a": [{"version": "1"}, {"version": "1:2024"}, 3]}} -> bad version of a at 6
+{"test": {"b": 1, "a/b": [{"version": "01"}]}} -> bad version of a/b at 1
+{"test": {"a": [{"version": "1"}, {"version": "1"}]}} -> repeated a 1
+{"test": {"a": [{"version": "1,2-3"}, {"version": "\u0031,2-3"}]}} -> repeated a 1,2-3
+{"test": {"a": [{"version": "2"}, {"version": "1"}, {"version": "3"}, {"version": "1"}, {"version": "2"}]}} -> repeated a 1
+{"test": {"a": [{"version": "2"}, {"version": "2"}, {"version": "x"}], "b": 1}} -> repeated a 2
+"#;
+
+const TABLES: &[(Asked, u64, &str)] = &[
+    (
+        Asked::Listed(LISTED),
+        10,
+        LISTS_STEMS_BY_BYTES_AND_VERSIONS_ASCENDING,
+    ),
+    (
+        Asked::Sizes("hello"),
+        4,
+        READS_ONE_VERSION_NONE_AND_NO_PUBLISHER,
+    ),
+    (Asked::Sizes("a"), 6, KEEPS_THE_LATER_OF_TWO_EQUAL_KEYS),
+    (Asked::Fault("test"), 11, TELLS_WHAT_IS_NO_JSON_TABLE),
+    (Asked::Spelled, 7, TELLS_WHAT_IS_NO_JSON_SPELLED),
+    (
+        Asked::Fault("test"),
+        25,
+        POINTS_TO_THE_FIRST_VALUE_OF_ANOTHER_SHAPE,
+    ),
+    (
+        Asked::Fault("test"),
+        1,
+        POINTS_TO_LATE_ENTRIES_LONG_STEMS_AND_ODD_PUBLISHERS_LATE,
+    ),
+    (
+        Asked::Spelled,
+        1,
+        POINTS_TO_LATE_ENTRIES_LONG_STEMS_AND_ODD_PUBLISHERS_LONG,
+    ),
+    (
+        Asked::Fault("a/~b"),
+        1,
+        POINTS_TO_LATE_ENTRIES_LONG_STEMS_AND_ODD_PUBLISHERS_ODD,
+    ),
+    (Asked::Fault("test"), 8, TELLS_BAD_AND_REPEATED_VERSIONS),
+];
 
 #[test]
 fn reads_catalogs(rt: HostRuntime) {
+    all_hold(&rt, rt.alloc(), TABLES);
+}
+
+// A fault is the same as one that is made of the same parts.
+#[test]
+fn faults_are_compared(rt: HostRuntime) {
     let alloc = rt.alloc();
-    holds(
-        &rt,
-        alloc,
-        &mut Asked::Listed(LISTED),
-        10,
-        LISTS_STEMS_BY_BYTES_AND_VERSIONS_ASCENDING,
-    );
-    holds(
-        &rt,
-        alloc,
-        &mut Asked::Sizes("hello"),
-        4,
-        READS_ONE_VERSION_NONE_AND_NO_PUBLISHER,
-    );
-    holds(
-        &rt,
-        alloc,
-        &mut Asked::Sizes("a"),
-        6,
-        KEEPS_THE_LATER_OF_TWO_EQUAL_KEYS,
-    );
-    holds(
-        &rt,
-        alloc,
-        &mut Asked::Fault("test"),
-        11,
-        TELLS_WHAT_IS_NO_JSON_TABLE,
-    );
-    holds(
-        &rt,
-        alloc,
-        &mut Asked::Spelled,
-        7,
-        TELLS_WHAT_IS_NO_JSON_SPELLED,
-    );
-    holds(
-        &rt,
-        alloc,
-        &mut Asked::Fault("test"),
-        25,
-        POINTS_TO_THE_FIRST_VALUE_OF_ANOTHER_SHAPE,
-    );
-    holds(
-        &rt,
-        alloc,
-        &mut Asked::Fault("test"),
-        1,
-        POINTS_TO_LATE_ENTRIES_LONG_STEMS_AND_ODD_PUBLISHERS_LATE,
-    );
-    holds(
-        &rt,
-        alloc,
-        &mut Asked::Spelled,
-        1,
-        POINTS_TO_LATE_ENTRIES_LONG_STEMS_AND_ODD_PUBLISHERS_LONG,
-    );
-    holds(
-        &rt,
-        alloc,
-        &mut Asked::Fault("a/~b"),
-        1,
-        POINTS_TO_LATE_ENTRIES_LONG_STEMS_AND_ODD_PUBLISHERS_ODD,
-    );
+    let pointer = Text::new(alloc, "/test").expect(&rt, "memory");
+    let made = Some(Or::Bad(CatalogFault::WrongShape { pointer }));
+    let found = Catalog::read(alloc, br#"{"test": 1}"#, "test").err();
+    let is_same = found == made;
+    drop(made);
+    drop(found);
+    assert!(rt; is_same);
 }

@@ -1,7 +1,7 @@
 ghost use Rattle.std.specs.Prelude.{◌≡◌, if◌then◌else◌, bytes_eq, codes, false, None, option_map};
 ghost use Rattle.ips_depend.specs.Dependency as dependency;
 
-use crate::table::{Ask, columns, holds, text};
+use crate::table::{Ask, all_hold, columns, put, put_number, text};
 use ips_depend::{BadDepend, Places, Test, tests_of};
 use ips_filter::Settings;
 use ips_fmri::{Fmri, Version};
@@ -78,44 +78,59 @@ impl Places for Asking<'_> {
     }
 }
 
+fn manifest(rt: &impl Abort, alloc: Global, text: &str) -> Manifest {
+    let manifest = Manifest::read(alloc, text.as_bytes());
+    manifest.ok().expect(rt, "a manifest")
+}
+
 // The tests of a manifest where nothing is set.
 fn read(rt: &impl Abort, alloc: Global, text: &str) -> Vec<Test> {
-    let manifest = Manifest::read(alloc, text.as_bytes())
-        .ok()
-        .expect(rt, "an answer");
-    tests_of(alloc, &manifest, &Settings::new(alloc))
-        .ok()
-        .expect(rt, "an answer")
+    let manifest = manifest(rt, alloc, text);
+    let settings = Settings::new(alloc);
+    let tests = tests_of(alloc, &manifest, &settings).ok();
+    drop(settings);
+    drop(manifest);
+    tests.expect(rt, "an answer")
 }
 
 // What the words say is chosen, as `a=1.9 b=2 spared`, where `a` is spared; `old=1` is what `a` was before.
 fn chosen_of(rt: &impl Abort, alloc: Global, words: &str) -> Chosen {
-    let mut chosen = Chosen {
-        a: None,
-        b: None,
-        old_a: None,
-        a_spared: false,
-        b_spared: false,
-    };
+    let a = version_of(rt, alloc, words, "a");
+    let b = version_of(rt, alloc, words, "b");
+    let old_a = version_of(rt, alloc, words, "old");
+    Chosen {
+        a,
+        b,
+        old_a,
+        a_spared: has_word(rt, words, "spared"),
+        b_spared: has_word(rt, words, "b-spared"),
+    }
+}
+
+fn version_of(rt: &impl Abort, alloc: Global, words: &str, name: &str) -> Option<Version> {
     for word in words.split_whitespace() {
-        let (stem, version) = word.split_once('=').unwrap_or((word, "0"));
-        let version = Version::parse(alloc, version)
-            .ok()
-            .expect(rt, "a number or a path");
-        match stem {
-            "a" => chosen.a = Some(version),
-            "b" => chosen.b = Some(version),
-            "old" => chosen.old_a = Some(version),
-            "spared" => chosen.a_spared = true,
-            "b-spared" => chosen.b_spared = true,
-            _ => panic!(rt; "no such word"),
+        let (stem, version) = word.split_once('=').unwrap_or((word, ""));
+        if stem == name {
+            return Some(Version::parse(alloc, version).ok().expect(rt, "a version"));
         }
     }
-    chosen
+    None
+}
+
+// Whether the word is among these, which have to be ones that are known.
+fn has_word(rt: &impl Abort, words: &str, name: &str) -> bool {
+    let mut found = false;
+    for word in words.split_whitespace() {
+        let (stem, _) = word.split_once('=').unwrap_or((word, ""));
+        let is_known = matches!(stem, "a" | "b" | "old" | "spared" | "b-spared");
+        assert!(rt; is_known, "no such word");
+        found = found || word == name;
+    }
+    found
 }
 
 // What a table asks of dependencies.
-#[derive(Drop)]
+#[derive(Clone, Copy)]
 enum Asked {
     // Whether the one dependency of these attributes holds where so much is chosen.
     Holds,
@@ -126,30 +141,35 @@ enum Asked {
 }
 
 impl Ask for Asked {
-    fn answer(&mut self, rt: &impl Abort, alloc: Global, question: &str) -> String {
+    fn answer(&mut self, rt: &impl Abort, alloc: Global, out: &mut String, question: &str) {
         let question = text(rt, alloc, question);
         let question = question.as_str();
         match self {
-            Asked::Holds => judged(rt, alloc, question),
-            Asked::Bad => bad_line(rt, alloc, question),
-            Asked::Told => told(rt, alloc, question),
+            Asked::Holds => put_judged(rt, alloc, out, question),
+            Asked::Bad => put_bad_line(rt, alloc, out, question),
+            Asked::Told => put_tests(rt, alloc, out, question),
         }
     }
 }
 
-fn judged(rt: &impl Abort, alloc: Global, question: &str) -> String {
+fn put_judged(rt: &impl Abort, alloc: Global, out: &mut String, question: &str) {
     let (attributes, words) = columns(question);
     let line = format!(in alloc; "depend {attributes}").expect(rt, "memory");
+    let tests = read(rt, alloc, line.as_str());
     let chosen = chosen_of(rt, alloc, words);
-    let answer = match read(rt, alloc, line.as_str()).as_slice() {
-        [test] => if is_held(&chosen, test) {
+    put(rt, out, judged(&chosen, &tests));
+    drop(chosen);
+}
+
+fn judged(chosen: &Chosen, tests: &[Test]) -> &'static str {
+    match tests {
+        [test] => if is_held(chosen, test) {
             "holds"
         } else {
             "fails"
         },
         _ => "not one",
-    };
-    String::from_str(alloc, answer).expect(rt, "memory")
+    }
 }
 
 // Whether the dependency holds where so much is chosen.
@@ -222,19 +242,18 @@ type=origin fmri=a@2 root-image=false | old=1 -> fails
 type=origin fmri=a@2 root-image=TRUE | old=1 -> fails
 ";
 
-fn bad_line(rt: &impl Abort, alloc: Global, text: &str) -> String {
-    let manifest = Manifest::read(alloc, text.as_bytes())
-        .ok()
-        .expect(rt, "an answer");
+fn put_bad_line(rt: &impl Abort, alloc: Global, out: &mut String, text: &str) {
+    let manifest = manifest(rt, alloc, text);
     let mut settings = Settings::new(alloc);
-    settings
-        .set_variant(alloc, "variant.arch", "i386")
-        .ok()
-        .expect(rt, "an answer");
-    match tests_of(alloc, &manifest, &settings) {
-        Err(Or::Bad(BadDepend { line })) => format!(in alloc; "{line}").expect(rt, "memory"),
-        Err(Or::OutOfMemory) => panic!(rt; "memory"),
-        Ok(_) => String::from_str(alloc, "none").expect(rt, "memory"),
+    let set = settings.set_variant(alloc, "variant.arch", "i386");
+    set.ok().expect(rt, "an answer");
+    let fault = tests_of(alloc, &manifest, &settings).err();
+    drop(settings);
+    drop(manifest);
+    match fault {
+        Some(Or::Bad(BadDepend { line })) => put_number(rt, out, line),
+        Some(Or::OutOfMemory) => put(rt, out, "out of memory"),
+        None => put(rt, out, "none"),
     }
 }
 
@@ -267,32 +286,33 @@ depend type=no fmri=a variant.arch=sparc¶depend type=no fmri=b variant.arch=i38
 depend type=no fmri=a variant.arch=sparc¶set name=depend type=no¶ -> none
 ";
 
-// Of each dependency the stems that it mentions, how many it wants, and the stems of a group dependency.
-fn told(rt: &impl Abort, alloc: Global, text: &str) -> String {
-    let mut out = String::new(alloc);
+fn put_tests(rt: &impl Abort, alloc: Global, out: &mut String, text: &str) {
     for test in &read(rt, alloc, text) {
-        for fmri in test.mentions() {
-            out.push_str(fmri.stem.as_str()).expect(rt, "memory");
-            out.push_str(" ").expect(rt, "memory");
-        }
-        let wants = test.wants();
-        write!(out, "{wants}").expect(rt, "memory");
-        add_group(rt, &mut out, test.group());
-        out.push_str(";").expect(rt, "memory");
+        put_mentions(rt, out, test.mentions());
+        put_number(rt, out, test.wants() as u64);
+        put_group(rt, out, test.group());
     }
-    out
 }
 
-fn add_group(rt: &impl Abort, out: &mut String, group: &[Fmri]) {
-    if group.is_empty() {
-        out.push_str(" -").expect(rt, "memory");
+// The stems that a dependency mentions.
+fn put_mentions(rt: &impl Abort, out: &mut String, mentions: &[Fmri]) {
+    for fmri in mentions {
+        put(rt, out, fmri.stem.as_str());
+        put(rt, out, " ");
     }
+}
+
+// The stems of a group dependency.
+fn put_group(rt: &impl Abort, out: &mut String, group: &[Fmri]) {
+    put(rt, out, if group.is_empty() { " -" } else { "" });
     for fmri in group {
-        out.push_str(" ").expect(rt, "memory");
-        out.push_str(fmri.stem.as_str()).expect(rt, "memory");
+        put(rt, out, " ");
+        put(rt, out, fmri.stem.as_str());
     }
+    put(rt, out, ";");
 }
 
+// Of each dependency the stems that it mentions, how many it wants, and the stems of a group dependency.
 const TESTS_MENTION_AND_WANT_STEMS: &str = "
 depend type=require fmri=a -> a 1 -;
 depend type=optional fmri=a -> a 0 -;
@@ -309,22 +329,17 @@ depend type=require fmri=a¶depend type=optional fmri=a¶depend type=incorporate
 depend type=optional fmri=a¶depend type=require fmri=b¶depend type=group fmri=c¶ -> a 0 -;b 1 -;c 1 c;
 ";
 
-#[test]
-fn judges_dependencies(rt: HostRuntime) {
-    let alloc = rt.alloc();
-    holds(&rt, alloc, &mut Asked::Holds, 53, SENTENCES);
-    holds(
-        &rt,
-        alloc,
-        &mut Asked::Bad,
+const TABLES: &[(Asked, u64, &str)] = &[
+    (Asked::Holds, 53, SENTENCES),
+    (
+        Asked::Bad,
         21,
         THE_FIRST_ACTION_THAT_IS_NO_DEPENDENCY_IS_TOLD,
-    );
-    holds(
-        &rt,
-        alloc,
-        &mut Asked::Told,
-        12,
-        TESTS_MENTION_AND_WANT_STEMS,
-    );
+    ),
+    (Asked::Told, 12, TESTS_MENTION_AND_WANT_STEMS),
+];
+
+#[test]
+fn judges_dependencies(rt: HostRuntime) {
+    all_hold(&rt, rt.alloc(), TABLES);
 }

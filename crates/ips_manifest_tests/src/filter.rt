@@ -1,4 +1,4 @@
-use crate::table::{Ask, holds};
+use crate::table::{Ask, holds, put};
 use ips_action::parse_line;
 use ips_filter::Settings;
 use std::alloc::Global;
@@ -26,118 +26,109 @@ fn blank_script(alloc: Global) -> Script {
 }
 
 impl Ask for Script {
-    fn answer(&mut self, rt: &impl Abort, alloc: Global, call: &str) -> String {
+    fn answer(&mut self, rt: &impl Abort, alloc: Global, out: &mut String, call: &str) {
         let (word, rest) = call.split_once(' ').unwrap_or((call, ""));
         match word {
             "set" => self.set(rt, alloc, rest),
             "turn" => self.turn(rt, alloc, rest),
             "copy" => {
-                self.copy = self.settings.copy(alloc).expect(rt, "memory");
-                told(rt, alloc, "done")
+                let copy = self.settings.copy(alloc).expect(rt, "memory");
+                drop(mem::replace(&mut self.copy, copy));
             }
-            "swap" => {
-                mem::swap(&mut self.settings, &mut self.copy);
-                told(rt, alloc, "done")
-            }
-            "variant" => told(rt, alloc, self.settings.variant(rest)),
-            "facet" => told(rt, alloc, named(self.settings.facet(rest))),
-            "variant-at" => self.variant_at(rt, alloc, rest),
-            "facet-at" => self.facet_at(rt, alloc, rest),
-            "variants" => self.variants(rt, alloc),
-            "facets" => self.facets(rt, alloc),
-            "takes" => {
-                let line = format!(in alloc;
-                    "dir path=usr mode=0755 owner=root group=sys {rest}"
-                ).expect(rt, "memory");
-                self.admits(rt, alloc, line.as_str())
-            }
-            "admits" => self.admits(rt, alloc, rest),
-            _ => panic!(rt; "no such call"),
+            "swap" => mem::swap(&mut self.settings, &mut self.copy),
+            _ => return self.put_answer(rt, alloc, out, word, rest),
         }
+        put(rt, out, "done");
     }
-}
-
-fn told(rt: &impl Abort, alloc: Global, answer: &str) -> String {
-    String::from_str(alloc, answer).expect(rt, "memory")
 }
 
 fn named(on: bool) -> &'static str {
     if on { "on" } else { "off" }
 }
 
+fn put_entry(rt: &impl Abort, out: &mut String, name: &str, value: &str) {
+    put(rt, out, name);
+    put(rt, out, " ");
+    put(rt, out, value);
+}
+
+fn number(rt: &impl Abort, word: &str) -> usize {
+    word.parse::<usize>().expect(rt, "a number")
+}
+
 impl Script {
-    fn set(&mut self, rt: &impl Abort, alloc: Global, words: &str) -> String {
+    fn set(&mut self, rt: &impl Abort, alloc: Global, words: &str) {
         let (name, value) = words.split_once(' ').expect(rt, "a value");
-        self.settings
-            .set_variant(alloc, name, value)
-            .ok()
-            .expect(rt, "an answer");
-        told(rt, alloc, "done")
+        let set = self.settings.set_variant(alloc, name, value);
+        set.ok().expect(rt, "an answer");
     }
 
-    fn turn(&mut self, rt: &impl Abort, alloc: Global, words: &str) -> String {
+    fn turn(&mut self, rt: &impl Abort, alloc: Global, words: &str) {
         let (pattern, word) = words.split_once(' ').expect(rt, "a word");
         let on = match word {
             "on" => Some(true),
             "off" => Some(false),
-            "away" => None,
-            _ => panic!(rt; "no such word"),
+            _ => None,
         };
-        self.settings
-            .set_facet(alloc, pattern, on)
-            .ok()
-            .expect(rt, "an answer");
-        told(rt, alloc, "done")
+        assert!(rt; on.is_some() || word == "away", "no such word");
+        let set = self.settings.set_facet(alloc, pattern, on);
+        set.ok().expect(rt, "an answer");
     }
 
-    fn variant_at(&self, rt: &impl Abort, alloc: Global, number: &str) -> String {
-        match self.settings.variant_at(
-            number
-                .parse::<usize>()
-                .ok()
-                .expect(rt, "a number or a path"),
-        ) {
-            Some((name, value)) => format!(in alloc; "{name} {value}").expect(rt, "memory"),
-            None => told(rt, alloc, "none"),
+    fn put_answer(&self, rt: &impl Abort, alloc: Global, out: &mut String, word: &str, rest: &str) {
+        match word {
+            "variant" => put(rt, out, self.settings.variant(rest)),
+            "facet" => put(rt, out, named(self.settings.facet(rest))),
+            "variant-at" => self.put_variant_at(rt, out, number(rt, rest)),
+            "facet-at" => self.put_facet_at(rt, out, number(rt, rest)),
+            "variants" => self.put_variants(rt, alloc, out),
+            "facets" => self.put_facets(rt, alloc, out),
+            "takes" => self.put_taken(rt, alloc, out, rest),
+            "admits" => self.put_admitted(rt, alloc, out, rest),
+            _ => put(rt, out, "no such call"),
         }
     }
 
-    fn facet_at(&self, rt: &impl Abort, alloc: Global, number: &str) -> String {
-        match self.settings.facet_at(
-            number
-                .parse::<usize>()
-                .ok()
-                .expect(rt, "a number or a path"),
-        ) {
-            Some((pattern, on)) => {
-                let on = named(on);
-                format!(in alloc; "{pattern} {on}").expect(rt, "memory")
-            }
-            None => told(rt, alloc, "none"),
+    fn put_variant_at(&self, rt: &impl Abort, out: &mut String, number: usize) {
+        match self.settings.variant_at(number) {
+            Some((name, value)) => put_entry(rt, out, name, value),
+            None => put(rt, out, "none"),
         }
     }
 
-    fn variants(&self, rt: &impl Abort, alloc: Global) -> String {
-        let mut out = String::new(alloc);
+    fn put_facet_at(&self, rt: &impl Abort, out: &mut String, number: usize) {
+        match self.settings.facet_at(number) {
+            Some((pattern, on)) => put_entry(rt, out, pattern, named(on)),
+            None => put(rt, out, "none"),
+        }
+    }
+
+    fn put_variants(&self, rt: &impl Abort, alloc: Global, out: &mut String) {
         for (name, value) in &self.settings.variants(alloc).expect(rt, "memory") {
-            write!(out, "{name} {value};").expect(rt, "memory");
+            put_entry(rt, out, name, value);
+            put(rt, out, ";");
         }
-        out
     }
 
-    fn facets(&self, rt: &impl Abort, alloc: Global) -> String {
-        let mut out = String::new(alloc);
+    fn put_facets(&self, rt: &impl Abort, alloc: Global, out: &mut String) {
         for (pattern, on) in &self.settings.facets(alloc).expect(rt, "memory") {
-            let on = named(*on);
-            write!(out, "{pattern} {on};").expect(rt, "memory");
+            put_entry(rt, out, pattern, named(*on));
+            put(rt, out, ";");
         }
-        out
     }
 
-    fn admits(&self, rt: &impl Abort, alloc: Global, line: &str) -> String {
+    // Of a directory with these words.
+    fn put_taken(&self, rt: &impl Abort, alloc: Global, out: &mut String, words: &str) {
+        let line = format!(in alloc; "dir path=usr mode=0755 owner=root group=sys {words}");
+        let line = line.expect(rt, "memory");
+        self.put_admitted(rt, alloc, out, line.as_str());
+    }
+
+    fn put_admitted(&self, rt: &impl Abort, alloc: Global, out: &mut String, line: &str) {
         let action = parse_line(alloc, line).ok().expect(rt, "an answer");
         let is = self.settings.admits(&action);
-        told(rt, alloc, if is { "yes" } else { "no" })
+        drop(action);
+        put(rt, out, if is { "yes" } else { "no" });
     }
 }
 
@@ -225,28 +216,21 @@ turn facet.locale.de on -> done
 admits file da39a3ee5e6b4b0d3255bfef95601890afd80709 path=usr/share/x mode=0644 owner=root group=bin facet.doc=true facet.locale.de=all -> yes
 ";
 
+const TABLES: &[(u64, &str)] = &[
+    (
+        19,
+        A_VARIANT_HAS_ITS_LAST_VALUE_AND_FALSE_WHERE_IT_IS_NOT_SET,
+    ),
+    (27, THE_LONGEST_PATTERN_DECIDES_A_FACET),
+    (24, AN_ACTION_IS_TAKEN_BY_ITS_VARIANTS_AND_FACETS),
+];
+
 #[test]
 fn settings_take_actions(rt: HostRuntime) {
     let alloc = rt.alloc();
-    holds(
-        &rt,
-        alloc,
-        &mut blank_script(alloc),
-        19,
-        A_VARIANT_HAS_ITS_LAST_VALUE_AND_FALSE_WHERE_IT_IS_NOT_SET,
-    );
-    holds(
-        &rt,
-        alloc,
-        &mut blank_script(alloc),
-        27,
-        THE_LONGEST_PATTERN_DECIDES_A_FACET,
-    );
-    holds(
-        &rt,
-        alloc,
-        &mut blank_script(alloc),
-        24,
-        AN_ACTION_IS_TAKEN_BY_ITS_VARIANTS_AND_FACETS,
-    );
+    for (cases, table) in TABLES {
+        let mut script = blank_script(alloc);
+        holds(&rt, alloc, &mut script, *cases, table);
+        drop(script);
+    }
 }

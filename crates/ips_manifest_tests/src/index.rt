@@ -1,93 +1,95 @@
 use crate::records::actions;
-use crate::table::{Ask, holds, spelled, word};
-use ips_index::Index;
+use crate::table::{Ask, all_hold, put, put_bytes, put_number, spelled};
+use ips_index::{Index, IndexRow};
 use ips_records::stem;
 use ips_text::Or;
 use std::alloc::Global;
 use std::process::Abort;
 
-// What an index holds behind these calls, one after the other: `put stem lines | drop stem | find pattern | print`.
-#[derive(Drop)]
-struct Held;
+// What a table asks of indexes.
+#[derive(Clone, Copy)]
+enum Asked {
+    // What an index holds behind these calls, one after the other: `put stem lines | drop stem | find pattern | print`.
+    Held,
+    // The text of an index as it is printed again, or its first bad line.
+    Reread,
+}
 
-impl Ask for Held {
-    fn answer(&mut self, rt: &impl Abort, alloc: Global, question: &str) -> String {
-        let mut index = Index::new(alloc);
-        let mut out = String::new(alloc);
-        for call in question.split('|') {
-            let (name, rest) = call.trim().split_once(' ').unwrap_or((call.trim(), ""));
-            match name {
-                "put" => put(rt, alloc, &mut index, rest.trim()),
-                "drop" => index.drop_stem(rest.trim()),
-                "find" => push_found(rt, alloc, &mut out, &index, rest.trim()),
-                "print" => push_text(rt, alloc, &mut out, &index),
-                _ => out = word(rt, alloc, "no call"),
+impl Ask for Asked {
+    fn answer(&mut self, rt: &impl Abort, alloc: Global, out: &mut String, question: &str) {
+        match self {
+            Asked::Held => put_held(rt, alloc, out, question),
+            Asked::Reread => {
+                let bytes = spelled(rt, alloc, question);
+                put_read(rt, alloc, out, &bytes);
             }
         }
-        out
     }
 }
 
-fn put(rt: &impl Abort, alloc: Global, index: &mut Index, words: &str) {
+fn put_held(rt: &impl Abort, alloc: Global, out: &mut String, calls: &str) {
+    let mut index = Index::new(alloc);
+    for call in calls.split('|') {
+        let (name, rest) = call.trim().split_once(' ').unwrap_or((call.trim(), ""));
+        match name {
+            "put" => add(rt, alloc, &mut index, rest.trim()),
+            "drop" => index.drop_stem(rest.trim()),
+            "find" => put_found(rt, alloc, out, &index, rest.trim()),
+            "print" => put_text(rt, alloc, out, &index),
+            _ => put(rt, out, "no call"),
+        }
+    }
+    drop(index);
+}
+
+fn add(rt: &impl Abort, alloc: Global, index: &mut Index, words: &str) {
     let (name, lines) = words.split_once(' ').unwrap_or((words, ""));
     let found = stem(alloc, name.as_bytes()).expect(rt, "memory");
     let stem = found.expect(rt, "a stem");
     let actions = actions(rt, alloc, lines.trim());
-    index
-        .put(alloc, stem.as_str(), &actions)
-        .expect(rt, "memory");
+    let put = index.put(alloc, stem.as_str(), &actions);
+    put.expect(rt, "memory");
 }
 
 // The rows found, each as the line of a search.
-fn push_found(rt: &impl Abort, alloc: Global, out: &mut String, index: &Index, pattern: &str) {
+fn put_found(rt: &impl Abort, alloc: Global, out: &mut String, index: &Index, pattern: &str) {
     let found = index.find(alloc, pattern).expect(rt, "memory");
-    for row in found.as_slice() {
-        for part in [
-            row.index.as_str(),
-            row.kind.name(),
-            row.stem.as_str(),
-            row.value.as_str(),
-        ] {
-            out.push_str(part).expect(rt, "memory");
-            out.push_str(" ").expect(rt, "memory");
-        }
-        out.push_str(";").expect(rt, "memory");
+    for row in &found {
+        put_row(rt, out, row);
     }
 }
 
+fn put_row(rt: &impl Abort, out: &mut String, row: &IndexRow) {
+    put(rt, out, row.index.as_str());
+    put(rt, out, " ");
+    put(rt, out, row.kind.name());
+    put(rt, out, " ");
+    put(rt, out, row.stem.as_str());
+    put(rt, out, " ");
+    put(rt, out, row.value.as_str());
+    put(rt, out, " ;");
+}
 // The text of a copy, which is that of the index, as it is read and printed again.
-fn push_text(rt: &impl Abort, alloc: Global, out: &mut String, index: &Index) {
+fn put_text(rt: &impl Abort, alloc: Global, out: &mut String, index: &Index) {
     let copy = index.copy(alloc).expect(rt, "memory");
     let bytes = copy.print(alloc).expect(rt, "memory");
-    let text = read(rt, alloc, &bytes);
-    out.push_str(text.as_str()).expect(rt, "memory");
+    drop(copy);
+    put_read(rt, alloc, out, &bytes);
 }
 
 // The text of the index that was read, or its first bad line.
-fn read(rt: &impl Abort, alloc: Global, bytes: &[u8]) -> String {
+fn put_read(rt: &impl Abort, alloc: Global, out: &mut String, bytes: &[u8]) {
     match Index::read(alloc, bytes) {
-        Ok(index) => printed(rt, alloc, &index),
-        Err(Or::Bad(fault)) => {
-            let line = fault.line;
-            format!(in alloc; "bad {line}").expect(rt, "memory")
+        Ok(index) => {
+            let printed = index.print(alloc).expect(rt, "memory");
+            drop(index);
+            put_bytes(rt, out, &printed);
         }
-        Err(Or::OutOfMemory) => panic!(rt; "memory"),
-    }
-}
-
-fn printed(rt: &impl Abort, alloc: Global, index: &Index) -> String {
-    let bytes = index.print(alloc).expect(rt, "memory");
-    let text = str::from_utf8(bytes.as_slice()).ok().expect(rt, "a text");
-    String::from_str(alloc, text).expect(rt, "memory")
-}
-
-// The text of an index as it is printed again, or its first bad line.
-#[derive(Drop)]
-struct Reread;
-
-impl Ask for Reread {
-    fn answer(&mut self, rt: &impl Abort, alloc: Global, question: &str) -> String {
-        read(rt, alloc, &spelled(rt, alloc, question))
+        Err(Or::Bad(fault)) => {
+            put(rt, out, "bad ");
+            put_number(rt, out, fault.line);
+        }
+        Err(Or::OutOfMemory) => put(rt, out, "out of memory"),
     }
 }
 
@@ -169,14 +171,12 @@ index 1¶usr path dir usr hello¶bin path dir bin hello¶ -> bad 3
 index 1¶bin path dir bin hello¶usr path dir usr hello¶bin path dir bin hello¶ -> bad 4
 ";
 
-#[test]
-fn index_is_read(rt: HostRuntime) {
-    let alloc = rt.alloc();
-    holds(&rt, alloc, &mut Reread, 40, TEXTS_ARE_READ);
-}
+const TABLES: &[(Asked, u64, &str)] = &[
+    (Asked::Reread, 40, TEXTS_ARE_READ),
+    (Asked::Held, 18, ROWS_ARE_HELD),
+];
 
 #[test]
-fn index_holds_what_was_put(rt: HostRuntime) {
-    let alloc = rt.alloc();
-    holds(&rt, alloc, &mut Held, 18, ROWS_ARE_HELD);
+fn indexes_are_read_and_hold_what_was_put(rt: HostRuntime) {
+    all_hold(&rt, rt.alloc(), TABLES);
 }

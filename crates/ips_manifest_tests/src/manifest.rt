@@ -1,4 +1,4 @@
-use crate::table::{Ask, holds, spelled};
+use crate::table::{Ask, all_hold, put, put_number, spelled};
 use ips_fmri::Version;
 use ips_manifest::{LineFault, Manifest, Package};
 use ips_text::{Or, Text};
@@ -6,7 +6,7 @@ use std::alloc::Global;
 use std::process::Abort;
 
 // What a table asks of manifests.
-#[derive(Drop)]
+#[derive(Clone, Copy)]
 enum Asked {
     // The number of the first line and the manifest as it is printed; `no line`; or the line of the fault, and whether it is of the text or an action.
     Lines,
@@ -15,55 +15,82 @@ enum Asked {
 }
 
 impl Ask for Asked {
-    fn answer(&mut self, rt: &impl Abort, alloc: Global, question: &str) -> String {
+    fn answer(&mut self, rt: &impl Abort, alloc: Global, out: &mut String, question: &str) {
         let bytes = spelled(rt, alloc, question);
         match self {
-            Asked::Lines => lines(rt, alloc, bytes.as_slice()),
-            Asked::Obsolete => obsolete(rt, alloc, bytes.as_slice()),
+            Asked::Lines => put_lines(rt, alloc, out, &bytes),
+            Asked::Obsolete => put_obsolete(rt, alloc, out, &bytes),
         }
     }
 }
 
-fn lines(rt: &impl Abort, alloc: Global, bytes: &[u8]) -> String {
-    let manifest = match Manifest::read(alloc, bytes) {
-        Ok(manifest) => manifest,
+fn put_lines(rt: &impl Abort, alloc: Global, out: &mut String, bytes: &[u8]) {
+    let read = Manifest::read(alloc, bytes);
+    match &read {
+        Ok(manifest) => put_manifest(rt, alloc, out, manifest),
         Err(Or::Bad(fault)) => {
-            let line = fault.line;
             let is_text = !matches!(&fault.fault, LineFault::NotText);
-            let what = if is_text { "no action" } else { "not text" };
-            return format!(in alloc; "{what} at {line}").expect(rt, "memory");
+            put(
+                rt,
+                out,
+                if is_text {
+                    "no action at "
+                } else {
+                    "not text at "
+                },
+            );
+            put_number(rt, out, fault.line);
         }
-        Err(Or::OutOfMemory) => panic!(rt; "memory"),
+        Err(Or::OutOfMemory) => put(rt, out, "out of memory"),
+    }
+    drop(read);
+}
+
+fn put_manifest(rt: &impl Abort, alloc: Global, out: &mut String, manifest: &Manifest) {
+    let Some(line) = manifest.lines.first() else {
+        put(rt, out, "no line");
+        return;
     };
+    put_number(rt, out, line.number);
+    put(rt, out, ": ");
     let printed = manifest.print(alloc).expect(rt, "memory");
-    match manifest.lines.first() {
-        Some(line) => {
-            let (number, printed) = (line.number, printed.as_str());
-            format!(in alloc; "{number}: {printed}").expect(rt, "memory")
-        }
-        None => String::from_str(alloc, "no line").expect(rt, "memory"),
+    put(rt, out, printed.as_str());
+}
+
+fn package(rt: &impl Abort, alloc: Global, bytes: &[u8]) -> Package {
+    let stem = Text::new(alloc, "web/server").expect(rt, "memory");
+    let version = Version::parse(alloc, "1.2").ok().expect(rt, "a version");
+    let manifest = Manifest::read(alloc, bytes).ok().expect(rt, "an answer");
+    Package {
+        stem,
+        version,
+        manifest,
     }
 }
 
-fn obsolete(rt: &impl Abort, alloc: Global, bytes: &[u8]) -> String {
-    let package = Package {
-        stem: Text::new(alloc, "web/server").expect(rt, "memory"),
-        version: Version::parse(alloc, "1.2")
-            .ok()
-            .expect(rt, "a number or a path"),
-        manifest: Manifest::read(alloc, bytes).ok().expect(rt, "an answer"),
-    };
+fn put_obsolete(rt: &impl Abort, alloc: Global, out: &mut String, bytes: &[u8]) {
+    let package = package(rt, alloc, bytes);
     let copy = package.copy(alloc).expect(rt, "memory");
-    let printed = copy.manifest.print(alloc).expect(rt, "memory");
-    let is_same = copy.stem.as_str() == "web/server" && printed.as_str().as_bytes() == bytes;
-    let version = copy.version.print(alloc).expect(rt, "memory");
+    drop(package);
+    put_copy(rt, alloc, out, &copy, bytes);
+    drop(copy);
+}
+
+fn put_copy(rt: &impl Abort, alloc: Global, out: &mut String, copy: &Package, bytes: &[u8]) {
     let is_obsolete = copy.manifest.is_obsolete();
-    let answer = match (is_same && version.as_str() == "1.2", is_obsolete) {
-        (false, _) => "not the same",
-        (true, true) => "obsolete",
-        (true, false) => "not obsolete",
+    let answer = if is_obsolete {
+        "obsolete"
+    } else {
+        "not obsolete"
     };
-    String::from_str(alloc, answer).expect(rt, "memory")
+    let printed = copy.manifest.print(alloc).expect(rt, "memory");
+    assert!(rt; printed.as_str().as_bytes() == bytes, "another manifest");
+    let version = copy.version.print(alloc).expect(rt, "memory");
+    put(rt, out, copy.stem.as_str());
+    put(rt, out, "@");
+    put(rt, out, version.as_str());
+    put(rt, out, " ");
+    put(rt, out, answer);
 }
 
 const LINES_ARE_JOINED_SKIPPED_AND_NUMBERED: &str = r"
@@ -88,35 +115,20 @@ set name=a¶¶bad x¶ -> no action at 3
 "#;
 
 const PACKAGES_ARE_COPIED_AND_MAY_BE_OBSOLETE: &str = "
-set name=pkg.obsolete value=true¶ -> obsolete
-set name=pkg.obsolete value=false value=true¶ -> obsolete
-set name=pkg.obsolete value=false¶ -> not obsolete
-set name=pkg.renamed value=true¶ -> not obsolete
-set name=pkg.obsolete¶ -> not obsolete
+set name=pkg.obsolete value=true¶ -> web/server@1.2 obsolete
+set name=pkg.obsolete value=false value=true¶ -> web/server@1.2 obsolete
+set name=pkg.obsolete value=false¶ -> web/server@1.2 not obsolete
+set name=pkg.renamed value=true¶ -> web/server@1.2 not obsolete
+set name=pkg.obsolete¶ -> web/server@1.2 not obsolete
 ";
+
+const TABLES: &[(Asked, u64, &str)] = &[
+    (Asked::Lines, 7, LINES_ARE_JOINED_SKIPPED_AND_NUMBERED),
+    (Asked::Lines, 8, THE_FIRST_FAULT_IS_TOLD_WITH_ITS_LINE),
+    (Asked::Obsolete, 5, PACKAGES_ARE_COPIED_AND_MAY_BE_OBSOLETE),
+];
 
 #[test]
 fn reads_manifests(rt: HostRuntime) {
-    let alloc = rt.alloc();
-    holds(
-        &rt,
-        alloc,
-        &mut Asked::Lines,
-        7,
-        LINES_ARE_JOINED_SKIPPED_AND_NUMBERED,
-    );
-    holds(
-        &rt,
-        alloc,
-        &mut Asked::Lines,
-        8,
-        THE_FIRST_FAULT_IS_TOLD_WITH_ITS_LINE,
-    );
-    holds(
-        &rt,
-        alloc,
-        &mut Asked::Obsolete,
-        5,
-        PACKAGES_ARE_COPIED_AND_MAY_BE_OBSOLETE,
-    );
+    all_hold(&rt, rt.alloc(), TABLES);
 }

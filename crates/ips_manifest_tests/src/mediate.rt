@@ -1,4 +1,4 @@
-use crate::table::{Ask, columns, holds};
+use crate::table::{Ask, all_hold, columns, put, put_number};
 use ips_action::{Action, parse_line};
 use ips_fmri::Version;
 use ips_mediate::{SetMediator, choose, same_mediation};
@@ -8,15 +8,15 @@ use std::process::Abort;
 
 // A link of the mediator `python` with this path, and what else the words say: each is behind `mediator-`.
 fn link(rt: &impl Abort, alloc: Global, path: &str, words: &str) -> Action {
-    let mut line = format!(in alloc; "link path={path} target=t mediator=python").expect(
-        rt, "memory",
-    );
+    let mut line = String::new(alloc);
+    put(rt, &mut line, "link target=t mediator=python path=");
+    put(rt, &mut line, path);
     for word in words.split_whitespace() {
-        write!(line, " mediator-{word}").expect(rt, "memory");
+        put(rt, &mut line, " mediator-");
+        put(rt, &mut line, word);
     }
-    parse_line(alloc, line.as_str())
-        .ok()
-        .expect(rt, "an answer")
+    let link = parse_line(alloc, line.as_str()).ok();
+    link.expect(rt, "an answer")
 }
 
 // The links that these words say, one after the other; a link whose words are `-` says no more.
@@ -25,9 +25,8 @@ fn links(rt: &impl Abort, alloc: Global, lines: &str) -> Vec<Action> {
     if !lines.is_empty() {
         for words in lines.split(';') {
             let words = words.trim();
-            links
-                .push(link(rt, alloc, "a", if words == "-" { "" } else { words }))
-                .expect(rt, "memory");
+            let link = link(rt, alloc, "a", if words == "-" { "" } else { words });
+            links.push(link).expect(rt, "memory");
         }
     }
     links
@@ -35,24 +34,25 @@ fn links(rt: &impl Abort, alloc: Global, lines: &str) -> Vec<Action> {
 
 // What is set: a version and an implementation, where the words aren't empty.
 fn set(rt: &impl Abort, alloc: Global, version: &str, implementation: &str) -> SetMediator {
-    let version = match Version::parse(alloc, version) {
-        Ok(version) => Some(version),
-        Err(_) => None,
-    };
-    let implementation = if implementation.is_empty() {
-        None
-    } else {
-        Some(Text::new(alloc, implementation).expect(rt, "memory"))
-    };
+    let name = Text::new(alloc, "python").expect(rt, "memory");
+    let version = Version::parse(alloc, version).ok();
+    let implementation = some_text(rt, alloc, implementation);
     SetMediator {
-        name: Text::new(alloc, "python").expect(rt, "memory"),
+        name,
         version,
         implementation,
     }
 }
 
+fn some_text(rt: &impl Abort, alloc: Global, text: &str) -> Option<Text> {
+    if text.is_empty() {
+        return None;
+    }
+    Some(Text::new(alloc, text).expect(rt, "memory"))
+}
+
 // What a table asks of mediations.
-#[derive(Drop)]
+#[derive(Clone, Copy)]
 enum Asked {
     // Which of these links is chosen.
     Best,
@@ -66,32 +66,46 @@ const FIVE: &str =
     "version=2.7 priority=vendor; version=3.9; version=3.10 implementation=pypy; version=3.10 implementation=cpy; -";
 
 impl Ask for Asked {
-    fn answer(&mut self, rt: &impl Abort, alloc: Global, question: &str) -> String {
+    fn answer(&mut self, rt: &impl Abort, alloc: Global, out: &mut String, question: &str) {
         let (one, two) = columns(question);
         match self {
-            Asked::Best => best(rt, alloc, one, None),
-            Asked::Set => best(
-                rt,
-                alloc,
-                FIVE,
-                Some(&set(rt, alloc, one, two).copy(alloc).expect(rt, "memory")),
-            ),
-            Asked::Same => {
-                let one = link(rt, alloc, "a", one);
-                let two = link(rt, alloc, "b", two);
-                let same = same_mediation(&one, &two);
-                String::from_str(alloc, if same { "yes" } else { "no" }).expect(rt, "memory")
-            }
+            Asked::Best => put_best(rt, alloc, out, one, None),
+            Asked::Set => put_set(rt, alloc, out, one, two),
+            Asked::Same => put_same(rt, alloc, out, one, two),
         }
     }
 }
 
-fn best(rt: &impl Abort, alloc: Global, lines: &str, set: Option<&SetMediator>) -> String {
+fn put_best(
+    rt: &impl Abort,
+    alloc: Global,
+    out: &mut String,
+    lines: &str,
+    set: Option<&SetMediator>,
+) {
     let links = links(rt, alloc, lines);
     match choose(&links, set) {
-        Some(number) => format!(in alloc; "{number}").expect(rt, "memory"),
-        None => String::from_str(alloc, "none").expect(rt, "memory"),
+        Some(number) => put_number(rt, out, number as u64),
+        None => put(rt, out, "none"),
     }
+}
+
+// Of a copy of what is set.
+fn put_set(rt: &impl Abort, alloc: Global, out: &mut String, version: &str, implementation: &str) {
+    let set = set(rt, alloc, version, implementation);
+    let copy = set.copy(alloc).expect(rt, "memory");
+    drop(set);
+    put_best(rt, alloc, out, FIVE, Some(&copy));
+    drop(copy);
+}
+
+fn put_same(rt: &impl Abort, alloc: Global, out: &mut String, one: &str, two: &str) {
+    let one = link(rt, alloc, "a", one);
+    let two = link(rt, alloc, "b", two);
+    let is_same = same_mediation(&one, &two);
+    drop(one);
+    drop(two);
+    put(rt, out, if is_same { "yes" } else { "no" });
 }
 
 const THE_BEST_MEDIATION_IS_CHOSEN: &str = "
@@ -129,22 +143,13 @@ version=3.10 implementation=pypy | version=3.10 implementation=cpy -> no
 | version=3.9 -> no
 ";
 
+const TABLES: &[(Asked, u64, &str)] = &[
+    (Asked::Best, 7, THE_BEST_MEDIATION_IS_CHOSEN),
+    (Asked::Set, 8, WHAT_IS_SET_LEAVES_THOSE_THAT_FIT),
+    (Asked::Same, 6, LINKS_OF_ONE_MEDIATION),
+];
+
 #[test]
 fn chooses_mediations(rt: HostRuntime) {
-    let alloc = rt.alloc();
-    holds(
-        &rt,
-        alloc,
-        &mut Asked::Best,
-        7,
-        THE_BEST_MEDIATION_IS_CHOSEN,
-    );
-    holds(
-        &rt,
-        alloc,
-        &mut Asked::Set,
-        8,
-        WHAT_IS_SET_LEAVES_THOSE_THAT_FIT,
-    );
-    holds(&rt, alloc, &mut Asked::Same, 6, LINKS_OF_ONE_MEDIATION);
+    all_hold(&rt, rt.alloc(), TABLES);
 }

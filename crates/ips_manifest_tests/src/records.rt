@@ -1,7 +1,7 @@
 ghost use Rattle.std.specs.Prelude.{IsTrue};
 ghost use Rattle.ips_metafiles.specs.Records.{IsQuotedName};
 
-use crate::table::{Ask, columns, holds};
+use crate::table::{Ask, all_hold, columns, put, put_bytes};
 use ips_action::{Action, Preserve, parse_line};
 use ips_actuate::{Words, words};
 use ips_metafiles::{OwnerRow, drivers, license_path, owners, pkginfo};
@@ -23,7 +23,7 @@ pub fn actions(rt: &impl Abort, alloc: Global, lines: &str) -> Vec<Action> {
 }
 
 // What a table asks of actuators and records.
-#[derive(Drop)]
+#[derive(Clone, Copy)]
 enum Asked {
     // What the actuator is run with before and behind a change from actions to others.
     Runs,
@@ -41,61 +41,67 @@ enum Asked {
 }
 
 impl Ask for Asked {
-    fn answer(&mut self, rt: &impl Abort, alloc: Global, question: &str) -> String {
+    fn answer(&mut self, rt: &impl Abort, alloc: Global, out: &mut String, question: &str) {
         match self {
-            Asked::Runs => runs(rt, alloc, question),
-            Asked::Owners => owned(rt, alloc, question),
-            Asked::License => licensed(rt, alloc, question),
-            Asked::Drivers => {
-                let actions = actions(rt, alloc, question);
-                text(rt, alloc, &drivers(alloc, &actions).expect(rt, "memory"))
-            }
-            Asked::PkgInfo => {
-                let action = parse_line(alloc, question).ok().expect(rt, "an action");
-                text(rt, alloc, &pkginfo(alloc, &action).expect(rt, "memory"))
-            }
-            Asked::Keeps => keeps(rt, alloc, question),
+            Asked::Runs => put_changed(rt, alloc, out, question),
+            Asked::Owners => put_owners(rt, alloc, out, question),
+            Asked::License => put_license(rt, alloc, out, question),
+            Asked::Drivers => put_drivers(rt, alloc, out, question),
+            Asked::PkgInfo => put_pkginfo(rt, alloc, out, question),
+            Asked::Keeps => put_keeps(rt, out, question),
         }
     }
 }
 
-fn text(rt: &impl Abort, alloc: Global, bytes: &[u8]) -> String {
-    let text = str::from_utf8(bytes).ok().expect(rt, "a text");
-    String::from_str(alloc, text).expect(rt, "memory")
+fn put_drivers(rt: &impl Abort, alloc: Global, out: &mut String, question: &str) {
+    let actions = actions(rt, alloc, question);
+    let record = drivers(alloc, &actions).expect(rt, "memory");
+    put_bytes(rt, out, &record);
 }
 
-fn runs(rt: &impl Abort, alloc: Global, question: &str) -> String {
+fn put_pkginfo(rt: &impl Abort, alloc: Global, out: &mut String, question: &str) {
+    let action = parse_line(alloc, question).ok().expect(rt, "an action");
+    let record = pkginfo(alloc, &action).expect(rt, "memory");
+    put_bytes(rt, out, &record);
+    drop(action);
+}
+
+fn put_changed(rt: &impl Abort, alloc: Global, out: &mut String, question: &str) {
     let (old, new) = columns(question);
     let old = actions(rt, alloc, old);
     let new = actions(rt, alloc, new);
     let program = Text::new(alloc, "run").expect(rt, "memory");
-    let (before, after) = words(alloc, &old, &new, Some(&program)).expect(rt, "memory");
-    let mut out = String::new(alloc);
-    push_runs(rt, &mut out, &before);
-    out.push_str("/").expect(rt, "memory");
-    push_runs(rt, &mut out, &after);
-    out
+    let runs = words(alloc, &old, &new, Some(&program)).expect(rt, "memory");
+    put_runs(rt, out, &runs.0);
+    put(rt, out, "/");
+    put_runs(rt, out, &runs.1);
+    drop(runs);
 }
 
 // Each run in brackets.
-fn push_runs(rt: &impl Abort, out: &mut String, list: &[Words]) {
+fn put_runs(rt: &impl Abort, out: &mut String, list: &[Words]) {
     for run in list {
-        out.push_str("(").expect(rt, "memory");
-        for word in run.as_slice() {
-            out.push_str(" ").expect(rt, "memory");
-            out.push_str(word.as_str()).expect(rt, "memory");
-        }
-        out.push_str(" )").expect(rt, "memory");
+        put_run(rt, out, run);
     }
 }
 
-fn owned(rt: &impl Abort, alloc: Global, question: &str) -> String {
+fn put_run(rt: &impl Abort, out: &mut String, run: &Words) {
+    put(rt, out, "(");
+    for word in run.as_slice() {
+        put(rt, out, " ");
+        put(rt, out, word.as_str());
+    }
+    put(rt, out, " )");
+}
+
+fn put_owners(rt: &impl Abort, alloc: Global, out: &mut String, question: &str) {
     let mut rows = Vec::new(alloc);
     for row in question.split(';') {
-        rows.push(owner_row(rt, alloc, row.trim()))
-            .expect(rt, "memory");
+        let row = owner_row(rt, alloc, row.trim());
+        rows.push(row).expect(rt, "memory");
     }
-    text(rt, alloc, &owners(alloc, &rows).expect(rt, "memory"))
+    let record = owners(alloc, &rows).expect(rt, "memory");
+    put_bytes(rt, out, &record);
 }
 
 fn owner_row(rt: &impl Abort, alloc: Global, row: &str) -> OwnerRow {
@@ -103,18 +109,22 @@ fn owner_row(rt: &impl Abort, alloc: Global, row: &str) -> OwnerRow {
     let (gid, rest) = rest.split_once(' ').expect(rt, "a number");
     let (owner, rest) = rest.split_once(' ').expect(rt, "an owner");
     let (group, path) = rest.split_once(' ').expect(rt, "a group");
+    let uid = uid.parse::<u32>().expect(rt, "a number");
+    let gid = gid.parse::<u32>().expect(rt, "a number");
+    let path = RelPath::parse(alloc, path.as_bytes()).ok();
+    let path = path.expect(rt, "a path");
+    let owner = Text::new(alloc, owner).expect(rt, "memory");
+    let group = Text::new(alloc, group).expect(rt, "memory");
     OwnerRow {
-        path: RelPath::parse(alloc, path.as_bytes())
-            .ok()
-            .expect(rt, "a path"),
-        owner: Text::new(alloc, owner).expect(rt, "memory"),
-        group: Text::new(alloc, group).expect(rt, "memory"),
-        uid: uid.parse::<u32>().ok().expect(rt, "a number"),
-        gid: gid.parse::<u32>().ok().expect(rt, "a number"),
+        path,
+        owner,
+        group,
+        uid,
+        gid,
     }
 }
 
-fn licensed(rt: &impl Abort, alloc: Global, question: &str) -> String {
+fn put_license(rt: &impl Abort, alloc: Global, out: &mut String, question: &str) {
     let (stem, name) = columns(question);
     assert!(rt;
         can_be_named(rt, alloc, stem) && can_be_named(rt, alloc, name),
@@ -122,7 +132,7 @@ fn licensed(rt: &impl Abort, alloc: Global, question: &str) -> String {
     );
     let path = license_path(alloc, stem, name).expect(rt, "memory");
     let shown = show_path(alloc, &path).expect(rt, "memory");
-    text(rt, alloc, shown.as_str().as_bytes())
+    put(rt, out, shown.as_str());
 }
 
 // Whether a file can have the quoted form as its name.
@@ -134,30 +144,28 @@ fn can_be_named(rt: &impl Abort, alloc: Global, name: &str) -> bool
     fits_name(name.as_bytes()) && !form.is_empty() && form != "." && form != ".."
 }
 
-fn keeps(rt: &impl Abort, alloc: Global, question: &str) -> String {
-    let mut out = String::new(alloc);
+fn put_keeps(rt: &impl Abort, out: &mut String, question: &str) {
     let Some((event, preserve, changed)) = event_of(question) else {
-        out.push_str("no event").expect(rt, "memory");
-        return out;
+        put(rt, out, "no event");
+        return;
     };
+    let mut between = "";
     for standing in [
         Standing::Absent,
         Standing::Same,
         Standing::Different,
         Standing::NotFile,
     ] {
-        if !out.is_empty() {
-            out.push_str(" ").expect(rt, "memory");
-        }
         let case = Case {
             preserve,
             event,
             standing,
             changed,
         };
-        out.push_str(keep_word(decide(case))).expect(rt, "memory");
+        put(rt, out, between);
+        put(rt, out, keep_word(decide(case)));
+        between = " ";
     }
-    out
 }
 
 fn event_of(question: &str) -> Option<(Event, Preserve, bool)> {
@@ -284,24 +292,16 @@ update install-only changed -> Stay Stay Stay Stay
 removal install-only changed -> Stay Stay Stay Stay
 ";
 
-#[test]
-fn keeps_files_by_the_table(rt: HostRuntime) {
-    let alloc = rt.alloc();
-    holds(&rt, alloc, &mut Asked::Keeps, 42, THE_KEEP_TABLE);
-}
+const TABLES: &[(Asked, u64, &str)] = &[
+    (Asked::Keeps, 42, THE_KEEP_TABLE),
+    (Asked::Runs, 11, THE_ACTUATOR_IS_RUN),
+    (Asked::Drivers, 2, DRIVERS_ARE_RECORDED),
+    (Asked::Owners, 2, OWNERS_ARE_RECORDED),
+    (Asked::License, 2, LICENSES_HAVE_PATHS),
+    (Asked::PkgInfo, 2, LEGACY_PACKAGES_ARE_RECORDED),
+];
 
 #[test]
-fn records_and_runs_actuators(rt: HostRuntime) {
-    let alloc = rt.alloc();
-    holds(&rt, alloc, &mut Asked::Runs, 11, THE_ACTUATOR_IS_RUN);
-    holds(&rt, alloc, &mut Asked::Drivers, 2, DRIVERS_ARE_RECORDED);
-    holds(&rt, alloc, &mut Asked::Owners, 2, OWNERS_ARE_RECORDED);
-    holds(&rt, alloc, &mut Asked::License, 2, LICENSES_HAVE_PATHS);
-    holds(
-        &rt,
-        alloc,
-        &mut Asked::PkgInfo,
-        2,
-        LEGACY_PACKAGES_ARE_RECORDED,
-    );
+fn keeps_files_and_records_and_runs_actuators(rt: HostRuntime) {
+    all_hold(&rt, rt.alloc(), TABLES);
 }

@@ -14,56 +14,82 @@ fn one<T: Drop>(rt: &impl Abort, alloc: Global, item: T) -> Vec<T> {
     list
 }
 
+fn text(rt: &impl Abort, alloc: Global, text: &str) -> Text {
+    Text::new(alloc, text).expect(rt, "memory")
+}
+
+fn packages(rt: &impl Abort, alloc: Global) -> Vec<Package> {
+    let stem = text(rt, alloc, "a");
+    let version = Version::parse(alloc, "1").ok().expect(rt, "a version");
+    let manifest = Manifest::read(alloc, b"dir path=x mode=0755 owner=root group=bin\n");
+    let manifest = manifest.ok().expect(rt, "an answer");
+    let package = Package {
+        stem,
+        version,
+        manifest,
+    };
+    one(rt, alloc, package)
+}
+
+fn freezes(rt: &impl Abort, alloc: Global) -> Vec<Fmri> {
+    let freeze = Fmri::parse(alloc, "a@1").ok().expect(rt, "a freeze");
+    one(rt, alloc, freeze)
+}
+
+fn mediators(rt: &impl Abort, alloc: Global) -> Vec<SetMediator> {
+    let name = text(rt, alloc, "python");
+    let version = Version::parse(alloc, "3.9").ok().expect(rt, "a version");
+    let mediator = SetMediator {
+        name,
+        version: Some(version),
+        implementation: None,
+    };
+    one(rt, alloc, mediator)
+}
+
+// A state with one record of each sort.
+fn state(rt: &impl Abort, alloc: Global) -> State {
+    let publisher = text(rt, alloc, "test");
+    let installed = packages(rt, alloc);
+    let avoid = one(rt, alloc, text(rt, alloc, "b"));
+    let freeze = freezes(rt, alloc);
+    let mediators = mediators(rt, alloc);
+    let history = one(rt, alloc, text(rt, alloc, "20240102T030405Z install a"));
+    State {
+        format: 2,
+        publisher,
+        origins: Vec::new(alloc),
+        actuator: None,
+        settings: Settings::new(alloc),
+        installed,
+        avoid,
+        freeze,
+        mediators,
+        history,
+        index: None,
+    }
+}
+
+// How many packages, avoided stems, freezes, mediators and lines of the history there are.
+fn records(state: &State) -> [usize; 5] {
+    [
+        state.installed.len(),
+        state.avoid.len(),
+        state.freeze.len(),
+        state.mediators.len(),
+        state.history.len(),
+    ]
+}
+
 // A copy has the same publisher, and as many records of each sort.
 #[test]
 fn copies_have_as_many_records(rt: HostRuntime) {
     let alloc = rt.alloc();
-    let package = Package {
-        stem: Text::new(alloc, "a").expect(&rt, "memory"),
-        version: Version::parse(alloc, "1")
-            .ok()
-            .expect(&rt, "a number or a path"),
-        manifest: Manifest::read(alloc, b"dir path=x mode=0755 owner=root group=bin\n")
-            .ok()
-            .expect(&rt, "an answer"),
-    };
-    let mediator = SetMediator {
-        name: Text::new(alloc, "python").expect(&rt, "memory"),
-        version: Some(
-            Version::parse(alloc, "3.9")
-                .ok()
-                .expect(&rt, "a number or a path"),
-        ),
-        implementation: None,
-    };
-    let state = State {
-        format: 2,
-        publisher: Text::new(alloc, "test").expect(&rt, "memory"),
-        origins: Vec::new(alloc),
-        actuator: None,
-        settings: Settings::new(alloc),
-        installed: one(&rt, alloc, package),
-        avoid: one(&rt, alloc, Text::new(alloc, "b").expect(&rt, "memory")),
-        freeze: one(
-            &rt,
-            alloc,
-            Fmri::parse(alloc, "a@1")
-                .ok()
-                .expect(&rt, "a number or a path"),
-        ),
-        mediators: one(&rt, alloc, mediator),
-        history: one(
-            &rt,
-            alloc,
-            Text::new(alloc, "20240102T030405Z install a").expect(&rt, "memory"),
-        ),
-        index: None,
-    };
+    let state = state(&rt, alloc);
     let copy = state.copy(alloc).expect(&rt, "memory");
-    assert!(rt; copy.publisher == state.publisher);
-    assert!(rt; copy.installed.len() == 1);
-    assert!(rt; copy.avoid.len() == 1);
-    assert!(rt; copy.freeze.len() == 1);
-    assert!(rt; copy.mediators.len() == 1);
-    assert!(rt; copy.history.len() == 1);
+    let is_same = copy.publisher == state.publisher;
+    let records = records(&copy);
+    drop(copy);
+    drop(state);
+    assert!(rt; is_same && records == [1, 1, 1, 1, 1]);
 }

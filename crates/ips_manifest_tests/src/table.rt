@@ -9,7 +9,16 @@ use std::process::Abort;
 
 /// A kind of question, whose answers are short texts.
 pub trait Ask {
-    fn answer(&mut self, rt: &impl Abort, alloc: Global, question: &str) -> String;
+    /// Adds the answer.
+    fn answer(&mut self, rt: &impl Abort, alloc: Global, out: &mut String, question: &str);
+}
+
+/// Each of the tables holds: a kind of question, how many cases there are, and the cases.
+pub fn all_hold<Q: Ask + Copy>(rt: &impl Abort, alloc: Global, tables: &[(Q, u64, &str)]) {
+    for (kind, cases, table) in tables {
+        let mut kind = *kind;
+        holds(rt, alloc, &mut kind, *cases, table);
+    }
 }
 
 /// Each case of the table has its answer, and there are so many cases.
@@ -17,33 +26,43 @@ pub fn holds<Q: Ask>(rt: &impl Abort, alloc: Global, kind: &mut Q, cases: u64, t
     let mut count = 0_u64;
     for line in table.lines() {
         let row = line.trim();
-        if row.is_empty() || row.starts_with('#') {
-            continue;
+        if !row.is_empty() && !row.starts_with('#') {
+            case(rt, alloc, kind, row);
+            count = count.saturating_add(1);
         }
-        let (question, wanted) = row.split_once("->").expect(rt, "a case without an answer");
-        let answer = kind.answer(rt, alloc, question.trim());
-        let wanted = spelled(rt, alloc, wanted.trim());
-        assert!(rt;
-            answer.as_str().as_bytes() == wanted.as_slice(),
-            "{row} but {answer}"
-        );
-        count = count.saturating_add(1);
     }
     assert!(rt; count == cases, "{count} cases");
+}
+
+fn case<Q: Ask>(rt: &impl Abort, alloc: Global, kind: &mut Q, row: &str) {
+    let (question, wanted) = row.split_once("->").expect(rt, "a case without an answer");
+    let wanted = spelled(rt, alloc, wanted.trim());
+    let mut answer = String::new(alloc);
+    kind.answer(rt, alloc, &mut answer, question.trim());
+    assert!(rt;
+        answer.as_str().as_bytes() == wanted.as_slice(),
+        "{row} but {answer}"
+    );
 }
 
 /// The bytes that a column spells.
 pub fn spelled(rt: &impl Abort, alloc: Global, column: &str) -> Vec<u8> {
     let mut bytes = Vec::new(alloc);
-    for (i, piece) in column.split('{').enumerate() {
-        match piece.split_once('}') {
+    let lines = column.replace(alloc, '¶', "\n").expect(rt, "memory");
+    for (i, piece) in lines.as_str().split('{').enumerate() {
+        let behind = match piece.split_once('}') {
             Some((name, behind)) => {
                 push_named(rt, &mut bytes, name);
-                push_lines(rt, &mut bytes, behind);
+                behind
             }
-            None if i > 0 => panic!(rt; "an open brace"),
-            None => push_lines(rt, &mut bytes, piece),
-        }
+            None => {
+                assert!(rt; i == 0, "an open brace");
+                piece
+            }
+        };
+        bytes
+            .extend_from_slice(behind.as_bytes())
+            .expect(rt, "memory");
     }
     bytes
 }
@@ -51,23 +70,13 @@ pub fn spelled(rt: &impl Abort, alloc: Global, column: &str) -> Vec<u8> {
 /// The text that a column spells.
 pub fn text(rt: &impl Abort, alloc: Global, column: &str) -> String {
     let bytes = spelled(rt, alloc, column);
-    let text = str::from_utf8(bytes.as_slice()).ok().expect(rt, "a text");
-    String::from_str(alloc, text).expect(rt, "memory")
-}
-
-fn push_lines(rt: &impl Abort, out: &mut Vec<u8>, text: &str) {
-    for (i, line) in text.split('¶').enumerate() {
-        if i > 0 {
-            out.push(b'\n').expect(rt, "memory");
-        }
-        out.extend_from_slice(line.as_bytes()).expect(rt, "memory");
-    }
+    String::from_utf8(bytes).ok().expect(rt, "a text")
 }
 
 // What stands in braces.
 fn push_named(rt: &impl Abort, out: &mut Vec<u8>, name: &str) {
     if let Some((piece, times)) = name.rsplit_once('*') {
-        for _ in 0..times.parse::<u32>().ok().expect(rt, "a number or a path") {
+        for _ in 0..times.parse::<u32>().expect(rt, "a number of times") {
             out.extend_from_slice(piece.as_bytes()).expect(rt, "memory");
         }
         return;
@@ -78,7 +87,7 @@ fn push_named(rt: &impl Abort, out: &mut Vec<u8>, name: &str) {
         "hash" => b'#',
         _ => {
             let digits = name.strip_prefix("0x").expect(rt, "no name in braces");
-            u8::from_str_radix(digits, 16).ok().expect(rt, "an answer")
+            u8::from_str_radix(digits, 16).expect(rt, "a byte")
         }
     };
     out.push(byte).expect(rt, "memory");
@@ -92,12 +101,17 @@ pub fn columns(question: &str) -> (&str, &str) {
     }
 }
 
-/// An answer of these words.
-pub fn word(rt: &impl Abort, alloc: Global, words: &str) -> String {
-    String::from_str(alloc, words).expect(rt, "memory")
+/// Adds words to an answer.
+pub fn put(rt: &impl Abort, out: &mut String, words: &str) {
+    out.push_str(words).expect(rt, "memory");
 }
 
-/// A number as an answer.
-pub fn counted(rt: &impl Abort, alloc: Global, count: usize) -> String {
-    format!(in alloc; "{count}").expect(rt, "memory")
+/// Adds bytes, which have to be a text, to an answer.
+pub fn put_bytes(rt: &impl Abort, out: &mut String, bytes: &[u8]) {
+    put(rt, out, str::from_utf8(bytes).expect(rt, "a text"));
+}
+
+/// Adds a number to an answer.
+pub fn put_number(rt: &impl Abort, out: &mut String, number: u64) {
+    write!(out, "{number}").expect(rt, "memory");
 }
