@@ -1,12 +1,13 @@
 //! Calls on a folder in memory: which of them fail, what stands after each, and what a crash leaves, by each choice.
 
 ghost use Rattle.std.specs.Prelude.{◌≡◌, IsTrue, IfOk};
-ghost use Rattle.ips_outside.specs.Image.{is_dir, is_file};
-ghost use Rattle.ips_folder.specs.Calls.{CanMake, IsSole, is_link, has_mode};
+ghost use Rattle.ips_folder.specs.Calls.{CanMake, IsSole};
 ghost use Rattle.ips_folder.specs.Memory.{mem_folder};
 
 use crate::outside::tree_of;
-use crate::script::{bytes, call_of, first, look_shown, path, words};
+use crate::script::{
+    Player, agree, first, look_told, number, path, paths_told, play, play_failing, told, words,
+};
 use ips_folder::{Choice, Folder, MemFolder, Stop};
 use ips_outside::{Failed, Look, Source, Tree, TreeFault};
 use ips_text::{Or, RelPath, octal};
@@ -39,34 +40,6 @@ fn is_free(alloc: Global, folder: &MemFolder, path: &RelPath) -> bool
     }
 }
 
-// Whether what stands at the path has a mode.
-fn has_mode(folder: &MemFolder, path: &RelPath) -> bool
-    ensures { IsTrue result → IsTrue (has_mode ((mem_folder.state folder.now).held.look path.now.bytes)) }
-{
-    matches!(
-        folder.tree().look(path),
-        Look::Dir { .. } | Look::File { .. }
-    )
-}
-
-fn is_dir(folder: &MemFolder, path: &RelPath) -> bool
-    ensures { IsTrue result → IsTrue (is_dir ((mem_folder.state folder.now).held.look path.now.bytes)) }
-{
-    matches!(folder.tree().look(path), Look::Dir { .. })
-}
-
-fn is_file(folder: &MemFolder, path: &RelPath) -> bool
-    ensures { IsTrue result → IsTrue (is_file ((mem_folder.state folder.now).held.look path.now.bytes)) }
-{
-    matches!(folder.tree().look(path), Look::File { .. })
-}
-
-fn is_link(folder: &MemFolder, path: &RelPath) -> bool
-    ensures { IsTrue result → IsTrue (is_link ((mem_folder.state folder.now).held.look path.now.bytes)) }
-{
-    matches!(folder.tree().look(path), Look::Link)
-}
-
 // How a call that writes ended.
 fn ended(answer: Result<(), Failed>) -> &'static str {
     match answer {
@@ -92,7 +65,7 @@ fn make(
         "make_link" => folder.make_link(at, call[2].as_bytes()),
         _ => {
             let to = path(rt, alloc, call[2]);
-            if !is_file(folder, &to) {
+            if !matches!(folder.tree().look(&to), Look::File { .. }) {
                 return "no file";
             }
             folder.make_hard(at, &to)
@@ -100,56 +73,60 @@ fn make(
     })
 }
 
-// Changes something: `remove PATH`, `set_mode PATH MODE` or `sync`.
-fn change(folder: &mut MemFolder, at: &RelPath, call: [&str; 4]) -> &'static str {
+// Changes something: `remove PATH`, `set_mode PATH MODE` or `sync`, or makes something.
+fn change(
+    rt: &impl Abort,
+    alloc: Global,
+    folder: &mut MemFolder,
+    at: &RelPath,
+    call: [&str; 4],
+) -> &'static str {
     ended(match call[0] {
         "remove" => folder.remove(at),
         "set_mode" => {
-            if !has_mode(folder, at) {
+            if !matches!(folder.tree().look(at), Look::Dir { .. } | Look::File { .. }) {
                 return "no mode";
             }
             folder.set_mode(at, octal(call[2].as_bytes()).unwrap_or(0))
         }
-        _ => folder.sync(),
+        "sync" => folder.sync(),
+        _ => return make(rt, alloc, folder, at, call),
     })
 }
 
 // The names in a directory, and whether there are foreign ones.
 fn list(rt: &impl Abort, alloc: Global, folder: &mut MemFolder, at: &RelPath) -> Vec<u8> {
-    let mut shown = Vec::new(alloc);
-    if !is_dir(folder, at) {
-        return shown;
+    if !matches!(folder.tree().look(at), Look::Dir { .. }) {
+        return told(rt, alloc, b"no directory");
     }
-    let Ok(listing) = folder.list(alloc, at) else {
-        return Vec::from_slice(alloc, b"failed").expect(rt, "memory");
-    };
-    shown
-        .extend_from_slice(if listing.foreign {
-            b"foreign"
-        } else {
-            b"plain"
-        })
-        .expect(rt, "memory");
-    for name in listing.names.as_slice() {
-        shown.push(b' ').expect(rt, "memory");
-        shown.extend_from_slice(name.bytes()).expect(rt, "memory");
+    match folder.list(alloc, at) {
+        Ok(listing) => {
+            let word: &[u8] = if listing.foreign {
+                b"foreign"
+            } else {
+                b"plain"
+            };
+            paths_told(rt, alloc, word, listing.names.as_slice())
+        }
+        Err(_) => told(rt, alloc, b"failed"),
     }
-    shown
 }
 
 fn target(rt: &impl Abort, alloc: Global, folder: &mut MemFolder, at: &RelPath) -> Vec<u8> {
-    if !is_link(folder, at) {
-        return Vec::new(alloc);
+    if !matches!(folder.tree().look(at), Look::Link) {
+        return told(rt, alloc, b"no link");
     }
     match folder.target(alloc, at) {
         Ok(target) => target,
-        Err(_) => Vec::from_slice(alloc, b"failed").expect(rt, "memory"),
+        Err(_) => told(rt, alloc, b"failed"),
     }
 }
 
 // Whether both files are one.
 fn same(folder: &mut MemFolder, a: &RelPath, b: &RelPath) -> &'static str {
-    if !is_file(folder, a) || !is_file(folder, b) {
+    if !matches!(folder.tree().look(a), Look::File { .. })
+        || !matches!(folder.tree().look(b), Look::File { .. })
+    {
         return "no files";
     }
     match folder.same(a, b) {
@@ -165,15 +142,11 @@ fn read(
     alloc: Global,
     folder: &mut MemFolder,
     at: &RelPath,
-    place: &str,
+    place: u64,
 ) -> Vec<u8> {
     let mut buffer = [0; 4];
-    let Ok(count) = folder.read(
-        at,
-        place.parse().ok().expect(rt, "what is spelled"),
-        &mut buffer,
-    ) else {
-        return Vec::from_slice(alloc, b"failed").expect(rt, "memory");
+    let Ok(count) = folder.read(at, place, &mut buffer) else {
+        return told(rt, alloc, b"failed");
     };
     let mut shown = format!(in alloc; "{count} ")
         .expect(rt, "memory")
@@ -185,25 +158,48 @@ fn read(
 // What stands at one path, in words.
 fn look(rt: &impl Abort, alloc: Global, folder: &mut MemFolder, at: &RelPath) -> Vec<u8> {
     match folder.look(at) {
-        Ok(look) => look_shown(rt, alloc, look).into_bytes(),
-        Err(Failed) => Vec::from_slice(alloc, b"failed").expect(rt, "memory"),
+        Ok(look) => look_told(rt, alloc, look),
+        Err(Failed) => told(rt, alloc, b"failed"),
     }
 }
 
-// What a call on the folder answers.
-fn answer(rt: &impl Abort, alloc: Global, folder: &mut MemFolder, call: &str) -> Vec<u8> {
-    let call = words(call);
-    let at = path(rt, alloc, if call[1].is_empty() { "usr" } else { call[1] });
+// What a call on the folder answers: a question first, then a call that writes. What stands is asked of all below `usr`, held
+// or left by a crash, or of one path.
+fn answer_at(
+    rt: &impl Abort,
+    alloc: Global,
+    folder: &mut MemFolder,
+    at: &RelPath,
+    call: [&str; 4],
+) -> Vec<u8> {
     let answer = match call[0] {
-        "list" => return list(rt, alloc, folder, &at),
-        "target" => return target(rt, alloc, folder, &at),
-        "read" => return read(rt, alloc, folder, &at, call[2]),
-        "look" => return look(rt, alloc, folder, &at),
-        "same" => same(folder, &at, &path(rt, alloc, call[2])),
-        "remove" | "set_mode" | "sync" => change(folder, &at, call),
-        _ => make(rt, alloc, folder, &at, call),
+        "held" => return show(rt, alloc, folder.tree()),
+        "crashed" => return show(rt, alloc, &crashed(rt, alloc, folder)),
+        "stands" => return look_told(rt, alloc, folder.tree().look(at)),
+        "list" => return list(rt, alloc, folder, at),
+        "target" => return target(rt, alloc, folder, at),
+        "read" => return read(rt, alloc, folder, at, number(rt, call[2])),
+        "look" => return look(rt, alloc, folder, at),
+        "same" => same(folder, at, &path(rt, alloc, call[2])),
+        _ => change(rt, alloc, folder, at, call),
     };
-    Vec::from_slice(alloc, answer.as_bytes()).expect(rt, "memory")
+    told(rt, alloc, answer.as_bytes())
+}
+
+// What a crash leaves.
+fn crashed(rt: &impl Abort, alloc: Global, folder: &MemFolder) -> Tree {
+    folder.crashed(alloc).ok().expect(rt, "no fault")
+}
+
+// No call may want memory.
+impl Player for MemFolder {
+    fn answer<R: Abort>(&mut self, rt: &R, alloc: Global, call: &str) -> Vec<u8> {
+        let call = words(call);
+        let at = path(rt, alloc, if call[1].is_empty() { "usr" } else { call[1] });
+        let answer = answer_at(rt, alloc, self, &at, call);
+        assert!(rt; self.starved() == 0);
+        answer
+    }
 }
 
 // All names that are used below `usr`.
@@ -211,33 +207,28 @@ const NAMES: &str =
     "usr/a usr/a/junk usr/a/y usr/b usr/b/c usr/d usr/d/junk usr/d/x usr/l usr/l- usr/l-/x usr/m usr/n \
     usr/n/junk usr/n/y usr/n/y/junk";
 
-// What stands at one path: a directory as `usr 755/`, a file as `usr/a 644=bytes`, a link as `usr/l>target`.
-fn show_one(rt: &impl Abort, alloc: Global, tree: &Tree, name: &str, shown: &mut Vec<u8>) {
-    let path = path(rt, alloc, name);
-    let (mark, behind) = match tree.look(&path) {
-        Look::Absent => return (),
-        Look::Dir { mode } => (
-            format!(in alloc; " {mode:o}/").expect(rt, "memory"),
-            b"".as_slice(),
-        ),
-        Look::File { mode, .. } => (
-            format!(in alloc; " {mode:o}=").expect(rt, "memory"),
-            tree.bytes(&path).unwrap_or(b"?"),
-        ),
-        Look::Link => (
-            format!(in alloc; ">").expect(rt, "memory"),
-            tree.target(&path).unwrap_or(b"?"),
-        ),
-        Look::Other => (format!(in alloc; "?").expect(rt, "memory"), b"".as_slice()),
-    };
-    if !shown.is_empty() {
-        shown.push(b' ').expect(rt, "memory");
+// What is said behind a path: ` 755/` of a directory, ` 644=` of a file, `>` of a link.
+fn mark(rt: &impl Abort, alloc: Global, look: Look) -> String {
+    match look {
+        Look::Dir { mode } => format!(in alloc; " {mode:o}/"),
+        Look::File { mode, .. } => format!(in alloc; " {mode:o}="),
+        Look::Link => String::from_str(alloc, ">"),
+        Look::Absent | Look::Other => String::from_str(alloc, "?"),
     }
+    .expect(rt, "memory")
+}
+
+// What stands at a path: `usr 755/`, `usr/a 644=bytes` or `usr/l>target`.
+fn show_one(rt: &impl Abort, alloc: Global, tree: &Tree, path: &RelPath, shown: &mut Vec<u8>) {
+    let look = tree.look(path);
+    let behind: &[u8] = match look {
+        Look::File { .. } => tree.bytes(path).unwrap_or(b"?"),
+        Look::Link => tree.target(path).unwrap_or(b"?"),
+        _ => b"",
+    };
+    shown.extend_from_slice(path.bytes()).expect(rt, "memory");
     shown
-        .extend_from_slice(name.as_bytes())
-        .expect(rt, "memory");
-    shown
-        .extend_from_slice(mark.as_bytes())
+        .extend_from_slice(mark(rt, alloc, look).as_bytes())
         .expect(rt, "memory");
     shown.extend_from_slice(behind).expect(rt, "memory");
 }
@@ -246,7 +237,13 @@ fn show_one(rt: &impl Abort, alloc: Global, tree: &Tree, name: &str, shown: &mut
 fn show(rt: &impl Abort, alloc: Global, tree: &Tree) -> Vec<u8> {
     let mut shown = Vec::new(alloc);
     for name in NAMES.split_whitespace() {
-        show_one(rt, alloc, tree, name, &mut shown);
+        let path = path(rt, alloc, name);
+        if tree.look(&path) != Look::Absent {
+            if !shown.is_empty() {
+                shown.push(b' ').expect(rt, "memory");
+            }
+            show_one(rt, alloc, tree, &path, &mut shown);
+        }
     }
     shown
 }
@@ -264,9 +261,8 @@ dir usr/l- 755
 dir usr/l-/x 755
 mark usr";
 
-// Where a folder stops; nowhere at call 0.
-fn stop_of(rt: &impl Abort, call: &str, choice: &str) -> Option<Stop> {
-    let call = call.parse().ok().expect(rt, "what is spelled");
+// A stop at a call.
+fn stop_of(rt: &impl Abort, call: u64, choice: &str) -> Stop {
     let choice = match choice {
         "before" => Choice::Before,
         "after" => Choice::After,
@@ -275,44 +271,27 @@ fn stop_of(rt: &impl Abort, call: &str, choice: &str) -> Option<Stop> {
         "torn" => Choice::Torn,
         _ => panic!(rt; "no such choice"),
     };
-    if call == 0 {
-        None
-    } else {
-        Some(Stop { call, choice })
-    }
+    Stop { call, choice }
 }
 
-// A folder with the file `usr/a`, to which bytes are appended by the first call, where there are some, and how that ended.
+// A folder with the file `usr/a`, to which bytes are appended by the first call, where there are some; that ends as it has to.
 fn with_file(
     rt: &impl Abort,
     alloc: Global,
-    tree: &str,
-    content: &[u8],
-    appended: &str,
+    [tree, content, appended, wanted]: [&str; 4],
     listed: u64,
     stop: Option<Stop>,
-) -> (MemFolder, &'static str) {
+) -> MemFolder {
     let file = path(rt, alloc, "usr/a");
-    let mut folder = folder(
-        alloc,
-        tree_of(rt, alloc, tree),
-        &file,
-        content,
-        listed,
-        stop,
-    )
-    .ok()
-    .expect(rt, "no fault");
-    if appended.is_empty() {
-        return (folder, "ok");
+    let tree = tree_of(rt, alloc, tree);
+    let mut folder = folder(alloc, tree, &file, content.as_bytes(), listed, stop)
+        .ok()
+        .expect(rt, "no fault");
+    if !appended.is_empty() {
+        let ended = ended(folder.append(&file, appended.as_bytes()));
+        assert!(rt; ended == wanted, "{ended}");
     }
-    let answer = ended(folder.append(&file, appended.as_bytes()));
-    (folder, answer)
-}
-
-// A folder that holds the tree and stops nowhere or at a call.
-fn holding(rt: &impl Abort, alloc: Global, tree: Tree, stop: Option<Stop>) -> MemFolder {
-    MemFolder::new(alloc, tree, Vec::new(alloc), stop).expect(rt, "memory")
+    folder
 }
 
 // The choice, the call at which the folder stops, and what a crash then leaves.
@@ -368,94 +347,28 @@ junk sync -> usr/a 644=abcd usr/d 700/ usr/d/x 640=xyz
 torn sync -> usr/a 644=abcd usr/d 700/ usr/d/x 640=xyz
 ";
 
-// How the call ended that is the first one and the stop, and the folder.
-fn stopped(rt: &impl Abort, alloc: Global, choice: &str, call: &str) -> (MemFolder, Vec<u8>) {
-    let stop = stop_of(rt, "1", choice);
-    let appended = call.strip_prefix("append ").unwrap_or("");
-    let (mut folder, ended) = with_file(rt, alloc, TWO_FILES, b"abcd", appended, 0, stop);
-    if appended.is_empty() {
-        let ended = answer(rt, alloc, &mut folder, call);
-        return (folder, ended);
+// Folders that stop within the first call. A call is a choice and that call, which has to fail, and is answered by what a
+// crash leaves.
+#[derive(Drop)]
+struct Stopped;
+
+impl Player for Stopped {
+    fn answer<R: Abort>(&mut self, rt: &R, alloc: Global, case: &str) -> Vec<u8> {
+        let (choice, call) = first(case);
+        let stop = stop_of(rt, 1, choice);
+        let appended = call.strip_prefix("append ").unwrap_or("");
+        let file = [TWO_FILES, "abcd", appended, "failed"];
+        let mut folder = with_file(rt, alloc, file, 0, Some(stop));
+        if appended.is_empty() {
+            agree(rt, alloc, case, folder.answer(rt, alloc, call), "failed");
+        }
+        folder.answer(rt, alloc, "crashed")
     }
-    (
-        folder,
-        Vec::from_slice(alloc, ended.as_bytes()).expect(rt, "memory"),
-    )
 }
 
 #[test]
 fn five_choices_after_each_call(rt: HostRuntime) {
-    let alloc = rt.alloc();
-    let mut played = 0u64;
-    for line in FIVE_CHOICES.lines() {
-        let Some((case, wanted)) = call_of(line) else {
-            continue;
-        };
-        let (choice, call) = first(case);
-        let (folder, ended) = stopped(&rt, alloc, choice, call);
-        assert!(rt; ended.as_slice() == b"failed".as_slice(), "{line}");
-        let left = show(
-            &rt,
-            alloc,
-            &folder.crashed(alloc).ok().expect(&rt, "no fault"),
-        );
-        assert!(rt; left.as_slice() == wanted.as_bytes(), "{line} {left:?}");
-        assert_eq!(rt; folder.starved(), 0);
-        played = played.saturating_add(1);
-    }
-    assert_eq!(rt; played, 40);
-}
-
-// What the folder holds, or what a crash leaves of it.
-fn standing(rt: &impl Abort, alloc: Global, folder: &MemFolder, call: &str) -> Option<Vec<u8>> {
-    match call {
-        "held" => Some(show(rt, alloc, folder.tree())),
-        "held usr" => {
-            let look = folder.tree().look(&path(rt, alloc, "usr"));
-            Some(look_shown(rt, alloc, look).into_bytes())
-        }
-        "crashed" => Some(show(
-            rt,
-            alloc,
-            &folder.crashed(alloc).ok().expect(rt, "no fault"),
-        )),
-        _ => None,
-    }
-}
-
-// Plays a script of so many lines on the folder. One call of it, counted from 1 on, may be listed as one that fails.
-fn play(
-    rt: &impl Abort,
-    alloc: Global,
-    folder: &mut MemFolder,
-    script: &str,
-    listed: u64,
-    count: u64,
-) {
-    let mut called = 0u64;
-    let mut played = 0u64;
-    for line in script.lines() {
-        let Some((call, wanted)) = call_of(line) else {
-            continue;
-        };
-        if let Some(shown) = standing(rt, alloc, folder, call) {
-            assert!(rt;
-                shown.as_slice() == bytes(rt, alloc, wanted).as_slice(),
-                "{line} {shown:?}"
-            );
-        } else {
-            called = called.saturating_add(1);
-            let wanted = if called == listed { "failed" } else { wanted };
-            let answer = answer(rt, alloc, folder, call);
-            assert!(rt;
-                answer.as_slice() == bytes(rt, alloc, wanted).as_slice(),
-                "{line} {answer:?}"
-            );
-        }
-        played = played.saturating_add(1);
-    }
-    assert_eq!(rt; played, count);
-    assert_eq!(rt; folder.starved(), 0);
+    play(&rt, rt.alloc(), &mut Stopped, FIVE_CHOICES, 40);
 }
 
 // The calls behind an append, and what stands after each, whether it failed or not.
@@ -473,13 +386,25 @@ read usr/a 1 -> 2 bc%00%00
 held -> usr/a 4555=abc usr/b 750/ usr/b/c 600=
 ";
 
+// The listed call, and its line in the script: none of no call and of the append.
+const LISTED: [(u64, u64); 8] = [
+    (0, 0),
+    (1, 0),
+    (2, 2),
+    (3, 4),
+    (4, 6),
+    (5, 8),
+    (6, 9),
+    (7, 10),
+];
+
 #[test]
 fn a_call_fails_exactly_where_it_is_listed(rt: HostRuntime) {
     let alloc = rt.alloc();
-    for listed in 0..8u64 {
-        let (mut folder, appended) = with_file(&rt, alloc, ONE_FILE, b"ab", "c", listed, None);
-        assert_eq!(rt; appended == "failed", listed == 1);
-        play(&rt, alloc, &mut folder, CALLS, listed.saturating_sub(1), 11);
+    for (listed, line) in LISTED {
+        let appended = if listed == 1 { "failed" } else { "ok" };
+        let mut folder = with_file(&rt, alloc, [ONE_FILE, "ab", "c", appended], listed, None);
+        play_failing(&rt, alloc, &mut folder, CALLS, 11, line);
     }
 }
 
@@ -514,22 +439,23 @@ look usr/a -> failed
 set_mode usr 0 -> failed
 sync -> failed
 held -> nothing
-held usr -> dir 755
+stands usr -> dir 755
 crashed -> usr/a 644=abcd
 ";
+
+// Plays a script on a folder that stops at a call.
+fn play_stopped(rt: &impl Abort, alloc: Global, call: u64, choice: &str, script: &str, count: u64) {
+    let stop = stop_of(rt, call, choice);
+    let mut folder = with_file(rt, alloc, [TWO_FILES, "abcd", "", ""], 0, Some(stop));
+    play(rt, alloc, &mut folder, script, count);
+}
 
 #[test]
 fn crashes_leave_what_the_choice_says(rt: HostRuntime) {
     let alloc = rt.alloc();
-    for (call, choice, script, count) in [
-        ("9", "torn", CUT_WHERE_ALL_NAMES_ARE_TOUCHED, 9),
-        ("9", "junk", JUNK_BELOW_DIRECTORIES, 4),
-        ("4", "before", A_STOP_ENDS_ALL, 9),
-    ] {
-        let stop = stop_of(&rt, call, choice);
-        let (mut folder, _) = with_file(&rt, alloc, TWO_FILES, b"abcd", "", 0, stop);
-        play(&rt, alloc, &mut folder, script, 0, count);
-    }
+    play_stopped(&rt, alloc, 9, "torn", CUT_WHERE_ALL_NAMES_ARE_TOUCHED, 9);
+    play_stopped(&rt, alloc, 9, "junk", JUNK_BELOW_DIRECTORIES, 4);
+    play_stopped(&rt, alloc, 4, "before", A_STOP_ENDS_ALL, 9);
 }
 
 // The names in a directory, a foreign one among them.
@@ -546,21 +472,17 @@ look usr/n -> dir 700
 list usr/n -> plain usr/n/junk
 ";
 
+// A folder that holds the tree and stops nowhere or at a call.
+fn holding(rt: &impl Abort, alloc: Global, tree: Tree, stop: Option<Stop>) -> MemFolder {
+    MemFolder::new(alloc, tree, Vec::new(alloc), stop).expect(rt, "memory")
+}
+
 #[test]
 fn lists_and_targets(rt: HostRuntime) {
     let alloc = rt.alloc();
-    let mut folder = holding(
-        &rt,
-        alloc,
-        tree_of(&rt, alloc, LINKS),
-        stop_of(&rt, "3", "junk"),
-    );
-    play(&rt, alloc, &mut folder, LISTS_AND_TARGETS, 0, 4);
-    let mut left = holding(
-        &rt,
-        alloc,
-        folder.crashed(alloc).ok().expect(&rt, "no fault"),
-        None,
-    );
-    play(&rt, alloc, &mut left, LISTS_JUNK, 0, 2)
+    let stop = stop_of(&rt, 3, "junk");
+    let mut folder = holding(&rt, alloc, tree_of(&rt, alloc, LINKS), Some(stop));
+    play(&rt, alloc, &mut folder, LISTS_AND_TARGETS, 4);
+    let mut left = holding(&rt, alloc, crashed(&rt, alloc, &folder), None);
+    play(&rt, alloc, &mut left, LISTS_JUNK, 2);
 }

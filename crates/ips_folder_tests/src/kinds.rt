@@ -5,7 +5,7 @@ ghost use Rattle.ips_steps.specs.View.{step_of, sort_of};
 ghost use Rattle.ips_steps.specs.declared.step.Sort.TheVariants as of_sort;
 ghost use Rattle.ips_kinds.specs.Acts.{same_sort};
 
-use crate::script::call_of;
+use crate::script::{Player, play, told};
 use crate::steps::read_step;
 use ips_kinds::{Act, FreshKind, GoneKind, HardKind, Kind, LinkKind, ModeKind, PutKind};
 use ips_steps::{Sort, Step};
@@ -43,22 +43,6 @@ impl Kind for DirKind {
     }
 }
 
-// All acts of a step.
-fn acts_of(alloc: Global, kind: &mut Box<dyn Kind>, step: &Step) -> Result<Vec<Act>, AllocError>
-    requires { IsTrue (sorts kind.old (sort_of (step_of step.now))) }
-{
-    let mut acts = Vec::new(alloc);
-    let mut turn = 0;
-    loop {
-        let act = kind.next(step, turn);
-        acts.push(act)?;
-        if matches!(act, Act::Finished) {
-            return Ok(acts);
-        }
-        turn += 1;
-    }
-}
-
 // The act's word.
 fn act_word(act: Act) -> &'static str {
     match act {
@@ -73,17 +57,21 @@ fn act_word(act: Act) -> &'static str {
     }
 }
 
-// The words of the acts, as a list is shown.
-fn shown(rt: &impl Abort, alloc: Global, acts: &[Act]) -> String {
-    let mut text = String::from_str(alloc, "[").expect(rt, "memory");
-    for act in acts {
-        if text.len() > 1 {
-            text.push_str(", ").expect(rt, "memory");
+// The words of all acts of a step, with a blank behind each.
+fn acts_of(alloc: Global, kind: &mut Box<dyn Kind>, step: &Step) -> Result<String, AllocError>
+    requires { IsTrue (sorts kind.old (sort_of (step_of step.now))) }
+{
+    let mut acts = String::new(alloc);
+    let mut turn = 0;
+    loop {
+        let act = kind.next(step, turn);
+        acts.push_str(act_word(act))?;
+        if matches!(act, Act::Finished) {
+            return Ok(acts);
         }
-        text.push_str(act_word(*act)).expect(rt, "memory");
+        acts.push_str(" ")?;
+        turn += 1;
     }
-    text.push_str("]").expect(rt, "memory");
-    text
 }
 
 // The acts of a step, by the first kind that takes it.
@@ -92,103 +80,73 @@ fn carried_out(
     alloc: Global,
     kinds: &mut Vec<Box<dyn Kind>>,
     step: &Step,
-) -> Vec<Act> {
+) -> Vec<u8> {
     for kind in kinds.iter_mut() {
         if kind.takes(step) {
-            return acts_of(alloc, kind, step).expect(rt, "memory");
+            return acts_of(alloc, kind, step).expect(rt, "memory").into_bytes();
         }
     }
-    Vec::new(alloc)
+    told(rt, alloc, b"no kind")
 }
 
 // How many steps each kind has finished, one after another.
-fn tallies(rt: &impl Abort, alloc: Global, kinds: &Vec<Box<dyn Kind>>) -> Vec<u64> {
-    let mut all = Vec::new(alloc);
+fn tallies(rt: &impl Abort, alloc: Global, kinds: &Vec<Box<dyn Kind>>) -> Vec<u8> {
+    let mut all = String::new(alloc);
     for kind in kinds {
-        all.push(kind.tally()).expect(rt, "memory");
+        write!(all, "{};", kind.tally()).expect(rt, "memory");
     }
-    all
+    all.into_bytes()
 }
 
-// Lists of kinds, one behind another: which kinds a list has, steps and the acts of each, and how many steps each kind has
-// finished.
-const LISTS: &str = "
-# the first kind that takes a step carries it out
-no kinds -> yet
-kind of gone and fresh -> added
-kind of gone -> added
-gone usr/bin -> [Clear, Finished]
-fresh 0755 usr/bin -> [Clear, MakeDir, Finished]
+// What the list does with the step, or how many steps its kinds have finished.
+impl Player for Vec<Box<dyn Kind>> {
+    fn answer<R: Abort>(&mut self, rt: &R, alloc: Global, call: &str) -> Vec<u8> {
+        if call == "tallies" {
+            return tallies(rt, alloc, self);
+        }
+        carried_out(rt, alloc, self, &read_step(rt, alloc, call))
+    }
+}
+
+// The first kind that takes a step carries it out: kinds of gone and fresh, and of gone.
+const FIRST: &str = "
+gone usr/bin -> Clear Finished
+fresh 0755 usr/bin -> Clear MakeDir Finished
 # no kind takes it
-mode 0700 usr/bin -> []
-tallies -> [2, 0]
-# directories and modes
-no kinds -> yet
-kind of fresh -> added
-kind of mode -> added
-kind of gone -> added
-gone usr/bin -> [Clear, Finished]
-fresh 0755 usr/bin -> [Clear, MakeDir, Finished]
-mode 0700 usr/bin -> [SetMode, Finished]
-tallies -> [1, 1, 1]
-# files and links
-no kinds -> yet
-kind of put -> added
-kind of link -> added
-kind of hard -> added
-put 0 0644 usr/bin -> [Clear, MakeFile, Copy, SetMode, Finished]
-link usr/bin ../sbin -> [Clear, MakeLink, Finished]
-hard usr/bin usr/sbin -> [Clear, MakeHard, Finished]
-tallies -> [1, 1, 1]
+mode 0700 usr/bin -> no kind
+tallies -> 2;0;
 ";
 
-// What the list does with the step, or how many steps its kinds have finished.
-fn answer(rt: &impl Abort, alloc: Global, kinds: &mut Vec<Box<dyn Kind>>, call: &str) -> String {
-    if call == "tallies" {
-        return format!(in alloc; "{:?}", tallies(rt, alloc, kinds)).expect(rt, "memory");
-    }
-    let step = read_step(rt, alloc, call);
-    shown(rt, alloc, &carried_out(rt, alloc, kinds, &step))
+// One kind of each sort: of fresh, mode and gone, and of put, link and hard.
+const ALL: &str = "
+gone usr/bin -> Clear Finished
+fresh 0755 usr/bin -> Clear MakeDir Finished
+mode 0700 usr/bin -> SetMode Finished
+tallies -> 1;1;1;0;0;0;
+put 0 0644 usr/bin -> Clear MakeFile Copy SetMode Finished
+link usr/bin ../sbin -> Clear MakeLink Finished
+hard usr/bin usr/sbin -> Clear MakeHard Finished
+tallies -> 1;1;1;1;1;1;
+";
+
+#[test]
+fn the_first_kind_that_takes_a_step_carries_it_out(rt: HostRuntime) {
+    let alloc = rt.alloc();
+    let dirs: Box<dyn Kind> = Box::new(alloc, DirKind { tally: 0 }).expect(&rt, "memory");
+    let gone: Box<dyn Kind> = Box::new(alloc, GoneKind::new()).expect(&rt, "memory");
+    let mut kinds: Vec<Box<dyn Kind>> = vec![in alloc; dirs, gone].expect(&rt, "memory");
+    play(&rt, alloc, &mut kinds, FIRST, 4);
 }
 
 #[test]
-fn lists_of_kinds_carry_steps_out(rt: HostRuntime) {
+fn each_sort_has_its_kind(rt: HostRuntime) {
     let alloc = rt.alloc();
-    let mut kinds: Vec<Box<dyn Kind>> = Vec::new(alloc);
-    let mut played = 0u64;
-    for line in LISTS.lines() {
-        let Some((call, wanted)) = call_of(line) else {
-            continue;
-        };
-        match call {
-            "no kinds" => kinds = Vec::new(alloc),
-            "kind of gone and fresh" => kinds
-                .push(Box::new(alloc, DirKind { tally: 0 }).expect(&rt, "memory"))
-                .expect(&rt, "memory"),
-            "kind of gone" => kinds
-                .push(Box::new(alloc, GoneKind::new()).expect(&rt, "memory"))
-                .expect(&rt, "memory"),
-            "kind of fresh" => kinds
-                .push(Box::new(alloc, FreshKind::new()).expect(&rt, "memory"))
-                .expect(&rt, "memory"),
-            "kind of mode" => kinds
-                .push(Box::new(alloc, ModeKind::new()).expect(&rt, "memory"))
-                .expect(&rt, "memory"),
-            "kind of put" => kinds
-                .push(Box::new(alloc, PutKind::new()).expect(&rt, "memory"))
-                .expect(&rt, "memory"),
-            "kind of link" => kinds
-                .push(Box::new(alloc, LinkKind::new()).expect(&rt, "memory"))
-                .expect(&rt, "memory"),
-            "kind of hard" => kinds
-                .push(Box::new(alloc, HardKind::new()).expect(&rt, "memory"))
-                .expect(&rt, "memory"),
-            _ => {
-                let answer = answer(&rt, alloc, &mut kinds, call);
-                assert!(rt; answer.as_str() == wanted, "{line} {answer}");
-            }
-        }
-        played = played.saturating_add(1);
-    }
-    assert_eq!(rt; played, 23);
+    let fresh: Box<dyn Kind> = Box::new(alloc, FreshKind::new()).expect(&rt, "memory");
+    let mode: Box<dyn Kind> = Box::new(alloc, ModeKind::new()).expect(&rt, "memory");
+    let gone: Box<dyn Kind> = Box::new(alloc, GoneKind::new()).expect(&rt, "memory");
+    let put: Box<dyn Kind> = Box::new(alloc, PutKind::new()).expect(&rt, "memory");
+    let link: Box<dyn Kind> = Box::new(alloc, LinkKind::new()).expect(&rt, "memory");
+    let hard: Box<dyn Kind> = Box::new(alloc, HardKind::new()).expect(&rt, "memory");
+    let mut kinds = vec![in alloc; fresh, mode, gone, put, link, hard].expect(&rt, "memory");
+    play(&rt, alloc, &mut kinds, ALL, 8);
 }

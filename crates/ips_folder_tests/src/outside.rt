@@ -1,12 +1,15 @@
-//! Trees, sources and sinks in memory.
+//! Trees, sources, sinks and spawners in memory.
 
-use crate::script::{bytes, call_of, look_shown, path, words};
+use crate::script::{
+    Player, agree, bytes, look_told, number, number_told, path, paths_told, play, told, words,
+};
 use ips_outside::{
     Failed, Look, MemSink, MemSource, MemSpawner, Sink, Source, Spawner, SureSource, Tree,
     TreeFault,
 };
 use ips_text::{Or, RelPath, Text, octal};
 use std::alloc::Global;
+use std::mem;
 use std::process::Abort;
 
 // How a maker of a tree answered.
@@ -26,10 +29,9 @@ fn make(
     alloc: Global,
     tree: &mut Tree,
     at: &RelPath,
-    name: &str,
-    second: &str,
-    third: &str,
+    call: [&str; 4],
 ) -> &'static str {
+    let [name, _, second, third] = call;
     let mode = octal(second.as_bytes()).unwrap_or(0);
     fault_shown(match name {
         "dir" => tree.dir(alloc, at, mode),
@@ -40,38 +42,25 @@ fn make(
     })
 }
 
-// Each maker, once with both faults of a hard link; `@` is the path itself.
-const MAKERS: [&str; 6] = [
-    "dir @ 700",
-    "file @ 600 nothing",
-    "link @ x",
-    "other @",
-    "hard @ etc/motd",
-    "hard @ @",
-];
-
-// What each of the makers answers at the path, or that they differ.
-fn make_each(rt: &impl Abort, alloc: Global, tree: &mut Tree, at: &str) -> &'static str {
-    let path = path(rt, alloc, at);
-    let mut common = "none";
-    for maker in MAKERS {
-        let [name, _, second, third] = words(maker);
-        let second = if second == "@" { at } else { second };
-        let answer = make(rt, alloc, tree, &path, name, second, third);
-        if common != "none" && common != answer {
-            return "they differ";
-        }
-        common = answer;
+// Makes a file and appends to it.
+fn append(alloc: Global, tree: &mut Tree, at: &RelPath, first: &str, behind: &str) -> &'static str {
+    let Ok(()) = tree.file(alloc, at, 0o600, first.as_bytes()) else {
+        return "no file";
+    };
+    match tree.append(at, behind.as_bytes()) {
+        Ok(()) => "ok",
+        Err(_) => "out of memory",
     }
-    common
 }
 
-fn yes_or_no(is_so: bool) -> &'static str {
-    if is_so { "yes" } else { "no" }
-}
-
-// Changes a tree by a call that no fault is told of: `mark PATH`, `mode PATH MODE` or `remove PATH`.
-fn change(tree: &mut Tree, at: &RelPath, call: [&str; 4]) -> &'static str {
+// Changes a tree by a call that no fault is told of, as `mark PATH`, `mode PATH MODE` or `remove PATH`, or makes something.
+fn change(
+    rt: &impl Abort,
+    alloc: Global,
+    tree: &mut Tree,
+    at: &RelPath,
+    call: [&str; 4],
+) -> &'static str {
     match call[0] {
         "mark" => {
             if !tree.mark_foreign(at) {
@@ -79,93 +68,88 @@ fn change(tree: &mut Tree, at: &RelPath, call: [&str; 4]) -> &'static str {
             }
         }
         "mode" => tree.set_mode(at, octal(call[2].as_bytes()).unwrap_or(0)),
-        _ => tree.remove(at),
+        "remove" => tree.remove(at),
+        "append" => return append(alloc, tree, at, call[2], call[3]),
+        _ => return make(rt, alloc, tree, at, call),
     }
     "ok"
 }
 
-// The paths right below, one behind another.
-fn children(rt: &impl Abort, alloc: Global, tree: &Tree, at: &RelPath) -> Vec<u8> {
-    let mut shown = Vec::new(alloc);
-    for child in &tree.children(alloc, at).ok().expect(rt, "no fault") {
-        if !shown.is_empty() {
-            shown.push(b' ').expect(rt, "memory");
-        }
-        shown.extend_from_slice(child.bytes()).expect(rt, "memory");
-    }
-    shown
-}
-
-// What a tree tells of a path: `bytes PATH`, `target PATH`, `same PATH OTHER` or `foreign PATH`.
+// What a tree tells of a path: `bytes PATH`, `target PATH`, `same PATH OTHER` or `foreign PATH`; none of another call.
 fn seen<'a>(
     rt: &impl Abort,
     alloc: Global,
     tree: &'a Tree,
     at: &RelPath,
     call: [&str; 4],
-) -> &'a [u8] {
-    match call[0] {
-        "bytes" => tree.bytes(at).unwrap_or(b"none"),
-        "target" => tree.target(at).unwrap_or(b"none"),
-        "same" => yes_or_no(tree.same(at, &path(rt, alloc, call[2]))).as_bytes(),
-        _ => yes_or_no(tree.is_foreign(at)).as_bytes(),
-    }
+) -> Option<&'a [u8]> {
+    let is_so = match call[0] {
+        "bytes" => return Some(tree.bytes(at).unwrap_or(b"none")),
+        "target" => return Some(tree.target(at).unwrap_or(b"none")),
+        "same" => tree.same(at, &path(rt, alloc, call[2])),
+        "foreign" => tree.is_foreign(at),
+        _ => return None,
+    };
+    Some(if is_so { b"yes" } else { b"no" })
 }
 
-// What a call on a tree answers.
-fn answer(rt: &impl Abort, alloc: Global, tree: &mut Tree, call: &str) -> Vec<u8> {
-    let call = words(call);
-    let at = path(rt, alloc, call[1]);
-    let answer = match call[0] {
-        "look" => return look_shown(rt, alloc, tree.look(&at)).into_bytes(),
-        "children" => return children(rt, alloc, tree, &at),
-        "bytes" | "target" | "same" | "foreign" => {
-            return Vec::from_slice(alloc, seen(rt, alloc, tree, &at, call)).expect(rt, "memory");
+// What a call answers of the tree at a path. The paths right below a directory are told behind the word `below`.
+fn answer_at(
+    rt: &impl Abort,
+    alloc: Global,
+    tree: &mut Tree,
+    at: &RelPath,
+    call: [&str; 4],
+) -> Vec<u8> {
+    match call[0] {
+        "look" => return look_told(rt, alloc, tree.look(at)),
+        "children" => {
+            let paths = tree.children(alloc, at).ok().expect(rt, "memory");
+            return paths_told(rt, alloc, b"below", &paths);
         }
-        "mark" | "mode" | "remove" => change(tree, &at, call).as_bytes(),
-        "each" => make_each(rt, alloc, tree, call[1]).as_bytes(),
-        _ => make(rt, alloc, tree, &at, call[0], call[2], call[3]).as_bytes(),
-    };
-    Vec::from_slice(alloc, answer).expect(rt, "memory")
+        _ => {}
+    }
+    if let Some(seen) = seen(rt, alloc, tree, at, call) {
+        return told(rt, alloc, seen);
+    }
+    told(rt, alloc, change(rt, alloc, tree, at, call).as_bytes())
+}
+
+impl Player for Tree {
+    fn answer<R: Abort>(&mut self, rt: &R, alloc: Global, call: &str) -> Vec<u8> {
+        let call = words(call);
+        answer_at(rt, alloc, self, &path(rt, alloc, call[1]), call)
+    }
 }
 
 /// The tree that comes of these calls, one a line, none of which is refused.
 pub fn tree_of(rt: &impl Abort, alloc: Global, calls: &str) -> Tree {
     let mut tree = Tree::new(alloc);
     for call in calls.lines() {
-        if answer(rt, alloc, &mut tree, call).as_slice() != b"ok".as_slice() {
-            panic!(rt; "a call was refused");
-        }
+        agree(rt, alloc, call, tree.answer(rt, alloc, call), "ok");
     }
     tree
 }
 
-// Plays a script of so many calls on an empty tree. After `copy` the calls are on the copy, after `back` on the other of the two.
-fn play(rt: &impl Abort, alloc: Global, script: &str, count: u64) {
-    let mut tree = Tree::new(alloc);
-    let mut other = Tree::new(alloc);
-    let mut played = 0u64;
-    for line in script.lines() {
-        let Some((call, wanted)) = call_of(line) else {
-            continue;
-        };
-        if call == "copy" {
-            other = tree;
-            tree = other.copy(alloc).expect(rt, "memory");
-        } else if call == "back" {
-            let copy = tree;
-            tree = other;
-            other = copy;
-        } else {
-            let answer = answer(rt, alloc, &mut tree, call);
-            assert!(rt;
-                answer.as_slice() == bytes(rt, alloc, wanted).as_slice(),
-                "{line}"
-            );
+// Two trees: calls are on the first. Behind `copy` that is a copy of it, and `back` exchanges both.
+#[derive(Drop)]
+struct Trees {
+    tree: Tree,
+    other: Tree,
+}
+
+impl Player for Trees {
+    fn answer<R: Abort>(&mut self, rt: &R, alloc: Global, call: &str) -> Vec<u8> {
+        match call {
+            "copy" => {
+                self.other = self.tree.copy(alloc).expect(rt, "memory");
+                mem::swap(&mut self.tree, &mut self.other);
+            }
+            "back" => mem::swap(&mut self.tree, &mut self.other),
+            _ => return self.tree.answer(rt, alloc, call),
         }
-        played = played.saturating_add(1);
+        told(rt, alloc, b"ok")
     }
-    assert_eq!(rt; played, count);
 }
 
 const MAKERS_REFUSE_IN_ORDER: &str = "
@@ -174,15 +158,55 @@ file etc/motd 644 hi -> ok
 link etc/now motd -> ok
 other etc/pipe -> ok
 # its parent isn't there
-each usr/bin -> no parent
+dir usr/bin 700 -> no parent
+file usr/bin 600 nothing -> no parent
+link usr/bin x -> no parent
+other usr/bin -> no parent
+hard usr/bin etc/motd -> no parent
+hard usr/bin usr/bin -> no parent
 # its parent is a file, a link, and neither
-each etc/motd/x -> no parent
-each etc/now/x -> no parent
-each etc/pipe/x -> no parent
-each etc -> taken
-each etc/motd -> taken
-each etc/now -> taken
-each etc/pipe -> taken
+dir etc/motd/x 700 -> no parent
+file etc/motd/x 600 nothing -> no parent
+link etc/motd/x x -> no parent
+other etc/motd/x -> no parent
+hard etc/motd/x etc/motd -> no parent
+hard etc/motd/x etc/motd/x -> no parent
+dir etc/now/x 700 -> no parent
+file etc/now/x 600 nothing -> no parent
+link etc/now/x x -> no parent
+other etc/now/x -> no parent
+hard etc/now/x etc/motd -> no parent
+hard etc/now/x etc/now/x -> no parent
+dir etc/pipe/x 700 -> no parent
+file etc/pipe/x 600 nothing -> no parent
+link etc/pipe/x x -> no parent
+other etc/pipe/x -> no parent
+hard etc/pipe/x etc/motd -> no parent
+hard etc/pipe/x etc/pipe/x -> no parent
+dir etc 700 -> taken
+file etc 600 nothing -> taken
+link etc x -> taken
+other etc -> taken
+hard etc etc/motd -> taken
+hard etc etc -> taken
+dir etc/motd 700 -> taken
+file etc/motd 600 nothing -> taken
+link etc/motd x -> taken
+other etc/motd -> taken
+hard etc/motd etc/motd -> taken
+hard etc/motd etc/motd -> taken
+dir etc/now 700 -> taken
+file etc/now 600 nothing -> taken
+link etc/now x -> taken
+other etc/now -> taken
+hard etc/now etc/motd -> taken
+hard etc/now etc/now -> taken
+dir etc/pipe 700 -> taken
+file etc/pipe 600 nothing -> taken
+link etc/pipe x -> taken
+other etc/pipe -> taken
+hard etc/pipe etc/motd -> taken
+hard etc/pipe etc/pipe -> taken
 # a hard link to what is no file
 hard etc/new etc -> no file
 look etc/new -> absent
@@ -272,15 +296,16 @@ const LOOKS: &str = "
 dir etc 755 -> ok
 file etc/motd 644 hi -> ok
 mode etc 1777 -> ok
-copy -> the copy
-back -> the tree
+copy -> ok
+back -> ok
 mode etc/motd 4755 -> ok
 look etc -> dir 1777
 look etc/motd -> file 4755 2
 look etc/mot -> absent
 look etc/motd/x -> absent
 bytes etc -> none
-back -> the copy, which has the old mode
+# the copy has the old mode
+back -> ok
 look etc -> dir 1777
 look etc/motd -> file 644 2
 look etc/mot -> absent
@@ -303,173 +328,165 @@ dir d/é 755 -> ok
 file d/a! 644 nothing -> ok
 link d/a/now z -> ok
 mark d/a -> ok
-children d -> d/a d/a! d/a-b d/a0 d/é
+children d -> below d/a d/a! d/a-b d/a0 d/é
 foreign d -> no
-children d/a -> d/a/b d/a/now d/a/z
+children d/a -> below d/a/b d/a/now d/a/z
 foreign d/a -> yes
-children d/a/b -> nothing
+children d/a/b -> below
 foreign d/a/b -> no
-children d0 -> nothing
+children d0 -> below
 foreign d0 -> no
 # no directories
-children d/a! -> nothing
+children d/a! -> below
 foreign d/a! -> no
-children d/a/now -> nothing
+children d/a/now -> below
 foreign d/a/now -> no
-children e -> nothing
+children e -> below
 foreign e -> no
-copy -> the copy has the mark too, and a mode leaves it
+# the copy has the mark too, and a mode leaves it
+copy -> ok
 mode d/a 700 -> ok
 foreign d/a -> yes
 remove d/a -> ok
-children d -> d/a! d/a-b d/a0 d/é
+children d -> below d/a! d/a-b d/a0 d/é
 ";
+
+// The text that is appended begins with a blank.
+const APPENDS: &str = "
+append log one  two -> ok
+bytes log -> one two
+look log -> file 600 7
+";
+
+// Plays a script on an empty tree.
+fn play_on_tree(rt: &impl Abort, alloc: Global, script: &str, count: u64) {
+    let (tree, other) = (Tree::new(alloc), Tree::new(alloc));
+    play(rt, alloc, &mut Trees { tree, other }, script, count);
+}
 
 #[test]
 fn trees_answer_as_they_are_to(rt: HostRuntime) {
     let alloc = rt.alloc();
-    play(&rt, alloc, MAKERS_REFUSE_IN_ORDER, 22);
-    play(&rt, alloc, HARD_LINKS_SHOW_ONE_FILE, 14);
-    play(&rt, alloc, LINKS_AND_MARKS, 23);
-    play(&rt, alloc, REMOVES_A_SUBTREE, 22);
-    play(&rt, alloc, LOOKS, 17);
-    play(&rt, alloc, LISTS_CHILDREN_BY_BYTES, 33)
-}
-
-#[test]
-fn appends(rt: HostRuntime) {
-    let alloc = rt.alloc();
-    let path = RelPath::parse(alloc, b"log")
-        .ok()
-        .expect(&rt, "what is spelled");
-    let mut tree = Tree::new(alloc);
-    let Ok(()) = tree.file(alloc, &path, 0o600, b"one ") else {
-        panic!(rt; "no file");
-    };
-    tree.append(&path, b"two").expect(&rt, "memory");
-    assert!(rt; tree.bytes(&path) == Some(b"one two".as_slice()));
+    play_on_tree(&rt, alloc, MAKERS_REFUSE_IN_ORDER, 62);
+    play_on_tree(&rt, alloc, HARD_LINKS_SHOW_ONE_FILE, 14);
+    play_on_tree(&rt, alloc, LINKS_AND_MARKS, 23);
+    play_on_tree(&rt, alloc, REMOVES_A_SUBTREE, 22);
+    play_on_tree(&rt, alloc, LOOKS, 17);
+    play_on_tree(&rt, alloc, LISTS_CHILDREN_BY_BYTES, 33);
+    play_on_tree(&rt, alloc, APPENDS, 3);
 }
 
 // A directory with a file of five bytes.
-fn sample(rt: &impl Abort, alloc: Global) -> Tree {
-    let mut tree = Tree::new(alloc);
-    tree.dir(alloc, &path(rt, alloc, "etc"), 0o755)
-        .ok()
-        .expect(rt, "no fault");
-    tree.file(alloc, &path(rt, alloc, "etc/motd"), 0o644, b"hello")
-        .ok()
-        .expect(rt, "no fault");
-    tree
+const SAMPLE: &str = "dir etc 755
+file etc/motd 644 hello";
+
+// What is read of a path from a place on, into four bytes.
+fn read<'a, S: Source>(
+    source: &mut S,
+    at: &RelPath,
+    place: u64,
+    buffer: &'a mut [u8; 4],
+) -> Option<&'a [u8]> {
+    let count = source.read(at, place, buffer).ok()?;
+    buffer.get(..count)
 }
 
-fn size<S: Source>(source: &mut S, path: &RelPath) -> Result<Option<u64>, Failed> {
-    match source.look(path)? {
-        Look::File { size, .. } => Ok(Some(size)),
-        _ => Ok(None),
+// The size of the file at the path, and 0 where there is none.
+fn size<S: Source>(source: &mut S, at: &RelPath) -> Result<u64, Failed> {
+    match source.look(at)? {
+        Look::File { size, .. } => Ok(size),
+        _ => Ok(0),
     }
 }
 
-// What is read of a path from a place on, into four bytes.
+#[derive(Drop)]
+struct Sources<S> {
+    source: S,
+}
+
+impl<S: Source> Player for Sources<S> {
+    fn answer<R: Abort>(&mut self, rt: &R, alloc: Global, call: &str) -> Vec<u8> {
+        let [name, at, place, _] = words(call);
+        let at = path(rt, alloc, at);
+        if name == "size" {
+            return number_told(rt, alloc, size(&mut self.source, &at));
+        }
+        let mut buffer = [0; 4];
+        let read = read(&mut self.source, &at, number(rt, place), &mut buffer);
+        told(rt, alloc, read.unwrap_or(b"failed"))
+    }
+}
+
 const READS: &str = "
-etc/motd 0 -> hell
-etc/motd 3 -> lo
+read etc/motd 0 -> hell
+read etc/motd 3 -> lo
 # the end, and places past it
-etc/motd 5 -> nothing
-etc/motd 18446744073709551615 -> nothing
+read etc/motd 5 -> nothing
+read etc/motd 18446744073709551615 -> nothing
 # no files
-etc 0 -> nothing
-usr 0 -> nothing
+read etc 0 -> nothing
+read usr 0 -> nothing
+size etc/motd -> 5
 ";
 
 #[test]
 fn sources_read(rt: HostRuntime) {
     let alloc = rt.alloc();
-    let mut source = SureSource::new(sample(&rt, alloc));
-    let mut played = 0u64;
-    for line in READS.lines() {
-        let Some((call, wanted)) = call_of(line) else {
-            continue;
-        };
-        let [at, place, _, _] = words(call);
-        let mut buf = [0u8; 4];
-        let count = source
-            .read(
-                &path(&rt, alloc, at),
-                place.parse().ok().expect(&rt, "what is spelled"),
-                &mut buf,
-            )
-            .ok()
-            .expect(&rt, "no fault");
-        assert!(rt; count <= buf.len());
-        assert!(rt;
-            &buf[..count] == bytes(&rt, alloc, wanted).as_slice(),
-            "{line}"
-        );
-        played = played.saturating_add(1);
-    }
-    assert_eq!(rt; played, 6);
-    assert_eq!(rt;
-        size(&mut source, &path(&rt, alloc, "etc/motd")),
-        Ok(Some(5))
-    );
+    let source = SureSource::new(tree_of(&rt, alloc, SAMPLE));
+    play(&rt, alloc, &mut Sources { source }, READS, 7);
 }
+
+// The second, third and fifth call are listed.
+const LISTED: &str = "
+size etc/motd -> 5
+size etc/motd -> failed
+size etc/motd -> failed
+size etc/motd -> 5
+size etc/motd -> failed
+size etc/motd -> 5
+";
 
 #[test]
 fn listed_calls_fail(rt: HostRuntime) {
     let alloc = rt.alloc();
-    let path = path(&rt, alloc, "etc/motd");
-    let mut source = MemSource::new(
-        sample(&rt, alloc),
-        Vec::from_slice(alloc, &[2, 3, 5]).expect(&rt, "memory"),
-    );
-    for fails in [false, true, true, false, true, false] {
-        assert_eq!(rt; size(&mut source, &path).is_err(), fails);
-    }
+    let fails = Vec::from_slice(alloc, &[2, 3, 5]).expect(&rt, "memory");
+    let source = MemSource::new(tree_of(&rt, alloc, SAMPLE), fails);
+    play(&rt, alloc, &mut Sources { source }, LISTED, 6);
 }
 
-// What a sink with room for five bytes takes of each text, where its second call fails.
+// What a sink with room for five bytes takes of each text, where its second call fails, and all that it took.
 const WRITES: &str = "
-abc -> 3
+write abc -> 3
 # listed
-x -> failed
+write x -> failed
 # room for two
-defg -> 2
-nothing -> 0
+write defg -> 2
+write nothing -> 0
 # full
-h -> failed
+write h -> failed
+taken -> abcde
 ";
 
-// How many bytes of a text the sink takes, or that it failed.
-fn taken(rt: &impl Abort, alloc: Global, sink: &mut MemSink, text: &str) -> String {
-    match sink.write(&bytes(rt, alloc, text)) {
-        Ok(count) => format!(in alloc; "{count}").expect(rt, "memory"),
-        Err(Failed) => String::from_str(alloc, "failed").expect(rt, "memory"),
+impl Player for MemSink {
+    fn answer<R: Abort>(&mut self, rt: &R, alloc: Global, call: &str) -> Vec<u8> {
+        if call == "taken" {
+            return told(rt, alloc, self.taken());
+        }
+        let text = bytes(rt, alloc, words(call)[1]);
+        number_told(rt, alloc, self.write(&text))
     }
 }
 
 #[test]
 fn a_sink_fills(rt: HostRuntime) {
     let alloc = rt.alloc();
-    let mut sink = MemSink::new(
-        alloc,
-        5,
-        Vec::from_slice(alloc, &[2]).expect(&rt, "memory"),
-    ).expect(&rt, "memory");
-    let mut played = 0u64;
-    for line in WRITES.lines() {
-        let Some((text, wanted)) = call_of(line) else {
-            continue;
-        };
-        let taken = taken(&rt, alloc, &mut sink, text);
-        assert!(rt; taken.as_str() == wanted, "{line} {taken}");
-        played = played.saturating_add(1);
-    }
-    assert_eq!(rt; played, 5);
-    assert!(rt; sink.taken() == b"abcde".as_slice());
+    let fails = Vec::from_slice(alloc, &[2]).expect(&rt, "memory");
+    let mut sink = MemSink::new(alloc, 5, fails).expect(&rt, "memory");
+    play(&rt, alloc, &mut sink, WRITES, 6);
 }
 
 // Words that are run one after another, and the status of each run or that it failed: the first call ends with status 3, the
-// third fails, and there is room for 34 bytes.
+// third fails, and there is room for 34 bytes. At last, all that ran.
 const RUNS: &str = "
 zfs snapshot rpool@a -> 3
 # past the list of statuses
@@ -481,40 +498,33 @@ zpool -> failed
 # as many as are left
 sync -> 0
 x -> failed
+ran -> zfs%00snapshot%00rpool@a%00%0async%00%0async%00%0a
 ";
 
-// The status of the words, or that the call failed.
-fn run(rt: &impl Abort, alloc: Global, spawner: &mut MemSpawner, call: &str) -> String {
+// The words of a call.
+fn texts(rt: &impl Abort, alloc: Global, call: &str) -> Vec<Text> {
     let mut words = Vec::new(alloc);
     for word in call.split_whitespace() {
         let word = Text::new(alloc, word).expect(rt, "memory");
         words.push(word).expect(rt, "memory");
     }
-    match spawner.run(&words) {
-        Ok(status) => format!(in alloc; "{status}").expect(rt, "memory"),
-        Err(Failed) => String::from_str(alloc, "failed").expect(rt, "memory"),
+    words
+}
+
+impl Player for MemSpawner {
+    fn answer<R: Abort>(&mut self, rt: &R, alloc: Global, call: &str) -> Vec<u8> {
+        if call == "ran" {
+            return told(rt, alloc, self.ran());
+        }
+        number_told(rt, alloc, self.run(&texts(rt, alloc, call)))
     }
 }
 
 #[test]
 fn runs_are_kept(rt: HostRuntime) {
     let alloc = rt.alloc();
-    let mut spawner = MemSpawner::new(
-        alloc,
-        34,
-        Vec::from_slice(alloc, &[3]).expect(&rt, "memory"),
-        Vec::from_slice(alloc, &[3]).expect(&rt, "memory"),
-    )
-    .expect(&rt, "memory");
-    let mut played = 0u64;
-    for line in RUNS.lines() {
-        let Some((call, wanted)) = call_of(line) else {
-            continue;
-        };
-        let status = run(&rt, alloc, &mut spawner, call);
-        assert!(rt; status.as_str() == wanted, "{line} {status}");
-        played = played.saturating_add(1);
-    }
-    assert_eq!(rt; played, 6);
-    assert!(rt; spawner.ran() == b"zfs\0snapshot\0rpool@a\0\nsync\0\nsync\0\n".as_slice());
+    let three = vec![in alloc; 3].expect(&rt, "memory");
+    let third = vec![in alloc; 3].expect(&rt, "memory");
+    let mut spawner = MemSpawner::new(alloc, 34, three, third).expect(&rt, "memory");
+    play(&rt, alloc, &mut spawner, RUNS, 7);
 }
