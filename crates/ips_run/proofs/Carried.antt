@@ -23,8 +23,8 @@ use Rattle.ips_history.specs.Due.{NeverOpen, HasEnded}
 use Rattle.ips_run.specs.declared.ending.Ending.{Ending}
 use Rattle.ips_run.specs.declared.ending.Ending.TheVariants as ending
 use Rattle.ips_run.specs.Ending.{is_done, is_out_of_memory, IsEarly}
-use Rattle.ips_run.specs.Phases.{uncommitted_as, IsUnrun, Failed, Spawn, IsResumable, IsCarried, IsAsked}
-use Rattle.ips_run.proofs.Opened.{owes_seen, always_shut, never_open, stays_owed, withdrawn}
+use Rattle.ips_run.specs.Phases.{StaysSafelyShut, uncommitted_as, IsUnrun, Failed, Spawn, IsResumable, IsCarried, IsAsked}
+use Rattle.ips_run.proofs.Opened.{always_safely_shut, owes_seen, always_shut, never_open, stays_owed, withdrawn}
 
 -- ---- the gate can be made where a change stands ready
 
@@ -123,7 +123,7 @@ module _ {F : Type 0} (o : Outside F) (sane : IsOutside o) where
     asked_early new x early owed seen = record {
       request = withdrawn o sane means (is_done x) early.undone old new clean shut owed;
       unseen = λ is. seen;
-      unopened = λ is. always_shut o sane (visible (o.state old).held) old new owed;
+      unopened = λ is. always_safely_shut o sane (visible (o.state old).held) old new owed;
       resumes = λ is. absurd (clash _ is early.finished);
       unrecovered = early.unrecovered;
       readable = early.readable;
@@ -147,7 +147,7 @@ module _ {F : Type 0} (o : Outside F) (sane : IsOutside o) where
             done = carried.done;
           };
           unseen = λ is. ap (λ (f : F). visible (o.state f).held) (carried.kept is) ∙ seen;
-          unopened = λ is. subst (λ (f : F). Throughout o old f (λ s. s.held.look gate_name ≡ None)) (sym (carried.kept is)) closed;
+          unopened = λ is. subst (λ (f : F). StaysSafelyShut o old f) (sym (carried.kept is)) (always_safely_shut o sane (visible (o.state old).held) old mid (owed None));
           resumes = carried.resumes;
           unrecovered = carried.unrecovered;
           readable = carried.readable;

@@ -8,4 +8,5 @@ mod Recoveries
 mod Nexts
 mod Performed
 mod Unbegun
+mod Never
 pub mod Exclusive

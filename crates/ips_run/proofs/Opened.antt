@@ -1,7 +1,7 @@
 -- A run from its opening sync on, by its last phase.
 use Rattle.std.proofs.Common.{◌≡◌, ◌⊎◌, inl, inr, ⊎_elim, arith, ℕ, ◌≤◌, Bool, true, false, cond, List, Option, Some, None, IfSome, is_some, refl, sym, ◌∙◌, ap, subst}
 use Rattle.ips_outside.specs.Image.{Entry, Image}
-use Rattle.ips_outside.specs.State.{State, IsSettled, settled, untouched}
+use Rattle.ips_outside.specs.State.{State, MayLeave, IsSettled, settled, untouched}
 use Rattle.ips_outside.specs.Outside.{Outside, IsOutside, Elapses, OneMore}
 use Rattle.ips_folder.specs.Calls.{Throughout}
 use Rattle.ips_folder.proofs.Runs.{started, goes_on, joins, weaker}
@@ -24,7 +24,7 @@ use Rattle.ips_history.proofs.Histories.{settled_private}
 use Rattle.ips_run.specs.declared.ending.Ending.{Ending}
 use Rattle.ips_run.specs.declared.ending.Ending.TheVariants as ending
 use Rattle.ips_run.specs.Ending.{is_done, is_unneeded, recovery, is_left, is_bad_journal, is_out_of_memory, is_failed, claim_of, IsEarly}
-use Rattle.ips_run.specs.Phases.{IsAsked, IsBack, IsNotBefore, HasFailedInCommit}
+use Rattle.ips_run.specs.Phases.{IsSafelyShut, StaysSafelyShut, IsAsked, IsBack, IsNotBefore, HasFailedInCommit}
 use Rattle.ips_run.specs.Creating.{IsMaking, IsMakingInPart, IsCreated, Standing, Uncreated, Made, Failed}
 use Rattle.ips_commit.specs.Pending.{IsBare}
 
@@ -34,6 +34,9 @@ none_shut b due t (Old gone seen) = gone
 
 owed_shut : (b : Image) (s : State) → FolderOwes journal_text b None false s → s.held.look gate_name ≡ None
 owed_shut b s owes = none_shut b false s.held owes.now
+
+owed_safely_shut : (b : Image) (s : State) → FolderOwes journal_text b None false s → IsSafelyShut s
+owed_safely_shut b s owes = (owed_shut b s owes, λ c may. none_shut b false c (owes.left c may))
 
 pub owes_seen : (s : State) (a : Option Image) → IsSettled s → s.held.look gate_name ≡ None → FolderOwes journal_text (visible s.held) a false s
 owes_seen s a clean shut = folder_old journal_text s (settled_private s clean) shut (clean.whole gate_name) a
@@ -87,6 +90,12 @@ module _ {F : Type 0} (o : Outside F) (sane : IsOutside o) where
 
   pub always_shut : (b : Image) (at new : F) → Throughout o at new (FolderOwes journal_text b None false) → StaysShut o at new
   always_shut b at new owed = weaker o at new (FolderOwes journal_text b None false) (λ s. s.held.look gate_name ≡ None) (owed_shut b) owed
+
+  pub always_safely_shut : (b : Image) (at new : F) → Throughout o at new (FolderOwes journal_text b None false) → StaysSafelyShut o at new
+  always_safely_shut b at new owed = weaker o at new (FolderOwes journal_text b None false) IsSafelyShut (owed_safely_shut b) owed
+
+  pub stays_shut_of : (at new : F) → StaysSafelyShut o at new → StaysShut o at new
+  stays_shut_of at new shut = weaker o at new IsSafelyShut (λ s. s.held.look gate_name ≡ None) (λ s is. is.0) shut
 
   pub never_open : (at new : F) → StaysShut o at new → NeverOpen o at new
   never_open at new shut = weaker o at new (λ s. s.held.look gate_name ≡ None) (λ s. IsSafelyOpen s → ⊥) (λ s none is. is.stands none) shut
@@ -221,7 +230,7 @@ module _ {F : Type 0} (o : Outside F) (sane : IsOutside o) where
           transition = Asked at time.later changes is_synced (λ done. same) opening asked.request;
           recovered = none_recovered old new asked.unrecovered;
           unseen = λ is. inl (asked.unseen is ∙ ap visible same_held);
-          unopened = λ is shut. inl (shut_since asked.request.shut (asked.unopened is));
+          unopened = λ is shut. inl (shut_since asked.request.shut (stays_shut_of at new (asked.unopened is)));
           unneeded = λ none. (sym same_gate ∙ asked.request.shut, bare_then bare);
           readable = λ is b a due owes. clash (is_bad_journal x) is asked.readable;
           out_of_memory = λ is. inr (shut_since asked.request.shut (asked.out_of_memory is));
@@ -279,7 +288,7 @@ module _ {F : Type 0} (o : Outside F) (sane : IsOutside o) where
               transition = Created mid is_creating (creating mid making) made_of asked.request;
               recovered = none_recovered old new asked.unrecovered;
               unseen = λ is. inr (is_creating, inl (asked.unseen is ∙ ap (λ (s : State). visible s.held) made_of));
-              unopened = λ is shut. inl (since (asked.unopened is));
+              unopened = λ is shut. inl (since (stays_shut_of mid new (asked.unopened is)));
               unneeded = λ none. (sym same_gate ∙ gate, λ fixing. absurd (clash (fixes effect) fixing (unfixed is_creating)));
               readable = λ is b a due owes. clash (is_bad_journal x) is asked.readable;
               out_of_memory = λ is. inr (since (asked.out_of_memory is));

@@ -1,7 +1,7 @@
 -- What the phases of a run do to a folder.
 use Rattle.std.specs.Prelude.{◌≡◌, ◌≢◌, ◌⊎◌, ℕ, ◌≤◌, Bool, true, false, cond, IsTrue, IsFalse, List, length, map, take, slice_get, Option, Some, None, IfSome}
 use Rattle.ips_outside.specs.Image.{Image}
-use Rattle.ips_outside.specs.State.{State, settled}
+use Rattle.ips_outside.specs.State.{State, MayLeave, settled}
 use Rattle.ips_outside.specs.Outside.{Outside, Rose}
 use Rattle.ips_folder.specs.Calls.{Throughout}
 use Rattle.ips_steps.specs.Steps.{Step}
@@ -24,7 +24,7 @@ use Rattle.ips_commit.specs.declared.found.Pending.TheVariants as pending
 use Rattle.ips_history.specs.Due.{HasEnded}
 use Rattle.ips_history.specs.Directories.{fixes}
 use Rattle.ips_history.specs.Transition.{StillOwes, IsRequestRun}
-use Rattle.ips_history.specs.Run.{IsRecovered, StaysShut}
+use Rattle.ips_history.specs.Run.{IsRecovered, StaysShut, HasOpened}
 use Rattle.ips_history.specs.declared.effect.Effect.{Effect}
 use Rattle.ips_history.specs.declared.effect.Effect.TheVariants as effect
 use Rattle.ips_run.specs.declared.operation.Change.{Change}
@@ -98,12 +98,25 @@ pub record IsCarried {F T : Type 0} (o : Outside F) (a : Image) (x : Ending T) (
   pub readable : IsFalse (is_bad_journal x)
   pub has_memory : IsFalse (is_out_of_memory x)
 
+-- nothing stands at the gate, and nothing would after a crash
+abbrev pub IsSafelyShut : State → Type 0
+IsSafelyShut s = (s.held.look gate_name ≡ None) × ((c : Image) → MayLeave s c → c.look gate_name ≡ None)
+
+-- it is so at every moment
+abbrev pub StaysSafelyShut : {F : Type 0} → Outside F → F → F → Type 0
+StaysSafelyShut o old new = Throughout o old new IsSafelyShut
+
+-- The gate was never called on: the opening sync failed, and nothing has happened to the image at any moment; or since it has answered
+-- there was no moment at which something stood at the gate, or would have after a crash.
+abbrev pub NeverOpens : {F : Type 0} → Outside F → F → F → Type 0
+NeverOpens o old new = Throughout o old new (λ s. s ≡ o.state old) ⊎ ((opened : HasOpened o old new) × StaysSafelyShut o opened.at new)
+
 -- A request from a closed gate on: the image before it is owed, or one that it means; a refusal leaves what is seen as before and
--- the gate closed; and memory runs out only before the gate's call.
+-- never calls on the gate; and memory runs out only before the gate's call.
 pub record IsAsked {F T : Type 0} (o : Outside F) (means : Image → Image → Type 0) (x : Ending T) (before now : List Carrier) (at new : F) : Type 0 where
   pub request : IsRequestRun o means (is_done x) at new
   pub unseen : IsTrue (is_refused x) → visible (o.state new).held ≡ visible (o.state at).held
-  pub unopened : IsTrue (is_refused x) → StaysShut o at new
+  pub unopened : IsTrue (is_refused x) → StaysSafelyShut o at new
   pub resumes : IsTrue (is_left x) → IsResumable o before now new
   pub unrecovered : recovery x ≡ None
   pub readable : IsFalse (is_bad_journal x)
@@ -126,8 +139,8 @@ pub record IsBack {F T : Type 0} (o : Outside F) (x : Ending T) (before now : Li
 abbrev pub IsKeptOrSettled : {F : Type 0} → Outside F → F → F → Type 0
 IsKeptOrSettled o old new = (o.state new ≡ o.state old) ⊎ (o.state new ≡ settled (o.state old))
 
--- no commit was begun: nothing has happened to the image; or the gate isn't touched, and no list of steps stands ready, unless the image
--- is the one from before
+-- no sign of a commit is left: nothing has happened to the image; or the gate isn't touched, and no list of steps stands ready, unless the
+-- image is the one from before
 abbrev pub IsUnbegun : State → State → Type 0
 IsUnbegun old new = (new ≡ old) ⊎ (IsFalse (new.whole gate_name) × NoMoreReady old new)
 

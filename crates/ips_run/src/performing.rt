@@ -10,7 +10,7 @@ ghost use Rattle.ips_history.specs.Directories.{shows, creates, fixes, image_for
 ghost use Rattle.ips_history.specs.Run.{IsRun};
 ghost use Rattle.ips_run.specs.Ending.{HasPayloadFault, TellsAsSaid, claim_of, is_left, is_failed, is_refused, is_folder_fault, is_source_fault, is_spawn_fault};
 ghost use Rattle.ips_run.specs.Comes.{Comes, HasRun};
-ghost use Rattle.ips_run.specs.Phases.{HasFailedInCommit, HasFailedInRecovery, IsKeptOrSettled, IsUnbegun};
+ghost use Rattle.ips_run.specs.Phases.{HasFailedInCommit, HasFailedInRecovery, IsKeptOrSettled, IsUnbegun, NeverOpens};
 
 use crate::creating::create;
 use crate::deciding::shown;
@@ -69,7 +69,12 @@ pub fn perform<T: Drop, S: Source, F: Folder, P: Spawner, C: Operation<T>>(
     // and one was made that may have changed something.
     ensures begun { IsTrue (F.outside.tells folder.old) → IsTrue (is_left result) → HasFailedInCommit F.outside folder.old folder.new ⊎ HasFailedInRecovery F.outside folder.old folder.new }
 
-    // Unchanged: no commit was begun. The gate isn't touched, and no list of steps stands ready, unless the image is the one from before.
+    // A refusal, a fault that is told as unchanged among them: the gate was never called on. At no moment since the opening sync has answered
+    // something stood there, or would have after a crash.
+    ensures unopened { IsTrue (F.outside.tells folder.old) → IsFalse (creates (C.effect operation.now)) → (F.outside.state folder.old).held.look gate_name ≡ None
+        → IsTrue (is_refused result) → NeverOpens F.outside folder.old folder.new }
+
+    // Unchanged: no sign of a commit is left. The gate isn't touched, and no list of steps stands ready, unless the image is the one from before.
     ensures unbegun { IsTrue (F.outside.tells folder.old) → IsFalse (creates (C.effect operation.now))
         → (IsTrue (fixes (C.effect operation.now)) → IsBare (F.outside.state folder.old).held)
         → IsTrue (is_failed result) → IsUnbegun (F.outside.state folder.old) (F.outside.state folder.new) }

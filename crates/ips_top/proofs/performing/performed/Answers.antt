@@ -25,6 +25,7 @@ returns-clause-performed g c =
       shows_unasked = λ is. source_alike x told says payload as_told ∙ e.shows_unasked is;
       shows_unspawned = λ is. spawner_alike x told says payload as_told ∙ e.shows_unspawned is;
       begun = λ tells is. e.begun tells (sym (unfinished_alike x told says payload as_told) ∙ is);
+      unopened = λ tells creates shut is. e.unopened tells creates shut (sym (refused_alike x told says payload as_told) ∙ is);
       unbegun = λ tells creates fixes is. e.unbegun tells creates fixes (sym (failed_alike x told says payload as_told) ∙ is);
       shows_once = e.shows;
       untouched_once = λ tells stands is. e.untouched tells stands (sym (refused_alike x told says payload as_told) ∙ is);
