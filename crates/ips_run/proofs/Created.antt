@@ -28,7 +28,7 @@ use Rattle.ips_run.specs.declared.ending.Ending.TheVariants as ending
 use Rattle.ips_run.specs.Ending.{is_source_fault, is_spawn_fault, is_left}
 use Rattle.ips_run.specs.Comes.{HasRun, IsToDecide, Comes, Unopened, Unfinished, Back, NotDirectory, Unready, Carried}
 use Rattle.ips_run.specs.Phases.{IsAsked}
-use Rattle.ips_run.specs.Creating.{IsMissing, IsBlockedBy, HasMade, HasMadeInPart, IsAsBefore, IsMaking, AreMade, AreUnmade, SaysOfDirectories, ended_as, IsCreated, Standing, Uncreated, Made, Failed}
+use Rattle.ips_run.specs.Creating.{IsMissing, IsBlockedBy, HasMade, HasMadeAtLast, HasMadeInPart, IsAsBefore, IsMade, IsSafeAtLast, AreMade, AreUnmade, SaysOfDirectories, ended_as, IsCreated, Standing, Uncreated, Made, Failed}
 use Rattle.ips_run.proofs.Opened.{creates_unfixed}
 use Rattle.ips_run.proofs.Told.{none_run}
 use Rattle.ips_run.proofs.Performed.{early_fault}
@@ -170,10 +170,23 @@ module _ {F : Type 0} (o : Outside F) (sane : IsOutside o) (old : F) (told : o.t
     since : (free : List ℕ → Bool) → ChangesOnly o free nowhere mid new → ChangesOnly o free nowhere old new
     since free kept = keeps_then o free nowhere old mid new (stays o free nowhere old old mid (begun o free nowhere old (sane.only_now old)) time same) kept
 
-    making_of : (m : Missing) → IsMissing held m → HasMade o m mid new → ((new ≡ mid) × (m ≡ missing.Nothing)) ⊎ IsMaking o old new
-    making_of missing.Nothing is none = inl (none, refl)
-    making_of missing.Records is kept = inr (record { dir = records_name; is = inr refl; absent = is.1; kept = since (covers records_name) kept })
-    making_of missing.Both is kept = inr (record { dir = var_name; is = inl refl; absent = is; kept = since (covers var_name) kept })
+    last_of : (dir : List ℕ) → IsSafeAtLast o dir mid new → IsSafeAtLast o dir old new
+    last_of dir run =
+        let P : State → Type 0 = λ s. IsNotYetSafe dir (o.state old) s ⊎ (s ≡ o.state new) in
+        joins o old mid new P (goes_on o old old mid P (started o old P (sane.only_now old) (inl (inl refl))) time (inl (inl same)))
+        (weaker o mid new (λ s. IsNotYetSafe dir (o.state mid) s ⊎ (s ≡ o.state new)) P
+        (λ s is. ⊎_elim (λ early. inl (subst (λ (t : State). IsNotYetSafe dir t s) same early)) (λ end. inr end) is) run)
+
+    making_of : (m : Missing) → IsMissing held m → HasMade o m mid new → HasMadeAtLast o m mid new → ((new ≡ mid) × (m ≡ missing.Nothing)) ⊎ IsMade o old new
+    making_of missing.Nothing is none last = inl (none, refl)
+    making_of missing.Records is kept last = inr (record {
+      making = record { dir = records_name; is = inr refl; absent = is.1; kept = since (covers records_name) kept };
+      last = last_of records_name last;
+    })
+    making_of missing.Both is kept last = inr (record {
+      making = record { dir = var_name; is = inl refl; absent = is; kept = since (covers var_name) kept };
+      last = last_of var_name last;
+    })
 
     unsafe_of : (dir : List ℕ) → Throughout o mid new (IsNotYetSafe dir (o.state mid)) → Throughout o old new (IsNotYetSafe dir (o.state old))
     unsafe_of dir run =
@@ -192,12 +205,12 @@ module _ {F : Type 0} (o : Outside F) (sane : IsOutside o) (old : F) (told : o.t
       moments = unsafe_of var_name part;
     })
 
-    pub made_of : (m : Missing) → IsMissing held m → HasMade o m mid new → held.look gate_name ≡ None
+    pub made_of : (m : Missing) → IsMissing held m → HasMade o m mid new → HasMadeAtLast o m mid new → held.look gate_name ≡ None
         → o.state new ≡ untouched (with_directories (o.state mid).held) → StaysShut o mid new → AreMade o old new
-    made_of m is has gate made closed = record {
+    made_of m is has last gate made closed = record {
       can = can_have m is;
       made = made ∙ ap (λ (s : State). untouched (with_directories s.held)) same;
-      none_made = ⊎_elim (λ none. inl (unmade none.0 none.1)) (λ making. inr making) (making_of m is has);
+      none_made = ⊎_elim (λ none. inl (unmade none.0 none.1)) (λ making. inr making) (making_of m is has last);
       shut = shut_then o sane old mid new (shut_on o sane old old mid (shut_now o sane old gate) time (ap (λ (s : State). s.held.look gate_name) same ∙ gate)) closed;
     }
       where

@@ -17,6 +17,7 @@ use Rattle.ips_repo.proofs.Joined.{joined_path}
 use Rattle.ips_history.specs.Directories.{var_name, with_dir, with_directories, is_dir_or_free, CanHaveDirectories, IsFirstObstacle}
 use Rattle.ips_history.specs.Transition.{IsNotYetSafe}
 use Rattle.ips_history.specs.Run.{StaysShut}
+use Rattle.ips_run.specs.Creating.{IsSafeAtLast}
 
 -- ---- the names
 
@@ -189,6 +190,10 @@ module _ {F : Type 0} (o : Outside F) (sane : IsOutside o) where
   pub unsafe_since : (p : List ℕ) (old new : F) → Throughout o old new (MayChange (covers p) nowhere (o.state old)) → Throughout o old new (IsNotYetSafe p (o.state old))
   unsafe_since p old new run = weaker o old new (MayChange (covers p) nowhere (o.state old)) (IsNotYetSafe p (o.state old)) (λ s may. unsafe_at p (o.state old) s may) run
 
+  pub safe_at_last : (p : List ℕ) (old new : F) → Throughout o old new (λ s. MayChange (covers p) nowhere (o.state old) s ⊎ (s ≡ o.state new)) → IsSafeAtLast o p old new
+  safe_at_last p old new run = weaker o old new (λ s. MayChange (covers p) nowhere (o.state old) s ⊎ (s ≡ o.state new)) (λ s. IsNotYetSafe p (o.state old) s ⊎ (s ≡ o.state new))
+      (λ s is. ⊎_elim (λ may. inl (unsafe_at p (o.state old) s may)) (λ end. inr end) is) run
+
   abbrev Shut : State → Type 0
   Shut s = s.held.look gate_name ≡ None
 
@@ -221,7 +226,19 @@ module _ {F : Type 0} (o : Outside F) (sane : IsOutside o) where
     pub records_in_part : Throughout o old mid (MayChange (covers records_name) nowhere (o.state old))
     records_in_part = one_change p records_name same old mid told made w
 
+    abbrev Within : F → State → Type 0
+    Within end s = MayChange (covers records_name) nowhere (o.state old) s ⊎ (s ≡ o.state end)
+
+    within_then : (end : F) → Throughout o old mid (Within end)
+    within_then end = weaker o old mid (MayChange (covers records_name) nowhere (o.state old)) (Within end) (λ s may. inl may) records_in_part
+
+    pub records_last_failed : Throughout o old mid (Within mid)
+    records_last_failed = within_then mid
+
     module _ (new : F) {U V : Type 0} (safe : Result U V) (s : Syncs o mid new safe) where
+      pub records_last : Throughout o old new (Within new)
+      records_last = goes_on o old mid new (Within new) (within_then new) s.call.time (inr refl)
+
       pub records_unsynced : OnErr safe (Throughout o old new (MayChange (covers records_name) nowhere (o.state old)))
       records_unsynced = on_failure safe s.kept (λ kept.
           goes_on o old mid new (MayChange (covers records_name) nowhere (o.state old)) records_in_part s.call.time (subst (MayChange (covers records_name) nowhere (o.state old)) (sym kept) (subst (λ (q : List ℕ). MayChange (covers q) nowhere (o.state old) (o.state mid)) same (w.only told))))
@@ -247,6 +264,15 @@ module _ {F : Type 0} (o : Outside F) (sane : IsOutside o) where
     pub var_in_part : Throughout o old mid (IsNotYetSafe var_name (o.state old))
     var_in_part = unsafe_since var_name old mid (one_change p var_name same old mid told made w)
 
+    abbrev UnsafeUntil : F → State → Type 0
+    UnsafeUntil end s = IsNotYetSafe var_name (o.state old) s ⊎ (s ≡ o.state end)
+
+    unsafe_then : (end : F) → Throughout o old mid (UnsafeUntil end)
+    unsafe_then end = weaker o old mid (IsNotYetSafe var_name (o.state old)) (UnsafeUntil end) (λ s is. inl is) var_in_part
+
+    pub var_last_failed : IsSafeAtLast o var_name old mid
+    var_last_failed = unsafe_then mid
+
     module _ (is : o.state mid ≡ written p (with_entry_at p made_dir (o.state old).held) (o.state old)) where
       var_touched : (o.state mid).whole var_name ≡ true
       var_touched = ap (λ (t : State). t.whole var_name) is ∙ or_left (covers p var_name) ((o.state old).whole var_name) (ap (λ (q : List ℕ). covers q var_name) same ∙ covers-self var_name)
@@ -254,6 +280,11 @@ module _ {F : Type 0} (o : Outside F) (sane : IsOutside o) where
       pub both_in_part : (new : F) {U V : Type 0} (rest : Result U V) → OnErr rest (Throughout o mid new (MayChange (covers records_name) nowhere (o.state mid))) → OnErr rest (Throughout o old new (IsNotYetSafe var_name (o.state old)))
       both_in_part new rest later = on_failure rest later (λ run. joins o old mid new (IsNotYetSafe var_name (o.state old)) var_in_part
           (weaker o mid new (MayChange (covers records_name) nowhere (o.state mid)) (IsNotYetSafe var_name (o.state old)) (λ s may. inr (unsafe_still (covers records_name) var_name (o.state mid) s var_touched may)) run))
+
+      pub both_last : (new : F) → Throughout o mid new (λ s. MayChange (covers records_name) nowhere (o.state mid) s ⊎ (s ≡ o.state new)) → IsSafeAtLast o var_name old new
+      both_last new later = joins o old mid new (UnsafeUntil new) (unsafe_then new)
+          (weaker o mid new (λ s. MayChange (covers records_name) nowhere (o.state mid) s ⊎ (s ≡ o.state new)) (UnsafeUntil new)
+          (λ s is. ⊎_elim (λ may. inl (inr (unsafe_still (covers records_name) var_name (o.state mid) s var_touched may))) (λ end. inr end) is) later)
 
       pub var_held : (o.state mid).held ≡ with_entry_at var_name made_dir (o.state old).held
       var_held = ap (λ (t : State). t.held) is ∙ ap (λ (q : List ℕ). with_entry_at q made_dir (o.state old).held) same

@@ -322,7 +322,7 @@ module _ {F : Type 0} (o : Outside F) (sane : IsOutside o) where
           (λ fixing. absurd (clash (fixes effect) fixing (creates_unfixed effect is_creating))) asked
       run_created is_creating changes old at new time is_synced has_opened gate (Uncreated early (since, kept)) =
           run_read old at new time is_synced has_opened since kept early (λ none. (gate, λ fixing. absurd (clash (fixes effect) fixing (creates_unfixed effect is_creating))))
-      run_created is_creating changes old at new time is_synced has_opened gate (Made mid making shut made asked) =
-          run_made old at new time is_synced has_opened is_creating gate mid making shut made asked
+      run_created is_creating changes old at new time is_synced has_opened gate (Made mid made shut stands asked) =
+          run_made old at new time is_synced has_opened is_creating gate mid made.making shut stands asked
       run_created is_creating changes old at new time is_synced has_opened gate (Failed is making) =
           run_part is is_creating old new (creating_in_part old at new time is_synced has_opened new making) has_opened

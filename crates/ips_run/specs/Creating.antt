@@ -44,6 +44,16 @@ pub record IsMakingInPart {F : Type 0} (o : Outside F) (old new : F) : Type 0 wh
   pub making : IsMaking o old new
   pub moments : Throughout o old new (IsNotYetSafe making.dir (o.state old))
 
+-- at every moment but the last nothing is made at the path, or it isn't safe yet
+abbrev pub IsSafeAtLast : {F : Type 0} → Outside F → List ℕ → F → F → Type 0
+IsSafeAtLast o dir old new = Throughout o old new (λ s. IsNotYetSafe dir (o.state old) s ⊎ (s ≡ o.state new))
+
+-- Some were missing and are made: since then only what is at or below the first of them is changed and touched, and only at the last
+-- moment that stands and is safe.
+pub record IsMade {F : Type 0} (o : Outside F) (old new : F) : Type 0 where
+  pub making : IsMaking o old new
+  pub last : IsSafeAtLast o making.dir old new
+
 -- nothing has happened to the image
 abbrev pub IsAsBefore : {F : Type 0} → Outside F → F → F → Type 0
 IsAsBefore o old new = Elapses o old new × (o.state new ≡ o.state old)
@@ -53,6 +63,12 @@ abbrev pub HasMade : {F : Type 0} → Outside F → Missing → F → F → Type
 HasMade o missing.Nothing old new = new ≡ old
 HasMade o missing.Records old new = ChangesOnly o (covers records_name) nowhere old new
 HasMade o missing.Both old new = ChangesOnly o (covers var_name) nowhere old new
+
+-- and only at the last moment the first of them stands and is safe
+abbrev pub HasMadeAtLast : {F : Type 0} → Outside F → Missing → F → F → Type 0
+HasMadeAtLast o missing.Nothing old new = Unit {0}
+HasMadeAtLast o missing.Records old new = IsSafeAtLast o records_name old new
+HasMadeAtLast o missing.Both old new = IsSafeAtLast o var_name old new
 
 -- the same where that failed: something was missing, and at no moment the first of it stands and is safe
 abbrev pub HasMadeInPart : {F : Type 0} → Outside F → Missing → F → F → Type 0
@@ -64,7 +80,7 @@ HasMadeInPart o missing.Both old new = Throughout o old new (IsNotYetSafe var_na
 pub record AreMade {F : Type 0} (o : Outside F) (old new : F) : Type 0 where
   pub can : CanHaveDirectories (o.state old).held
   pub made : o.state new ≡ untouched (with_directories (o.state old).held)
-  pub none_made : (IsAsBefore o old new × (with_directories (o.state old).held ≡ (o.state old).held)) ⊎ IsMaking o old new
+  pub none_made : (IsAsBefore o old new × (with_directories (o.state old).held ≡ (o.state old).held)) ⊎ IsMade o old new
   pub shut : StaysShut o old new
 
 -- why they aren't made: something is in the way, and nothing has happened; or a call failed, before the first was made or before it was safe
@@ -91,5 +107,5 @@ AreUnmade o old new other = ⊥
 pub data IsCreated {F T : Type 0} (o : Outside F) (means : Image → Image → Type 0) (x : Ending T) (before now : List Carrier) (old new : F) : Type 0 where
   Standing : (at : F) → IsAsBefore o old at → with_directories (o.state old).held ≡ (o.state old).held → IsAsked o means x before now at new → IsCreated o means x before now old new
   Uncreated : IsEarly x → IsAsBefore o old new → IsCreated o means x before now old new
-  Made : (at : F) → IsMaking o old at → StaysShut o old at → o.state at ≡ untouched (with_directories (o.state old).held) → IsAsked o means x before now at new → IsCreated o means x before now old new
+  Made : (at : F) → IsMade o old at → StaysShut o old at → o.state at ≡ untouched (with_directories (o.state old).held) → IsAsked o means x before now at new → IsCreated o means x before now old new
   Failed : x ≡ ending.FolderFault false → IsMakingInPart o old new → IsCreated o means x before now old new

@@ -24,7 +24,7 @@ use Rattle.ips_commit.specs.declared.found.Pending.TheVariants as pending
 use Rattle.ips_history.specs.Due.{HasEnded}
 use Rattle.ips_history.specs.Directories.{fixes}
 use Rattle.ips_history.specs.Transition.{StillOwes, IsRequestRun}
-use Rattle.ips_history.specs.Run.{IsRecovered, StaysShut, HasOpened}
+use Rattle.ips_history.specs.Run.{IsRecovered, StaysShut}
 use Rattle.ips_history.specs.declared.effect.Effect.{Effect}
 use Rattle.ips_history.specs.declared.effect.Effect.TheVariants as effect
 use Rattle.ips_run.specs.declared.operation.Change.{Change}
@@ -105,11 +105,6 @@ IsSafelyShut s = (s.held.look gate_name ≡ None) × ((c : Image) → MayLeave s
 -- it is so at every moment
 abbrev pub StaysSafelyShut : {F : Type 0} → Outside F → F → F → Type 0
 StaysSafelyShut o old new = Throughout o old new IsSafelyShut
-
--- The gate was never called on: the opening sync failed, and nothing has happened to the image at any moment; or since it has answered
--- there was no moment at which something stood at the gate, or would have after a crash.
-abbrev pub NeverOpens : {F : Type 0} → Outside F → F → F → Type 0
-NeverOpens o old new = Throughout o old new (λ s. s ≡ o.state old) ⊎ ((opened : HasOpened o old new) × StaysSafelyShut o opened.at new)
 
 -- A request from a closed gate on: the image before it is owed, or one that it means; a refusal leaves what is seen as before and
 -- never calls on the gate; and memory runs out only before the gate's call.

@@ -1,6 +1,6 @@
 //! An image that is made: the directories of its records first.
 
-ghost use Rattle.std.specs.Prelude.{◌≡◌, ◌≤◌, false, None, Some, IsTrue, IsFalse, IfOk, OnOk, OnErr, IfErr, IsErr, IsErrOf};
+ghost use Rattle.std.specs.Prelude.{◌≡◌, ◌⊎◌, ◌≤◌, false, None, Some, IsTrue, IsFalse, IfOk, OnOk, OnErr, IfErr, IsErr, IsErrOf};
 ghost use Rattle.ips_text.specs.Path.{IsPath};
 ghost use Rattle.ips_outside.specs.Image.{Dir};
 ghost use Rattle.ips_outside.specs.Change.{with_entry_at};
@@ -17,7 +17,7 @@ ghost use Rattle.ips_history.specs.Run.{StaysShut};
 ghost use Rattle.ips_run.specs.declared.creating.DirectoryFault.TheVariants as fault;
 ghost use Rattle.ips_run.specs.Ending.{EndsAs, HasPayloadFault, TellsAsSaid, is_told, is_left, is_folder_fault, is_source_fault, is_spawn_fault};
 ghost use Rattle.ips_run.specs.Comes.{Comes, HasRun};
-ghost use Rattle.ips_run.specs.Creating.{IsMissing, IsBlockedBy, SaysOfDirectories, HasMade, HasMadeInPart, AreMade, AreUnmade, IsCreated, ended_as};
+ghost use Rattle.ips_run.specs.Creating.{IsMissing, IsBlockedBy, SaysOfDirectories, HasMade, HasMadeAtLast, HasMadeInPart, IsSafeAtLast, AreMade, AreUnmade, IsCreated, ended_as};
 ghost use Rattle.ips_run.specs.Phases.{HasFailedInCommit};
 
 use crate::ending::Ending;
@@ -199,6 +199,7 @@ fn make_missing<F: Folder>(
     ensures shut { IsTrue (F.outside.tells folder.old) → OnOk result (StaysShut F.outside folder.old folder.new) }
     ensures kept { IsTrue (F.outside.tells folder.old) → HasMade F.outside missing folder.old folder.new }
     ensures in_part { IsTrue (F.outside.tells folder.old) → OnErr result (HasMadeInPart F.outside missing folder.old folder.new) }
+    ensures last { IsTrue (F.outside.tells folder.old) → HasMadeAtLast F.outside missing folder.old folder.new }
     ensures cause { HasCause (F.outside.faults folder.old) (F.outside.faults folder.new) (IsErr result) }
     ensures later { F.outside.changes folder.old ≤ F.outside.changes folder.new }
     ensures same_kind { F.outside.tells folder.new ≡ F.outside.tells folder.old }
@@ -221,6 +222,7 @@ fn make_both<F: Folder>(folder: &mut F, var: &RelPath, records: &RelPath) -> Res
     ensures shut { IsTrue (F.outside.tells folder.old) → OnOk result (StaysShut F.outside folder.old folder.new) }
     ensures kept { IsTrue (F.outside.tells folder.old) → ChangesOnly F.outside (covers var_name) nowhere folder.old folder.new }
     ensures in_part { IsTrue (F.outside.tells folder.old) → OnErr result (Throughout F.outside folder.old folder.new (IsNotYetSafe var_name (F.outside.state folder.old))) }
+    ensures last { IsTrue (F.outside.tells folder.old) → IsSafeAtLast F.outside var_name folder.old folder.new }
     ensures cause { HasCause (F.outside.faults folder.old) (F.outside.faults folder.new) (IsErr result) }
     ensures later { F.outside.changes folder.old ≤ F.outside.changes folder.new }
     ensures same_kind { F.outside.tells folder.new ≡ F.outside.tells folder.old }
@@ -241,6 +243,7 @@ fn make_records<F: Folder>(folder: &mut F, records: &RelPath) -> Result<(), Fail
     ensures shut { IsTrue (F.outside.tells folder.old) → OnOk result (StaysShut F.outside folder.old folder.new) }
     ensures kept { IsTrue (F.outside.tells folder.old) → ChangesOnly F.outside (covers records_name) nowhere folder.old folder.new }
     ensures in_part { IsTrue (F.outside.tells folder.old) → OnErr result (Throughout F.outside folder.old folder.new (MayChange (covers records_name) nowhere (F.outside.state folder.old))) }
+    ensures last { IsTrue (F.outside.tells folder.old) → Throughout F.outside folder.old folder.new (λ s. MayChange (covers records_name) nowhere (F.outside.state folder.old) s ⊎ (s ≡ F.outside.state folder.new)) }
     ensures cause { HasCause (F.outside.faults folder.old) (F.outside.faults folder.new) (IsErr result) }
     ensures later { F.outside.changes folder.old ≤ F.outside.changes folder.new }
     ensures same_kind { F.outside.tells folder.new ≡ F.outside.tells folder.old }

@@ -10,7 +10,8 @@ ghost use Rattle.ips_history.specs.Directories.{shows, creates, fixes, image_for
 ghost use Rattle.ips_history.specs.Run.{IsRun};
 ghost use Rattle.ips_run.specs.Ending.{HasPayloadFault, TellsAsSaid, claim_of, is_left, is_failed, is_refused, is_folder_fault, is_source_fault, is_spawn_fault};
 ghost use Rattle.ips_run.specs.Comes.{Comes, HasRun};
-ghost use Rattle.ips_run.specs.Phases.{HasFailedInCommit, HasFailedInRecovery, IsKeptOrSettled, IsUnbegun, NeverOpens};
+ghost use Rattle.ips_run.specs.Phases.{HasFailedInCommit, HasFailedInRecovery, IsKeptOrSettled, IsUnbegun};
+ghost use Rattle.ips_run.specs.Unopened.{NeverOpens};
 
 use crate::creating::create;
 use crate::deciding::shown;
@@ -71,8 +72,8 @@ pub fn perform<T: Drop, S: Source, F: Folder, P: Spawner, C: Operation<T>>(
 
     // A refusal, a fault that is told as unchanged among them: the gate was never called on. At no moment since the opening sync has answered
     // something stood there, or would have after a crash.
-    ensures unopened { IsTrue (F.outside.tells folder.old) → IsFalse (creates (C.effect operation.now)) → (F.outside.state folder.old).held.look gate_name ≡ None
-        → IsTrue (is_refused result) → NeverOpens F.outside folder.old folder.new }
+    ensures unopened { IsTrue (F.outside.tells folder.old) → (F.outside.state folder.old).held.look gate_name ≡ None
+        → IsTrue (is_refused result) → NeverOpens F.outside (C.effect operation.now) folder.old folder.new }
 
     // Unchanged: no sign of a commit is left. The gate isn't touched, and no list of steps stands ready, unless the image is the one from before.
     ensures unbegun { IsTrue (F.outside.tells folder.old) → IsFalse (creates (C.effect operation.now))

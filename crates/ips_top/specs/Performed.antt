@@ -13,7 +13,8 @@ use Rattle.ips_report.specs.declared.outcome.Outcome.{Outcome}
 use Rattle.ips_run.specs.declared.operation.Decision.{Decision}
 use Rattle.ips_run.specs.declared.ending.Ending.{Ending}
 use Rattle.ips_run.specs.Comes.{Comes, HasRun}
-use Rattle.ips_run.specs.Phases.{HasFailedInCommit, HasFailedInRecovery, IsKeptOrSettled, IsUnbegun, NeverOpens}
+use Rattle.ips_run.specs.Phases.{HasFailedInCommit, HasFailedInRecovery, IsKeptOrSettled, IsUnbegun}
+use Rattle.ips_run.specs.Unopened.{NeverOpens}
 use Rattle.ips_operations.specs.told.Told.{blames_folder, blames_source, blames_spawner, claimed, claims_failed, claims_refused, claims_unfinished, manner_of, told_as}
 
 -- The outcome tells an ending that comes.
@@ -28,8 +29,8 @@ pub record At (F S P : Type 0) : Type 0 where
   pub counted : List Carrier
 
 -- An operation is carried out, from one moment to another, and told as this outcome: what the outcome claims holds of the image, at every moment and at the end; it has
--- its cause, and these actuators and no others were run; a fault is told exactly where the count of that object rose; what is left unfinished was begun; what is refused, by an operation that makes no image
--- and behind a closed gate, never called on the gate, and what is told as unchanged leaves no sign of a commit, where there was nothing that a fix would take away; and where something is shown, or an open gate is left as it was,
+-- its cause, and these actuators and no others were run; a fault is told exactly where the count of that object rose; what is left unfinished was begun; what is refused behind a closed gate
+-- never called on the gate, and what is told as unchanged leaves no sign of a commit, where there was nothing that a fix would take away; and where something is shown, or an open gate is left as it was,
 -- the opening sync is the only call that may change something, and nothing but that has happened to the image.
 pub record IsPerformed {F S P : Type 0} (o : Outside F) (q : Outside S) (r : Running P) (effect : Effect) (decides : Bool → Image → Image → Decision Outcome → Type 0) (means : Bool → Image → Image → Image → Type 0) (old new : At F S P) (outcome : Outcome) : Type 0 where
   pub run : IsTrue (o.tells old.folder) → IsRun o (means (q.tells old.source) (q.state old.source).held) effect (claimed (manner_of outcome)) old.counted new.counted old.folder new.folder
@@ -41,7 +42,7 @@ pub record IsPerformed {F S P : Type 0} (o : Outside F) (q : Outside S) (r : Run
   pub shows_unasked : IsTrue (shows effect) → IsFalse (blames_source (manner_of outcome))
   pub shows_unspawned : IsTrue (shows effect) → IsFalse (blames_spawner (manner_of outcome))
   pub begun : IsTrue (o.tells old.folder) → IsTrue (claims_unfinished (manner_of outcome)) → HasFailedInCommit o old.folder new.folder ⊎ HasFailedInRecovery o old.folder new.folder
-  pub unopened : IsTrue (o.tells old.folder) → IsFalse (creates effect) → (o.state old.folder).held.look gate_name ≡ None → IsTrue (claims_refused (manner_of outcome)) → NeverOpens o old.folder new.folder
+  pub unopened : IsTrue (o.tells old.folder) → (o.state old.folder).held.look gate_name ≡ None → IsTrue (claims_refused (manner_of outcome)) → NeverOpens o effect old.folder new.folder
   pub unbegun : IsTrue (o.tells old.folder) → IsFalse (creates effect) → (IsTrue (fixes effect) → IsBare (o.state old.folder).held) → IsTrue (claims_failed (manner_of outcome))
       → IsUnbegun (o.state old.folder) (o.state new.folder)
   pub shows_once : IsTrue (shows effect) → OneMore (o.changes old.folder) (o.changes new.folder)

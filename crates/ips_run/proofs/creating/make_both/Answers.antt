@@ -1,6 +1,6 @@
 use Rattle.std.proofs.Common.{List, ℕ, sym, ◌∙◌, subst}
 use Rattle.ips_folder.specs.Calls.{CanMake}
-use Rattle.ips_run.proofs.Directories.{can_make_var, var_failed, var_can, var_gate_shut, both_kept, both_made, both_shut, var_in_part, both_in_part}
+use Rattle.ips_run.proofs.Directories.{can_make_var, var_failed, var_can, var_gate_shut, both_kept, both_made, both_shut, var_in_part, both_in_part, var_last_failed, both_last}
 use Rattle.ips_run.proofs.creating.make_both.Goals as goal
 
 pub make_dir-requires-clause-can : goal.make_dir-requires-clause-can
@@ -41,3 +41,11 @@ returns-in-Ok-clause-in_part g c = λ told.
 
 pub returns-in-Err-clause-in_part : goal.returns-in-Err-clause-in_part
 returns-in-Err-clause-in_part g c = λ told. var_in_part g.F.Source.outside g.met.F.Source.sane c.args.var.now.bytes c.requires.var c.args.folder.now c.make_dir.new.self told c.make_dir.result c.make_dir.ensures
+
+pub returns-in-Ok-clause-last : goal.returns-in-Ok-clause-last
+returns-in-Ok-clause-last g c = λ told.
+    both_last g.F.Source.outside g.met.F.Source.sane c.args.var.now.bytes c.requires.var c.args.folder.now c.make_dir.new.self told c.make_dir.result c.make_dir.ensures (c.in-Ok.ensures.done told) c.make_records.new.folder
+    (c.make_records.ensures.last (c.make_dir.ensures.call.same_kind ∙ told))
+
+pub returns-in-Err-clause-last : goal.returns-in-Err-clause-last
+returns-in-Err-clause-last g c = λ told. var_last_failed g.F.Source.outside g.met.F.Source.sane c.args.var.now.bytes c.requires.var c.args.folder.now c.make_dir.new.self told c.make_dir.result c.make_dir.ensures

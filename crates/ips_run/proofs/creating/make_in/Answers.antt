@@ -25,7 +25,7 @@ pub returns-in-Ok-make_missing-clause-made : goal.returns-in-Ok-make_missing-cla
 returns-in-Ok-make_missing-clause-made g c = λ told.
     let told_at = c.find_missing.ensures.reads.call.same_kind ∙ told in
     made_of g.F.Source.outside g.met.F.Source.sane c.args.folder.now told c.find_missing.new.folder c.make_missing.new.folder c.find_missing.ensures.reads.call.time c.find_missing.ensures.reads.kept c.in-Ok.missing
-    (c.in-Ok.ensures.found told) (c.make_missing.ensures.kept told_at) (c.requires.shut told) (c.in-Ok-make_missing.ensures.made told_at) (c.in-Ok-make_missing.ensures.shut told_at)
+    (c.in-Ok.ensures.found told) (c.make_missing.ensures.kept told_at) (c.make_missing.ensures.last told_at) (c.requires.shut told) (c.in-Ok-make_missing.ensures.made told_at) (c.in-Ok-make_missing.ensures.shut told_at)
 
 pub returns-in-Err-make_missing-clause-unmade : goal.returns-in-Err-make_missing-clause-unmade
 returns-in-Err-make_missing-clause-unmade g c = λ told.

@@ -1,8 +1,8 @@
 use Rattle.std.proofs.Common.{sym, subst, refl}
 use Rattle.ips_run.specs.declared.creating.Missing.{Missing}
 use Rattle.ips_steps.specs.Private.{records_name}
-use Rattle.ips_run.specs.Creating.{IsMissing, HasMade, HasMadeInPart}
-use Rattle.ips_run.proofs.Directories.{can_make_records, shut_now, on_failure, unsafe_since}
+use Rattle.ips_run.specs.Creating.{IsMissing, HasMade, HasMadeAtLast, HasMadeInPart}
+use Rattle.ips_run.proofs.Directories.{can_make_records, shut_now, on_failure, unsafe_since, safe_at_last}
 use Rattle.ips_run.proofs.Created.{made_nothing, made_records_alone, made_both}
 use Rattle.ips_run.proofs.creating.make_missing.Goals as goal
 
@@ -44,3 +44,13 @@ returns-in-Records-clause-in_part g c = λ told. on_failure c.make_records.resul
 pub returns-in-Both-clause-in_part : goal.returns-in-Both-clause-in_part
 returns-in-Both-clause-in_part g c = λ told. on_failure c.make_both.result (c.make_both.ensures.in_part told) (λ run.
     subst (λ (m : Missing). HasMadeInPart g.F.Source.outside m c.args.folder.now c.make_both.new.folder) (sym c.in-Both.is) run)
+
+pub returns-in-Nothing-clause-last : goal.returns-in-Nothing-clause-last
+returns-in-Nothing-clause-last g c = λ told. subst (λ (m : Missing). HasMadeAtLast g.F.Source.outside m c.args.folder.now c.args.folder.now) (sym c.in-Nothing.is) tt
+
+pub returns-in-Records-clause-last : goal.returns-in-Records-clause-last
+returns-in-Records-clause-last g c = λ told. subst (λ (m : Missing). HasMadeAtLast g.F.Source.outside m c.args.folder.now c.make_records.new.folder) (sym c.in-Records.is)
+    (safe_at_last g.F.Source.outside g.met.F.Source.sane records_name c.args.folder.now c.make_records.new.folder (c.make_records.ensures.last told))
+
+pub returns-in-Both-clause-last : goal.returns-in-Both-clause-last
+returns-in-Both-clause-last g c = λ told. subst (λ (m : Missing). HasMadeAtLast g.F.Source.outside m c.args.folder.now c.make_both.new.folder) (sym c.in-Both.is) (c.make_both.ensures.last told)

@@ -10,7 +10,7 @@ use Rattle.ips_run.specs.declared.ending.Ending.TheVariants as ending
 use Rattle.ips_run.proofs.Opened.{failed_since, since_opened, no_fewer, synced_safe, as_settled, elapses_kept, opened, run_unopened, run_read, run_back, run_asked, run_created}
 use Rattle.ips_run.proofs.Nexts.{shown_of, changed_of, created_of, show_is, change_is, recover_is, create_is}
 use Rattle.ips_run.proofs.Performed.{fault_of, out_of_memory_of, unfinished_of, early_fault, early_out_of_memory, early_unfinished, left_fault, comes_unopened, comes_refused, comes_back, comes_shown, comes_asked, comes_created, image_same, next_as}
-use Rattle.ips_run.proofs.Never.{never_synced, never_asked, never_back, never_read}
+use Rattle.ips_run.proofs.Never.{never_synced, never_asked, never_back, never_read, never_created}
 use Rattle.ips_run.proofs.Unbegun.{unbegun_read, unbegun_settled, never_recovers}
 use Rattle.ips_run.proofs.performing.perform.Goals as goal
 
@@ -342,54 +342,62 @@ returns-in-Create-clause-unbegun g c = λ told making fixing failed.
     absurd (clash (creates (g.C.Operation.effect c.args.operation.now)) (create_is (g.C.Operation.effect c.args.operation.now) c.in-Ok-pending.found (next_as (g.C.Operation.effect c.args.operation.now) c.effect.result c.in-Ok-pending.found _ c.phase_behind.result c.effect.ensures c.phase_behind.ensures c.in-Create.is)).0 making)
 
 pub returns-in_default-clause-unopened : goal.returns-in_default-clause-unopened
-returns-in_default-clause-unopened g c = λ told making shut refused. never_synced g.F.Source.outside g.met.F.Source.sane c.args.folder.now c.sync.new.self c.sync.ensures.call.time c.in_default.ensures.kept
+returns-in_default-clause-unopened g c = λ told shut refused. never_synced g.F.Source.outside g.met.F.Source.sane (g.C.Operation.effect c.args.operation.now) c.args.folder.now c.sync.new.self c.sync.ensures.call.time c.in_default.ensures.kept
 
 pub returns-in-Err-Bad-clause-unopened : goal.returns-in-Err-Bad-clause-unopened
-returns-in-Err-Bad-clause-unopened g c = λ told making shut refused.
-    never_read g.F.Source.outside g.met.F.Source.sane c.args.folder.now c.sync.new.self c.pending.new.folder c.sync.ensures.call.time (c.in-Ok.ensures.done told) c.sync.ensures.one_made (no_fewer _ _ c.pending.ensures.reads.none_made) shut
+returns-in-Err-Bad-clause-unopened g c = λ told shut refused.
+    never_read g.F.Source.outside g.met.F.Source.sane (g.C.Operation.effect c.args.operation.now) c.args.folder.now c.sync.new.self c.pending.new.folder c.sync.ensures.call.time (c.in-Ok.ensures.done told) c.sync.ensures.one_made (no_fewer _ _ c.pending.ensures.reads.none_made) shut
     c.pending.ensures.reads.call.time c.pending.ensures.reads.kept
 
 pub returns-in-Err-OutOfMemory-clause-unopened : goal.returns-in-Err-OutOfMemory-clause-unopened
-returns-in-Err-OutOfMemory-clause-unopened g c = λ told making shut refused.
-    never_read g.F.Source.outside g.met.F.Source.sane c.args.folder.now c.sync.new.self c.pending.new.folder c.sync.ensures.call.time (c.in-Ok.ensures.done told) c.sync.ensures.one_made (no_fewer _ _ c.pending.ensures.reads.none_made) shut
+returns-in-Err-OutOfMemory-clause-unopened g c = λ told shut refused.
+    never_read g.F.Source.outside g.met.F.Source.sane (g.C.Operation.effect c.args.operation.now) c.args.folder.now c.sync.new.self c.pending.new.folder c.sync.ensures.call.time (c.in-Ok.ensures.done told) c.sync.ensures.one_made (no_fewer _ _ c.pending.ensures.reads.none_made) shut
     c.pending.ensures.reads.call.time c.pending.ensures.reads.kept
 
 pub returns-in-Refuse-clause-unopened : goal.returns-in-Refuse-clause-unopened
-returns-in-Refuse-clause-unopened g c = λ told making shut refused.
-    never_read g.F.Source.outside g.met.F.Source.sane c.args.folder.now c.sync.new.self c.pending.new.folder c.sync.ensures.call.time (c.in-Ok.ensures.done told) c.sync.ensures.one_made (no_fewer _ _ c.pending.ensures.reads.none_made) shut
+returns-in-Refuse-clause-unopened g c = λ told shut refused.
+    never_read g.F.Source.outside g.met.F.Source.sane (g.C.Operation.effect c.args.operation.now) c.args.folder.now c.sync.new.self c.pending.new.folder c.sync.ensures.call.time (c.in-Ok.ensures.done told) c.sync.ensures.one_made (no_fewer _ _ c.pending.ensures.reads.none_made) shut
     c.pending.ensures.reads.call.time c.pending.ensures.reads.kept
 
 pub returns-in-Recover-clause-unopened : goal.returns-in-Recover-clause-unopened
-returns-in-Recover-clause-unopened g c = λ told making shut refused.
+returns-in-Recover-clause-unopened g c = λ told shut refused.
     let o = g.F.Source.outside in
     let sane = g.met.F.Source.sane in
     let at = c.pending.new.folder in
     let time = elapses_kept o sane c.args.folder.now c.sync.new.self at c.sync.ensures.call.time c.pending.ensures.reads.call.time c.pending.ensures.reads.kept in
     let is_synced = c.pending.ensures.reads.kept ∙ c.in-Ok.ensures.done told in
     let told_at = c.pending.ensures.reads.call.same_kind ∙ c.sync.ensures.call.same_kind ∙ told in
-    never_back o sane c.args.folder.now at c.recovered.new.folder time is_synced (one_before _ _ _ c.sync.ensures.one_made c.pending.ensures.reads.none_made) c.recovered.ensures.later shut (c.recovered.ensures.back told_at).still
+    never_back o sane (g.C.Operation.effect c.args.operation.now) c.args.folder.now at c.recovered.new.folder time is_synced (one_before _ _ _ c.sync.ensures.one_made c.pending.ensures.reads.none_made) c.recovered.ensures.later shut (c.recovered.ensures.back told_at).still
 
 pub returns-in-Show-clause-unopened : goal.returns-in-Show-clause-unopened
-returns-in-Show-clause-unopened g c = λ told making shut refused.
+returns-in-Show-clause-unopened g c = λ told shut refused.
     let o = g.F.Source.outside in
     let sane = g.met.F.Source.sane in
     let at = c.pending.new.folder in
     let time = elapses_kept o sane c.args.folder.now c.sync.new.self at c.sync.ensures.call.time c.pending.ensures.reads.call.time c.pending.ensures.reads.kept in
     let is_synced = c.pending.ensures.reads.kept ∙ c.in-Ok.ensures.done told in
-    never_read o sane c.args.folder.now at c.shown.new.folder time is_synced (one_before _ _ _ c.sync.ensures.one_made c.pending.ensures.reads.none_made) (no_fewer _ _ c.shown.ensures.reads.none_made) shut
+    never_read o sane (g.C.Operation.effect c.args.operation.now) c.args.folder.now at c.shown.new.folder time is_synced (one_before _ _ _ c.sync.ensures.one_made c.pending.ensures.reads.none_made) (no_fewer _ _ c.shown.ensures.reads.none_made) shut
     c.shown.ensures.reads.call.time c.shown.ensures.reads.kept
 
 pub returns-in-Change-clause-unopened : goal.returns-in-Change-clause-unopened
-returns-in-Change-clause-unopened g c = λ told making shut refused.
+returns-in-Change-clause-unopened g c = λ told shut refused.
     let o = g.F.Source.outside in
     let sane = g.met.F.Source.sane in
     let at = c.pending.new.folder in
     let time = elapses_kept o sane c.args.folder.now c.sync.new.self at c.sync.ensures.call.time c.pending.ensures.reads.call.time c.pending.ensures.reads.kept in
     let is_synced = c.pending.ensures.reads.kept ∙ c.in-Ok.ensures.done told in
     let told_at = c.pending.ensures.reads.call.same_kind ∙ c.sync.ensures.call.same_kind ∙ told in
-    never_asked o sane c.args.folder.now at c.request.new.folder time is_synced (one_before _ _ _ c.sync.ensures.one_made c.pending.ensures.reads.none_made) c.request.ensures.later
+    never_asked o sane (g.C.Operation.effect c.args.operation.now) c.args.folder.now at c.request.new.folder time is_synced (one_before _ _ _ c.sync.ensures.one_made c.pending.ensures.reads.none_made) c.request.ensures.later
     ((c.request.ensures.asked told_at (synced_safe (o.state c.args.folder.now) (o.state at) is_synced)).unopened refused)
 
 pub returns-in-Create-clause-unopened : goal.returns-in-Create-clause-unopened
-returns-in-Create-clause-unopened g c = λ told making shut refused.
-    absurd (clash (creates (g.C.Operation.effect c.args.operation.now)) (create_is (g.C.Operation.effect c.args.operation.now) c.in-Ok-pending.found (next_as (g.C.Operation.effect c.args.operation.now) c.effect.result c.in-Ok-pending.found _ c.phase_behind.result c.effect.ensures c.phase_behind.ensures c.in-Create.is)).0 making)
+returns-in-Create-clause-unopened g c = λ told shut refused.
+    let o = g.F.Source.outside in
+    let sane = g.met.F.Source.sane in
+    let at = c.pending.new.folder in
+    let time = elapses_kept o sane c.args.folder.now c.sync.new.self at c.sync.ensures.call.time c.pending.ensures.reads.call.time c.pending.ensures.reads.kept in
+    let is_synced = c.pending.ensures.reads.kept ∙ c.in-Ok.ensures.done told in
+    let told_at = c.pending.ensures.reads.call.same_kind ∙ c.sync.ensures.call.same_kind ∙ told in
+    let creating = (create_is (g.C.Operation.effect c.args.operation.now) c.in-Ok-pending.found (next_as (g.C.Operation.effect c.args.operation.now) c.effect.result c.in-Ok-pending.found _ c.phase_behind.result c.effect.ensures c.phase_behind.ensures c.in-Create.is)).0 in
+    never_created o sane (g.C.Operation.effect c.args.operation.now) c.args.folder.now at c.create.new.folder time is_synced (one_before _ _ _ c.sync.ensures.one_made c.pending.ensures.reads.none_made) c.create.ensures.later shut
+    _ c.create.result _ _ creating refused (c.create.ensures.created told_at)
