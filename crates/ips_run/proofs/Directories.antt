@@ -1,5 +1,5 @@
 -- The directories of an image's records: what stands once they are made, and what is so at every moment until then.
-use Rattle.std.proofs.Common.{◌≡◌, ⊎_elim, ℕ, Bool, true, false, cond, List, [], ◌∷◌, Option, Some, None, is_none, inl, inr, Result, Ok, Err, OnOk, OnErr, codes, refl, sym, ◌∙◌, ap, subst, arith}
+use Rattle.std.proofs.Common.{◌≡◌, ◌⊎◌, ⊎_elim, ℕ, Bool, true, false, cond, List, [], ◌∷◌, Option, Some, None, is_none, inl, inr, Result, Ok, Err, OnOk, OnErr, codes, refl, sym, ◌∙◌, ap, subst, arith}
 use Rattle.std.proofs.lemmas.Bool.{and_parts, and_from, or_left, or_right}
 use Rattle.ips_text.specs.Path.{IsPath}
 use Rattle.ips_text.specs.Ancestry.{covers, same_path, parent}

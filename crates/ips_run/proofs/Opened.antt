@@ -114,7 +114,7 @@ module _ {F : Type 0} (o : Outside F) (sane : IsOutside o) where
       joins o old at new (FolderOwes journal_text b a due) front (second b a due (front.each (o.state at) (sane.counts_now at (o.clock old) front.later)))
 
   -- the opening sync, and what came behind it
-  pub opened : (old at new : F) → Elapses o old at → o.state at ≡ settled (o.state old) → OneMore (o.changes old) (o.changes at) → o.changes at ≤ o.changes new → HasOpened o old new
+  abbrev pub opened : (old at new : F) → Elapses o old at → o.state at ≡ settled (o.state old) → OneMore (o.changes old) (o.changes at) → o.changes at ≤ o.changes new → HasOpened o old new
   opened old at new time is_synced one later = record {
     at = at;
     synced = is_synced;
