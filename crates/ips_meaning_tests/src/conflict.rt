@@ -2,10 +2,12 @@
 
 use crate::asked::{Asked, rows_told};
 use crate::rows::text_named;
+use crate::stops::{have, some};
+use crate::told::put;
 use ips_action::{Action, parse_line};
-use ips_conflict::{Placed, Rule, clash};
+use ips_conflict::{Clash, Placed, Rule, clash};
 use ips_text::Text;
-use std::alloc::Global;
+use std::alloc::{AllocError, Global};
 use std::process::Abort;
 
 // What the rows call an action: the package's stem, a blank, and the action.
@@ -71,49 +73,57 @@ other_dash = b link path=x-y target=u
 link_w = a link path=w target=t
 other_link_w = b link path=w target=u";
 
+// The stem and the action that the line of this name says.
+fn one_said(rt: &impl Abort, alloc: Global, name: &str) -> (Text, Action) {
+    let line = some(rt, text_named(LINES, name), "a name");
+    let (stem, action) = some(rt, line.split_once(' '), "a line");
+    let action = some(rt, parse_line(alloc, action).ok(), "an action");
+    (have(rt, Text::new(alloc, stem)), action)
+}
+
 // The stems and actions that the lines of these names say.
 fn said(rt: &impl Abort, alloc: Global, names: &str) -> Vec<(Text, Action)> {
     let mut said = Vec::new(alloc);
     for name in names.split_whitespace() {
-        let line = text_named(LINES, name).expect(rt, "a name");
-        let (stem, action) = line.split_once(' ').expect(rt, "a line");
-        let stem = Text::new(alloc, stem).expect(rt, "memory");
-        let action = parse_line(alloc, action).ok().expect(rt, "no fault");
-        said.push((stem, action)).expect(rt, "memory");
+        said.push(one_said(rt, alloc, name)).expect(rt, "memory");
     }
     said
 }
 
-/// The rule of a clash.
-pub fn rule_word(rule: Rule) -> &'static str {
+// The rule of a clash, between blanks.
+fn rule_word(rule: &Rule) -> &'static str {
     match rule {
-        Rule::Kinds => "Kinds",
-        Rule::Attributes => "Attributes",
-        Rule::Deliverers => "Deliverers",
-        Rule::Mediator => "Mediator",
-        Rule::Below => "Below",
-        Rule::Target => "Target",
+        Rule::Kinds => " Kinds ",
+        Rule::Attributes => " Attributes ",
+        Rule::Deliverers => " Deliverers ",
+        Rule::Mediator => " Mediator ",
+        Rule::Below => " Below ",
+        Rule::Target => " Target ",
     }
 }
 
-// What is told of the lines of these names, which are numbered from 0: the key, the rule and the two actions.
-pub fn clash_told(rt: &impl Abort, alloc: Global, names: &str) -> String {
+/// Tells the first clash of the lines of these names, which are numbered from 0: the key, the rule and the two actions.
+pub fn put_clash(rt: &impl Abort, alloc: Global, out: &mut String, names: &str) {
     let said = said(rt, alloc, names);
     let mut placed = Vec::new(alloc);
     for (number, (stem, action)) in said.iter().enumerate() {
-        placed
-            .push(Placed::new(stem, number as u64, action))
-            .expect(rt, "memory");
+        let one = Placed::new(stem, number as u64, action);
+        placed.push(one).expect(rt, "memory");
     }
-    match clash(alloc, &placed).ok().expect(rt, "no fault") {
-        Some(clash) => {
-            let key = clash.key.as_str();
-            let rule = rule_word(clash.rule);
-            let first = clash.first.as_str();
-            let second = clash.second.as_str();
-            format!(in alloc; "{key} {rule} {first} {second}").expect(rt, "memory")
+    put_found(rt, out, &clash(alloc, &placed));
+}
+
+fn put_found(rt: &impl Abort, out: &mut String, found: &Result<Option<Clash>, AllocError>) {
+    match found {
+        Ok(Some(clash)) => {
+            put(rt, out, clash.key.as_str());
+            put(rt, out, rule_word(&clash.rule));
+            put(rt, out, clash.first.as_str());
+            put(rt, out, " ");
+            put(rt, out, clash.second.as_str());
         }
-        None => String::from_str(alloc, "nothing").expect(rt, "memory"),
+        Ok(None) => put(rt, out, "nothing"),
+        Err(_) => put(rt, out, "out of memory"),
     }
 }
 
@@ -195,12 +205,7 @@ hard link_w other_link_w -> w Attributes a:1 b:2";
 #[test]
 fn clashes_of_actions(rt: HostRuntime) {
     let alloc = rt.alloc();
-    for (asked, count, table) in [
-        (Asked::Clash, 26u32, KINDS),
-        (Asked::Clash, 13u32, DELIVERERS),
-        (Asked::Clash, 20u32, HARDLINKS),
-    ] {
-        let rows = rows_told(&rt, alloc, asked, table);
-        assert!(rt; rows == count, "{rows} rows in place of {count}");
-    }
+    rows_told(&rt, alloc, &Asked::Clash, 26, KINDS);
+    rows_told(&rt, alloc, &Asked::Clash, 13, DELIVERERS);
+    rows_told(&rt, alloc, &Asked::Clash, 20, HARDLINKS);
 }

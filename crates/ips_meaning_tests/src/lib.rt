@@ -9,3 +9,9 @@ mod conflict;
 mod meaning;
 #[cfg(test)]
 mod rows;
+#[cfg(test)]
+mod spelled;
+#[cfg(test)]
+mod stops;
+#[cfg(test)]
+mod told;

@@ -1,7 +1,9 @@
 //! What packages mean.
 
 use crate::asked::{Asked, rows_told};
-use crate::rows::lines_of;
+use crate::spelled::{lines, path};
+use crate::stops::{have, some};
+use crate::told::{put, put_mode};
 use ips_action::Preserve;
 use ips_filter::Settings;
 use ips_fmri::Version;
@@ -12,22 +14,28 @@ use ips_text::{Or, RelPath, Text, show_path};
 use std::alloc::Global;
 use std::process::Abort;
 
+fn version(rt: &impl Abort, alloc: Global, text: &str) -> Version {
+    some(rt, Version::parse(alloc, text).ok(), "a version")
+}
+
+// A package of this stem and this manifest.
+fn package(rt: &impl Abort, alloc: Global, stem: &str, text: &str) -> Package {
+    let text = lines(rt, alloc, text);
+    let manifest = Manifest::read(alloc, text.as_bytes());
+    Package {
+        stem: have(rt, Text::new(alloc, stem)),
+        version: version(rt, alloc, "1"),
+        manifest: some(rt, manifest.ok(), "a manifest"),
+    }
+}
+
 // Two packages of these manifests.
 fn packages(rt: &impl Abort, alloc: Global, first: &str, second: &str) -> Vec<Package> {
     let mut packages = Vec::new(alloc);
-    for (stem, text) in [("a", first), ("b", second)] {
-        packages
-            .push(Package {
-                stem: Text::new(alloc, stem).expect(rt, "memory"),
-                version: Version::parse(alloc, "1")
-                    .ok()
-                    .expect(rt, "what is spelled"),
-                manifest: Manifest::read(alloc, lines_of(rt, alloc, text).as_bytes())
-                    .ok()
-                    .expect(rt, "no fault"),
-            })
-            .expect(rt, "memory");
-    }
+    let first = package(rt, alloc, "a", first);
+    packages.push(first).expect(rt, "memory");
+    let second = package(rt, alloc, "b", second);
+    packages.push(second).expect(rt, "memory");
     packages
 }
 
@@ -35,93 +43,105 @@ fn packages(rt: &impl Abort, alloc: Global, first: &str, second: &str) -> Vec<Pa
 fn mediators(rt: &impl Abort, alloc: Global, set: &str) -> Vec<SetMediator> {
     let mut mediators = Vec::new(alloc);
     if !set.is_empty() {
-        mediators
-            .push(SetMediator {
-                name: Text::new(alloc, "p").expect(rt, "memory"),
-                version: Some(
-                    Version::parse(alloc, set)
-                        .ok()
-                        .expect(rt, "what is spelled"),
-                ),
-                implementation: None,
-            })
-            .expect(rt, "memory");
+        let mediator = SetMediator {
+            name: have(rt, Text::new(alloc, "p")),
+            version: Some(version(rt, alloc, set)),
+            implementation: None,
+        };
+        mediators.push(mediator).expect(rt, "memory");
     }
     mediators
 }
 
-// What is told where nothing else is set: a path and its entry after the other, or the fault.
-pub fn want_told(rt: &impl Abort, alloc: Global, first: &str, second: &str, set: &str) -> String {
+/// Tells what two packages want where nothing else is set: all entries, or that at a path, or the fault.
+pub fn put_want(
+    rt: &impl Abort,
+    alloc: Global,
+    out: &mut String,
+    (first, second): (&str, &str),
+    set: &str,
+    at: &str,
+) {
     let packages = packages(rt, alloc, first, second);
     let mediators = mediators(rt, alloc, set);
-    match want(alloc, &packages, &Settings::new(alloc), &mediators) {
-        Ok(want) => shown(rt, alloc, &want),
+    let wanted = want(alloc, &packages, &Settings::new(alloc), &mediators);
+    put_wanted(rt, alloc, out, &wanted, at);
+}
+
+fn put_wanted(
+    rt: &impl Abort,
+    alloc: Global,
+    out: &mut String,
+    wanted: &Result<Want, Or<WantFault>>,
+    at: &str,
+) {
+    match wanted {
+        Ok(want) if at.is_empty() => put_entries(rt, alloc, out, want),
+        Ok(want) => {
+            let is_found = want.entry(&path(rt, alloc, at)).is_some();
+            put(
+                rt,
+                out,
+                if is_found {
+                    "found: true"
+                } else {
+                    "found: false"
+                },
+            );
+        }
         Err(Or::Bad(WantFault::Reserved { path })) => {
-            let path = show_path(alloc, &path).expect(rt, "memory");
-            let path = path.as_str();
-            format!(in alloc; "reserved {path}").expect(rt, "memory")
+            put(rt, out, "reserved ");
+            put_path(rt, alloc, out, path);
         }
         Err(Or::Bad(WantFault::Clash(clash))) => {
-            let key = clash.key.as_str();
-            let first = clash.first.as_str();
-            let second = clash.second.as_str();
-            format!(in alloc; "clash {key} {first} {second}").expect(rt, "memory")
+            put(rt, out, "clash ");
+            put(rt, out, clash.key.as_str());
+            put(rt, out, " ");
+            put(rt, out, clash.first.as_str());
+            put(rt, out, " ");
+            put(rt, out, clash.second.as_str());
         }
-        Err(Or::OutOfMemory) => String::from_str(alloc, "out of memory").expect(rt, "memory"),
+        Err(Or::OutOfMemory) => put(rt, out, "out of memory"),
     }
 }
 
-fn shown(rt: &impl Abort, alloc: Global, want: &Want) -> String {
-    let mut text = String::new(alloc);
+fn put_path(rt: &impl Abort, alloc: Global, out: &mut String, path: &RelPath) {
+    let shown = have(rt, show_path(alloc, path));
+    put(rt, out, shown.as_str());
+}
+
+fn put_entries(rt: &impl Abort, alloc: Global, out: &mut String, want: &Want) {
     for i in 0..want.len() {
         if let Some((path, entry)) = want.at(i) {
-            show(rt, alloc, &mut text, path, entry);
+            put(rt, out, if i > 0 { ", " } else { "" });
+            put_path(rt, alloc, out, path);
+            put_entry(rt, alloc, out, entry);
         }
     }
-    text
 }
 
-fn show(rt: &impl Abort, alloc: Global, text: &mut String, path: &RelPath, entry: &Entry) {
-    let path = show_path(alloc, path).expect(rt, "memory");
-    let entry = entry_shown(rt, alloc, entry);
-    if !text.is_empty() {
-        text.push_str(", ").expect(rt, "memory");
-    }
-    write!(text, "{} {}", path.as_str(), entry.as_str()).expect(rt, "memory");
-}
-
-fn entry_shown(rt: &impl Abort, alloc: Global, entry: &Entry) -> String {
+fn put_entry(rt: &impl Abort, alloc: Global, out: &mut String, entry: &Entry) {
     match entry {
-        Entry::Dir { mode: Some(mode) } => format!(in alloc; "dir {mode:o}").expect(rt, "memory"),
-        Entry::Dir { mode: None } => String::from_str(alloc, "dir").expect(rt, "memory"),
-        Entry::File { mode, preserve, .. } => {
-            let is_kept = !matches!(preserve, Preserve::None);
-            format!(in alloc; "file {mode:o}{}", if is_kept { " kept" } else { "" }).expect(
-                rt, "memory",
-            )
+        Entry::Dir { mode: Some(mode) } => {
+            put(rt, out, " dir ");
+            put_mode(rt, out, *mode);
         }
-        Entry::Link { target } => format!(in alloc; "link {}", target.as_str()).expect(
-            rt, "memory",
-        ),
-        Entry::Hard { to } => format!(in alloc;
-            "hard {}",
-            show_path(alloc, to).expect(rt, "memory").as_str()
-        )
-        .expect(rt, "memory"),
+        Entry::Dir { mode: None } => put(rt, out, " dir"),
+        Entry::File { mode, preserve, .. } => {
+            put(rt, out, " file ");
+            put_mode(rt, out, *mode);
+            let is_kept = !matches!(preserve, Preserve::None);
+            put(rt, out, if is_kept { " kept" } else { "" });
+        }
+        Entry::Link { target } => {
+            put(rt, out, " link ");
+            put(rt, out, target.as_str());
+        }
+        Entry::Hard { to } => {
+            put(rt, out, " hard ");
+            put_path(rt, alloc, out, to);
+        }
     }
-}
-
-// What two packages of one link each want at a path.
-pub fn entry_told(rt: &impl Abort, alloc: Global, path: &str) -> String {
-    let packages = packages(rt, alloc, "link path=a/b target=d", "link path=c target=d");
-    let want = want(alloc, &packages, &Settings::new(alloc), &[])
-        .ok()
-        .expect(rt, "no fault");
-    let path = RelPath::parse(alloc, path.as_bytes())
-        .ok()
-        .expect(rt, "what is spelled");
-    let is_found = want.entry(&path).is_some();
-    format!(in alloc; "found: {is_found}").expect(rt, "memory")
 }
 
 // The manifests of two packages, the version that a mediator is set to, and what they mean.
@@ -159,8 +179,6 @@ z -> found: false";
 #[test]
 fn packages_mean_entries(rt: HostRuntime) {
     let alloc = rt.alloc();
-    for (asked, count, table) in [(Asked::Want, 13u32, WANTS), (Asked::Entry, 7u32, ENTRIES)] {
-        let rows = rows_told(&rt, alloc, asked, table);
-        assert!(rt; rows == count, "{rows} rows in place of {count}");
-    }
+    rows_told(&rt, alloc, &Asked::Want, 13, WANTS);
+    rows_told(&rt, alloc, &Asked::Entry, 7, ENTRIES);
 }

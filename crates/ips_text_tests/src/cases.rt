@@ -1,3 +1,4 @@
+use crate::stops::must;
 use ips_cases::{Cases, Row};
 
 const fn row(a: u32, b: u32, c: u32, d: u32, value: u8) -> Row {
@@ -21,7 +22,7 @@ fn each_key_has_the_value_of_its_row(rt: HostRuntime) {
         table.find([1, 0, 0, 0]),
         table.find([1, 1, 0, 0]),
     ];
-    assert!(rt; values == [10, 10, 20, 30]);
+    must(&rt, values == [10, 10, 20, 30], "the value of each row");
 }
 
 #[test]
@@ -37,7 +38,7 @@ fn gaps_and_overlaps_are_refused(rt: HostRuntime) {
         Cases::new(last_key_has_two, [2, 2, 1, 1]).is_none(),
         Cases::new([], [1, 1, 1, 1]).is_none(),
     ];
-    assert!(rt; are_refused == [true, true, true]);
+    must(&rt, are_refused == [true, true, true], "each is refused");
 }
 
 #[test]
@@ -47,7 +48,8 @@ fn sizes_of_32(rt: HostRuntime) {
     let rows = [row(ALL, ALL, ALL, ALL - TOP, 1), row(ALL, ALL, ALL, TOP, 2)];
     let table = Cases::new(rows, [32, 32, 32, 32]).expect(&rt, "each key has a row");
     let values = [table.find([31, 31, 31, 30]), table.find([31, 31, 31, 31])];
-    assert!(rt; values == [1, 2]);
+    must(&rt, values == [1, 2], "the value of each row");
     let last_key_has_two = [rows[0], rows[1], row(TOP, TOP, TOP, TOP, 3)];
-    assert!(rt; Cases::new(last_key_has_two, [32, 32, 32, 32]).is_none());
+    let is_refused = Cases::new(last_key_has_two, [32, 32, 32, 32]).is_none();
+    must(&rt, is_refused, "the last key has two");
 }

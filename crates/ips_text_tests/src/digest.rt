@@ -1,4 +1,6 @@
-use crate::table::{Ask, all_hold, put, put_number, text};
+use crate::stops::must;
+use crate::table::{Ask, all_hold, text};
+use crate::told::{put, put_number};
 use ips_digest::{Hasher, PayloadName};
 use std::alloc::Global;
 use std::process::Abort;
@@ -111,7 +113,8 @@ const BYTES: [u8; 20] = [
 
 #[test]
 fn reads_prints_and_makes_names(rt: HostRuntime) {
-    all_hold(&rt, rt.alloc(), TABLES);
+    let alloc = rt.alloc();
+    all_hold(&rt, alloc, TABLES);
     let name = PayloadName::parse("000102030405060708090a0b0c0d0e0f10111213");
-    assert!(rt; name == Some(PayloadName::Sha1(BYTES)));
+    must(&rt, name == Some(PayloadName::Sha1(BYTES)), "these bytes");
 }

@@ -1,4 +1,6 @@
-use crate::table::{Ask, all_hold, put, put_number, put_yes_or_no, text};
+use crate::stops::have;
+use crate::table::{Ask, all_hold, text};
+use crate::told::{put, put_number, yes_or_no};
 use ips_fmri::{Fmri, FmriFault, Pattern, Version, matches_stars};
 use ips_text::Or;
 use std::alloc::Global;
@@ -33,7 +35,7 @@ impl Ask for Asked {
             Asked::Pattern => pattern(rt, alloc, out, one),
             Asked::Matches => matches(rt, alloc, out, one, two),
             Asked::Admits => admits(rt, alloc, out, one, two),
-            Asked::Stars => put_yes_or_no(rt, out, matches_stars(one, two)),
+            Asked::Stars => put(rt, out, yes_or_no(matches_stars(one, two))),
         }
     }
 }
@@ -63,7 +65,7 @@ fn put_fault(rt: &impl Abort, out: &mut String, fault: Or<FmriFault>) {
 fn version(rt: &impl Abort, alloc: Global, out: &mut String, text: &str) {
     match Version::parse(alloc, text) {
         Ok(version) => {
-            let printed = version.print(alloc).expect(rt, "memory");
+            let printed = have(rt, version.print(alloc));
             put(rt, out, printed.as_str());
             put_numbers(rt, out, version.release());
             put_numbers(rt, out, version.build());
@@ -96,7 +98,7 @@ fn compared(rt: &impl Abort, alloc: Global, out: &mut String, one: &str, others:
 
 fn put_compared(rt: &impl Abort, alloc: Global, out: &mut String, one: &Version, other: &str) {
     let other = a_version(rt, alloc, other);
-    let copy = one.copy(alloc).expect(rt, "memory");
+    let copy = have(rt, one.copy(alloc));
     put(rt, out, relation(one, &copy, &other));
     put(rt, out, if one.incorporates(&other) { "+" } else { "" });
     drop(copy);
@@ -115,8 +117,8 @@ fn relation(one: &Version, copy: &Version, other: &Version) -> &'static str {
 fn fmri(rt: &impl Abort, alloc: Global, out: &mut String, text: &str) {
     match Fmri::parse(alloc, text) {
         Ok(fmri) => {
-            let copy = fmri.copy(alloc).expect(rt, "memory");
-            let printed = copy.print(alloc).expect(rt, "memory");
+            let copy = have(rt, fmri.copy(alloc));
+            let printed = have(rt, copy.print(alloc));
             put(rt, out, printed.as_str());
             put_parts(rt, out, &fmri);
             drop(copy);
@@ -157,8 +159,8 @@ fn put_pattern(rt: &impl Abort, alloc: Global, out: &mut String, pattern: &Patte
         },
     );
     put(rt, out, if pattern.is_wild() { "wild " } else { "plain " });
-    let copy = pattern.copy(alloc).expect(rt, "memory");
-    let printed = copy.print(alloc).expect(rt, "memory");
+    let copy = have(rt, pattern.copy(alloc));
+    let printed = have(rt, copy.print(alloc));
     drop(copy);
     put(rt, out, printed.as_str());
 }
@@ -181,7 +183,7 @@ fn matched(pattern: &Pattern, stem: &str) -> &'static str {
 fn admits(rt: &impl Abort, alloc: Global, out: &mut String, pattern: &str, version: &str) {
     let pattern = a_pattern(rt, alloc, pattern);
     let version = a_version(rt, alloc, version);
-    put_yes_or_no(rt, out, pattern.admits(&version));
+    put(rt, out, yes_or_no(pattern.admits(&version)));
     drop(pattern);
     drop(version);
 }
@@ -424,5 +426,6 @@ const TABLES: &[(Asked, u64, &str)] = &[
 
 #[test]
 fn versions_fmris_and_patterns(rt: HostRuntime) {
-    all_hold(&rt, rt.alloc(), TABLES);
+    let alloc = rt.alloc();
+    all_hold(&rt, alloc, TABLES);
 }

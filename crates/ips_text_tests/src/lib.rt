@@ -11,6 +11,10 @@ mod fmri;
 #[cfg(test)]
 mod line;
 #[cfg(test)]
+mod stops;
+#[cfg(test)]
 mod table;
 #[cfg(test)]
 mod text;
+#[cfg(test)]
+mod told;

@@ -1,4 +1,5 @@
-use crate::table::{Ask, all_hold, put, put_number, text};
+use crate::table::{Ask, all_hold, text};
+use crate::told::{put, put_number};
 use ips_line::{Word, WordFault, Words, push_words, read_words};
 use ips_text::Or;
 use std::alloc::Global;
@@ -151,5 +152,6 @@ const TABLES: &[(Said, u64, &str)] = &[
 
 #[test]
 fn reads_words_of_a_line(rt: HostRuntime) {
-    all_hold(&rt, rt.alloc(), TABLES);
+    let alloc = rt.alloc();
+    all_hold(&rt, alloc, TABLES);
 }

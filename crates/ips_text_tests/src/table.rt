@@ -4,6 +4,7 @@
 //! In each column `¶` is the end of a line, `{blank}` and `{tab}` are what they are called, `{0xff}` is the byte of that number,
 //! and `{a*255}` is 255 times `a`.
 
+use crate::stops::{all_played, have, same, some};
 use std::alloc::Global;
 use std::process::Abort;
 
@@ -30,41 +31,39 @@ pub fn holds<Q: Ask>(rt: &impl Abort, alloc: Global, kind: &Q, cases: u64, table
             count = count.saturating_add(1);
         }
     }
-    assert!(rt; count == cases, "{count} cases");
+    all_played(rt, count, cases);
 }
 
 fn case<Q: Ask>(rt: &impl Abort, alloc: Global, kind: &Q, row: &str) {
-    let row = row.replace(alloc, '¶', "\n").expect(rt, "memory");
-    let (question, wanted) = row.split_once("->").expect(rt, "a case has an answer");
+    let row = have(rt, row.replace(alloc, '¶', "\n"));
+    let (question, wanted) = some(rt, row.split_once("->"), "a case has an answer");
+    let mut answer = String::new(alloc);
+    put_answer(rt, alloc, kind, &mut answer, question);
+    let mut bytes = Vec::new(alloc);
+    spell(rt, &mut bytes, wanted);
+    same(rt, row.as_str(), answer.as_str(), text(rt, &bytes));
+}
+
+// Adds the answer to a question of one column or of two.
+fn put_answer<Q: Ask>(rt: &impl Abort, alloc: Global, kind: &Q, out: &mut String, question: &str) {
     let (one, two) = question.split_once('|').unwrap_or((question, ""));
     let mut bytes = Vec::new(alloc);
     spell(rt, &mut bytes, one);
     let middle = bytes.len();
     spell(rt, &mut bytes, two);
-    let (one, two) = bytes.split_at_checked(middle).expect(rt, "two columns");
-    let mut answer = String::new(alloc);
-    kind.answer(rt, alloc, &mut answer, one, two);
-    bytes.clear();
-    spell(rt, &mut bytes, wanted);
-    assert!(rt;
-        answer.as_str().as_bytes() == bytes.as_slice(),
-        "{row} but {answer}"
-    );
+    let (one, two) = some(rt, bytes.split_at_checked(middle), "two columns");
+    kind.answer(rt, alloc, out, one, two);
 }
 
 // Adds the bytes that a column between blanks spells.
 fn spell(rt: &impl Abort, out: &mut Vec<u8>, column: &str) {
     for (i, piece) in column.trim_matches(' ').split('{').enumerate() {
-        let behind = match piece.split_once('}') {
-            Some((name, behind)) => {
-                push_named(rt, out, name);
-                behind
-            }
-            None => {
-                assert!(rt; i == 0, "an open brace");
-                piece
-            }
-        };
+        let mut behind = piece;
+        if i > 0 {
+            let (name, rest) = some(rt, piece.split_once('}'), "an open brace");
+            push_named(rt, out, name);
+            behind = rest;
+        }
         out.extend_from_slice(behind.as_bytes())
             .expect(rt, "memory");
     }
@@ -92,19 +91,4 @@ fn push_named(rt: &impl Abort, out: &mut Vec<u8>, name: &str) {
 /// The text of a column.
 pub fn text<'a>(rt: &impl Abort, column: &'a [u8]) -> &'a str {
     str::from_utf8(column).expect(rt, "a text")
-}
-
-/// Adds words to an answer.
-pub fn put(rt: &impl Abort, out: &mut String, words: &str) {
-    out.push_str(words).expect(rt, "memory");
-}
-
-/// Adds a number to an answer.
-pub fn put_number(rt: &impl Abort, out: &mut String, number: u64) {
-    write!(out, "{number}").expect(rt, "memory");
-}
-
-/// Adds `yes` or `no` to an answer.
-pub fn put_yes_or_no(rt: &impl Abort, out: &mut String, is: bool) {
-    put(rt, out, if is { "yes" } else { "no" });
 }

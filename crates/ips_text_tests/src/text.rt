@@ -1,6 +1,8 @@
 ghost use Rattle.std.specs.Prelude.{◌≤◌};
 
-use crate::table::{Ask, all_hold, put, put_number, put_yes_or_no, text};
+use crate::stops::{have, must};
+use crate::table::{Ask, all_hold, text};
+use crate::told::{put, put_mode, put_number, yes_or_no};
 use ips_text::{
     Or, PathFault, RelPath, Text, covers, decimal, fits_name, number, octal, parent, quote,
     show_path, unquote,
@@ -33,7 +35,7 @@ impl Ask for Asked {
         match self {
             Asked::Path => path(rt, alloc, out, one),
             Asked::Set => set(rt, alloc, out, one, text(rt, two)),
-            Asked::Covers => put_yes_or_no(rt, out, covers(one, two)),
+            Asked::Covers => put(rt, out, yes_or_no(covers(one, two))),
             Asked::Whole => whole(rt, out, one),
             Asked::Front => front(rt, out, one),
             Asked::Quoted => quoted(rt, alloc, out, one),
@@ -58,7 +60,7 @@ fn fault(fault: PathFault) -> &'static str {
 fn path(rt: &impl Abort, alloc: Global, out: &mut String, bytes: &[u8]) {
     match RelPath::parse(alloc, bytes) {
         Ok(path) => {
-            let shown = show_path(alloc, &path).expect(rt, "memory");
+            let shown = have(rt, show_path(alloc, &path));
             put(rt, out, shown.as_str());
             put(rt, out, " below ");
             put(rt, out, text(rt, parent(bytes).unwrap_or(b"none")));
@@ -82,8 +84,8 @@ fn set_one(rt: &impl Abort, alloc: Global, out: &mut String, path: &mut RelPath,
     requires { 1023 ≤ path.old.room }
     ensures { 1023 ≤ path.new.room }
 {
-    let before = path.copy(alloc).expect(rt, "memory");
-    assert!(rt; before == *path, "another copy");
+    let before = have(rt, path.copy(alloc));
+    must(rt, before == *path, "another copy");
     let found = match path.set(other.as_bytes()) {
         Ok(()) => "set",
         Err(found) => fault(found),
@@ -102,7 +104,10 @@ fn whole(rt: &impl Abort, out: &mut String, bytes: &[u8]) {
         None => put(rt, out, "none"),
     }
     match octal(bytes) {
-        Some(mode) => write!(out, " {mode:o}").expect(rt, "memory"),
+        Some(mode) => {
+            put(rt, out, " ");
+            put_mode(rt, out, mode);
+        }
         None => put(rt, out, " none"),
     }
 }
@@ -131,7 +136,7 @@ fn quoted(rt: &impl Abort, alloc: Global, out: &mut String, bytes: &[u8]) {
             "too long: "
         },
     );
-    let quoted = quote(alloc, bytes).expect(rt, "memory");
+    let quoted = have(rt, quote(alloc, bytes));
     put(rt, out, quoted.as_str());
 }
 
@@ -152,9 +157,9 @@ fn unquoted(rt: &impl Abort, alloc: Global, out: &mut String, quoted: &[u8], byt
 }
 
 fn order(rt: &impl Abort, alloc: Global, out: &mut String, one: &str, two: &str) {
-    let one = Text::new(alloc, one).expect(rt, "memory");
-    let one = one.copy(alloc).expect(rt, "memory");
-    let two = Text::new(alloc, two).expect(rt, "memory");
+    let one = have(rt, Text::new(alloc, one));
+    let one = have(rt, one.copy(alloc));
+    let two = have(rt, Text::new(alloc, two));
     put(rt, out, relation(&one, &two));
 }
 
@@ -316,5 +321,6 @@ const TABLES: &[(Asked, u64, &str)] = &[
 
 #[test]
 fn texts_paths_and_numbers(rt: HostRuntime) {
-    all_hold(&rt, rt.alloc(), TABLES);
+    let alloc = rt.alloc();
+    all_hold(&rt, alloc, TABLES);
 }
