@@ -1,42 +1,22 @@
 //! The calls on what is below a root of the host.
 
-ghost use Rattle.std.specs.Prelude.{IfOk};
-ghost use Rattle.ips_outside.specs.Outside.{IsSmall};
-
+use crate::fault::{Refused, or_refused};
 use crate::listing::list_names;
-use crate::opened::{Opened, Reading};
+use crate::opened::Opened;
 use crate::programs::sync_file_system;
-use crate::root::{Root, find, know, need, need_file, prepare};
-use crate::standing::{
-    give_mode, give_open_mode, keep_mode, look_at, mode_of, set_mode_at, standing,
-};
+use crate::root::{Root, know, look, need, prepare};
+use crate::standing::{give_mode, give_open_mode, keep_mode, keep_open_mode, node_at};
 use ips_folder::Listing;
 use ips_outside::Look;
 use ips_text::RelPath;
 use std::alloc::{Alloc, Global};
-use std::fs::{DirBuilder, Files, OpenFile, OpenOptions};
-use std::io::{Error, ErrorKind};
-use std::os::unix::fs::{DirBuilderExt, MetadataExt, OpenOptionsExt};
+use std::fs;
+use std::fs::{DirBuilder, Files, OpenOptions};
+use std::os::unix::fs::{DirBuilderExt, OpenOptionsExt};
 use std::rt::Processes;
-use std::{fs, io};
 
 // The greatest length of a path of the host, PATH_MAX of Linux.
 const TARGET_ROOM: usize = 4096;
-
-/// What stands at the path.
-pub fn look<R: Files + Alloc>(
-    rt: &R,
-    root: &mut Root<R::File, R::A>,
-    path: &RelPath,
-) -> io::Result<Look>
-    ensures { IfOk result IsSmall }
-{
-    if find(rt, root, path)? {
-        look_at(rt, root.place())
-    } else {
-        Ok(Look::Absent)
-    }
-}
 
 /// Makes a directory of just this mode, whatever the process's umask.
 pub fn make_dir<R: Files + Alloc>(
@@ -44,13 +24,26 @@ pub fn make_dir<R: Files + Alloc>(
     root: &mut Root<R::File, R::A>,
     path: &RelPath,
     mode: u16,
-) -> io::Result<()> {
-    need(rt, root, path)?;
-    make_dir_at(rt, root.place(), mode)?;
-    Ok(know(rt, root, path)?)
+) -> Result<(), Refused> {
+    match make_dir_below(rt, root, path, mode) {
+        Ok(()) => know(rt, root, path),
+        Err(e) => Err(e),
+    }
 }
 
-fn make_dir_at<R: Files>(rt: &R, place: &str, mode: u16) -> io::Result<()> {
+fn make_dir_below<R: Files + Alloc>(
+    rt: &R,
+    root: &mut Root<R::File, R::A>,
+    path: &RelPath,
+    mode: u16,
+) -> Result<(), Refused> {
+    match need(rt, root, path) {
+        Ok(()) => make_dir_at(rt, root.place(), mode),
+        Err(e) => Err(e),
+    }
+}
+
+fn make_dir_at<R: Files>(rt: &R, place: &str, mode: u16) -> Result<(), Refused> {
     DirBuilder::new().mode(u32::from(mode)).create(rt, place)?;
     keep_mode(rt, place, mode)
 }
@@ -61,15 +54,17 @@ pub fn make_file<R: Files + Alloc>(
     root: &mut Root<R::File, R::A>,
     appending: &mut Opened<R::File, R::A>,
     path: &RelPath,
-) -> io::Result<()> {
-    need(rt, root, path)?;
+) -> Result<(), Refused> {
+    let Ok(()) = need(rt, root, path) else {
+        return Err(Refused);
+    };
     match make_file_at(rt, root.place()) {
-        Ok(file) => Ok(appending.keep(path, file)?),
+        Ok(file) => appending.keep(path, file),
         Err(e) => Err(e),
     }
 }
 
-fn make_file_at<R: Files>(rt: &R, place: &str) -> io::Result<R::File> {
+fn make_file_at<R: Files>(rt: &R, place: &str) -> Result<R::File, Refused> {
     let mut how = OpenOptions::new();
     how.append(true).create_new(true).mode(0o600);
     let file = how.open(rt, place)?;
@@ -79,26 +74,23 @@ fn make_file_at<R: Files>(rt: &R, place: &str) -> io::Result<R::File> {
     }
 }
 
-fn keep_open_mode<F: OpenFile>(file: &F, mode: u16) -> io::Result<()> {
-    if mode_of(&file.metadata()?) == mode {
-        Ok(())
-    } else {
-        give_open_mode(file, mode)
-    }
-}
-
 /// Makes a symbolic link to a target, whatever bytes it has.
 pub fn make_link<R: Files + Alloc>(
     rt: &R,
     root: &mut Root<R::File, R::A>,
     path: &RelPath,
     target: &[u8],
-) -> io::Result<()> {
-    need(rt, root, path)?;
-    if os::symlink(target, root.place().as_bytes()) == 0 {
-        Ok(())
-    } else {
-        Err(ErrorKind::Other.into())
+) -> Result<(), Refused> {
+    match need(rt, root, path) {
+        Ok(()) => make_link_at(target, root.place()),
+        Err(e) => Err(e),
+    }
+}
+
+fn make_link_at(target: &[u8], place: &str) -> Result<(), Refused> {
+    match os::symlink(target, place.as_bytes()) {
+        0 => Ok(()),
+        _ => Err(Refused),
     }
 }
 
@@ -108,11 +100,15 @@ pub fn make_hard<R: Files + Alloc>(
     root: &mut Root<R::File, R::A>,
     path: &RelPath,
     to: &RelPath,
-) -> io::Result<()> {
-    need(rt, root, path)?;
+) -> Result<(), Refused> {
+    let Ok(()) = need(rt, root, path) else {
+        return Err(Refused);
+    };
     root.set_aside();
-    need_file(rt, root, to)?;
-    fs::hard_link(rt, root.place(), root.aside())
+    match look(rt, root, to) {
+        Ok(Look::File { .. }) => or_refused(fs::hard_link(rt, root.place(), root.aside())),
+        _ => Err(Refused),
+    }
 }
 
 /// Takes away what stands at the path, with all below it. No link is followed.
@@ -120,22 +116,15 @@ pub fn remove<R: Files + Alloc>(
     rt: &R,
     root: &mut Root<R::File, R::A>,
     path: &RelPath,
-) -> io::Result<()> {
-    match find(rt, root, path) {
-        Ok(true) => remove_found(rt, root),
-        Ok(false) => Ok(()),
-        Err(e) => Err(e),
-    }
-}
-
-fn remove_found<R: Files + Alloc>(rt: &R, root: &mut Root<R::File, R::A>) -> io::Result<()> {
-    match standing(rt, root.place())? {
-        Some(metadata) if metadata.is_dir() => {
+) -> Result<(), Refused> {
+    match look(rt, root, path) {
+        Ok(Look::Absent) => Ok(()),
+        Ok(Look::Dir { .. }) => {
             root.forget();
-            fs::remove_dir_all(rt, root.place())
+            or_refused(fs::remove_dir_all(rt, root.place()))
         }
-        Some(_) => fs::remove_file(rt, root.place()),
-        None => Ok(()),
+        Ok(_) => or_refused(fs::remove_file(rt, root.place())),
+        Err(e) => Err(e),
     }
 }
 
@@ -145,10 +134,25 @@ pub fn list<R: Files + Alloc>(
     root: &mut Root<R::File, R::A>,
     alloc: Global,
     dir: &RelPath,
-) -> io::Result<Listing> {
-    need(rt, root, dir)?;
-    match rt.open_dir(root.place()) {
-        Ok(mut names) => list_names(alloc, &mut names, dir),
+) -> Result<Listing, Refused> {
+    match need(rt, root, dir) {
+        Ok(()) => list_at(rt, root.place(), alloc, dir),
+        Err(e) => Err(e),
+    }
+}
+
+fn list_at<R: Files>(
+    rt: &R,
+    place: &str,
+    alloc: Global,
+    dir: &RelPath,
+) -> Result<Listing, Refused> {
+    match or_refused(rt.open_dir(place)) {
+        Ok(mut names) => {
+            let answer = list_names(alloc, &mut names, dir);
+            drop(names);
+            answer
+        }
         Err(e) => Err(e),
     }
 }
@@ -159,17 +163,19 @@ pub fn target<R: Files + Alloc>(
     root: &mut Root<R::File, R::A>,
     alloc: Global,
     path: &RelPath,
-) -> io::Result<Vec<u8>> {
-    need(rt, root, path)?;
-    target_at(alloc, root.place())
+) -> Result<Vec<u8>, Refused> {
+    match need(rt, root, path) {
+        Ok(()) => target_at(alloc, root.place()),
+        Err(e) => Err(e),
+    }
 }
 
-fn target_at(alloc: Global, place: &str) -> io::Result<Vec<u8>> {
+fn target_at(alloc: Global, place: &str) -> Result<Vec<u8>, Refused> {
     let mut buffer = [0; TARGET_ROOM];
     match usize::try_from(os::readlink(place.as_bytes(), &mut buffer)) {
         // Linux makes no link whose target fills the buffer.
-        Ok(count) if count < TARGET_ROOM => Ok(Vec::from_slice(alloc, &buffer[..count])?),
-        _ => Err(ErrorKind::Other.into()),
+        Ok(count) if count < TARGET_ROOM => or_refused(Vec::from_slice(alloc, &buffer[..count])),
+        _ => Err(Refused),
     }
 }
 
@@ -179,10 +185,25 @@ pub fn same<R: Files + Alloc>(
     root: &mut Root<R::File, R::A>,
     a: &RelPath,
     b: &RelPath,
-) -> io::Result<bool> {
-    let a = need_file(rt, root, a)?;
-    let b = need_file(rt, root, b)?;
-    Ok(a.dev() == b.dev() && a.ino() == b.ino())
+) -> Result<bool, Refused> {
+    let Ok(a) = node_of(rt, root, a) else {
+        return Err(Refused);
+    };
+    let Ok(b) = node_of(rt, root, b) else {
+        return Err(Refused);
+    };
+    Ok(a.0 == b.0 && a.1 == b.1)
+}
+
+fn node_of<R: Files + Alloc>(
+    rt: &R,
+    root: &mut Root<R::File, R::A>,
+    path: &RelPath,
+) -> Result<(u64, u64), Refused> {
+    match need(rt, root, path) {
+        Ok(()) => node_at(rt, root.place()),
+        Err(e) => Err(e),
+    }
 }
 
 /// Gives a directory or file just this mode.
@@ -192,13 +213,13 @@ pub fn set_mode<R: Files + Alloc>(
     appending: &Opened<R::File, R::A>,
     path: &RelPath,
     mode: u16,
-) -> io::Result<()> {
-    match appending.file_at(path) {
-        Some(file) => give_open_mode(file, mode),
-        None => {
-            need(rt, root, path)?;
-            set_mode_at(rt, root.place(), mode)
-        }
+) -> Result<(), Refused> {
+    if let Some(file) = appending.file_at(path) {
+        return give_open_mode(file, mode);
+    }
+    match look(rt, root, path) {
+        Ok(Look::Dir { .. } | Look::File { .. }) => give_mode(rt, root.place(), mode),
+        _ => Err(Refused),
     }
 }
 
@@ -208,7 +229,9 @@ pub fn set_mode<R: Files + Alloc>(
 pub fn sync<R: Files + Alloc + Processes>(
     rt: &R,
     root: &mut Root<R::File, R::A>,
-) -> io::Result<()> {
-    prepare(rt, root)?;
-    sync_file_system(rt, rt.alloc(), root.path())
+) -> Result<(), Refused> {
+    match prepare(rt, root) {
+        Ok(()) => sync_file_system(rt, rt.alloc(), root.path()),
+        Err(e) => Err(e),
+    }
 }

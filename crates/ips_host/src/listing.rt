@@ -1,13 +1,17 @@
 //! The names in a directory of the host.
 
+use crate::fault::Refused;
 use ips_folder::{Listing, Paths};
 use ips_text::{Or, PathFault, RelPath};
 use std::alloc::{AllocError, Global};
-use std::io;
-use std::io::{Error, ErrorKind, Read};
+use std::io::Read;
 
 /// The children that a directory holds, from the names in it, each of which ends with a NUL. No read ends inside a name.
-pub fn list_names<N: Read>(alloc: Global, names: &mut N, dir: &RelPath) -> io::Result<Listing> {
+pub fn list_names<N: Read>(
+    alloc: Global,
+    names: &mut N,
+    dir: &RelPath,
+) -> Result<Listing, Refused> {
     let mut paths = Vec::new(alloc);
     let mut foreign = false;
     let mut buffer = [0; 4096];
@@ -22,7 +26,7 @@ pub fn list_names<N: Read>(alloc: Global, names: &mut N, dir: &RelPath) -> io::R
             foreign = true;
         }
     }
-    Err(ErrorKind::Other.into())
+    Err(Refused)
 }
 
 // The path of a child, where it has one.

@@ -2,13 +2,14 @@
 
 ghost use Rattle.std.specs.Prelude.{◌≤◌, IfOk, length};
 
-use crate::root::{Root, find};
-use crate::standing::{nothing_there, standing};
+use crate::fault::{Refused, or_refused};
+use crate::root::{Root, look};
+use ips_outside::Look;
 use ips_text::{RelPath, covers};
-use std::alloc::{Alloc, AllocError, Allocator};
+use std::alloc::{Alloc, Allocator};
 use std::fs::{Files, OpenOptions};
 use std::io::{Read, Seek, SeekFrom, Write};
-use std::{io, mem};
+use std::mem;
 
 /// A file that stays open, with its path below the root, or none, so that a long file is opened once and not once for
 /// each piece. That serves while nobody else writes below the root.
@@ -58,11 +59,11 @@ impl<F: Drop, A: Allocator> Opened<F, A> {
     }
 
     /// Keeps a file that was just opened, and closes the one before it.
-    pub fn keep(&mut self, path: &RelPath, file: F) -> Result<(), AllocError> {
+    pub fn keep(&mut self, path: &RelPath, file: F) -> Result<(), Refused> {
         self.file = Some(file);
         self.at = 0;
         self.path.clear();
-        self.path.extend_from_slice(path.bytes())
+        or_refused(self.path.extend_from_slice(path.bytes()))
     }
 }
 
@@ -84,43 +85,34 @@ impl<F: Drop, A: Allocator> Reading<F, A> {
         self.last.let_go(path);
         self.before.let_go(path);
     }
+
+    // Makes the file at the path the one that was read last, where it is open, and answers whether it is.
+    fn turn_to_open(&mut self, path: &RelPath) -> bool {
+        if self.last.file_at(path).is_some() {
+            return true;
+        }
+        mem::swap(&mut self.last, &mut self.before);
+        self.last.file_at(path).is_some()
+    }
 }
 
-/// Opens the file at the path, if one stands there.
+/// Opens the file at the path, if one stands there. What stands there and is no file isn't opened: a named pipe would
+/// block.
 fn open<R: Files + Alloc>(
     rt: &R,
     root: &mut Root<R::File, R::A>,
     opened: &mut Opened<R::File, R::A>,
     path: &RelPath,
     how: &OpenOptions,
-) -> io::Result<()> {
+) -> Result<(), Refused> {
     opened.close();
-    match find(rt, root, path) {
-        Ok(true) => open_at(rt, root.place(), opened, path, how),
-        Ok(false) => Ok(()),
+    match look(rt, root, path) {
+        Ok(Look::File { .. }) => match or_refused(how.open(rt, root.place())) {
+            Ok(file) => opened.keep(path, file),
+            Err(e) => Err(e),
+        },
+        Ok(_) => Ok(()),
         Err(e) => Err(e),
-    }
-}
-
-fn open_at<R: Files, A: Allocator>(
-    rt: &R,
-    place: &str,
-    opened: &mut Opened<R::File, A>,
-    path: &RelPath,
-    how: &OpenOptions,
-) -> io::Result<()> {
-    match open_file(rt, place, how) {
-        Ok(Some(file)) => Ok(opened.keep(path, file)?),
-        Ok(None) => Ok(()),
-        Err(e) => Err(e),
-    }
-}
-
-// What stands there and is no file isn't opened: a named pipe would block.
-fn open_file<R: Files>(rt: &R, place: &str, how: &OpenOptions) -> io::Result<Option<R::File>> {
-    match standing(rt, place)? {
-        Some(metadata) if metadata.is_file() => Ok(Some(how.open(rt, place)?)),
-        _ => Ok(None),
     }
 }
 
@@ -132,13 +124,13 @@ pub fn read<R: Files + Alloc>(
     path: &RelPath,
     at: u64,
     buf: &mut [u8],
-) -> io::Result<usize>
+) -> Result<usize, Refused>
     ensures { IfOk result (λ count. count ≤ length buf.old) }
 {
-    if reading.last.file_at(path).is_none() {
-        turn_to(rt, root, reading, path)?;
+    match turn_to(rt, root, reading, path) {
+        Ok(()) => read_at(&mut reading.last, at, buf),
+        Err(e) => Err(e),
     }
-    read_at(&mut reading.last, at, buf)
 }
 
 // Makes the file at the path the one that was read last.
@@ -147,9 +139,8 @@ fn turn_to<R: Files + Alloc>(
     root: &mut Root<R::File, R::A>,
     reading: &mut Reading<R::File, R::A>,
     path: &RelPath,
-) -> io::Result<()> {
-    mem::swap(&mut reading.last, &mut reading.before);
-    if reading.last.file_at(path).is_some() {
+) -> Result<(), Refused> {
+    if reading.turn_to_open(path) {
         return Ok(());
     }
     open(
@@ -166,7 +157,7 @@ fn read_at<F: Read + Seek + Drop, A: Allocator>(
     opened: &mut Opened<F, A>,
     at: u64,
     buf: &mut [u8],
-) -> io::Result<usize>
+) -> Result<usize, Refused>
     ensures { IfOk result (λ count. count ≤ length buf.old) }
 {
     match &mut opened.file {
@@ -180,7 +171,7 @@ fn read_from<F: Read + Seek>(
     position: &mut u64,
     at: u64,
     buf: &mut [u8],
-) -> io::Result<usize>
+) -> Result<usize, Refused>
     ensures { IfOk result (λ count. count ≤ length buf.old) }
 {
     if *position != at {
@@ -199,9 +190,11 @@ pub fn append<R: Files + Alloc>(
     appending: &mut Opened<R::File, R::A>,
     path: &RelPath,
     bytes: &[u8],
-) -> io::Result<()> {
-    if appending.file_at(path).is_none() {
-        open(rt, root, appending, path, OpenOptions::new().append(true))?;
+) -> Result<(), Refused> {
+    if appending.file_at(path).is_none()
+        && open(rt, root, appending, path, OpenOptions::new().append(true)).is_err()
+    {
+        return Err(Refused);
     }
     let answer = write_to(&mut appending.file, bytes);
     if answer.is_err() {
@@ -210,9 +203,9 @@ pub fn append<R: Files + Alloc>(
     answer
 }
 
-fn write_to<F: Write>(file: &mut Option<F>, bytes: &[u8]) -> io::Result<()> {
+fn write_to<F: Write>(file: &mut Option<F>, bytes: &[u8]) -> Result<(), Refused> {
     match file {
-        Some(file) => file.write_all(bytes),
-        None => Err(nothing_there()),
+        Some(file) => or_refused(file.write_all(bytes)),
+        None => Err(Refused),
     }
 }

@@ -1,9 +1,8 @@
 //! Programs of the host.
 
+use crate::fault::{Refused, or_refused};
 use ips_text::Text;
 use std::alloc::{AllocError, Allocator};
-use std::io;
-use std::io::{Error, ErrorKind};
 use std::process::{Command, Stdio};
 use std::rt::Processes;
 
@@ -12,47 +11,12 @@ pub fn sync_file_system<P: Processes, A: Allocator + Clone>(
     processes: &P,
     alloc: A,
     path: &str,
-) -> io::Result<()> {
-    match Command::new(alloc, "/bin/sync") {
-        Ok(command) => sync_with(processes, command, path),
-        Err(e) => Err(e.into()),
+) -> Result<(), Refused> {
+    let arguments = ["-f", "--", path];
+    match run(processes, alloc, "/bin/sync", &arguments, true) {
+        Ok(0) => Ok(()),
+        _ => Err(Refused),
     }
-}
-
-// Who owns the command does nothing else: to drop it costs as much to check as all of the rest.
-fn sync_with<P: Processes, A: Allocator + Clone>(
-    processes: &P,
-    mut command: Command<A>,
-    path: &str,
-) -> io::Result<()> {
-    sync_by(processes, &mut command, path)
-}
-
-fn sync_by<P: Processes, A: Allocator + Clone>(
-    processes: &P,
-    command: &mut Command<A>,
-    path: &str,
-) -> io::Result<()> {
-    name_file_system(command, path)?;
-    command
-        .stdin(Stdio::null())
-        .stdout(Stdio::null())
-        .stderr(Stdio::null());
-    if command.status(processes)?.success() {
-        Ok(())
-    } else {
-        Err(ErrorKind::Other.into())
-    }
-}
-
-fn name_file_system<A: Allocator + Clone>(
-    command: &mut Command<A>,
-    path: &str,
-) -> Result<(), AllocError> {
-    for word in ["-f", "--", path] {
-        command.arg(word)?;
-    }
-    Ok(())
 }
 
 /// Runs the program that the first word names with all the words, waits until it has ended, and answers its status. A
@@ -62,57 +26,81 @@ pub fn run_program<P: Processes, A: Allocator + Clone>(
     processes: &P,
     alloc: A,
     words: &[Text],
-) -> io::Result<u8> {
+) -> Result<u8, Refused> {
     match words.split_first() {
-        Some((program, arguments)) => run(processes, alloc, program.as_str(), arguments),
-        None => Err(ErrorKind::InvalidInput.into()),
+        Some((program, arguments)) => run(processes, alloc, program.as_str(), arguments, false),
+        None => Err(Refused),
     }
 }
 
-fn run<P: Processes, A: Allocator + Clone>(
+/// A word for a program.
+trait Word {
+    fn text(&self) -> &str;
+}
+
+impl Word for &str {
+    fn text(&self) -> &str {
+        *self
+    }
+}
+
+impl Word for Text {
+    fn text(&self) -> &str {
+        self.as_str()
+    }
+}
+
+// Where it is to be quiet, what it writes to standard error is lost too.
+fn run<P: Processes, A: Allocator + Clone, W: Word>(
     processes: &P,
     alloc: A,
     program: &str,
-    arguments: &[Text],
-) -> io::Result<u8> {
-    match Command::new(alloc, program) {
-        Ok(command) => run_with(processes, command, arguments),
-        Err(e) => Err(e.into()),
+    arguments: &[W],
+    is_quiet: bool,
+) -> Result<u8, Refused> {
+    let mut command = Command::new(alloc, program)?;
+    let status = run_by(processes, &mut command, arguments, is_quiet);
+    drop(command);
+    status
+}
+
+fn run_by<P: Processes, A: Allocator + Clone, W: Word>(
+    processes: &P,
+    command: &mut Command<A>,
+    arguments: &[W],
+    is_quiet: bool,
+) -> Result<u8, Refused> {
+    let Ok(()) = add_arguments(command, arguments) else {
+        return Err(Refused);
+    };
+    silence(command, is_quiet);
+    match or_refused(command.status(processes)) {
+        Ok(status) => status_of(status.code()),
+        Err(e) => Err(e),
     }
 }
 
-fn run_with<P: Processes, A: Allocator + Clone>(
-    processes: &P,
-    mut command: Command<A>,
-    arguments: &[Text],
-) -> io::Result<u8> {
-    run_by(processes, &mut command, arguments)
-}
-
-fn run_by<P: Processes, A: Allocator + Clone>(
-    processes: &P,
-    command: &mut Command<A>,
-    arguments: &[Text],
-) -> io::Result<u8> {
-    add_arguments(command, arguments)?;
+fn silence<A: Allocator + Clone>(command: &mut Command<A>, is_quiet: bool) {
     command.stdin(Stdio::null()).stdout(Stdio::null());
-    status_of(command.status(processes)?.code())
+    if is_quiet {
+        command.stderr(Stdio::null());
+    }
 }
 
-fn add_arguments<A: Allocator + Clone>(
+fn add_arguments<A: Allocator + Clone, W: Word>(
     command: &mut Command<A>,
-    arguments: &[Text],
+    arguments: &[W],
 ) -> Result<(), AllocError> {
     for argument in arguments {
-        command.arg(argument.as_str())?;
+        command.arg(argument.text())?;
     }
     Ok(())
 }
 
 // A status is a byte.
-fn status_of(code: Option<i32>) -> io::Result<u8> {
+fn status_of(code: Option<i32>) -> Result<u8, Refused> {
     match code {
         Some(code) if 0 <= code && code < 256 => Ok(code as u8),
-        _ => Err(ErrorKind::Other.into()),
+        _ => Err(Refused),
     }
 }

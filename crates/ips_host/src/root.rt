@@ -1,12 +1,17 @@
 //! A root of the host, and the way to what is below it.
 
+ghost use Rattle.std.specs.Prelude.{IfOk};
+ghost use Rattle.ips_outside.specs.Outside.{IsSmall};
+
+use crate::fault::{Refused, or_refused};
 use crate::standard::{Standard, take_standard};
-use crate::standing::{file_at, is_directory, nothing_there};
+use crate::standing::look_at;
+use ips_outside::Look;
 use ips_text::{RelPath, Text};
 use std::alloc::{Alloc, AllocError, Allocator};
 use std::collections::BTreeSet;
-use std::fs::{Files, Metadata};
-use std::{io, mem, str};
+use std::fs::Files;
+use std::{mem, str};
 
 /// As many directories are known at once. When one more comes the others are forgotten, and asked for again where they are
 /// needed, so that the memory of a long run doesn't grow with the directories that it makes.
@@ -85,22 +90,24 @@ fn new_ways<R: Alloc>(rt: &R, root: Text) -> Ways<R::A> {
 }
 
 /// Takes the standard descriptors that the program was started without, before it opens a file.
-pub fn prepare<R: Files + Alloc>(rt: &R, root: &mut Root<R::File, R::A>) -> io::Result<()> {
+pub fn prepare<R: Files + Alloc>(rt: &R, root: &mut Root<R::File, R::A>) -> Result<(), Refused> {
     take_standard(rt, &mut root.standard)
 }
 
 /// Finds the host's path, and answers whether there is one: whether all that is above it, below the root, are
 /// directories and no links.
-pub fn find<R: Files + Alloc>(
+fn find<R: Files + Alloc>(
     rt: &R,
     root: &mut Root<R::File, R::A>,
     path: &RelPath,
-) -> io::Result<bool> {
+) -> Result<bool, Refused> {
     if root.path().is_empty() {
         return Ok(false);
     }
-    prepare(rt, root)?;
-    find_way(rt, &mut root.ways, text_of(path))
+    match prepare(rt, root) {
+        Ok(()) => find_way(rt, &mut root.ways, text_of(path)),
+        Err(e) => Err(e),
+    }
 }
 
 /// The same, for a call that can't be made where there is none.
@@ -108,22 +115,26 @@ pub fn need<R: Files + Alloc>(
     rt: &R,
     root: &mut Root<R::File, R::A>,
     path: &RelPath,
-) -> io::Result<()> {
+) -> Result<(), Refused> {
     match find(rt, root, path) {
         Ok(true) => Ok(()),
-        Ok(false) => Err(nothing_there()),
-        Err(e) => Err(e),
+        _ => Err(Refused),
     }
 }
 
-/// Finds the host's path of the file at the path, and answers what the host says of it.
-pub fn need_file<R: Files + Alloc>(
+/// What stands at the path, whose host's path is then found where something stands there.
+pub fn look<R: Files + Alloc>(
     rt: &R,
     root: &mut Root<R::File, R::A>,
     path: &RelPath,
-) -> io::Result<Metadata> {
-    need(rt, root, path)?;
-    file_at(rt, root.place())
+) -> Result<Look, Refused>
+    ensures { IfOk result IsSmall }
+{
+    match find(rt, root, path) {
+        Ok(true) => look_at(rt, root.place()),
+        Ok(false) => Ok(Look::Absent),
+        Err(e) => Err(e),
+    }
 }
 
 /// Puts a directory into those that are known.
@@ -131,64 +142,88 @@ pub fn know<R: Files + Alloc>(
     rt: &R,
     root: &mut Root<R::File, R::A>,
     dir: &RelPath,
-) -> Result<(), AllocError> {
+) -> Result<(), Refused> {
     add(rt.alloc(), &mut root.ways.known, dir.bytes())
 }
 
-fn find_way<R: Files + Alloc>(rt: &R, ways: &mut Ways<R::A>, text: &str) -> io::Result<bool> {
-    let found = match text.rsplit_once('/') {
+fn find_way<R: Files + Alloc>(rt: &R, ways: &mut Ways<R::A>, text: &str) -> Result<bool, Refused> {
+    match reach_above(rt, ways, text) {
+        Ok(true) => yes(join(&mut ways.place, ways.root.as_str(), text)),
+        answer => answer,
+    }
+}
+
+fn reach_above<R: Files + Alloc>(
+    rt: &R,
+    ways: &mut Ways<R::A>,
+    text: &str,
+) -> Result<bool, Refused> {
+    match text.rsplit_once('/') {
         Some((above, _)) => reach(rt, ways, above),
         None => Ok(true),
-    };
-    if matches!(found, Ok(true)) {
-        join(&mut ways.place, ways.root.as_str(), text)?;
     }
-    found
 }
 
 // Whether the directory's path has directories alone, which is asked of the host where it isn't known.
-fn reach<R: Files + Alloc>(rt: &R, ways: &mut Ways<R::A>, dir: &str) -> io::Result<bool> {
-    if !is_known(ways, dir.as_bytes()) && !verify(rt, ways, dir)? {
-        return Ok(false);
+fn reach<R: Files + Alloc>(rt: &R, ways: &mut Ways<R::A>, dir: &str) -> Result<bool, Refused> {
+    if is_known(ways, dir.as_bytes()) {
+        return yes(keep_last(&mut ways.known_last, dir.as_bytes()));
     }
-    keep_last(&mut ways.known_last, dir.as_bytes())?;
-    Ok(true)
+    match verify(rt, ways, dir) {
+        Ok(true) => yes(keep_last(&mut ways.known_last, dir.as_bytes())),
+        answer => answer,
+    }
 }
 
 // Whether all of the directory's path are directories and no links; those that are, are known then.
-fn verify<R: Files + Alloc>(rt: &R, ways: &mut Ways<R::A>, dir: &str) -> io::Result<bool> {
+fn verify<R: Files + Alloc>(rt: &R, ways: &mut Ways<R::A>, dir: &str) -> Result<bool, Refused> {
     ways.below.clear();
-    for part in dir.split('/') {
-        if !verify_next(rt, ways, part)? {
-            return Ok(false);
+    for letter in dir.chars() {
+        match go_on(rt, ways, letter) {
+            Ok(true) => {}
+            answer => return answer,
         }
     }
-    Ok(true)
+    verify_below(rt, ways)
 }
 
-fn verify_next<R: Files + Alloc>(rt: &R, ways: &mut Ways<R::A>, part: &str) -> io::Result<bool> {
-    go_down(&mut ways.below, part)?;
+// Whether what is before the letter is a directory, where the letter ends its path.
+fn go_on<R: Files + Alloc>(rt: &R, ways: &mut Ways<R::A>, letter: char) -> Result<bool, Refused> {
+    let is_way = match letter {
+        '/' => verify_below(rt, ways),
+        _ => Ok(true),
+    };
+    match is_way {
+        Ok(true) => yes(ways.below.push(letter)),
+        answer => answer,
+    }
+}
+
+fn verify_below<R: Files + Alloc>(rt: &R, ways: &mut Ways<R::A>) -> Result<bool, Refused> {
     if is_known(ways, ways.below.as_bytes()) {
         Ok(true)
     } else {
-        verify_below(rt, ways)
+        look_below(rt, ways)
     }
 }
 
-fn verify_below<R: Files + Alloc>(rt: &R, ways: &mut Ways<R::A>) -> io::Result<bool> {
-    join(&mut ways.place, ways.root.as_str(), ways.below.as_str())?;
-    let found = is_directory(rt, ways.place.as_str());
-    if matches!(found, Ok(true)) {
-        add(rt.alloc(), &mut ways.known, ways.below.as_bytes())?;
+fn look_below<R: Files + Alloc>(rt: &R, ways: &mut Ways<R::A>) -> Result<bool, Refused> {
+    let Ok(()) = join(&mut ways.place, ways.root.as_str(), ways.below.as_str()) else {
+        return Err(Refused);
+    };
+    match look_at(rt, ways.place.as_str()) {
+        Ok(Look::Dir { .. }) => yes(add(rt.alloc(), &mut ways.known, ways.below.as_bytes())),
+        Ok(_) => Ok(false),
+        Err(e) => Err(e),
     }
-    found
 }
 
-fn go_down<A: Allocator>(below: &mut String<A>, part: &str) -> Result<(), AllocError> {
-    if !below.as_str().is_empty() {
-        below.push('/')?;
+// Yes, unless memory was refused.
+fn yes<E: Drop>(done: Result<(), E>) -> Result<bool, Refused> {
+    match done {
+        Ok(()) => Ok(true),
+        Err(_) => Err(Refused),
     }
-    below.push_str(part)
 }
 
 fn join<A: Allocator>(place: &mut String<A>, root: &str, text: &str) -> Result<(), AllocError> {
@@ -208,13 +243,16 @@ fn add<A: Allocator + Clone>(
     alloc: A,
     known: &mut BTreeSet<Vec<u8, A>, A>,
     dir: &[u8],
-) -> Result<(), AllocError> {
+) -> Result<(), Refused> {
     if known.len() >= MOST_KNOWN {
         known.clear();
     }
-    match known.insert(Vec::from_slice(alloc, dir)?) {
+    let Ok(kept) = or_refused(Vec::from_slice(alloc, dir)) else {
+        return Err(Refused);
+    };
+    match or_refused(known.insert(kept)) {
         Ok(_) => Ok(()),
-        Err(_) => Err(AllocError),
+        Err(e) => Err(e),
     }
 }
 

@@ -4,10 +4,10 @@ ghost use Rattle.std.specs.Prelude.{◌≡◌, IfOk};
 ghost use Rattle.ips_outside.specs.Taking.{TakesSome};
 ghost use Rattle.ips_host.specs.Silent.{silent_sink};
 
-use crate::fault::counted;
+use crate::fault::{Refused, counted};
 use ips_outside::{Failed, Sink};
 use std::io;
-use std::io::{ErrorKind, Print, Write};
+use std::io::{Print, Write};
 
 /// Standard output.
 ///
@@ -36,7 +36,7 @@ impl<R: Print + Drop> Sink for HostSink<R> {
 }
 
 // At least one byte, where there are any.
-fn write_some<R: Print>(rt: &R, bytes: &[u8]) -> io::Result<usize>
+fn write_some<R: Print>(rt: &R, bytes: &[u8]) -> Result<usize, Refused>
     ensures { IfOk result (TakesSome bytes.now) }
 {
     if bytes.is_empty() {
@@ -45,7 +45,7 @@ fn write_some<R: Print>(rt: &R, bytes: &[u8]) -> io::Result<usize>
     let mut output = io::writer(rt);
     let count = output.write(bytes)?;
     if count == 0 {
-        return Err(ErrorKind::WriteZero.into());
+        return Err(Refused);
     }
     output.flush()?;
     Ok(count)

@@ -3,10 +3,9 @@
 ghost use Rattle.std.specs.Prelude.{◌≡◌};
 ghost use Rattle.ips_host.specs.Silent.{silent, silent_is_sane};
 
-use crate::calls::look;
 use crate::fault::counted;
 use crate::opened::{Reading, read};
-use crate::root::Root;
+use crate::root::{Root, look};
 use ips_outside::{Failed, Look, Source};
 use ips_text::{RelPath, Text};
 use std::alloc::Alloc;

@@ -1,7 +1,7 @@
 //! The standard descriptors, where the program was started without them.
 
+use crate::fault::{Refused, or_refused};
 use std::fs::{Files, OpenOptions};
-use std::io;
 
 /// Three open files. A host gives a file that is opened the least number that is free, so none that is opened later, while
 /// these stay open, has the number of a standard descriptor, and no report can land in a file of the image.
@@ -14,24 +14,20 @@ pub struct Standard<F: Drop> {
 
 /// Opens `/dev/null`, where that isn't done yet, as often as there are standard descriptors, to be read: where standard
 /// output is one of them, a write to it is still an error.
-pub fn take_standard<R: Files>(rt: &R, standard: &mut Option<Standard<R::File>>) -> io::Result<()> {
-    if standard.is_some() {
-        return Ok(());
+pub fn take_standard<R: Files>(
+    rt: &R,
+    standard: &mut Option<Standard<R::File>>,
+) -> Result<(), Refused> {
+    if standard.is_none() {
+        *standard = Some(opened(rt)?);
     }
-    match opened(rt) {
-        Ok(taken) => {
-            *standard = Some(taken);
-            Ok(())
-        }
-        Err(e) => Err(e),
-    }
+    Ok(())
 }
 
-fn opened<R: Files>(rt: &R) -> io::Result<Standard<R::File>> {
-    let how = null_to_read();
-    let first = how.open(rt, "/dev/null")?;
-    let second = how.open(rt, "/dev/null")?;
-    let third = how.open(rt, "/dev/null")?;
+fn opened<R: Files>(rt: &R) -> Result<Standard<R::File>, Refused> {
+    let first = null_to_read(rt)?;
+    let second = null_to_read(rt)?;
+    let third = null_to_read(rt)?;
     Ok(Standard {
         first,
         second,
@@ -39,8 +35,6 @@ fn opened<R: Files>(rt: &R) -> io::Result<Standard<R::File>> {
     })
 }
 
-fn null_to_read() -> OpenOptions {
-    let mut how = OpenOptions::new();
-    how.read(true);
-    how
+fn null_to_read<R: Files>(rt: &R) -> Result<R::File, Refused> {
+    or_refused(OpenOptions::new().read(true).open(rt, "/dev/null"))
 }
