@@ -1,4 +1,4 @@
--- The gate was never called on.
+-- No call that may change something was made at the gate.
 use Rattle.std.proofs.Common.{◌≡◌, ◌≤◌, true, List, None, false, refl, ◌∙◌, ap}
 use Rattle.ips_outside.specs.Image.{Image}
 use Rattle.ips_outside.specs.State.{State, settled}

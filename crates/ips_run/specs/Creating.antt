@@ -44,12 +44,12 @@ pub record IsMakingInPart {F : Type 0} (o : Outside F) (old new : F) : Type 0 wh
   pub making : IsMaking o old new
   pub moments : Throughout o old new (IsNotYetSafe making.dir (o.state old))
 
--- at every moment but the last nothing is made at the path, or it isn't safe yet
+-- at every moment nothing is made at the path, or it isn't safe yet, or the state is the one at the end
 abbrev pub IsSafeAtLast : {F : Type 0} → Outside F → List ℕ → F → F → Type 0
 IsSafeAtLast o dir old new = Throughout o old new (λ s. IsNotYetSafe dir (o.state old) s ⊎ (s ≡ o.state new))
 
--- Some were missing and are made: since then only what is at or below the first of them is changed and touched, and only at the last
--- moment that stands and is safe.
+-- Some were missing: since then only what is at or below the first of them is changed and touched, and wherever it isn't unmade or not yet
+-- safe, the state is the one at the end.
 pub record IsMade {F : Type 0} (o : Outside F) (old new : F) : Type 0 where
   pub making : IsMaking o old new
   pub last : IsSafeAtLast o making.dir old new
@@ -64,7 +64,7 @@ HasMade o missing.Nothing old new = new ≡ old
 HasMade o missing.Records old new = ChangesOnly o (covers records_name) nowhere old new
 HasMade o missing.Both old new = ChangesOnly o (covers var_name) nowhere old new
 
--- and only at the last moment the first of them stands and is safe
+-- and wherever the first of them isn't unmade or not yet safe, the state is the one at the end
 abbrev pub HasMadeAtLast : {F : Type 0} → Outside F → Missing → F → F → Type 0
 HasMadeAtLast o missing.Nothing old new = Unit {0}
 HasMadeAtLast o missing.Records old new = IsSafeAtLast o records_name old new

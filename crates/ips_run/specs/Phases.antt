@@ -107,7 +107,7 @@ abbrev pub StaysSafelyShut : {F : Type 0} → Outside F → F → F → Type 0
 StaysSafelyShut o old new = Throughout o old new IsSafelyShut
 
 -- A request from a closed gate on: the image before it is owed, or one that it means; a refusal leaves what is seen as before and
--- never calls on the gate; and memory runs out only before the gate's call.
+-- makes no call at the gate that may change something; and memory runs out only before the gate's call.
 pub record IsAsked {F T : Type 0} (o : Outside F) (means : Image → Image → Type 0) (x : Ending T) (before now : List Carrier) (at new : F) : Type 0 where
   pub request : IsRequestRun o means (is_done x) at new
   pub unseen : IsTrue (is_refused x) → visible (o.state new).held ≡ visible (o.state at).held
@@ -134,8 +134,8 @@ pub record IsBack {F T : Type 0} (o : Outside F) (x : Ending T) (before now : Li
 abbrev pub IsKeptOrSettled : {F : Type 0} → Outside F → F → F → Type 0
 IsKeptOrSettled o old new = (o.state new ≡ o.state old) ⊎ (o.state new ≡ settled (o.state old))
 
--- no sign of a commit is left: nothing has happened to the image; or the gate isn't touched, and no list of steps stands ready, unless the
--- image is the one from before
+-- no sign of a commit is left: nothing has happened to the image; or the gate isn't touched, and no list of steps stands ready and safe, with
+-- nothing touched, unless the image is the one from before
 abbrev pub IsUnbegun : State → State → Type 0
 IsUnbegun old new = (new ≡ old) ⊎ (IsFalse (new.whole gate_name) × NoMoreReady old new)
 

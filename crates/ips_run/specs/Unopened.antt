@@ -1,4 +1,4 @@
--- A run that never calls on the gate.
+-- A run that makes no call at the gate that may change something.
 use Rattle.std.specs.Prelude.{◌≡◌, IsTrue}
 use Rattle.ips_outside.specs.Outside.{Outside}
 use Rattle.ips_folder.specs.Calls.{Throughout}
@@ -8,9 +8,9 @@ use Rattle.ips_history.specs.declared.effect.Effect.{Effect}
 use Rattle.ips_run.specs.Phases.{StaysSafelyShut}
 use Rattle.ips_run.specs.Creating.{IsMade, IsMakingInPart}
 
--- The gate was never called on. The opening sync failed, and nothing has happened to the image at any moment. Or since it has answered there
--- was no moment at which something stood at the gate, or would have after a crash; for a command that makes an image, since the directories
--- of the records were made and safe. Or they weren't: at no moment the first of them stood and was safe.
+-- No call that may change something was made at the gate. Nothing has happened to the image at any moment. Or since the opening sync has answered
+-- there was no moment at which something stood at the gate, or would have after a crash; for a command that makes an image, and makes directories
+-- of its records, since these are safe: before that the gate isn't spoken of. Or they never were safe, and then it isn't either.
 pub data NeverOpens {F : Type 0} (o : Outside F) (effect : Effect) (old new : F) : Type 0 where
   Unsynced : Throughout o old new (λ s. s ≡ o.state old) → NeverOpens o effect old new
   Synced : (opened : HasOpened o old new) → StaysSafelyShut o opened.at new → NeverOpens o effect old new

@@ -66,16 +66,18 @@ pub fn perform<T: Drop, S: Source, F: Folder, P: Spawner, C: Operation<T>>(
     ensures shows_unasked { IsTrue (shows (C.effect operation.now)) → IsFalse (is_source_fault result) }
     ensures shows_unspawned { IsTrue (shows (C.effect operation.now)) → IsFalse (is_spawn_fault result) }
 
-    // Unfinished: since a moment of this run at which a change stood ready, or the gate stood open behind the opening sync, a call failed
-    // and one was made that may have changed something.
+    // Unfinished: since a moment that neither the clock nor a count puts before this run, and at which a change stood ready, or the gate
+    // stood open behind the opening sync, a call failed and one was made that may have changed something.
     ensures begun { IsTrue (F.outside.tells folder.old) → IsTrue (is_left result) → HasFailedInCommit F.outside folder.old folder.new ⊎ HasFailedInRecovery F.outside folder.old folder.new }
 
-    // A refusal, a fault that is told as unchanged among them: the gate was never called on. At no moment since the opening sync has answered
-    // something stood there, or would have after a crash.
+    // A refusal behind a closed gate, a fault that is told as unchanged among them: nothing has happened at any moment; or since the opening
+    // sync has answered nothing stood at the gate, nor would have after a crash. Of an operation that makes directories of its records this
+    // is said from the moment on at which they are safe; of what is done before, or where they never are, nothing is said of the gate here.
     ensures unopened { IsTrue (F.outside.tells folder.old) → (F.outside.state folder.old).held.look gate_name ≡ None
         → IsTrue (is_refused result) → NeverOpens F.outside (C.effect operation.now) folder.old folder.new }
 
-    // Unchanged: no sign of a commit is left. The gate isn't touched, and no list of steps stands ready, unless the image is the one from before.
+    // Unchanged: no sign of a commit is left. The gate isn't touched, and no list of steps stands ready and safe, with nothing touched, unless
+    // the image is the one from before. Not said of an operation that makes an image, nor of a fix that finds something pending.
     ensures unbegun { IsTrue (F.outside.tells folder.old) → IsFalse (creates (C.effect operation.now))
         → (IsTrue (fixes (C.effect operation.now)) → IsBare (F.outside.state folder.old).held)
         → IsTrue (is_failed result) → IsUnbegun (F.outside.state folder.old) (F.outside.state folder.new) }

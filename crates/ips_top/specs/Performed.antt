@@ -29,9 +29,10 @@ pub record At (F S P : Type 0) : Type 0 where
   pub counted : List Carrier
 
 -- An operation is carried out, from one moment to another, and told as this outcome: what the outcome claims holds of the image, at every moment and at the end; it has
--- its cause, and these actuators and no others were run; a fault is told exactly where the count of that object rose; what is left unfinished was begun; what is refused behind a closed gate
--- never called on the gate, and what is told as unchanged leaves no sign of a commit, where there was nothing that a fix would take away; and where something is shown, or an open gate is left as it was,
--- the opening sync is the only call that may change something, and nothing but that has happened to the image.
+-- its cause, and these actuators and no others were run; a fault is told exactly where the count of that object rose; what is left unfinished was begun; behind what is refused at a closed gate no call
+-- that may change something was made there (of one that makes an image, since its directories are safe); what is told as unchanged leaves no list of steps ready and safe (not said of one that makes an
+-- image, nor of one that recovers and finds something pending); and where something is shown, or an open gate is left as it was, the opening sync is the only call that may change something, and nothing
+-- but that has happened to the image.
 pub record IsPerformed {F S P : Type 0} (o : Outside F) (q : Outside S) (r : Running P) (effect : Effect) (decides : Bool → Image → Image → Decision Outcome → Type 0) (means : Bool → Image → Image → Image → Type 0) (old new : At F S P) (outcome : Outcome) : Type 0 where
   pub run : IsTrue (o.tells old.folder) → IsRun o (means (q.tells old.source) (q.state old.source).held) effect (claimed (manner_of outcome)) old.counted new.counted old.folder new.folder
   pub comes : IsTrue (o.tells old.folder) → ComesAs (Comes effect (decides (q.tells old.source) (q.state old.source).held (image_for effect (o.state old.folder).held))
