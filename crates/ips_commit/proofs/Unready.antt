@@ -1,5 +1,5 @@
 -- Why no list of steps stands ready.
-use Rattle.std.proofs.Common.{◌≡◌, ◌⊎◌, inl, inr, ⊎_elim, ℕ, Bool, true, false, ◌||◌, List, Some, None, refl, sym, ◌∙◌, ap}
+use Rattle.std.proofs.Common.{◌≡◌, ◌⊎◌, inl, inr, ⊎_elim, ℕ, Bool, true, ◌||◌, List, Some, None, refl, sym, ◌∙◌, ap}
 use Rattle.ips_text.specs.Ancestry.{covers}
 use Rattle.ips_text.proofs.Ancestry.{covers-self}
 use Rattle.ips_outside.specs.Image.{Image, Agrees, file_bytes}

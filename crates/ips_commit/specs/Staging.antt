@@ -29,11 +29,11 @@ pub record IsStaged (steps : List Step) (a : Image) (s : State) : Type 0 where
   pub unmarked : (q : List ℕ) → IsTrue (begins mark_front q) → s.held.look q ≡ None
   pub ready : IsReady journal_text steps 0 a s.held
 
--- no list of steps stands ready
+-- no list of steps stands ready and safe, with nothing touched
 abbrev pub NothingReady : State → Type 0
 NothingReady s = (steps : List Step) (a : Image) → IsStaged steps a s → ⊥
 
--- nothing stands ready, unless the image is the one from before
+-- nothing stands ready and safe, unless the image is the one from before
 abbrev pub NoMoreReady : State → State → Type 0
 NoMoreReady old new = NothingReady new ⊎ (new.held ≡ old.held)
 

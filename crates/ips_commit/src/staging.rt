@@ -55,7 +55,7 @@ pub fn stage<S: Source, F: Folder>(
     ensures staged { IsTrue (F.outside.tells folder.old) → OnOk result
         (HasStaged (S.outside.tells source.old) (S.outside.state source.old).held publisher.now (map step_of steps.now) staged.now (F.outside.state folder.old).held (F.outside.state folder.new)) }
 
-    // Refused: no list stands ready, unless the image is the one from before.
+    // Refused: no list stands ready and safe, unless the image is the one from before.
     ensures unready { IsTrue (F.outside.tells folder.old) → OnErr result (NoMoreReady (F.outside.state folder.old) (F.outside.state folder.new)) }
 
     // Each payload is intact, and each refusal has its cause.
