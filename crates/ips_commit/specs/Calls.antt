@@ -21,7 +21,7 @@ use Rattle.ips_commit.specs.Pending.{HasCommitted, is_swept}
 use Rattle.ips_commit.specs.Due.{DueOnceOpen}
 use Rattle.ips_commit.specs.Contents.{AreIntactContents, SaysOfStage}
 use Rattle.ips_commit.specs.Staging.{IsStaged}
-use Rattle.ips_commit.specs.Recovering.{AreLaidTo, CanResume, CanRollForward, IfBadJournal, IsJournalled, IsUnfinished, SaysOfRecovery}
+use Rattle.ips_commit.specs.Recovering.{AreLaidTo, CanResume, CanRollForward, IfBadJournal, IsJournalled, IsOpenedOver, IsUnfinished, SaysOfRecovery}
 use Rattle.ips_commit.specs.declared.fault.StageFault.{StageFault}
 use Rattle.ips_commit.specs.declared.fault.StageFault.TheVariants as stage
 use Rattle.ips_commit.specs.declared.fault.CommitFault.{CommitFault}
@@ -58,6 +58,9 @@ pub record Commits {F : Type 0} (o : Outside F) (old new : F) (before now : List
       → IfOk result (λ count. (count ≡ length steps) × HasCommitted a (o.state new))
   pub counted : IsTrue (o.tells old) → (steps : List Step) (a : Image) → IsStaged steps a (o.state old)
       → OnOk result (now ≡ all_counted steps before)
+  -- done: the gate was opened over the journal that lists these steps
+  pub journal : IsTrue (o.tells old) → (steps : List Step) (a : Image) → IsStaged steps a (o.state old)
+      → OnOk result (IsOpenedOver o steps old new)
   -- unfinished: a front of the list is laid and counted, and one step more at most was begun; where some of the steps are laid
   -- but not all, the gate stands open; whatever a crash leaves now, the gate is closed, or the marks leave at most a thousand of
   -- those steps to be laid again

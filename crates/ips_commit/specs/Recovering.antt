@@ -4,6 +4,7 @@ use Rattle.ips_text.specs.declared.refusal.Or.{Or}
 use Rattle.ips_text.specs.declared.refusal.Or.TheVariants.{Bad, OutOfMemory}
 use Rattle.ips_outside.specs.Image.{Image, Agrees}
 use Rattle.ips_outside.specs.State.{State, MayLeave, nowhere}
+use Rattle.ips_outside.specs.Outside.{Outside}
 use Rattle.ips_steps.specs.Steps.{Step, after, possible, stage_of}
 use Rattle.ips_steps.specs.Private.{gate_name, mark_front, mark_name, begins}
 use Rattle.ips_steps.specs.Journal.{IsJournal}
@@ -15,6 +16,7 @@ use Rattle.ips_journal.specs.Reading.{ReaderState, IsAt, journal_of}
 use Rattle.ips_journal.specs.declared.fault.StepFault.{StepFault}
 use Rattle.ips_journal.specs.declared.fault.StepFault.TheVariants as step_fault
 use Rattle.ips_apply.specs.Applied.{IsImpossible}
+use Rattle.ips_commit.specs.Due.{IsSafelyOpen}
 use Rattle.ips_commit.specs.Pending.{HasNoOtherMark, mark_names}
 use Rattle.ips_commit.specs.Phases.{IsSeenBut}
 use Rattle.ips_commit.specs.declared.fault.CommitFault.{CommitFault}
@@ -30,6 +32,15 @@ pub record IsJournalled (t : Image) (steps : List Step) (count : ℕ) : Type 0 w
   pub lists : IsJournal steps
   pub text_is : journal_of t ≡ journal_text steps
   pub marked : AreCounted t (length steps) count
+
+-- The gate is opened over a journal that lists these steps: at a moment of these calls it is safely open, and no mark tells any of them to be
+-- laid.
+pub record IsOpenedOver {F : Type 0} (o : Outside F) (steps : List Step) (old new : F) : Type 0 where
+  pub opened : F
+  pub is_open : IsSafelyOpen (o.state opened)
+  pub journal : IsJournalled (o.state opened).held steps 0
+  pub since : o.clock old ≤ o.clock opened
+  pub until : o.clock opened ≤ o.clock new
 
 -- The journal lists these steps, and those that the marks leave can be laid.
 pub record CanRollForward (t : Image) (steps : List Step) (count : ℕ) : Type 0 where

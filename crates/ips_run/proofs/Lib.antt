@@ -8,5 +8,6 @@ mod Recoveries
 mod Nexts
 mod Performed
 mod Unbegun
+mod Listed
 mod Never
 pub mod Exclusive

@@ -15,7 +15,7 @@ use Rattle.ips_actuate.specs.declared.running.ActFault.TheVariants as act_fault
 use Rattle.ips_commit.specs.Contents.{AreIntactContents, SaysOfStage}
 use Rattle.ips_commit.specs.Staging.{IsStaged, NoMoreReady}
 use Rattle.ips_commit.specs.Due.{DueOnceOpen}
-use Rattle.ips_commit.specs.Recovering.{IsJournalled, CanResume, IsUnfinished}
+use Rattle.ips_commit.specs.Recovering.{IsJournalled, IsOpenedOver, CanResume, IsUnfinished}
 use Rattle.ips_commit.specs.declared.fault.StageFault.TheVariants as stage
 use Rattle.ips_commit.specs.declared.fault.CommitFault.{CommitFault}
 use Rattle.ips_commit.specs.declared.fault.CommitFault.TheVariants as commit_fault
@@ -35,7 +35,7 @@ use Rattle.ips_run.specs.declared.next.Next.{Next}
 use Rattle.ips_run.specs.declared.next.Next.TheVariants as next
 use Rattle.ips_run.specs.declared.ending.Ending.{Ending}
 use Rattle.ips_run.specs.declared.ending.Ending.TheVariants as ending
-use Rattle.ips_run.specs.Ending.{is_done, is_refused, is_unneeded, recovery, is_left, is_bad_journal, is_out_of_memory}
+use Rattle.ips_run.specs.Ending.{is_done, is_refused, is_unneeded, recovery, is_left, is_bad_journal, is_out_of_memory, TellsAtMost}
 
 -- what comes behind a closed gate at which nothing is to be recovered
 abbrev pub decided_next : Effect → Next
@@ -144,6 +144,20 @@ pub record IsNotBefore {F : Type 0} (o : Outside F) (old at : F) : Type 0 where
   pub time : o.clock old ≤ o.clock at
   pub faults : o.faults old ≤ o.faults at
   pub changes : o.changes old ≤ o.changes at
+
+-- A change is done whose journal lists just the steps of the decision that it is told by: at a moment of this run they stood ready and safe there,
+-- and then the gate was opened over it; each step was counted; and the image that they mean is seen at the end.
+pub record HasListed {F T : Type 0} (o : Outside F) (decides : Decision T → Type 0) (x : Ending T) (before now : List Carrier) (old new : F) : Type 0 where
+  pub change : Change T
+  pub decided : decides (decision.Change change)
+  pub told : TellsAtMost change.told x
+  pub ready : F
+  pub after : Image
+  pub staged : IsStaged (map step_of change.steps.items) after (o.state ready)
+  pub since : IsNotBefore o old ready
+  pub opened : IsOpenedOver o (map step_of change.steps.items) ready new
+  pub counted : now ≡ all_counted (map step_of change.steps.items) before
+  pub ended : HasEnded (Some after) (o.state new)
 
 -- A call failed in a commit: since a moment of this run at which a change stood ready, a call failed, and one was made that may
 -- have changed something.

@@ -11,7 +11,8 @@ ghost use Rattle.ips_kinds.specs.Tallies.{seen_by, taken};
 ghost use Rattle.ips_actuate.specs.Running.{IsFaultOfRun};
 ghost use Rattle.ips_commit.specs.Pending.{HasNoOtherMark};
 ghost use Rattle.ips_commit.specs.Staging.{IsStaged};
-ghost use Rattle.ips_run.specs.Ending.{HasPayloadFault, TellsAtMost, is_left, is_folder_fault, is_source_fault, is_spawn_fault};
+ghost use Rattle.ips_commit.specs.Recovering.{IsOpenedOver};
+ghost use Rattle.ips_run.specs.Ending.{HasPayloadFault, TellsAtMost, is_done, is_left, is_folder_fault, is_source_fault, is_spawn_fault};
 ghost use Rattle.ips_run.specs.Comes.{HasRun, IsCarriedTo};
 ghost use Rattle.ips_run.specs.Phases.{IsCarried, IsUnrun, uncommitted_as};
 
@@ -38,6 +39,8 @@ pub(crate) fn carry_out<T: Drop, F: Folder, P: Spawner>(
     ensures told { IsTrue (F.outside.tells folder.old) → (steps : List Step) (a : Image) → IsStaged steps a (F.outside.state folder.old)
         → IsCarriedTo steps prepared.before.items prepared.after.items prepared.told
         (seen_by sorts finished kinds.old.items) (seen_by sorts finished kinds.new.items) (HasRun P.running spawner.old spawner.new) result }
+    ensures journal { IsTrue (F.outside.tells folder.old) → (steps : List Step) (a : Image) → IsStaged steps a (F.outside.state folder.old)
+        → IsTrue (is_done result) → IsOpenedOver F.outside steps folder.old folder.new }
     ensures folder { HasCause (F.outside.faults folder.old) (F.outside.faults folder.new) (IsTrue (is_folder_fault result)) }
     ensures spawner { HasCause (P.running.faults spawner.old) (P.running.faults spawner.new) (IsTrue (is_spawn_fault result)) }
     ensures changed { IsTrue (is_left result) → Rose (F.outside.changes folder.old) (F.outside.changes folder.new) }

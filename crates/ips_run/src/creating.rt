@@ -15,10 +15,10 @@ ghost use Rattle.ips_history.specs.Directories.{creates, var_name, with_director
 ghost use Rattle.ips_history.specs.Transition.{IsNotYetSafe};
 ghost use Rattle.ips_history.specs.Run.{StaysShut};
 ghost use Rattle.ips_run.specs.declared.creating.DirectoryFault.TheVariants as fault;
-ghost use Rattle.ips_run.specs.Ending.{EndsAs, HasPayloadFault, TellsAsSaid, is_told, is_left, is_folder_fault, is_source_fault, is_spawn_fault};
+ghost use Rattle.ips_run.specs.Ending.{EndsAs, HasPayloadFault, TellsAsSaid, is_done, is_told, is_left, is_folder_fault, is_source_fault, is_spawn_fault};
 ghost use Rattle.ips_run.specs.Comes.{Comes, HasRun};
 ghost use Rattle.ips_run.specs.Creating.{IsMissing, IsBlockedBy, SaysOfDirectories, HasMade, HasMadeAtLast, HasMadeInPart, IsSafeAtLast, AreMade, AreUnmade, IsCreated, ended_as};
-ghost use Rattle.ips_run.specs.Phases.{HasFailedInCommit};
+ghost use Rattle.ips_run.specs.Phases.{HasFailedInCommit, HasListed};
 
 use crate::ending::Ending;
 use crate::operation::Operation;
@@ -67,6 +67,9 @@ pub(crate) fn create<T: Drop, S: Source, F: Folder, P: Spawner, C: Operation<T>>
         (S.outside.tells source.old) (S.outside.state source.old).held (F.outside.state folder.old).held (F.outside.state folder.new).held
         (seen_by sorts finished kinds.old.items) (seen_by sorts finished kinds.new.items) (HasRun P.running spawner.old spawner.new) result }
     ensures begun { IsTrue (F.outside.tells folder.old) → IsTrue (is_left result) → HasFailedInCommit F.outside folder.old folder.new }
+    ensures listed { IsTrue (F.outside.tells folder.old) → IsTrue (is_done result) → HasListed F.outside
+        (C.decides operation.now (S.outside.tells source.old) (S.outside.state source.old).held (with_directories (F.outside.state folder.old).held)) result
+        (seen_by sorts finished kinds.old.items) (seen_by sorts finished kinds.new.items) folder.old folder.new }
     ensures later { F.outside.changes folder.old ≤ F.outside.changes folder.new }
     ensures folder { HasCause (F.outside.faults folder.old) (F.outside.faults folder.new) (IsTrue (is_folder_fault result)) }
     ensures source { Reads S.outside source.old source.new (IsTrue (is_source_fault result)) }

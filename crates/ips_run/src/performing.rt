@@ -8,9 +8,9 @@ ghost use Rattle.ips_kinds.specs.Tallies.{seen_by, taken};
 ghost use Rattle.ips_commit.specs.Pending.{IsBare};
 ghost use Rattle.ips_history.specs.Directories.{shows, creates, fixes, image_for};
 ghost use Rattle.ips_history.specs.Run.{IsRun};
-ghost use Rattle.ips_run.specs.Ending.{HasPayloadFault, TellsAsSaid, claim_of, is_left, is_failed, is_refused, is_folder_fault, is_source_fault, is_spawn_fault};
+ghost use Rattle.ips_run.specs.Ending.{HasPayloadFault, TellsAsSaid, claim_of, is_done, is_left, is_failed, is_refused, is_folder_fault, is_source_fault, is_spawn_fault};
 ghost use Rattle.ips_run.specs.Comes.{Comes, HasRun};
-ghost use Rattle.ips_run.specs.Phases.{HasFailedInCommit, HasFailedInRecovery, IsKeptOrSettled, IsUnbegun};
+ghost use Rattle.ips_run.specs.Phases.{HasFailedInCommit, HasFailedInRecovery, HasListed, IsKeptOrSettled, IsUnbegun};
 ghost use Rattle.ips_run.specs.Unopened.{NeverOpens};
 
 use crate::creating::create;
@@ -69,6 +69,12 @@ pub fn perform<T: Drop, S: Source, F: Folder, P: Spawner, C: Operation<T>>(
     // Unfinished: since a moment that neither the clock nor a count puts before this run, and at which a change stood ready, or the gate
     // stood open behind the opening sync, a call failed and one was made that may have changed something.
     ensures begun { IsTrue (F.outside.tells folder.old) → IsTrue (is_left result) → HasFailedInCommit F.outside folder.old folder.new ⊎ HasFailedInRecovery F.outside folder.old folder.new }
+
+    // Done, whether or not each actuator behind the commit was run: the journal that stood ready and safe in this run listed just the steps
+    // of the decision by which it is told, and these were counted.
+    ensures listed { IsTrue (F.outside.tells folder.old) → IsTrue (is_done result) → HasListed F.outside
+        (C.decides operation.now (S.outside.tells source.old) (S.outside.state source.old).held (image_for (C.effect operation.now) (F.outside.state folder.old).held)) result
+        (seen_by sorts finished kinds.old.items) (seen_by sorts finished kinds.new.items) folder.old folder.new }
 
     // A refusal behind a closed gate, a fault that is told as unchanged among them: nothing has happened at any moment; or since the opening
     // sync has answered nothing stood at the gate, nor would have after a crash. Of an operation that makes directories of its records this

@@ -8,9 +8,9 @@ ghost use Rattle.ips_steps.specs.Private.{records_name, gate_name};
 ghost use Rattle.ips_steps.specs.declared.step.Sort.{Sort};
 ghost use Rattle.ips_kinds.specs.Tallies.{seen_by, taken};
 ghost use Rattle.ips_history.specs.Directories.{creates};
-ghost use Rattle.ips_run.specs.Ending.{HasPayloadFault, TellsAsSaid, is_left, is_failed, is_folder_fault, is_source_fault, is_spawn_fault};
+ghost use Rattle.ips_run.specs.Ending.{HasPayloadFault, TellsAsSaid, is_done, is_left, is_failed, is_folder_fault, is_source_fault, is_spawn_fault};
 ghost use Rattle.ips_run.specs.Comes.{Comes, HasRun, IsToDecide};
-ghost use Rattle.ips_run.specs.Phases.{HasFailedInCommit, IsAsked, IsUnbegun};
+ghost use Rattle.ips_run.specs.Phases.{HasFailedInCommit, HasListed, IsAsked, IsUnbegun};
 
 use crate::carrying::carry_out;
 use crate::ending::Ending;
@@ -41,6 +41,9 @@ pub(crate) fn request<T: Drop, S: Source, F: Folder, P: Spawner, C: Operation<T>
         (S.outside.tells source.old) (S.outside.state source.old).held (F.outside.state folder.old).held (F.outside.state folder.new).held
         (seen_by sorts finished kinds.old.items) (seen_by sorts finished kinds.new.items) (HasRun P.running spawner.old spawner.new) result }
     ensures begun { IsTrue (F.outside.tells folder.old) → IsSettled (F.outside.state folder.old) → IsTrue (is_left result) → HasFailedInCommit F.outside folder.old folder.new }
+    ensures listed { IsTrue (F.outside.tells folder.old) → IsSettled (F.outside.state folder.old) → IsTrue (is_done result) → HasListed F.outside
+        (C.decides operation.now (S.outside.tells source.old) (S.outside.state source.old).held (F.outside.state folder.old).held) result
+        (seen_by sorts finished kinds.old.items) (seen_by sorts finished kinds.new.items) folder.old folder.new }
     ensures unbegun { IsTrue (F.outside.tells folder.old) → IsTrue (is_failed result) → IsUnbegun (F.outside.state folder.old) (F.outside.state folder.new) }
     ensures payload { HasPayloadFault result }
     ensures says { TellsAsSaid (C.says operation.now) result }

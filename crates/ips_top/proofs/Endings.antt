@@ -18,10 +18,10 @@ use Rattle.ips_run.specs.declared.operation.Decision.{Decision}
 use Rattle.ips_run.specs.declared.operation.Decision.TheVariants as decision
 use Rattle.ips_run.specs.declared.ending.Ending.{Ending}
 use Rattle.ips_run.specs.declared.ending.Ending.TheVariants as ending
-use Rattle.ips_run.specs.Ending.{HasPayloadFault, TellsAsSaid, claim_of, is_failed, is_folder_fault, is_left, is_refused, is_source_fault, is_spawn_fault, is_unneeded}
+use Rattle.ips_run.specs.Ending.{HasPayloadFault, TellsAsSaid, claim_of, is_done, is_failed, is_folder_fault, is_left, is_refused, is_source_fault, is_spawn_fault, is_unneeded}
 use Rattle.ips_run.specs.Comes.{Comes, IsBackTo, IsCarriedTo, IsUnopened}
 use Rattle.ips_run.specs.Comes as comes
-use Rattle.ips_operations.specs.told.Told.{IsToldAs, Manner, blames_folder, blames_source, blames_spawner, claimed, claims_failed, claims_refused, claims_unfinished, manner_of, told_as}
+use Rattle.ips_operations.specs.told.Told.{IsToldAs, Manner, blames_folder, blames_source, blames_spawner, claimed, claims_done, claims_failed, claims_refused, claims_unfinished, manner_of, told_as}
 use Rattle.ips_operations.proofs.told.Alike.{manner_as, manner_told, claims_as, blames_folder_as, blames_source_as, blames_spawner_as}
 use Rattle.ips_operations.specs.telling.Finishing.{IsEarly, IsToldFor}
 use Rattle.ips_top.specs.Performed.{ComesAs}
@@ -253,6 +253,11 @@ module _ {F : Type 0} (o : Outside F) (means : Image → Image → Type 0) (effe
       let is : IsEarly (manner_as x) = subst IsEarly (manner_told x says payload) early.0 in
       subst (λ (m : Manner). IsRun o means effect (claimed m) before now old new) (sym (ap manner_of early.1))
       (starved (is_unneeded x) (shut is) (subst (λ (c : Claim). IsRun o means effect c before now old new) (claims_little x is) run))
+
+-- What is told as done is what was done.
+pub listed_as : (P : Ending Outcome → Type 0) (x : Ending Outcome) (o : Outcome) → (is_done x ≡ true → P x) → TellsAsSaid IsToldAs x → HasPayloadFault x → IsToldFor (told_as x) o → claims_done (manner_of o) ≡ true → ComesAs P o
+listed_as P x o is says payload (inl same) done = (x, same, is (sym (ap (λ (c : Claim). c.done) (ap (λ (m : Manner). claimed m) (ap manner_of same ∙ manner_told x says payload) ∙ claims_as x)) ∙ done))
+listed_as P x o is says payload (inr early) done = absurd (clash (claims_done (manner_of o)) done (ap (λ (k : Outcome). claims_done (manner_of k)) early.1))
 
 -- ---- what is told of a fault, of what is left and of what is seen
 

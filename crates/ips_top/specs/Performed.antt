@@ -13,9 +13,9 @@ use Rattle.ips_report.specs.declared.outcome.Outcome.{Outcome}
 use Rattle.ips_run.specs.declared.operation.Decision.{Decision}
 use Rattle.ips_run.specs.declared.ending.Ending.{Ending}
 use Rattle.ips_run.specs.Comes.{Comes, HasRun}
-use Rattle.ips_run.specs.Phases.{HasFailedInCommit, HasFailedInRecovery, IsKeptOrSettled, IsUnbegun}
+use Rattle.ips_run.specs.Phases.{HasFailedInCommit, HasFailedInRecovery, HasListed, IsKeptOrSettled, IsUnbegun}
 use Rattle.ips_run.specs.Unopened.{NeverOpens}
-use Rattle.ips_operations.specs.told.Told.{blames_folder, blames_source, blames_spawner, claimed, claims_failed, claims_refused, claims_unfinished, manner_of, told_as}
+use Rattle.ips_operations.specs.told.Told.{blames_folder, blames_source, blames_spawner, claimed, claims_done, claims_failed, claims_refused, claims_unfinished, manner_of, told_as}
 
 -- The outcome tells an ending that comes.
 abbrev pub ComesAs : (Ending Outcome → Type 0) → Outcome → Type 0
@@ -29,7 +29,7 @@ pub record At (F S P : Type 0) : Type 0 where
   pub counted : List Carrier
 
 -- An operation is carried out, from one moment to another, and told as this outcome: what the outcome claims holds of the image, at every moment and at the end; it has
--- its cause, and these actuators and no others were run; a fault is told exactly where the count of that object rose; what is left unfinished was begun; behind what is refused at a closed gate no call
+-- its cause, and these actuators and no others were run; a fault is told exactly where the count of that object rose; what is left unfinished was begun; where it tells a change as done, the journal that stood ready in this run listed just the steps that were counted, those of the decision by which it is told; behind what is refused at a closed gate no call
 -- that may change something was made there (of one that makes an image, since its directories are safe); what is told as unchanged leaves no list of steps ready and safe (not said of one that makes an
 -- image, nor of one that recovers and finds something pending); and where something is shown, or an open gate is left as it was, the opening sync is the only call that may change something, and nothing
 -- but that has happened to the image.
@@ -43,6 +43,8 @@ pub record IsPerformed {F S P : Type 0} (o : Outside F) (q : Outside S) (r : Run
   pub shows_unasked : IsTrue (shows effect) → IsFalse (blames_source (manner_of outcome))
   pub shows_unspawned : IsTrue (shows effect) → IsFalse (blames_spawner (manner_of outcome))
   pub begun : IsTrue (o.tells old.folder) → IsTrue (claims_unfinished (manner_of outcome)) → HasFailedInCommit o old.folder new.folder ⊎ HasFailedInRecovery o old.folder new.folder
+  pub listed : IsTrue (o.tells old.folder) → IsTrue (claims_done (manner_of outcome)) → ComesAs (λ x. HasListed o (decides (q.tells old.source) (q.state old.source).held (image_for effect (o.state old.folder).held))
+      x old.counted new.counted old.folder new.folder) outcome
   pub unopened : IsTrue (o.tells old.folder) → (o.state old.folder).held.look gate_name ≡ None → IsTrue (claims_refused (manner_of outcome)) → NeverOpens o effect old.folder new.folder
   pub unbegun : IsTrue (o.tells old.folder) → IsFalse (creates effect) → (IsTrue (fixes effect) → IsBare (o.state old.folder).held) → IsTrue (claims_failed (manner_of outcome))
       → IsUnbegun (o.state old.folder) (o.state new.folder)

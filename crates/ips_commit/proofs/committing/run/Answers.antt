@@ -1,4 +1,4 @@
-use Rattle.std.proofs.Common.{inl, inr, [], refl, sym, ◌∙◌, subst, arith}
+use Rattle.std.proofs.Common.{inl, inr, true, [], refl, sym, ◌∙◌, subst, arith}
 use Rattle.ips_outside.specs.Image.{Image}
 use Rattle.ips_outside.proofs.Faults.{cause_as, cause_behind, rose_later}
 use Rattle.ips_outside.proofs.Reading.{answered}
@@ -31,6 +31,7 @@ returns-in_default-clause-commits g c =
       due = λ told steps a staged. inl (c.in_default.ensures.not_yet told);
       done = λ told steps a staged. tt;
       counted = λ told steps a staged. tt;
+      journal = λ told steps a staged. tt;
       stopped = λ told steps a staged. (
         0,
         none_laid_yet o sane steps a old told staged mid (c.open.ensures.any_moment told) _,
@@ -74,6 +75,16 @@ returns-in-Ok-roll-clause-commits g c =
           (done.0, subst (λ (x : Image). HasCommitted x (o.state c.roll.new.folder)) here.ready.means done.2);
       counted = λ told steps a staged.
           (c.in-Ok-roll.ensures.done (kind ∙ told) steps (is_journalled o sane steps a old told staged mid kind (c.open.ensures.any_moment told) (c.in-Ok.ensures.opened told) (c.in-Ok.ensures.safe told)) (c.rewind.ensures.start _)).3;
+      journal = λ told steps a staged.
+          let run = c.open.ensures.any_moment told in
+          let opens = c.in-Ok.ensures.opened told in
+          let clean = c.in-Ok.ensures.safe told in record {
+            opened = mid;
+            is_open = opens.is_open;
+            journal = is_journalled o sane steps a old told staged mid kind run opens clean;
+            since = run.moments.later;
+            until = (c.roll.ensures.owed (kind ∙ told) steps a a true (is_open o sane steps a old told staged mid kind run opens clean) (c.rewind.ensures.start _)).later;
+          };
       stopped = λ told steps a staged. tt;
       faults = λ told steps a staged. tt;
       begun = tt;
@@ -106,6 +117,7 @@ returns-in-Err-clause-commits g c =
           (c.roll.ensures.owed (kind ∙ told) steps _ a _ (is_open o sane steps a old told staged mid kind run opens clean) (c.rewind.ensures.start _));
       done = λ told steps a staged. tt;
       counted = λ told steps a staged. tt;
+      journal = λ told steps a staged. tt;
       stopped = λ told steps a staged.
           let run = c.open.ensures.any_moment told in
           let opens = c.in-Ok.ensures.opened told in

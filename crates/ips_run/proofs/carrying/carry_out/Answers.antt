@@ -1,9 +1,10 @@
 use Rattle.ips_outside.proofs.Faults.{no_cause, cause_as, cause_behind}
 use Rattle.ips_steps.proofs.Lists.{clash}
-use Rattle.ips_run.specs.Ending.{is_left, is_folder_fault}
+use Rattle.ips_run.specs.Ending.{is_done, is_left, is_folder_fault}
 use Rattle.ips_run.proofs.Said.{unrun_payload, unrun_tells}
 use Rattle.ips_run.proofs.Carried.{carried_unrun, carried_part, carried_but, carried_all}
 use Rattle.ips_run.proofs.Told.{told_unrun, told_part, told_done, told_but, unrun_folder, unrun_source, unrun_left, unrun_cause}
+use Rattle.ips_run.proofs.Listed.{unrun_undone, uncommitted_undone}
 use Rattle.ips_run.proofs.carrying.carry_out.Goals as goal
 
 pub returns-in-Err-clause-carried : goal.returns-in-Err-clause-carried
@@ -81,3 +82,15 @@ returns-clause-payload g c = unrun_payload _ c.unrun-in-Err-run_all.ensures
 
 pub returns-clause-tells : goal.returns-clause-tells
 returns-clause-tells g c = unrun_tells _ _ c.unrun-in-Err-run_all.ensures
+
+pub returns-in-Err-clause-journal : goal.returns-in-Err-clause-journal
+returns-in-Err-clause-journal g c = λ told steps a staged done. absurd (clash (is_done c.unrun.result) done (unrun_undone _ _ _ c.unrun.ensures))
+
+pub returns-in-Err-commit-clause-journal : goal.returns-in-Err-commit-clause-journal
+returns-in-Err-commit-clause-journal g c = λ told steps a staged done. absurd (clash (is_done c.uncommitted.result) done (uncommitted_undone c.in-Err-commit.fault _ c.uncommitted.ensures))
+
+pub returns-in-Ok-run_all-clause-journal : goal.returns-in-Ok-run_all-clause-journal
+returns-in-Ok-run_all-clause-journal g c = λ told steps a staged done. c.in-Ok-commit.ensures.commits.journal told steps a staged
+
+pub returns-clause-journal : goal.returns-clause-journal
+returns-clause-journal g c = λ told steps a staged done. c.in-Ok-commit.ensures.commits.journal told steps a staged

@@ -3,6 +3,7 @@ use Rattle.ips_outside.specs.State.{State}
 use Rattle.ips_history.specs.Directories.{with_directories}
 use Rattle.ips_run.proofs.Created.{created_unmade, created_made, unmade_finished, comes_unmade, comes_made, comes_at, made_safe, made_shut, made_records}
 use Rattle.ips_run.proofs.Opened.{failed_since}
+use Rattle.ips_run.proofs.Listed.{listed_since, listed_on, unmade_undone}
 use Rattle.ips_run.proofs.creating.create.Goals as goal
 
 pub request-requires-clause-shut : goal.request-requires-clause-shut
@@ -51,3 +52,18 @@ returns-in-Err-clause-comes g c = λ told.
 
 pub returns-in-Err-clause-begun : goal.returns-in-Err-clause-begun
 returns-in-Err-clause-begun g c = λ told left. absurd (unmade_finished g.F.Source.outside c.args.folder.now c.make_directories.new.folder c.in-Err.ending (c.in-Err.ensures.unmade told) left)
+
+pub returns-in-Ok-clause-listed : goal.returns-in-Ok-clause-listed
+returns-in-Ok-clause-listed g c = λ told done.
+    let o = g.F.Source.outside in
+    let r = g.S.Source.outside in
+    let at = c.make_directories.new.folder in
+    let made = c.in-Ok.ensures.made told in
+    let D = g.C.Operation.decides c.args.operation.now (r.tells c.args.source.now) (r.state c.args.source.now).held in
+    listed_since o _ c.request.result _ _ c.args.folder.now at c.request.new.folder
+    (record { time = made.shut.later; faults = c.make_directories.ensures.cause.later; changes = c.make_directories.ensures.later })
+    (listed_on o D c.request.result _ _ at c.request.new.folder (o.state at).held (with_directories (o.state c.args.folder.now).held) (ap (λ (s : State). s.held) made.made)
+    (c.request.ensures.listed (c.make_directories.ensures.same_kind ∙ told) (made_safe _ (o.state at) made.made) done))
+
+pub returns-in-Err-clause-listed : goal.returns-in-Err-clause-listed
+returns-in-Err-clause-listed g c = λ told done. absurd (unmade_undone g.F.Source.outside c.args.folder.now c.make_directories.new.folder c.in-Err.ending (c.in-Err.ensures.unmade told) done)

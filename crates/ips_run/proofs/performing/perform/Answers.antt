@@ -5,11 +5,13 @@ use Rattle.ips_outside.specs.Image.{Image}
 use Rattle.ips_steps.specs.Private.{gate_name}
 use Rattle.ips_steps.proofs.Lists.{clash}
 use Rattle.ips_commit.specs.Pending.{IsBare, IsPending}
-use Rattle.ips_history.specs.Directories.{shows, creates}
+use Rattle.ips_history.specs.Directories.{shows, creates, with_directories}
 use Rattle.ips_run.specs.declared.ending.Ending.TheVariants as ending
+use Rattle.ips_run.specs.Ending.{is_done}
 use Rattle.ips_run.proofs.Opened.{failed_since, since_opened, no_fewer, synced_safe, as_settled, elapses_kept, opened, run_unopened, run_read, run_back, run_asked, run_created}
 use Rattle.ips_run.proofs.Nexts.{shown_of, changed_of, created_of, show_is, change_is, recover_is, create_is}
-use Rattle.ips_run.proofs.Performed.{fault_of, out_of_memory_of, unfinished_of, early_fault, early_out_of_memory, early_unfinished, left_fault, comes_unopened, comes_refused, comes_back, comes_shown, comes_asked, comes_created, image_same, next_as}
+use Rattle.ips_run.proofs.Performed.{fault_of, out_of_memory_of, unfinished_of, early_fault, early_out_of_memory, early_unfinished, left_fault, comes_unopened, comes_refused, comes_back, comes_shown, comes_asked, comes_created, image_same, image_with, next_as}
+use Rattle.ips_run.proofs.Listed.{listed_since, listed_on}
 use Rattle.ips_run.proofs.Never.{never_synced, never_asked, never_back, never_read, never_created}
 use Rattle.ips_run.proofs.Unbegun.{unbegun_read, unbegun_settled, never_recovers}
 use Rattle.ips_run.proofs.performing.perform.Goals as goal
@@ -401,3 +403,43 @@ returns-in-Create-clause-unopened g c = λ told shut refused.
     let creating = (create_is (g.C.Operation.effect c.args.operation.now) c.in-Ok-pending.found (next_as (g.C.Operation.effect c.args.operation.now) c.effect.result c.in-Ok-pending.found _ c.phase_behind.result c.effect.ensures c.phase_behind.ensures c.in-Create.is)).0 in
     never_created o sane (g.C.Operation.effect c.args.operation.now) c.args.folder.now at c.create.new.folder time is_synced (one_before _ _ _ c.sync.ensures.one_made c.pending.ensures.reads.none_made) c.create.ensures.later shut
     _ c.create.result _ _ creating refused (c.create.ensures.created told_at)
+
+pub returns-in-Recover-clause-listed : goal.returns-in-Recover-clause-listed
+returns-in-Recover-clause-listed g c = λ told done.
+    let told_at = c.pending.ensures.reads.call.same_kind ∙ c.sync.ensures.call.same_kind ∙ told in
+    absurd (clash (is_done c.recovered.result) done (c.recovered.ensures.back told_at).undone)
+
+pub returns-in-Show-clause-listed : goal.returns-in-Show-clause-listed
+returns-in-Show-clause-listed g c = λ told done. absurd (clash (is_done c.shown.result) done c.shown.ensures.early.undone)
+
+pub returns-in-Change-clause-listed : goal.returns-in-Change-clause-listed
+returns-in-Change-clause-listed g c = λ told done.
+    let o = g.F.Source.outside in
+    let sane = g.met.F.Source.sane in
+    let n = g.C.Operation.effect c.args.operation.now in
+    let old = c.args.folder.now in
+    let at = c.pending.new.folder in
+    let time = elapses_kept o sane old c.sync.new.self at c.sync.ensures.call.time c.pending.ensures.reads.call.time c.pending.ensures.reads.kept in
+    let is_synced = c.pending.ensures.reads.kept ∙ c.in-Ok.ensures.done told in
+    let told_at = c.pending.ensures.reads.call.same_kind ∙ c.sync.ensures.call.same_kind ∙ told in
+    let other = (change_is n c.in-Ok-pending.found (next_as n c.effect.result c.in-Ok-pending.found _ c.phase_behind.result c.effect.ensures c.phase_behind.ensures c.in-Change.is)).1 in
+    let D = g.C.Operation.decides c.args.operation.now (g.S.Source.outside.tells c.args.source.now) (g.S.Source.outside.state c.args.source.now).held in
+    listed_since o _ c.request.result _ _ old at c.request.new.folder (since_opened o old c.sync.new.self at time.later c.sync.ensures.call.cause.later c.pending.ensures.reads.call.cause.later c.sync.ensures.one_made.later c.pending.ensures.reads.none_made)
+    (listed_on o D c.request.result _ _ at c.request.new.folder (o.state at).held _ (ap (λ (s : State). s.held) is_synced ∙ sym (image_same n (o.state old).held other))
+    (c.request.ensures.listed told_at (synced_safe (o.state old) (o.state at) is_synced) done))
+
+pub returns-in-Create-clause-listed : goal.returns-in-Create-clause-listed
+returns-in-Create-clause-listed g c = λ told done.
+    let o = g.F.Source.outside in
+    let sane = g.met.F.Source.sane in
+    let n = g.C.Operation.effect c.args.operation.now in
+    let old = c.args.folder.now in
+    let at = c.pending.new.folder in
+    let time = elapses_kept o sane old c.sync.new.self at c.sync.ensures.call.time c.pending.ensures.reads.call.time c.pending.ensures.reads.kept in
+    let is_synced = c.pending.ensures.reads.kept ∙ c.in-Ok.ensures.done told in
+    let told_at = c.pending.ensures.reads.call.same_kind ∙ c.sync.ensures.call.same_kind ∙ told in
+    let making = (create_is n c.in-Ok-pending.found (next_as n c.effect.result c.in-Ok-pending.found _ c.phase_behind.result c.effect.ensures c.phase_behind.ensures c.in-Create.is)).0 in
+    let D = g.C.Operation.decides c.args.operation.now (g.S.Source.outside.tells c.args.source.now) (g.S.Source.outside.state c.args.source.now).held in
+    listed_since o _ c.create.result _ _ old at c.create.new.folder (since_opened o old c.sync.new.self at time.later c.sync.ensures.call.cause.later c.pending.ensures.reads.call.cause.later c.sync.ensures.one_made.later c.pending.ensures.reads.none_made)
+    (listed_on o D c.create.result _ _ at c.create.new.folder (with_directories (o.state at).held) _ (ap (λ (s : State). with_directories s.held) is_synced ∙ sym (image_with n (o.state old).held making))
+    (c.create.ensures.listed told_at done))

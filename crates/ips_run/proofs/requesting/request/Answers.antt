@@ -1,12 +1,13 @@
-use Rattle.std.proofs.Common.{None, refl, sym, ◌∙◌}
+use Rattle.std.proofs.Common.{None, refl, sym, ◌∙◌, subst}
 use Rattle.ips_steps.proofs.Lists.{clash}
-use Rattle.ips_run.specs.Ending.{is_left, is_failed}
+use Rattle.ips_run.specs.Ending.{is_done, is_left, is_failed, TellsAtMost}
 use Rattle.ips_run.specs.Comes.{Unready, Carried}
 use Rattle.ips_run.proofs.Said.{said_of_change}
 use Rattle.ips_run.proofs.Carried.{can_open, unmarked, asked_early, asked_ready}
 use Rattle.ips_run.proofs.Told.{none_run, carried_as}
 use Rattle.ips_run.proofs.Performed.{left_fault}
 use Rattle.ips_run.proofs.Unbegun.{never_failed}
+use Rattle.ips_run.proofs.Listed.{counted_of}
 use Rattle.ips_run.proofs.requesting.request.Goals as goal
 
 pub returns-in-Err-clause-asked : goal.returns-in-Err-clause-asked
@@ -57,6 +58,26 @@ returns-clause-begun g c = λ told clean left.
       until = (c.carry_out.ensures.carried (c.prepare.ensures.same_kind ∙ told) _ ready.after ready.staged).owed.later;
       rose = c.carry_out.ensures.folder.rose (left_fault c.carry_out.result left);
       changed = c.carry_out.ensures.changed left;
+    }
+
+pub returns-in-Err-clause-listed : goal.returns-in-Err-clause-listed
+returns-in-Err-clause-listed g c = λ told clean done. absurd (clash (is_done c.in-Err.ending) done c.in-Err.ensures.early.undone)
+
+pub returns-clause-listed : goal.returns-clause-listed
+returns-clause-listed g c = λ told clean done.
+    let ready = c.in-Ok.ensures.readied told in
+    let carried = c.carry_out.ensures.carried (c.prepare.ensures.same_kind ∙ told) _ ready.after ready.staged in
+    record {
+      change = ready.change;
+      decided = ready.decided;
+      told = subst (λ t. TellsAtMost t c.carry_out.result) ready.told c.carry_out.ensures.tells;
+      ready = c.prepare.new.folder;
+      after = ready.after;
+      staged = ready.staged;
+      since = record { time = (c.prepare.ensures.owed told clean None).later; faults = c.prepare.ensures.cause.later; changes = c.prepare.ensures.later };
+      opened = c.carry_out.ensures.journal (c.prepare.ensures.same_kind ∙ told) _ ready.after ready.staged done;
+      counted = counted_of _ _ _ _ _ _ _ c.carry_out.result done (c.carry_out.ensures.told (c.prepare.ensures.same_kind ∙ told) _ ready.after ready.staged);
+      ended = carried.done done;
     }
 
 pub returns-clause-says : goal.returns-clause-says

@@ -1,9 +1,11 @@
 use Rattle.std.proofs.Common.{Bool, IsTrue, sym, ◌∙◌, subst}
 use Rattle.ips_outside.specs.Outside.{HasCause, Reads}
+use Rattle.ips_history.specs.Directories.{image_for}
 use Rattle.ips_report.specs.declared.outcome.Outcome.{Outcome}
+use Rattle.ips_run.specs.Phases.{HasListed}
 use Rattle.ips_operations.specs.told.Told.{IsToldAs}
 use Rattle.ips_operations.specs.telling.Finishing.{IsToldFor}
-use Rattle.ips_top.proofs.Endings.{early_comes, comes_as, run_told, folder_alike, source_alike, spawner_alike, unfinished_alike, failed_alike, refused_alike, says_less}
+use Rattle.ips_top.proofs.Endings.{early_comes, comes_as, run_told, folder_alike, source_alike, spawner_alike, unfinished_alike, failed_alike, refused_alike, listed_as, says_less}
 use Rattle.ips_top.proofs.performing.performed.Goals as goal
 
 pub returns-clause-performed : goal.returns-clause-performed
@@ -25,6 +27,7 @@ returns-clause-performed g c =
       shows_unasked = λ is. source_alike x told says payload as_told ∙ e.shows_unasked is;
       shows_unspawned = λ is. spawner_alike x told says payload as_told ∙ e.shows_unspawned is;
       begun = λ tells is. e.begun tells (sym (unfinished_alike x told says payload as_told) ∙ is);
+      listed = λ tells is. listed_as (λ y. HasListed o (g.C.Operation.decides c.args.operation.now (q.tells c.args.repo.now) (q.state c.args.repo.now).held (image_for (g.C.Operation.effect c.args.operation.now) (o.state c.args.image.now).held)) y _ _ c.args.image.now c.perform-ending.new.folder) x told (e.listed tells) says payload as_told is;
       unopened = λ tells shut is. e.unopened tells shut (sym (refused_alike x told says payload as_told) ∙ is);
       unbegun = λ tells creates fixes is. e.unbegun tells creates fixes (sym (failed_alike x told says payload as_told) ∙ is);
       shows_once = e.shows;
