@@ -1,8 +1,11 @@
 //! Tests of the whole program over a repository and an image in memory.
 //!
-//! The runs of the program are tables of rows, and `runs` says what is asked of a row, over the repository of `packages` and the image of a `world`: what commands
-//! do (`cases`), how each run may end (`outcomes`), what is chosen (`choices`), what packages mean together (`meanings`), what becomes of edits (`keep`) and of what
-//! would be lost (`salvage`), trials (`trials`), and a large image (`large`). Runs that are stopped or meet a fault are stories of `faults` and `stops`, and one of `trials`.
+//! The runs of the program are tables of rows, and `runs` says what is asked of a row, over the repository of `packages` and the image of a `world`: what words mean
+//! (`words`), what commands do (`cases`) and to which state they lead (`commands`), how each run may end (`outcomes`, `endings`), what is chosen (`choices`), what
+//! packages mean together (`meanings`) and where they conflict (`conflicts`), what becomes of paths (`paths`), of edits (`keep`) and of what would be lost (`salvage`),
+//! what lines of manifests, catalogs and indexes hold (`lines`) and records (`records`, `lists`), what rules say of settings, dependencies, mediators, accounts and
+//! actuators (`rules`), how steps are laid (`laying`), trials (`trials`), and a large image (`large`). Runs that are stopped or meet a fault are
+//! stories of `endings`, `faults` and `stops`, and one of `trials`.
 #![tactic(auto)]
 
 #[cfg(test)]
@@ -10,11 +13,23 @@ mod cases;
 #[cfg(test)]
 mod choices;
 #[cfg(test)]
+mod commands;
+#[cfg(test)]
+mod conflicts;
+#[cfg(test)]
+mod endings;
+#[cfg(test)]
 mod faults;
 #[cfg(test)]
 mod keep;
 #[cfg(test)]
 mod large;
+#[cfg(test)]
+mod laying;
+#[cfg(test)]
+mod lines;
+#[cfg(test)]
+mod lists;
 #[cfg(test)]
 mod meanings;
 #[cfg(test)]
@@ -22,7 +37,13 @@ mod outcomes;
 #[cfg(test)]
 mod packages;
 #[cfg(test)]
+mod paths;
+#[cfg(test)]
+mod records;
+#[cfg(test)]
 mod rows;
+#[cfg(test)]
+mod rules;
 #[cfg(test)]
 mod runs;
 #[cfg(test)]
@@ -31,5 +52,7 @@ mod salvage;
 mod stops;
 #[cfg(test)]
 mod trials;
+#[cfg(test)]
+mod words;
 #[cfg(test)]
 mod world;

@@ -1,2 +1,0 @@
-pub mod TwoSteps
-pub mod Removals
