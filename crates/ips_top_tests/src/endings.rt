@@ -181,7 +181,6 @@ story | torn | so fix, so fix, does fix, look var/pkg/stage, does fix -> 1 "fold
 fn part_of(rt: &impl Abort, alloc: Global, world: &mut World, story: &str, call: u64) -> String {
     let mishap = column(story, 1);
     let mut part = String::new(alloc);
-    let mut between = "";
     for question in column(story, 2).split(',') {
         let question = question.trim();
         let (verb, what) = question.split_once(' ').unwrap_or((question, ""));
@@ -190,8 +189,8 @@ fn part_of(rt: &impl Abort, alloc: Global, world: &mut World, story: &str, call:
             _ => format!(in alloc; "{verb} | {what}"),
         };
         let told = told(rt, alloc, world, row.expect(rt, "memory").as_str());
+        let between = if part.is_empty() { "" } else { ", " };
         write!(part, "{between}{told}").expect(rt, "memory");
-        between = ", ";
     }
     part
 }
@@ -200,14 +199,13 @@ fn part_of(rt: &impl Abort, alloc: Global, world: &mut World, story: &str, call:
 fn story_told(rt: &impl Abort, alloc: Global, world: &mut World, row: &str) -> String {
     let image = held(rt, alloc, world);
     let mut story = String::new(alloc);
-    let mut between = "";
     let mut last = String::new(alloc);
     for call in 1..200u64 {
         let part = part_of(rt, alloc, world, row, call);
         restore(rt, alloc, world, &image);
         if part.as_str() != last.as_str() {
+            let between = if story.is_empty() { "" } else { "; " };
             write!(story, "{between}{part}").expect(rt, "memory");
-            between = "; ";
         }
         let is_met = part
             .as_str()
