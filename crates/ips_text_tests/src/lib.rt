@@ -1,11 +1,14 @@
 //! Tests of the crates of words: paths and texts, words of a line, versions, FMRIs
-//! and patterns, payload names, and the tables of `ips_cases`. `table` reads the cases.
+//! and patterns, payload names, the tables of `ips_cases`, and why a line is no action
+//! and a text no catalog. `table` reads the cases.
 #![tactic(auto)]
 
 #[cfg(test)]
 mod cases;
 #[cfg(test)]
 mod digest;
+#[cfg(test)]
+mod faults;
 #[cfg(test)]
 mod fmri;
 #[cfg(test)]
