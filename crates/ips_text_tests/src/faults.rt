@@ -1,10 +1,11 @@
-//! Why a line is no action, and a text no catalog: which fault is told, and its place.
+//! Why a line is no action, a text no catalog, and two actions clash: which fault or rule is told, and its place.
 
 use crate::table::{Ask, all_hold, text};
 use crate::told::{put, put_number};
-use ips_action::{ActionFault, parse_line, print_line};
+use ips_action::{Action, ActionFault, parse_line, print_line};
 use ips_catalog::{Catalog, CatalogFault};
-use ips_text::Or;
+use ips_conflict::{Placed, Rule, clash};
+use ips_text::{Or, Text};
 use std::alloc::Global;
 use std::process::Abort;
 
@@ -72,6 +73,41 @@ fn put_offered(rt: &impl Abort, out: &mut String, fault: &CatalogFault) {
             put_named(rt, out, "repeated ", stem.as_str());
             put_named(rt, out, " ", version.as_str());
         }
+    }
+}
+
+// What a table asks of the first line of two packages: whether they clash, by which rule and at which key.
+struct Both;
+
+impl Ask for Both {
+    fn answer(&self, rt: &impl Abort, alloc: Global, out: &mut String, one: &[u8], two: &[u8]) {
+        let first = action(rt, alloc, text(rt, one));
+        let second = action(rt, alloc, text(rt, two));
+        let stem = Text::new(alloc, "a").expect(rt, "memory");
+        let other = Text::new(alloc, "b").expect(rt, "memory");
+        let placed = [
+            Placed::new(&stem, 1, &first),
+            Placed::new(&other, 1, &second),
+        ];
+        match clash(alloc, &placed).expect(rt, "memory") {
+            None => put(rt, out, "none"),
+            Some(found) => put_named(rt, out, rule_word(&found.rule), found.key.as_str()),
+        }
+    }
+}
+
+fn action(rt: &impl Abort, alloc: Global, line: &str) -> Action {
+    parse_line(alloc, line).ok().expect(rt, "an action")
+}
+
+fn rule_word(rule: &Rule) -> &'static str {
+    match rule {
+        Rule::Kinds => "kinds at ",
+        Rule::Attributes => "attributes at ",
+        Rule::Deliverers => "deliverers at ",
+        Rule::Mediator => "mediator at ",
+        Rule::Below => "below ",
+        Rule::Target => "target of ",
     }
 }
 
@@ -187,6 +223,17 @@ const VERSIONS: &str = r#"
 {0x7b}"test": {0x7b}"a": [{0x7b}"version": "2"}, {0x7b}"version": "2"}, {0x7b}"version": "x"}], "b": 1}} -> repeated a 2
 "#;
 
+const RULES: &str = r#"
+file da39a3ee5e6b4b0d3255bfef95601890afd80709 path=etc/m mode=0644 owner=root group=sys | file 77de68daecd823babbb58edb1c8e14d7106e83bb path=etc/m mode=0644 owner=root group=sys -> deliverers at etc/m
+file da39a3ee5e6b4b0d3255bfef95601890afd80709 path=etc/m mode=0644 owner=root group=sys overlay=allow preserve=true | file 77de68daecd823babbb58edb1c8e14d7106e83bb path=etc/m mode=0644 owner=root group=sys overlay=true -> none
+link path=lib target=t | file da39a3ee5e6b4b0d3255bfef95601890afd80709 path=lib/x mode=0644 owner=root group=sys -> below lib
+dir path=x mode=0755 owner=root group=sys | link path=x target=t -> kinds at x
+dir path=x mode=0755 owner=root group=sys | dir path=x mode=0755 owner=root group=bin -> attributes at x
+dir path=x mode=0755 owner=root group=sys | dir path=/x mode=755 owner=root group=sys -> none
+link path=x target=t mediator=m | link path=x target=t mediator=n -> mediator at x
+hardlink path=x target=t | dir path=t mode=0755 owner=o group=g -> target of x
+"#;
+
 #[test]
 fn lines_of_actions_are_told(rt: HostRuntime) {
     let alloc = rt.alloc();
@@ -205,4 +252,10 @@ fn faults_of_catalogs_are_told(rt: HostRuntime) {
             (Offered, 8, VERSIONS),
         ],
     );
+}
+
+#[test]
+fn rules_of_clashes_are_told(rt: HostRuntime) {
+    let alloc = rt.alloc();
+    all_hold(&rt, alloc, &[(Both, 8, RULES)]);
 }

@@ -1,6 +1,6 @@
 //! Tests of the crates of words: paths and texts, words of a line, versions, FMRIs
-//! and patterns, payload names, the tables of `ips_cases`, and why a line is no action
-//! and a text no catalog. `table` reads the cases.
+//! and patterns, payload names, the tables of `ips_cases`, and why a line is no action,
+//! a text no catalog, and two actions clash. `table` reads the cases.
 #![tactic(auto)]
 
 #[cfg(test)]
