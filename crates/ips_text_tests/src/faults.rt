@@ -142,6 +142,8 @@ dir path=x mode=0755 owner=root -> missing group
 dir path=.. mode=x -> bad path
 dir mode=x -> missing path
 file a9993e364706816aba3e25717850c26c9cd0d89d path=../etc/passwd mode=0644 owner=root group=bin -> bad path
+dir path=a//b mode=0755 owner=root group=bin -> bad path
+hardlink path=bin/b target=../../x -> bad target
 dir path=a mode=x owner=a owner=b -> bad mode
 dir path=a mode=1 owner=a owner=b -> bad owner
 dir path=a mode=1 owner=o group=g facet.b=x facet.a=y -> bad facet.a
@@ -237,7 +239,7 @@ hardlink path=x target=t | dir path=t mode=0755 owner=o group=g -> target of x
 #[test]
 fn lines_of_actions_are_told(rt: HostRuntime) {
     let alloc = rt.alloc();
-    all_hold(&rt, alloc, &[(Line, 11, CANONICAL), (Line, 24, FAULTS)]);
+    all_hold(&rt, alloc, &[(Line, 11, CANONICAL), (Line, 26, FAULTS)]);
 }
 
 #[test]
