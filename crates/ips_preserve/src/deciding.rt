@@ -1,112 +1,74 @@
 //! The keep table.
 
 ghost use Rattle.std.specs.Prelude.{◌≡◌};
-ghost use Rattle.ips_preserve.specs.Keep.{keep};
-ghost use Rattle.ips_preserve.specs.Places.{IsKeepTable};
+ghost use Rattle.ips_preserve.specs.Keep as table;
 
-use crate::case::Case;
+use crate::case::{Case, Event, Standing};
 use crate::keep::Keep;
-use crate::places::{event_place, keep_of, preserve_place, standing_place};
-use ips_cases::{Cases, Row};
-
-// Sets of events.
-const FIRST: u32 = 1;
-
-const UPDATE: u32 = 2;
-
-const REMOVAL: u32 = 4;
-
-// Sets of answers to whether the payload changed: no, yes, either.
-const NO: u32 = 1;
-
-const YES: u32 = 2;
-
-const EITHER: u32 = 3;
-
-// Sets of preserves.
-const NONE: u32 = 1;
-
-const TRUE: u32 = 2;
-
-const RENAME_OLD: u32 = 4;
-
-const RENAME_NEW: u32 = 8;
-
-const LEGACY: u32 = 16;
-
-const ABANDON: u32 = 32;
-
-const INSTALL_ONLY: u32 = 64;
-
-const ANY: u32 = 127;
-
-// Answers.
-const STAY: u8 = 0;
-
-const LAY: u8 = 1;
-
-const SALVAGE_LAY: u8 = 2;
-
-const SAVE_OLD: u8 = 3;
-
-const LAY_NEW: u8 = 4;
-
-const SAVE_LEGACY: u8 = 5;
-
-const DROP: u8 = 6;
-
-const SALVAGE_DROP: u8 = 7;
+use crate::keep::Keep::{Drop, Lay, LayNew, SalvageDrop, SalvageLay, SaveLegacy, SaveOld, Stay};
+use ips_action::Preserve;
 
 /// What becomes of a file in this case.
 pub fn decide(case: Case) -> Keep
-    ensures { result ≡ keep case }
+    ensures { result ≡ table.keep case }
 {
-    let key = [
-        preserve_place(case.preserve),
-        event_place(case.event),
-        standing_place(case.standing),
-        u8::from(case.changed),
-    ];
-    keep_of(table().find(key))
+    match case.event {
+        Event::First => at_first(case.preserve, case.standing),
+        Event::Update if case.changed => at_change(case.preserve, case.standing),
+        Event::Update => row(Stay, Stay, Stay, Stay, case.standing),
+        Event::Removal => at_removal(case.preserve, case.standing),
+    }
 }
 
-// The table: at each event, and whether the payload changed, the answers for each preserve where nothing stands at the path,
-// the same bytes, other bytes, or no file.
-fn table() -> Cases<64>
-    ensures { IsKeepTable result }
+// Where a file is wanted at the path, and none was before.
+fn at_first(preserve: Preserve, standing: Standing) -> Keep
+    ensures { result ≡ table.at_first preserve standing }
 {
-    macro_rules! rows {
-        ($($event:ident, $changed:ident, $preserve:expr => $absent:ident $same:ident $different:ident $other:ident;)*) => {
-            [
-                $(
-                    Row { sets: [$preserve, $event, 1, $changed], value: $absent },
-                    Row { sets: [$preserve, $event, 2, $changed], value: $same },
-                    Row { sets: [$preserve, $event, 4, $changed], value: $different },
-                    Row { sets: [$preserve, $event, 8, $changed], value: $other },
-                )*
-            ]
-        };
+    match preserve {
+        Preserve::None => row(Lay, Lay, SalvageLay, SalvageLay, standing),
+        Preserve::True => row(Lay, Lay, Stay, SalvageLay, standing),
+        Preserve::RenameOld => row(Lay, Lay, SaveOld, SalvageLay, standing),
+        Preserve::RenameNew => row(Lay, Lay, LayNew, SalvageLay, standing),
+        Preserve::Legacy | Preserve::Abandon => row(Stay, Stay, Stay, Stay, standing),
+        Preserve::InstallOnly => row(Lay, Stay, Stay, Stay, standing),
     }
-    let rows = rows! {
-        FIRST, EITHER, NONE => LAY LAY SALVAGE_LAY SALVAGE_LAY;
-        FIRST, EITHER, TRUE => LAY LAY STAY SALVAGE_LAY;
-        FIRST, EITHER, RENAME_OLD => LAY LAY SAVE_OLD SALVAGE_LAY;
-        FIRST, EITHER, RENAME_NEW => LAY LAY LAY_NEW SALVAGE_LAY;
-        FIRST, EITHER, LEGACY + ABANDON => STAY STAY STAY STAY;
-        FIRST, EITHER, INSTALL_ONLY => LAY STAY STAY STAY;
-        UPDATE, NO, ANY => STAY STAY STAY STAY;
-        UPDATE, YES, NONE => LAY LAY LAY SALVAGE_LAY;
-        UPDATE, YES, TRUE => LAY LAY STAY SALVAGE_LAY;
-        UPDATE, YES, RENAME_OLD => LAY LAY SAVE_OLD SALVAGE_LAY;
-        UPDATE, YES, RENAME_NEW => LAY LAY LAY_NEW SALVAGE_LAY;
-        UPDATE, YES, LEGACY => LAY SAVE_LEGACY SAVE_LEGACY SALVAGE_LAY;
-        UPDATE, YES, ABANDON + INSTALL_ONLY => STAY STAY STAY STAY;
-        REMOVAL, EITHER, NONE => STAY DROP DROP STAY;
-        REMOVAL, EITHER, TRUE + RENAME_OLD + RENAME_NEW + LEGACY => STAY DROP SALVAGE_DROP STAY;
-        REMOVAL, EITHER, ABANDON + INSTALL_ONLY => STAY STAY STAY STAY;
-    };
-    match Cases::new(rows, [7, 3, 4, 2]) {
-        Some(table) => table,
-        None => unreachable!(),
+}
+
+// Where a file is wanted at the path with another payload than before.
+fn at_change(preserve: Preserve, standing: Standing) -> Keep
+    ensures { result ≡ table.at_change preserve standing }
+{
+    match preserve {
+        Preserve::None => row(Lay, Lay, Lay, SalvageLay, standing),
+        Preserve::True => row(Lay, Lay, Stay, SalvageLay, standing),
+        Preserve::RenameOld => row(Lay, Lay, SaveOld, SalvageLay, standing),
+        Preserve::RenameNew => row(Lay, Lay, LayNew, SalvageLay, standing),
+        Preserve::Legacy => row(Lay, SaveLegacy, SaveLegacy, SalvageLay, standing),
+        Preserve::Abandon | Preserve::InstallOnly => row(Stay, Stay, Stay, Stay, standing),
+    }
+}
+
+// Where a file was wanted at the path, and nothing is any more.
+fn at_removal(preserve: Preserve, standing: Standing) -> Keep
+    ensures { result ≡ table.at_removal preserve standing }
+{
+    match preserve {
+        Preserve::None => row(Stay, Drop, Drop, Stay, standing),
+        Preserve::True | Preserve::RenameOld | Preserve::RenameNew | Preserve::Legacy => {
+            row(Stay, Drop, SalvageDrop, Stay, standing)
+        }
+        Preserve::Abandon | Preserve::InstallOnly => row(Stay, Stay, Stay, Stay, standing),
+    }
+}
+
+// A row of the table: its answers where nothing stands at the path, the payload's bytes, other bytes, and no file.
+fn row(absent: Keep, same: Keep, different: Keep, not_file: Keep, standing: Standing) -> Keep
+    ensures { result ≡ table.row absent same different not_file standing }
+{
+    match standing {
+        Standing::Absent => absent,
+        Standing::Same => same,
+        Standing::Different => different,
+        Standing::NotFile => not_file,
     }
 }

@@ -6,7 +6,6 @@
 mod case;
 mod deciding;
 mod keep;
-mod places;
 
 pub use case::{Case, Event, Standing};
 pub use deciding::decide;

@@ -4,6 +4,7 @@ use Rattle.std.specs.List.{flat_map, list_any}
 use Rattle.ips_syntax.specs.declared.table.Verb.{Verb}
 use Rattle.ips_syntax.specs.declared.table.Verb.TheVariants as verb
 use Rattle.ips_syntax.specs.declared.table.Role.{Role}
+use Rattle.ips_syntax.specs.declared.table.Role.TheVariants as role
 use Rattle.ips_syntax.specs.declared.table.Form.{Form}
 use Rattle.ips_syntax.specs.declared.table.Form.TheVariants as form
 use Rattle.ips_syntax.specs.declared.table.Operands.{Operands}
@@ -34,12 +35,21 @@ is_required v r = length (required_of v) == 1 && list_any (λ q. sets q == sets 
 abbrev pub option_body : Role → List ℕ
 option_body r = role_name r ++ form_text (value_form r)
 
--- How the help shows an option: in brackets unless it is required, and with dots where it may stand again.
+-- What stands before an option that needn't stand: a bracket; `--non-sticky` excludes `--sticky`, and both share one pair of brackets.
+abbrev pub opening : Role → List ℕ
+opening role.NonSticky = codes " | "
+opening r = codes " ["
+
+-- What stands behind it: the bracket's end, with dots where the option may stand again.
+abbrev pub closing : Role → List ℕ
+closing role.Sticky = []
+closing r = if repeats r then codes "].." else codes "]"
+
+-- How the help shows an option: in brackets unless it is required.
 abbrev pub option_text : Verb → Role → List ℕ
 option_text v r =
     if is_required v r then codes " " ++ option_body r
-    else (if repeats r then codes " [" ++ option_body r ++ codes "].."
-    else codes " [" ++ option_body r ++ codes "]")
+    else opening r ++ option_body r ++ closing r
 
 -- How the help shows operands.
 abbrev pub operands_text : Operands → List ℕ
@@ -55,7 +65,7 @@ deed verb.ImageCreate = codes "make an image"
 deed verb.Install = codes "install packages, or newer versions of them"
 deed verb.Update = codes "update packages, all of them where none is named"
 deed verb.Uninstall = codes "remove packages"
-deed verb.Fix = codes "repair what verify finds, or finish a change that was stopped"
+deed verb.Fix = codes "finish a change that was stopped; where none was, repair what verify finds"
 deed verb.Verify = codes "tell what differs from the packages"
 deed verb.List = codes "show the installed packages"
 deed verb.Contents = codes "show the paths that an installed package delivers; -m shows its manifest"
@@ -70,7 +80,7 @@ deed verb.Avoid = codes "keep group dependencies from installing these packages"
 deed verb.Unavoid = codes "take packages from the avoid list"
 deed verb.Freeze = codes "keep packages at versions"
 deed verb.Unfreeze = codes "let frozen packages go"
-deed verb.SetPublisher = codes "add a publisher, or change its place and stickiness"
+deed verb.SetPublisher = codes "put a publisher into the list, or change its place and stickiness; packages come from the image's own alone"
 deed verb.UnsetPublisher = codes "take a publisher from the list"
 deed verb.UpdateFormat = codes "move the image's records to the present format"
 deed verb.Gen = codes "try the program on a repository of so many packages, in memory"
@@ -85,7 +95,7 @@ head_text = codes "usage: pkg -R <image> -s <repository> <command>\n       pkg -
 
 -- The numbers that the program ends with.
 unfoldable pub foot_text : List ℕ
-foot_text = codes "exit status: 0 done, 1 refused, failed or damaged, 2 bad words, 4 nothing to do, 6 license needed, 99 out of memory\n"
+foot_text = codes "exit status: 0 done, 1 refused, failed or damaged, 2 bad words, 4 nothing to do, 6 license needed, 7 another pkg at work, 99 out of memory\n"
 
 -- The lines of one command, or of all.
 abbrev pub body_text : Option Verb → List ℕ

@@ -5,8 +5,8 @@ ghost use Rattle.std.specs.List.{flat_map};
 ghost use Rattle.ips_words.specs.Help as page;
 
 use ips_syntax::{
-    Form, Operands, Role, VERBS, Verb, operands_of, options_of, repeats, required_of, role_name,
-    sets, value_form, verb_name,
+    Form, Operands, Role, VERBS, Verb, operands_of, options_of, required_of, role_name, sets,
+    value_form, verb_name,
 };
 use ips_text::Text;
 use std::alloc::{AllocError, Global};
@@ -45,7 +45,7 @@ fn push_foot(out: &mut String) -> Result<(), AllocError>
     ensures { OnOk result (string_bytes out.new ≡ string_bytes out.old ++ page.foot_text) }
 {
     out.push_str(
-        "exit status: 0 done, 1 refused, failed or damaged, 2 bad words, 4 nothing to do, 6 license needed, 99 out of memory\n",
+        "exit status: 0 done, 1 refused, failed or damaged, 2 bad words, 4 nothing to do, 6 license needed, 7 another pkg at work, 99 out of memory\n",
     )
 }
 
@@ -98,14 +98,34 @@ fn push_option(out: &mut String, verb: Verb, role: Role) -> Result<(), AllocErro
     ensures { OnOk result (string_bytes out.new ≡ string_bytes out.old ++ page.option_text verb role) }
 {
     let required = is_required(verb, role);
-    out.push_str(if required { " " } else { " [" })?;
+    out.push_str(if required { " " } else { opening(role) })?;
     out.push_str(role_name(role))?;
     out.push_str(form_name(value_form(role)))?;
     if required {
         return Ok(());
     }
-    out.push_str(if repeats(role) { "].." } else { "]" })?;
-    Ok(())
+    out.push_str(closing(role))
+}
+
+// What stands before an option that needn't stand.
+fn opening(role: Role) -> &'static str
+    ensures { result.now ≡ page.opening role }
+{
+    match role {
+        Role::NonSticky => " | ",
+        _ => " [",
+    }
+}
+
+// What stands behind it.
+fn closing(role: Role) -> &'static str
+    ensures { result.now ≡ page.closing role }
+{
+    match role {
+        Role::Sticky => "",
+        Role::Facet | Role::Reject | Role::Variant => "]..",
+        _ => "]",
+    }
 }
 
 // Whether the option is the only one that is required.
@@ -166,7 +186,7 @@ fn deed(verb: Verb) -> &'static str
         Verb::Install => "install packages, or newer versions of them",
         Verb::Update => "update packages, all of them where none is named",
         Verb::Uninstall => "remove packages",
-        Verb::Fix => "repair what verify finds, or finish a change that was stopped",
+        Verb::Fix => "finish a change that was stopped; where none was, repair what verify finds",
         Verb::Verify => "tell what differs from the packages",
         Verb::List => "show the installed packages",
         Verb::Contents => {
@@ -186,7 +206,7 @@ fn deed(verb: Verb) -> &'static str
         Verb::Unavoid => "take packages from the avoid list",
         Verb::Freeze => "keep packages at versions",
         Verb::Unfreeze => "let frozen packages go",
-        Verb::SetPublisher => "add a publisher, or change its place and stickiness",
+        Verb::SetPublisher => "put a publisher into the list, or change its place and stickiness; packages come from the image's own alone",
         Verb::UnsetPublisher => "take a publisher from the list",
         Verb::UpdateFormat => "move the image's records to the present format",
         Verb::Gen => "try the program on a repository of so many packages, in memory",
