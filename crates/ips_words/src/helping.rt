@@ -206,7 +206,8 @@ fn deed(verb: Verb) -> &'static str
         Verb::Unavoid => "take packages from the avoid list",
         Verb::Freeze => "keep packages at versions",
         Verb::Unfreeze => "let frozen packages go",
-        Verb::SetPublisher => "put a publisher into the list, or change its place and stickiness; packages come from the image's own alone",
+        Verb::SetPublisher =>
+            "put a publisher into the list, or change its place and stickiness; packages come from the image's own alone",
         Verb::UnsetPublisher => "take a publisher from the list",
         Verb::UpdateFormat => "move the image's records to the present format",
         Verb::Gen => "try the program on a repository of so many packages, in memory",
