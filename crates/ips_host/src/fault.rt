@@ -1,6 +1,6 @@
 //! Why a call of the host failed, and the count of an object's faults with the first of them.
 
-ghost use Rattle.std.specs.Prelude.{◌≡◌, ◌<◌, IsErr, IsErrOf, IfOk, MatchOption, OnOk, Ok, ⊤};
+ghost use Rattle.std.specs.Prelude.{◌≡◌, ◌<◌, IsErr, IsErrOf, IfNone, IfOk, IfSome, OnOk, Ok, ⊤};
 ghost use Rattle.ips_folder.specs.declared.listing.ListFault.TheVariants as list_fault;
 ghost use Rattle.ips_outside.specs.Outside.{HasCause, OneMore};
 
@@ -120,7 +120,9 @@ impl<A: Allocator> Faults<A> {
 
     /// The first call that failed.
     pub fn first(&self) -> Option<&FailedCall<A>>
-        ensures { MatchOption result (self.now.count ≡ 0) (λ first. (0 < self.now.count) × (first.now ≡ self.now.first)) }
+        ensures none { IfNone result (self.now.count ≡ 0) }
+        ensures some { IfSome result (λ _. 0 < self.now.count) }
+        ensures first { IfSome result (λ first. first.now ≡ self.now.first) }
     {
         if self.count == 0 {
             None

@@ -1,6 +1,6 @@
 //! Standard output.
 
-ghost use Rattle.std.specs.Prelude.{◌≡◌, ◌<◌, IfOk, MatchOption};
+ghost use Rattle.std.specs.Prelude.{◌≡◌, ◌<◌, IfNone, IfOk, IfSome};
 ghost use Rattle.ips_outside.specs.Taking.{TakesSome};
 ghost use Rattle.ips_host.specs.Silent.{silent_sink};
 
@@ -29,7 +29,8 @@ impl<R: Print + Alloc + Drop> HostSink<R> {
 
     /// The first call that failed.
     pub fn first_fault(&self) -> Option<&FailedCall<R::A>>
-        ensures { MatchOption result ((⟦<HostSink<R> as Sink>⟧.taking).faults self.now ≡ 0) (λ _. 0 < (⟦<HostSink<R> as Sink>⟧.taking).faults self.now) }
+        ensures none { IfNone result ((⟦<HostSink<R> as Sink>⟧.taking).faults self.now ≡ 0) }
+        ensures some { IfSome result (λ _. 0 < (⟦<HostSink<R> as Sink>⟧.taking).faults self.now) }
     {
         self.faults.first()
     }

@@ -1,6 +1,6 @@
 //! Programs of the host, as a spawner.
 
-ghost use Rattle.std.specs.Prelude.{◌≡◌, ◌<◌, MatchOption};
+ghost use Rattle.std.specs.Prelude.{◌≡◌, ◌<◌, IfNone, IfSome};
 ghost use Rattle.ips_host.specs.Silent.{silent_spawner};
 
 use crate::fault::{FailedCall, Faults};
@@ -29,7 +29,8 @@ impl<R: Processes + Alloc + Drop> HostSpawner<R> {
 
     /// The first call that failed.
     pub fn first_fault(&self) -> Option<&FailedCall<R::A>>
-        ensures { MatchOption result ((⟦<HostSpawner<R> as Spawner>⟧.running).faults self.now ≡ 0) (λ _. 0 < (⟦<HostSpawner<R> as Spawner>⟧.running).faults self.now) }
+        ensures none { IfNone result ((⟦<HostSpawner<R> as Spawner>⟧.running).faults self.now ≡ 0) }
+        ensures some { IfSome result (λ _. 0 < (⟦<HostSpawner<R> as Spawner>⟧.running).faults self.now) }
     {
         self.faults.first()
     }
