@@ -1,11 +1,13 @@
 //! The calls on what is below a root of the host.
 
-use crate::fault::{Refused, or_refused};
+use crate::fault::{Refused, or_no_memory, or_refused};
 use crate::listing::list_names;
 use crate::opened::Opened;
 use crate::programs::sync_file_system;
 use crate::root::{Root, know, look, need, prepare};
-use crate::standing::{give_mode, give_open_mode, keep_mode, keep_open_mode, node_at};
+use crate::standing::{
+    Node, give_mode, give_open_mode, is_one, keep_mode, keep_open_mode, node_at,
+};
 use ips_folder::Listing;
 use ips_outside::Look;
 use ips_text::RelPath;
@@ -55,11 +57,8 @@ pub fn make_file<R: Files + Alloc>(
     appending: &mut Opened<R::File, R::A>,
     path: &RelPath,
 ) -> Result<(), Refused> {
-    let Ok(()) = need(rt, root, path) else {
-        return Err(Refused);
-    };
-    match make_file_at(rt, root.place()) {
-        Ok(file) => appending.keep(path, file),
+    match need(rt, root, path) {
+        Ok(()) => appending.keep(path, make_file_at(rt, root.place())?),
         Err(e) => Err(e),
     }
 }
@@ -90,7 +89,7 @@ pub fn make_link<R: Files + Alloc>(
 fn make_link_at(target: &[u8], place: &str) -> Result<(), Refused> {
     match os::symlink(target, place.as_bytes()) {
         0 => Ok(()),
-        _ => Err(Refused),
+        _ => Err(Refused::System(os::errno())),
     }
 }
 
@@ -101,13 +100,12 @@ pub fn make_hard<R: Files + Alloc>(
     path: &RelPath,
     to: &RelPath,
 ) -> Result<(), Refused> {
-    let Ok(()) = need(rt, root, path) else {
-        return Err(Refused);
-    };
+    need(rt, root, path)?;
     root.set_aside();
     match look(rt, root, to) {
         Ok(Look::File { .. }) => or_refused(fs::hard_link(rt, root.place(), root.aside())),
-        _ => Err(Refused),
+        Ok(_) => Err(Refused::Unfit),
+        Err(e) => Err(e),
     }
 }
 
@@ -120,7 +118,7 @@ pub fn remove<R: Files + Alloc>(
     match look(rt, root, path) {
         Ok(Look::Absent) => Ok(()),
         Ok(Look::Dir { .. }) => {
-            root.forget();
+            root.forget_at(path);
             or_refused(fs::remove_dir_all(rt, root.place()))
         }
         Ok(_) => or_refused(fs::remove_file(rt, root.place())),
@@ -174,8 +172,9 @@ fn target_at(alloc: Global, place: &str) -> Result<Vec<u8>, Refused> {
     let mut buffer = [0; TARGET_ROOM];
     match usize::try_from(os::readlink(place.as_bytes(), &mut buffer)) {
         // Linux makes no link whose target fills the buffer.
-        Ok(count) if count < TARGET_ROOM => or_refused(Vec::from_slice(alloc, &buffer[..count])),
-        _ => Err(Refused),
+        Ok(count) if count < TARGET_ROOM => or_no_memory(Vec::from_slice(alloc, &buffer[..count])),
+        Ok(_) => Err(Refused::Unfit),
+        Err(_) => Err(Refused::System(os::errno())),
     }
 }
 
@@ -186,20 +185,16 @@ pub fn same<R: Files + Alloc>(
     a: &RelPath,
     b: &RelPath,
 ) -> Result<bool, Refused> {
-    let Ok(a) = node_of(rt, root, a) else {
-        return Err(Refused);
-    };
-    let Ok(b) = node_of(rt, root, b) else {
-        return Err(Refused);
-    };
-    Ok(a.0 == b.0 && a.1 == b.1)
+    let a = node_of(rt, root, a)?;
+    let b = node_of(rt, root, b)?;
+    Ok(is_one(a, b))
 }
 
 fn node_of<R: Files + Alloc>(
     rt: &R,
     root: &mut Root<R::File, R::A>,
     path: &RelPath,
-) -> Result<(u64, u64), Refused> {
+) -> Result<Node, Refused> {
     match need(rt, root, path) {
         Ok(()) => node_at(rt, root.place()),
         Err(e) => Err(e),
@@ -219,7 +214,8 @@ pub fn set_mode<R: Files + Alloc>(
     }
     match look(rt, root, path) {
         Ok(Look::Dir { .. } | Look::File { .. }) => give_mode(rt, root.place(), mode),
-        _ => Err(Refused),
+        Ok(_) => Err(Refused::Unfit),
+        Err(e) => Err(e),
     }
 }
 

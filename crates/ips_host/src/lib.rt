@@ -1,13 +1,16 @@
 //! The trusted edge: the host's files, its programs and its standard output, as a source, a folder, a sink and a spawner.
 //!
-//! Nothing is proved of what the host holds or takes. What is proved: each object counts its faults, and fails
-//! exactly where that count rose.
+//! Nothing is proved of what the host holds or takes. What is proved: each object counts its faults, fails exactly where
+//! that count rose, and tells of a first call that failed exactly where that count isn't 0.
+//!
+//! Beside the objects stand the lock on an image's folder (`lock`), and the words of the system behind a fault (`telling`).
 #![tactic(auto)]
 
 mod calls;
 mod fault;
 mod folder;
 mod listing;
+mod lock;
 mod opened;
 mod programs;
 mod root;
@@ -16,8 +19,12 @@ mod source;
 mod spawner;
 mod standard;
 mod standing;
+mod telling;
 
+pub use fault::FailedCall;
 pub use folder::HostFolder;
+pub use lock::{Busy, Lock, take_lock};
 pub use sink::HostSink;
 pub use source::HostSource;
 pub use spawner::HostSpawner;
+pub use telling::tell_faults;

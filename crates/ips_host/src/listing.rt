@@ -26,7 +26,7 @@ pub fn list_names<N: Read>(
             foreign = true;
         }
     }
-    Err(Refused)
+    Err(Refused::Unnumbered)
 }
 
 // The path of a child, where it has one.

@@ -2,7 +2,7 @@
 
 ghost use Rattle.std.specs.Prelude.{◌≤◌, IfOk, length};
 
-use crate::fault::{Refused, or_refused};
+use crate::fault::{Refused, or_no_memory, or_refused};
 use crate::root::{Root, look};
 use ips_outside::Look;
 use ips_text::{RelPath, covers};
@@ -63,7 +63,7 @@ impl<F: Drop, A: Allocator> Opened<F, A> {
         self.file = Some(file);
         self.at = 0;
         self.path.clear();
-        or_refused(self.path.extend_from_slice(path.bytes()))
+        or_no_memory(self.path.extend_from_slice(path.bytes()))
     }
 }
 
@@ -191,10 +191,8 @@ pub fn append<R: Files + Alloc>(
     path: &RelPath,
     bytes: &[u8],
 ) -> Result<(), Refused> {
-    if appending.file_at(path).is_none()
-        && open(rt, root, appending, path, OpenOptions::new().append(true)).is_err()
-    {
-        return Err(Refused);
+    if appending.file_at(path).is_none() {
+        open(rt, root, appending, path, OpenOptions::new().append(true))?;
     }
     let answer = write_to(&mut appending.file, bytes);
     if answer.is_err() {
@@ -206,6 +204,6 @@ pub fn append<R: Files + Alloc>(
 fn write_to<F: Write>(file: &mut Option<F>, bytes: &[u8]) -> Result<(), Refused> {
     match file {
         Some(file) => or_refused(file.write_all(bytes)),
-        None => Err(Refused),
+        None => Err(Refused::Unfit),
     }
 }

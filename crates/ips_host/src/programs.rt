@@ -1,5 +1,7 @@
 //! Programs of the host.
 
+ghost use Rattle.std.specs.Prelude.{◌≡◌, ◌∷◌, [], codes, map};
+
 use crate::fault::{Refused, or_refused};
 use ips_text::Text;
 use std::alloc::{AllocError, Allocator};
@@ -12,11 +14,19 @@ pub fn sync_file_system<P: Processes, A: Allocator + Clone>(
     alloc: A,
     path: &str,
 ) -> Result<(), Refused> {
-    let arguments = ["-f", "--", path];
-    match run(processes, alloc, "/bin/sync", &arguments, true) {
+    let words = sync_words(path);
+    match run(processes, alloc, words[0], &words[1..], true) {
         Ok(0) => Ok(()),
-        _ => Err(Refused),
+        Ok(_) => Err(Refused::Status),
+        Err(e) => Err(e),
     }
+}
+
+// The program that makes safe what was written to the file system on which the path stands, and its arguments.
+fn sync_words(path: &str) -> [&str; 4]
+    ensures { map (λ word. word.now) result ≡ codes "/bin/sync" ∷ codes "-f" ∷ codes "--" ∷ path.now ∷ [] }
+{
+    ["/bin/sync", "-f", "--", path]
 }
 
 /// Runs the program that the first word names with all the words, waits until it has ended, and answers its status. A
@@ -29,7 +39,7 @@ pub fn run_program<P: Processes, A: Allocator + Clone>(
 ) -> Result<u8, Refused> {
     match words.split_first() {
         Some((program, arguments)) => run(processes, alloc, program.as_str(), arguments, false),
-        None => Err(Refused),
+        None => Err(Refused::Unfit),
     }
 }
 
@@ -71,7 +81,7 @@ fn run_by<P: Processes, A: Allocator + Clone, W: Word>(
     is_quiet: bool,
 ) -> Result<u8, Refused> {
     let Ok(()) = add_arguments(command, arguments) else {
-        return Err(Refused);
+        return Err(Refused::Memory);
     };
     silence(command, is_quiet);
     match or_refused(command.status(processes)) {
@@ -101,6 +111,7 @@ fn add_arguments<A: Allocator + Clone, W: Word>(
 fn status_of(code: Option<i32>) -> Result<u8, Refused> {
     match code {
         Some(code) if 0 <= code && code < 256 => Ok(code as u8),
-        _ => Err(Refused),
+        Some(_) => Err(Refused::Status),
+        None => Err(Refused::Signal),
     }
 }

@@ -1,13 +1,14 @@
 //! A root of the host, and the way to what is below it.
 
-ghost use Rattle.std.specs.Prelude.{IfOk};
+ghost use Rattle.std.specs.Prelude.{◌≡◌, IfOk};
 ghost use Rattle.ips_outside.specs.Outside.{IsSmall};
+ghost use Rattle.ips_host.specs.Devices.{is_among};
 
-use crate::fault::{Refused, or_refused};
+use crate::fault::{Refused, or_no_memory};
 use crate::standard::{Standard, take_standard};
-use crate::standing::look_at;
+use crate::standing::{device_at, device_behind, look_at};
 use ips_outside::Look;
-use ips_text::{RelPath, Text};
+use ips_text::{RelPath, Text, covers};
 use std::alloc::{Alloc, AllocError, Allocator};
 use std::collections::BTreeSet;
 use std::fs::Files;
@@ -16,6 +17,20 @@ use std::{mem, str};
 /// As many directories are known at once. When one more comes the others are forgotten, and asked for again where they are
 /// needed, so that the memory of a long run doesn't grow with the directories that it makes.
 const MOST_KNOWN: usize = 4_096;
+
+/// The error of a path on another device, of Linux.
+const EXDEV: i32 = 18;
+
+/// On which devices the directories may be that lead to what is below a root.
+#[derive(Clone, Copy)]
+pub enum Devices {
+    /// On any.
+    Any,
+    /// On the root's, which wasn't asked for yet.
+    OfRoot,
+    /// On this one, which is the root's.
+    One(u64),
+}
 
 /// A root, which may be a link, and the way to what is below it, where no link is followed. An empty root has none: an
 /// empty path of the host names nothing (POSIX, Pathname Resolution). That directories stay known serves while nobody
@@ -30,8 +45,10 @@ pub struct Root<F: Drop, A: Allocator + Clone> {
 #[derive(Drop)]
 struct Ways<A: Allocator + Clone> {
     root: Text,
-    // Paths below the root at which a directory, and no link, was seen or made: at most `MOST_KNOWN`. Nothing but `remove` ends
-    // one.
+    // On which devices they may be.
+    devices: Devices,
+    // Paths below the root at which a directory, and no link, was seen or made on these devices: at most `MOST_KNOWN`. Nothing
+    // but `remove` ends one.
     known: BTreeSet<Vec<u8, A>, A>,
     // The one that was asked for last.
     known_last: Vec<u8, A>,
@@ -44,9 +61,9 @@ struct Ways<A: Allocator + Clone> {
 }
 
 impl<F: Drop, A: Allocator + Clone> Root<F, A> {
-    pub fn new<R: Alloc<A = A>>(rt: &R, root: Text) -> Root<F, A> {
+    pub fn new<R: Alloc<A = A>>(rt: &R, root: Text, devices: Devices) -> Root<F, A> {
         Root {
-            ways: new_ways(rt, root),
+            ways: new_ways(rt, root, devices),
             standard: None,
         }
     }
@@ -71,16 +88,26 @@ impl<F: Drop, A: Allocator + Clone> Root<F, A> {
         mem::swap(&mut self.ways.place, &mut self.ways.aside);
     }
 
-    /// A directory is taken away, and with it perhaps others that are known.
+    /// Something failed, so that no directory is known any longer.
     pub fn forget(&mut self) {
         self.ways.known.clear();
         self.ways.known_last.clear();
     }
+
+    /// A directory is taken away, and with it those that are known below it.
+    pub fn forget_at(&mut self, path: &RelPath) {
+        let gone = path.bytes();
+        self.ways.known.retain(|dir| !covers(gone, dir.as_slice()));
+        if covers(gone, self.ways.known_last.as_slice()) {
+            self.ways.known_last.clear();
+        }
+    }
 }
 
-fn new_ways<R: Alloc>(rt: &R, root: Text) -> Ways<R::A> {
+fn new_ways<R: Alloc>(rt: &R, root: Text, devices: Devices) -> Ways<R::A> {
     Ways {
         root,
+        devices,
         known: BTreeSet::new(rt.alloc()),
         known_last: Vec::new(rt.alloc()),
         below: String::new(rt.alloc()),
@@ -118,7 +145,8 @@ pub fn need<R: Files + Alloc>(
 ) -> Result<(), Refused> {
     match find(rt, root, path) {
         Ok(true) => Ok(()),
-        _ => Err(Refused),
+        Ok(false) => Err(Refused::Unfit),
+        Err(e) => Err(e),
     }
 }
 
@@ -209,12 +237,42 @@ fn verify_below<R: Files + Alloc>(rt: &R, ways: &mut Ways<R::A>) -> Result<bool,
 
 fn look_below<R: Files + Alloc>(rt: &R, ways: &mut Ways<R::A>) -> Result<bool, Refused> {
     let Ok(()) = join(&mut ways.place, ways.root.as_str(), ways.below.as_str()) else {
-        return Err(Refused);
+        return Err(Refused::Memory);
     };
-    match look_at(rt, ways.place.as_str()) {
-        Ok(Look::Dir { .. }) => yes(add(rt.alloc(), &mut ways.known, ways.below.as_bytes())),
-        Ok(_) => Ok(false),
+    match device_at(rt, ways.place.as_str()) {
+        Ok(Some(device)) => enter(rt, ways, device),
+        Ok(None) => Ok(false),
         Err(e) => Err(e),
+    }
+}
+
+// A directory on this device leads on where it may be there, and is known then.
+fn enter<R: Files + Alloc>(rt: &R, ways: &mut Ways<R::A>, device: u64) -> Result<bool, Refused> {
+    match ask_device(rt, ways) {
+        Ok(()) if may_be_on(ways.devices, device) => {
+            yes(add(rt.alloc(), &mut ways.known, ways.below.as_bytes()))
+        }
+        Ok(()) => Err(Refused::System(EXDEV)),
+        Err(e) => Err(e),
+    }
+}
+
+// Asks once for the root's device, where the directories are to be there.
+fn ask_device<R: Files + Alloc>(rt: &R, ways: &mut Ways<R::A>) -> Result<(), Refused> {
+    if let Devices::OfRoot = ways.devices {
+        ways.devices = Devices::One(device_behind(rt, ways.root.as_str())?);
+    }
+    Ok(())
+}
+
+// Whether a directory on this device may be one of those.
+fn may_be_on(devices: Devices, device: u64) -> bool
+    ensures { result ≡ is_among devices device }
+{
+    match devices {
+        Devices::Any => true,
+        Devices::OfRoot => false,
+        Devices::One(only) => device == only,
     }
 }
 
@@ -222,7 +280,7 @@ fn look_below<R: Files + Alloc>(rt: &R, ways: &mut Ways<R::A>) -> Result<bool, R
 fn yes<E: Drop>(done: Result<(), E>) -> Result<bool, Refused> {
     match done {
         Ok(()) => Ok(true),
-        Err(_) => Err(Refused),
+        Err(_) => Err(Refused::Memory),
     }
 }
 
@@ -247,10 +305,10 @@ fn add<A: Allocator + Clone>(
     if known.len() >= MOST_KNOWN {
         known.clear();
     }
-    let Ok(kept) = or_refused(Vec::from_slice(alloc, dir)) else {
-        return Err(Refused);
+    let Ok(kept) = or_no_memory(Vec::from_slice(alloc, dir)) else {
+        return Err(Refused::Memory);
     };
-    match or_refused(known.insert(kept)) {
+    match or_no_memory(known.insert(kept)) {
         Ok(_) => Ok(()),
         Err(e) => Err(e),
     }
@@ -265,8 +323,8 @@ fn keep_last<A: Allocator>(last: &mut Vec<u8, A>, dir: &[u8]) -> Result<(), Allo
     last.extend_from_slice(dir)
 }
 
-// A path is text.
-fn text_of(path: &RelPath) -> &str {
+/// A path is text.
+pub fn text_of(path: &RelPath) -> &str {
     match str::from_utf8(path.bytes()) {
         Ok(text) => text,
         Err(_) => unreachable!(),

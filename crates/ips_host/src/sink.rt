@@ -1,11 +1,12 @@
 //! Standard output.
 
-ghost use Rattle.std.specs.Prelude.{◌≡◌, IfOk};
+ghost use Rattle.std.specs.Prelude.{◌≡◌, ◌<◌, IfNone, IfOk, IfSome};
 ghost use Rattle.ips_outside.specs.Taking.{TakesSome};
 ghost use Rattle.ips_host.specs.Silent.{silent_sink};
 
-use crate::fault::{Refused, counted};
+use crate::fault::{FailedCall, Faults, Refused};
 use ips_outside::{Failed, Sink};
+use std::alloc::Alloc;
 use std::io;
 use std::io::{Print, Write};
 
@@ -13,25 +14,34 @@ use std::io::{Print, Write};
 ///
 /// Trusted here, and not proved: that what the host answers as written was written.
 #[derive(Drop)]
-pub struct HostSink<R: Print + Drop> {
+pub struct HostSink<R: Print + Alloc + Drop> {
     rt: R,
-    faults: u64,
+    faults: Faults<R::A>,
 }
 
-impl<R: Print + Drop> HostSink<R> {
+impl<R: Print + Alloc + Drop> HostSink<R> {
     pub fn new(rt: R) -> HostSink<R>
         ensures { (⟦<HostSink<R> as Sink>⟧.taking).faults result ≡ 0 }
     {
-        HostSink { rt, faults: 0 }
+        let faults = Faults::none(rt.alloc());
+        HostSink { rt, faults }
+    }
+
+    /// The first call that failed.
+    pub fn first_fault(&self) -> Option<&FailedCall<R::A>>
+        ensures none { IfNone result ((⟦<HostSink<R> as Sink>⟧.taking).faults self.now ≡ 0) }
+        ensures some { IfSome result (λ _. 0 < (⟦<HostSink<R> as Sink>⟧.taking).faults self.now) }
+    {
+        self.faults.first()
     }
 }
 
-impl<R: Print + Drop> Sink for HostSink<R> {
-    ghost taking = { silent_sink (λ s. s.faults) };
+impl<R: Print + Alloc + Drop> Sink for HostSink<R> {
+    ghost taking = { silent_sink (λ s. s.faults.count) };
 
     fn write(&mut self, bytes: &[u8]) -> Result<usize, Failed> {
         let answer = write_some(&self.rt, bytes);
-        counted(&mut self.faults, answer)
+        self.faults.counted("write", "standard output", answer)
     }
 }
 
@@ -45,7 +55,7 @@ fn write_some<R: Print>(rt: &R, bytes: &[u8]) -> Result<usize, Refused>
     let mut output = io::writer(rt);
     let count = output.write(bytes)?;
     if count == 0 {
-        return Err(Refused);
+        return Err(Refused::Unnumbered);
     }
     output.flush()?;
     Ok(count)

@@ -1,6 +1,6 @@
 //! What stands at a path of the host, and its permission bits.
 
-ghost use Rattle.std.specs.Prelude.{◌≡◌, ◌%◌, IfOk};
+ghost use Rattle.std.specs.Prelude.{◌≡◌, ◌%◌, ◌↔◌, IfOk, IsOk, IsTrue};
 ghost use Rattle.ips_outside.specs.Outside.{IsSmall};
 ghost use Rattle.std.specs.Fs.{metadata_mode, metadata_len, file_type, IsDir, IsFile, IsSymlink};
 
@@ -17,18 +17,29 @@ pub fn look_at<R: Files>(rt: &R, place: &str) -> Result<Look, Refused>
 {
     match &fs::symlink_metadata(rt, place) {
         Ok(metadata) => Ok(look_of(metadata)),
-        Err(e) => look_without(e.kind()),
+        Err(e) if tells_absence(e.kind()) => Ok(Look::Absent),
+        Err(e) => Err(Refused::from(*e)),
     }
 }
 
-// What a look answers where the host tells of this error.
-fn look_without(kind: ErrorKind) -> Result<Look, Refused>
-    ensures { IfOk result IsSmall }
-{
-    match kind {
-        ErrorKind::NotFound | ErrorKind::NotADirectory => Ok(Look::Absent),
-        _ => Err(Refused),
+// Whether the host tells by this error that nothing stands there.
+fn tells_absence(kind: ErrorKind) -> bool {
+    matches!(kind, ErrorKind::NotFound | ErrorKind::NotADirectory)
+}
+
+/// The device of the directory at the place. None where there is none, and where a link stands.
+pub fn device_at<R: Files>(rt: &R, place: &str) -> Result<Option<u64>, Refused> {
+    match &fs::symlink_metadata(rt, place) {
+        Ok(metadata) if metadata.is_dir() => Ok(Some(metadata.dev())),
+        Ok(_) => Ok(None),
+        Err(e) if tells_absence(e.kind()) => Ok(None),
+        Err(e) => Err(Refused::from(*e)),
     }
+}
+
+/// The device of what a path leads to, by links too.
+pub fn device_behind<R: Files>(rt: &R, path: &str) -> Result<u64, Refused> {
+    Ok(fs::metadata(rt, path)?.dev())
 }
 
 /// The permission bits, with those for setuid, setgid and sticky.
@@ -66,16 +77,19 @@ pub fn look_of(metadata: &Metadata) -> Look
 pub fn give_mode<R: Files>(rt: &R, place: &str, mode: u16) -> Result<(), Refused> {
     let permissions = Permissions::from_mode(u32::from(mode));
     match or_refused(fs::set_permissions(rt, place, permissions)) {
-        Ok(()) => confirmed(mode_at(rt, place), mode),
+        Ok(()) => confirmed(mode_at(rt, place)?, mode),
         Err(e) => Err(e),
     }
 }
 
-// No fault where the mode that was found is the one that was given.
-fn confirmed(found: Result<u16, Refused>, mode: u16) -> Result<(), Refused> {
-    match found {
-        Ok(found) if found == mode => Ok(()),
-        _ => Err(Refused),
+// No fault just where the mode that was found is the one that was given, with each of its bits.
+fn confirmed(found: u16, mode: u16) -> Result<(), Refused>
+    ensures { IsOk result ↔ (found ≡ mode) }
+{
+    if found == mode {
+        Ok(())
+    } else {
+        Err(Refused::Mode)
     }
 }
 
@@ -96,7 +110,7 @@ fn mode_at<R: Files>(rt: &R, place: &str) -> Result<u16, Refused> {
 pub fn give_open_mode<F: OpenFile>(file: &F, mode: u16) -> Result<(), Refused> {
     let permissions = Permissions::from_mode(u32::from(mode));
     match or_refused(file.set_permissions(permissions)) {
-        Ok(()) => confirmed(open_mode(file), mode),
+        Ok(()) => confirmed(open_mode(file)?, mode),
         Err(e) => Err(e),
     }
 }
@@ -114,12 +128,27 @@ fn open_mode<F: OpenFile>(file: &F) -> Result<u16, Refused> {
     Ok(mode_of(&file.metadata()?))
 }
 
-/// The device and the node of the file at the place.
-pub fn node_at<R: Files>(rt: &R, place: &str) -> Result<(u64, u64), Refused> {
+/// A file of the host, whatever its names.
+#[derive(Clone, Copy)]
+pub struct Node {
+    pub device: u64,
+    pub number: u64,
+}
+
+/// The file at the place.
+pub fn node_at<R: Files>(rt: &R, place: &str) -> Result<Node, Refused> {
     let metadata = fs::symlink_metadata(rt, place)?;
     if metadata.is_file() {
-        Ok((metadata.dev(), metadata.ino()))
+        let (device, number) = (metadata.dev(), metadata.ino());
+        Ok(Node { device, number })
     } else {
-        Err(Refused)
+        Err(Refused::Unfit)
     }
+}
+
+/// Whether two files are one: the same node of the same device.
+pub fn is_one(a: Node, b: Node) -> bool
+    ensures { IsTrue result ↔ (a ≡ b) }
+{
+    a.device == b.device && a.number == b.number
 }

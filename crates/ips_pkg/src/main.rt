@@ -1,11 +1,15 @@
-//! The program `pkg`: it makes the objects of the host and calls the top call, which does everything else.
+//! The program `pkg`: it locks the image's folder, makes the objects of the host and calls the top call, which does everything
+//! else.
 #![tactic(auto)]
+
+mod locking;
 
 ghost use Rattle.std.specs.Prelude.{◌≡◌, ◌<◌, ◌∷◌, ℕ, List, IfOk, OnErr, codes, map, string_bytes};
 ghost use Rattle.ips_pkg.specs.Ended.{EndsWith};
 
+use crate::locking::lock_for;
 use ips_folder::Folder;
-use ips_host::{HostFolder, HostSink, HostSource, HostSpawner};
+use ips_host::{Busy, HostFolder, HostSink, HostSource, HostSpawner, take_lock, tell_faults};
 use ips_kinds::{FreshKind, GoneKind, HardKind, Kind, LinkKind, ModeKind, PutKind};
 use ips_outside::{Sink, Source, Spawner};
 use ips_text::Text;
@@ -18,6 +22,9 @@ use std::{env, io};
 /// The number of a run for which no memory is left.
 const OUT_OF_MEMORY: u8 = 99;
 
+/// The number of a program that does nothing, since another one is at work on the image.
+const BUSY: u8 = 7;
+
 /// The last second of the year 9998, counted from the first of January 1970.
 const LAST_SECOND: u64 = 253370764799;
 
@@ -29,7 +36,30 @@ fn main(rt: HostRuntime) -> ExitCode {
     let Ok(moment) = moment_of(&rt) else {
         return ExitCode::FAILURE;
     };
-    let (image, repository) = roots_of(&words);
+    let Ok(lock) = lock_for(alloc, &words) else {
+        return ExitCode::from(OUT_OF_MEMORY);
+    };
+    let (image, _) = roots_of(&words);
+    match take_lock(&rt, image, lock) {
+        Ok(held) => {
+            let status = work(rt, &words, moment);
+            drop(held);
+            status
+        }
+        Err(Busy) => {
+            let _ = eprintln!(rt; "pkg: another pkg is at work on this image");
+            ExitCode::from(BUSY)
+        }
+    }
+}
+
+// Does what the words ask for on the host's objects, and tells of the calls that failed behind the report.
+fn work(rt: HostRuntime, words: &[String], moment: u64) -> ExitCode
+    requires moment { moment < 253370764800 }
+{
+    let alloc = rt.alloc();
+    let errors = rt.stderr();
+    let (image, repository) = roots_of(words);
     let (Ok(image), Ok(repository)) = (Text::new(alloc, image), Text::new(alloc, repository)) else {
         return ExitCode::from(OUT_OF_MEMORY);
     };
@@ -45,13 +75,14 @@ fn main(rt: HostRuntime) -> ExitCode {
     let mut sink = HostSink::new(rt);
     let number = number_of(
         alloc,
-        &words,
+        words,
         moment,
         &mut source,
         &mut folder,
         &mut spawner,
         &mut sink,
     );
+    tell_faults(&errors, &folder, &source, &spawner, &sink);
     ExitCode::from(number.unwrap_or(OUT_OF_MEMORY))
 }
 

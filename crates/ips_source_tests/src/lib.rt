@@ -2,7 +2,7 @@
 //! output.
 //!
 //! The cases of repositories are tables of `cases`; `asked` says what is asked of a row, `trees` makes the folder, and `answers`
-//! asks it. The adapters play a `script`.
+//! asks it. The adapters play a `script`; `faults` asks for the words behind their faults.
 #![tactic(auto)]
 
 #[cfg(test)]
@@ -11,6 +11,8 @@ mod answers;
 mod asked;
 #[cfg(test)]
 mod cases;
+#[cfg(test)]
+mod faults;
 #[cfg(test)]
 mod folder;
 #[cfg(test)]
