@@ -170,6 +170,15 @@ def gate_stands(image):
     return os.path.lexists(os.path.join(image, "var/pkg/gate"))
 
 
+def pending(image):
+    return "open" if gate_stands(image) else "left" if leftovers(image) else "none"
+
+
+def closed(calls, image):
+    """Whether the gate was taken away by these calls."""
+    return any(it.name in ("unlink", "unlinkat") and it.path == os.path.join(image, "var/pkg/gate") and it.text.endswith(" = 0") for it in calls)
+
+
 def copy(image, to):
     if os.path.lexists(to):
         shutil.rmtree(to)
@@ -272,6 +281,43 @@ class Trials:
     def end(self):
         print("%d passed, %d failed" % (self.passed, self.failed))
         sys.exit(0 if self.failed == 0 else 1)
+
+    # ---- fix
+    def fix_to_its_end(self, request, image, due, log):
+        """Runs fix on what is left of the request, and tells its calls, what is wrong behind it, and which image is due then."""
+        was, problems = pending(image), []
+        answer = self.run(["fix"], image, trace=log)
+        seen = tree(image)
+        if was == "none":
+            wanted = request.idle[due]
+            if request.repairs:
+                due = "new"
+        else:
+            wanted = (0, "recovered: new image\n" if was == "open" else "recovered: leftovers cleared\n")
+        if (answer.status, answer.out) != wanted:
+            problems.append("fix answers %d %s %s, wanted %s" % (answer.status, answer.out, answer.err, wanted))
+        if leftovers(image):
+            problems.append("left over: %s" % leftovers(image))
+        if not (request.is_before(seen) if due == "old" else seen == request.new):
+            is_other = seen == request.new if due == "old" else request.is_before(seen)
+            problems.append("the image isn't the %s one%s" % (due, ", but the other one" if is_other else "; neither is it the other one"))
+            problems += differences(seen, request.old if due == "old" else request.new)
+        return answer.calls, problems, due
+
+    def looks_as(self, request, image, due):
+        """What is wrong with the reports of verify and list, the image being the one that is due."""
+        problems = []
+        for words, wanted in zip(("verify", "list"), request.reports[due]):
+            found = self.report(words, image)
+            if found != wanted:
+                problems.append("%s says %s, wanted %s" % (words, found, wanted))
+        return problems
+
+    def place(self, request):
+        """Names the paths of a request's calls without the place where the image stood, and tells which folder they are of."""
+        for call in request.calls:
+            call.kept, call.from_repository = self.below(call, request.after), self.below(call, self.repository)
+            call.path = call.path.replace(request.after, "IMAGE", 1).replace(self.repository, "REPOSITORY", 1)
 
     # ---- the requests
     def must(self, image, *words):
@@ -413,11 +459,8 @@ class Trials:
                 copy(where, it.before + ".idle")
                 it.idle[due] = self.report("fix", it.before + ".idle")
                 shutil.rmtree(it.before + ".idle")
-            # What the calls are told of is where the image stood then.
-            for call in it.calls:
-                call.kept = self.below(call, it.after)
-                call.from_repository = self.below(call, self.repository)
-                call.path = call.path.replace(it.after, "IMAGE", 1).replace(self.repository, "REPOSITORY", 1)
+            it.actuators = 3 if name == "update-actuated" else 0
+            self.place(it)
             found.append(it)
         return found
 
