@@ -1,6 +1,6 @@
 # What tests/kills and tests/failing-calls share: a small repository, some requests with the images before and behind them, the tree of an image as it
 # is seen, and the program's system calls by strace. It needs python3, strace and cp; TMPDIR=/dev/shm makes it fast.
-import atexit, hashlib, json, os, re, shutil, stat, subprocess, sys, tempfile, threading
+import atexit, ctypes, hashlib, json, os, re, shutil, signal, stat, subprocess, sys, tempfile, threading
 
 sys.dont_write_bytecode = True
 
@@ -200,6 +200,14 @@ by_fd = ("write", "pwrite64", "writev", "ftruncate", "fchmod", "fsync", "fdatasy
          "readv", "lseek", "flock", "fcntl", "close", "fstatfs", "fchown", "exit_group") + spawning
 
 
+numbers_of_calls = {"write": 1, "open": 2, "pwrite64": 18, "writev": 20, "sendfile": 40, "fsync": 74, "fdatasync": 75, "truncate": 76, "ftruncate": 77,
+                    "rename": 82, "mkdir": 83, "rmdir": 84, "link": 86, "unlink": 87, "symlink": 88, "chmod": 90, "fchmod": 91, "openat": 257,
+                    "mkdirat": 258, "unlinkat": 263, "renameat": 264, "linkat": 265, "symlinkat": 266, "fchmodat": 268, "renameat2": 316,
+                    "copy_file_range": 326}
+libc = ctypes.CDLL(None, use_errno=True)
+libc.ptrace.argtypes, libc.ptrace.restype = [ctypes.c_long, ctypes.c_long, ctypes.c_void_p, ctypes.c_long], ctypes.c_long
+
+
 class Call:
     """A system call: its name, which one of that name, its path, whether it may change something, how many bytes it wrote, and its line."""
     def __init__(self, name, number, path, text):
@@ -252,8 +260,15 @@ class Trials:
         self.program, self.options = program, options
         self.room = tempfile.mkdtemp()
         atexit.register(shutil.rmtree, self.room, ignore_errors=True)
+        for it in (signal.SIGTERM, signal.SIGINT, signal.SIGHUP):
+            signal.signal(it, self.stop)
         self.passed = self.failed = 0
         self.lock = threading.Lock()
+
+    def stop(self, number, frame):
+        # What is under way isn't waited for.
+        shutil.rmtree(self.room, ignore_errors=True)
+        os._exit(1)
 
     def run(self, words, image, trace=None, inject=None, seconds=120, before=()):
         command = [self.program, "-R", image, "-s", self.repository] + words
@@ -262,6 +277,47 @@ class Trials:
                       (["-e", "inject=" + inject] if inject else []) + command
         it = subprocess.run(list(before) + command, stdout=subprocess.PIPE, stderr=subprocess.PIPE, stdin=subprocess.DEVNULL, timeout=seconds)
         return Run(it.returncode, it.stdout.decode(errors="replace"), it.stderr.decode(errors="replace"), read_calls(trace) if trace else None)
+
+    def run_answered(self, words, image, call, error, folder):
+        """A run in which the call is done, and yet answered with the error: by ptrace, since strace leaves out a call that it answers."""
+        out, err = (os.path.join(folder, name) for name in ("out", "err"))
+        command = [self.program, "-R", image, "-s", self.repository] + words
+        child = os.fork()
+        if child == 0:
+            try:
+                null = os.open("/dev/null", os.O_RDONLY)
+                for name, fd in ((out, 1), (err, 2)):
+                    os.dup2(os.open(name, os.O_WRONLY | os.O_CREAT | os.O_TRUNC, 0o600), fd)
+                os.dup2(null, 0)
+                libc.ptrace(0, 0, None, 0)
+                os.execv(command[0], command)
+            finally:
+                os._exit(127)
+        wanted, seen, inside, hit = numbers_of_calls[call.name], 0, False, 0
+        os.waitpid(child, 0)
+        # Its stops at calls are told from signals, and it ends with this one.
+        libc.ptrace(0x4200, child, None, 1 | 0x100000)
+        deliver = 0
+        while True:
+            libc.ptrace(24, child, None, deliver)
+            _, state = os.waitpid(child, 0)
+            if not os.WIFSTOPPED(state):
+                break
+            deliver = os.WSTOPSIG(state)
+            if deliver == signal.SIGTRAP | 0x80:
+                deliver, inside = 0, not inside
+                if inside:
+                    entered = libc.ptrace(3, child, 15 * 8, 0)
+                    seen += entered == wanted
+                elif entered == wanted and seen == call.number and not hit:
+                    hit = 1 if libc.ptrace(3, child, 10 * 8, 0) >= 0 else -1
+                    libc.ptrace(6, child, 10 * 8, -error)
+            elif deliver == signal.SIGTRAP:
+                deliver = 0
+        with open(out, errors="replace") as one, open(err, errors="replace") as two:
+            it = Run(os.waitstatus_to_exitcode(state), one.read(), two.read())
+        it.hit = hit
+        return it
 
     def report(self, words, image):
         it = self.run(words.split(), image)
@@ -326,8 +382,8 @@ class Trials:
             quit_with("an image can't be made: %s: %d %s %s" % (" ".join(words), it.status, it.out, it.err))
 
     def prepare(self):
-        """The requests: for each its name, its words, the image before, the image that is meant, and the reports of list on both."""
-        room, large = self.room, self.options.get("large", 1005)
+        """One request after the other: its name and words, the image before and the one that is meant, and what is told of both."""
+        room, large = self.room, int(os.environ.get("PKG_TEST_FILES") or 1005)
         self.repository = os.path.join(room, "repository")
         new_repository(self.repository, large)
         actuator = os.path.join(room, "actuator")
@@ -345,11 +401,21 @@ class Trials:
                 out.write(text)
             os.chmod(full, mode)
 
+        made = {}
+
         def image(*requests):
             def make(it):
-                self.must(it, "image-create", "-p", "test", *variant)
-                for words in requests:
-                    self.must(it, *words.split())
+                if requests not in made:
+                    if requests:
+                        image(*requests[:-1])(it)
+                        self.must(it, *requests[-1].split())
+                    else:
+                        self.must(it, "image-create", "-p", "test", *variant)
+                    made[requests] = os.path.join(room, "made.%d" % len(made))
+                    copy(it, made[requests])
+                else:
+                    os.rmdir(it)
+                    copy(made[requests], it)
             return make
 
         def edited(it):
@@ -434,7 +500,6 @@ class Trials:
             ("large", "install large@1.0", image()),
             ("large-update", "update large", image("install large@1.0")),
         ]
-        found = []
         for name, words, make in table:
             if self.options["only"] and name not in self.options["only"]:
                 continue
@@ -461,8 +526,8 @@ class Trials:
                 shutil.rmtree(it.before + ".idle")
             it.actuators = 3 if name == "update-actuated" else 0
             self.place(it)
-            found.append(it)
-        return found
+            it.stopped = False
+            yield it
 
 
 class Request:
@@ -480,12 +545,11 @@ class Request:
 
 
 def spread(calls, most, important, random):
-    """At most so many of the calls: the important ones first, the others by chance; in their order."""
+    """At most so many of the calls, by chance, of which up to a third are taken of the important ones; in their order."""
     if most is None or len(calls) <= most:
         return list(calls)
     first = [it for it in calls if important(it)]
-    if len(first) > most:
-        first = random.sample(first, most)
+    first = random.sample(first, min(len(first), (most + 2) // 3))
     rest = [it for it in calls if it not in first]
     chosen = set(first + random.sample(rest, most - len(first)))
     return [it for it in calls if it in chosen]
