@@ -270,7 +270,7 @@ class Trials:
         shutil.rmtree(self.room, ignore_errors=True)
         os._exit(1)
 
-    def run(self, words, image, trace=None, inject=None, seconds=120, before=()):
+    def run(self, words, image, trace=None, inject=None, seconds=3600, before=()):
         command = [self.program, "-R", image, "-s", self.repository] + words
         if trace:
             command = ["strace", "-qq", "-y", "-s", "0", "-o", trace, "-e", "trace=" + ",".join("?" + it for it in traced)] + \
