@@ -200,8 +200,8 @@ by_fd = ("write", "pwrite64", "writev", "ftruncate", "fchmod", "fsync", "fdatasy
          "readv", "lseek", "flock", "fcntl", "close", "fstatfs", "fchown", "exit_group") + spawning
 
 
-numbers_of_calls = {"write": 1, "open": 2, "pwrite64": 18, "writev": 20, "sendfile": 40, "fsync": 74, "fdatasync": 75, "truncate": 76, "ftruncate": 77,
-                    "rename": 82, "mkdir": 83, "rmdir": 84, "link": 86, "unlink": 87, "symlink": 88, "chmod": 90, "fchmod": 91, "openat": 257,
+numbers_of_calls = {"write": 1, "open": 2, "pwrite64": 18, "writev": 20, "sendfile": 40, "fsync": 74, "fdatasync": 75, "truncate": 76,
+                    "ftruncate": 77, "rename": 82, "mkdir": 83, "rmdir": 84, "link": 86, "unlink": 87, "symlink": 88, "chmod": 90, "fchmod": 91, "openat": 257,
                     "mkdirat": 258, "unlinkat": 263, "renameat": 264, "linkat": 265, "symlinkat": 266, "fchmodat": 268, "renameat2": 316,
                     "copy_file_range": 326}
 libc = ctypes.CDLL(None, use_errno=True)
@@ -436,8 +436,8 @@ class Trials:
 
         def standing(it):
             image()(it)
-            for path in ("opt/app/bin/run", "opt/app/true", "opt/app/old", "opt/app/new", "opt/app/only", "opt/app/goes/below/it", "opt/app/latest/x"):
-                write(it, path, "stood here\n", 0o600)
+            for path in ("bin/run", "true", "old", "new", "only", "goes/below/it", "latest/x"):
+                write(it, "opt/app/" + path, "stood here\n", 0o600)
             os.symlink("../..", os.path.join(it, "usr"))
             write(it, "etc/passwd", "root:x:0:0::/root:/bin/sh\n")
             write(it, "etc/group", "root::0:\n")
