@@ -201,7 +201,8 @@ by_fd = ("write", "pwrite64", "writev", "ftruncate", "fchmod", "fsync", "fdatasy
 
 
 numbers_of_calls = {"write": 1, "open": 2, "pwrite64": 18, "writev": 20, "sendfile": 40, "fsync": 74, "fdatasync": 75, "truncate": 76,
-                    "ftruncate": 77, "rename": 82, "mkdir": 83, "rmdir": 84, "link": 86, "unlink": 87, "symlink": 88, "chmod": 90, "fchmod": 91, "openat": 257,
+                    "ftruncate": 77, "rename": 82,
+                    "mkdir": 83, "rmdir": 84, "link": 86, "unlink": 87, "symlink": 88, "chmod": 90, "fchmod": 91, "openat": 257,
                     "mkdirat": 258, "unlinkat": 263, "renameat": 264, "linkat": 265, "symlinkat": 266, "fchmodat": 268, "renameat2": 316,
                     "copy_file_range": 326}
 libc = ctypes.CDLL(None, use_errno=True)
