@@ -2,6 +2,7 @@
 # `N passed, M failed`. With PKG_TEST_FILES a large package has so many files, for a program that is slow.
 set -u
 export LC_ALL=C
+umask 022
 unset PKG_IMAGE PKG_REPOSITORY PKG_UNPROVED DESTDIR
 top=$(cd "$(dirname "${BASH_SOURCE[0]}")/.." && pwd) || exit 2
 [ $# -ge 1 ] && [ -x "$1" ] && [ ! -d "$1" ] || { echo "usage: $0 PROGRAM" >&2; exit 2; }
