@@ -1,5 +1,7 @@
 //! The calls on what is below a root of the host.
 
+ghost use Rattle.std.specs.Prelude.{◌≡◌, ◌↔◌, IfOk, IsOk};
+
 use crate::fault::{Refused, or_no_memory, or_refused};
 use crate::listing::list_names;
 use crate::opened::Opened;
@@ -20,15 +22,23 @@ use std::rt::Processes;
 // The greatest length of a path of the host, PATH_MAX of Linux.
 const TARGET_ROOM: usize = 4096;
 
-/// Makes a directory of just this mode, whatever the process's umask.
+// The error of a path at which no directory stands, of Linux.
+const ENOTDIR: i32 = 20;
+
+/// Makes a directory of just this mode, whatever the process's umask, and answers the mode that it has.
 pub fn make_dir<R: Files + Alloc>(
     rt: &R,
     root: &mut Root<R::File, R::A>,
     path: &RelPath,
     mode: u16,
-) -> Result<(), Refused> {
+) -> Result<u16, Refused>
+    ensures { IfOk result (λ found. found ≡ mode) }
+{
     match make_dir_below(rt, root, path, mode) {
-        Ok(()) => know(rt, root, path),
+        Ok(found) => match know(rt, root, path) {
+            Ok(()) => Ok(found),
+            Err(e) => Err(e),
+        },
         Err(e) => Err(e),
     }
 }
@@ -38,14 +48,18 @@ fn make_dir_below<R: Files + Alloc>(
     root: &mut Root<R::File, R::A>,
     path: &RelPath,
     mode: u16,
-) -> Result<(), Refused> {
+) -> Result<u16, Refused>
+    ensures { IfOk result (λ found. found ≡ mode) }
+{
     match need(rt, root, path) {
         Ok(()) => make_dir_at(rt, root.place(), mode),
         Err(e) => Err(e),
     }
 }
 
-fn make_dir_at<R: Files>(rt: &R, place: &str, mode: u16) -> Result<(), Refused> {
+fn make_dir_at<R: Files>(rt: &R, place: &str, mode: u16) -> Result<u16, Refused>
+    ensures { IfOk result (λ found. found ≡ mode) }
+{
     DirBuilder::new().mode(u32::from(mode)).create(rt, place)?;
     keep_mode(rt, place, mode)
 }
@@ -68,7 +82,7 @@ fn make_file_at<R: Files>(rt: &R, place: &str) -> Result<R::File, Refused> {
     how.append(true).create_new(true).mode(0o600);
     let file = how.open(rt, place)?;
     match keep_open_mode(&file, 0o600) {
-        Ok(()) => Ok(file),
+        Ok(_) => Ok(file),
         Err(e) => Err(e),
     }
 }
@@ -121,7 +135,10 @@ pub fn remove<R: Files + Alloc>(
             root.forget_at(path);
             or_refused(fs::remove_dir_all(rt, root.place()))
         }
-        Ok(_) => or_refused(fs::remove_file(rt, root.place())),
+        Ok(_) => {
+            root.forget_file();
+            or_refused(fs::remove_file(rt, root.place()))
+        }
         Err(e) => Err(e),
     }
 }
@@ -201,14 +218,16 @@ fn node_of<R: Files + Alloc>(
     }
 }
 
-/// Gives a directory or file just this mode.
+/// Gives a directory or file just this mode, and answers the mode that it then has.
 pub fn set_mode<R: Files + Alloc>(
     rt: &R,
     root: &mut Root<R::File, R::A>,
     appending: &Opened<R::File, R::A>,
     path: &RelPath,
     mode: u16,
-) -> Result<(), Refused> {
+) -> Result<u16, Refused>
+    ensures { IfOk result (λ found. found ≡ mode) }
+{
     if let Some(file) = appending.file_at(path) {
         return give_open_mode(file, mode);
     }
@@ -219,15 +238,50 @@ pub fn set_mode<R: Files + Alloc>(
     }
 }
 
+/// A call of the host, by the name that a fault of it is told with, and what it answered.
+pub struct Answered {
+    pub call: &'static str,
+    pub answer: Result<(), Refused>,
+}
+
 /// Makes safe from a crash what was written to the file system on which the root stands, by the host's program
 /// `sync -f`, which calls syncfs(2) and ends with another status than 0 where the system tells of an error. A bare
 /// `sync` tells of none.
-pub fn sync<R: Files + Alloc + Processes>(
-    rt: &R,
-    root: &mut Root<R::File, R::A>,
-) -> Result<(), Refused> {
-    match prepare(rt, root) {
+pub fn sync<R: Files + Alloc + Processes>(rt: &R, root: &mut Root<R::File, R::A>) -> Answered {
+    let answer = match prepare(rt, root) {
         Ok(()) => sync_file_system(rt, rt.alloc(), root.path()),
+        Err(e) => Err(e),
+    };
+    explained(rt, root.path(), answer)
+}
+
+// The program of a sync says that it failed, and not why. A look at the folder may tell, as where it is missing.
+fn explained<R: Files>(rt: &R, folder: &str, answer: Result<(), Refused>) -> Answered
+    ensures { IsOk result.answer ↔ IsOk answer }
+{
+    match answer {
+        Err(Refused::Status) => match folder_behind(rt, folder) {
+            Ok(()) => Answered {
+                call: "sync",
+                answer,
+            },
+            Err(why) => Answered {
+                call: "stat",
+                answer: Err(why),
+            },
+        },
+        _ => Answered {
+            call: "sync",
+            answer,
+        },
+    }
+}
+
+// No fault where the path leads to a directory, by links too.
+fn folder_behind<R: Files>(rt: &R, path: &str) -> Result<(), Refused> {
+    match or_refused(fs::metadata(rt, path)) {
+        Ok(metadata) if metadata.is_dir() => Ok(()),
+        Ok(_) => Err(Refused::System(ENOTDIR)),
         Err(e) => Err(e),
     }
 }

@@ -1,6 +1,6 @@
 //! Why a call of the host failed, and the count of an object's faults with the first of them.
 
-ghost use Rattle.std.specs.Prelude.{◌≡◌, ◌<◌, IsErr, IsErrOf, IfNone, IfOk, IfSome, OnOk, Ok, ⊤};
+ghost use Rattle.std.specs.Prelude.{◌≡◌, ◌<◌, IsErr, IsErrOf, IfErr, IfNone, IfOk, IfSome, OnOk, Ok, ⊤};
 ghost use Rattle.ips_folder.specs.declared.listing.ListFault.TheVariants as list_fault;
 ghost use Rattle.ips_outside.specs.Outside.{HasCause, OneMore};
 
@@ -135,6 +135,7 @@ impl<A: Allocator> Faults<A> {
     pub fn add(&mut self, call: &'static str, root: &str, path: &str, why: Refused)
         ensures cause { HasCause self.old.count self.new.count ⊤ }
         ensures first { self.old.count ≡ 0 → self.new.first.why ≡ why }
+        ensures name { self.old.count ≡ 0 → self.new.first.call.now ≡ call.now }
         ensures kept { 0 < self.old.count → self.new.first ≡ self.old.first }
     {
         if self.count == 0 {
@@ -145,7 +146,7 @@ impl<A: Allocator> Faults<A> {
         self.count = self.count.saturating_add(1);
     }
 
-    /// The host's answer to a call that has no path below a root, with each error counted as a fault.
+    /// The host's answer to a call that has no path below a root, with each error counted as a fault. The first is kept.
     pub fn counted<T: Drop>(
         &mut self,
         call: &'static str,
@@ -155,6 +156,9 @@ impl<A: Allocator> Faults<A> {
         ensures cause { HasCause self.old.count self.new.count (IsErr result) }
         ensures same { IfOk result (λ value. answer ≡ Ok value) }
         ensures exact { IsErr result → IsErr answer }
+        ensures kept { OnOk result (self.new ≡ self.old) }
+        ensures first { self.old.count ≡ 0 → IfErr answer (λ why. self.new.first.why ≡ why) }
+        ensures stays { 0 < self.old.count → self.new.first ≡ self.old.first }
     {
         match answer {
             Ok(made) => Ok(made),
@@ -196,6 +200,8 @@ pub fn counted<T: Drop, F: Drop, A: Allocator + Clone>(
     ensures same { IfOk result (λ value. answer ≡ Ok value) }
     ensures exact { IsErr result → IsErr answer }
     ensures kept { OnOk result (faults.new ≡ faults.old) }
+    ensures first { faults.old.count ≡ 0 → IfErr answer (λ why. faults.new.first.why ≡ why) }
+    ensures stays { 0 < faults.old.count → faults.new.first ≡ faults.old.first }
 {
     match answer {
         Ok(value) => Ok(value),
@@ -229,26 +235,36 @@ pub struct Counts<A: Allocator> {
 
 impl<A: Allocator + Clone> Counts<A> {
     /// The host's answer to a call on a path below a root that may change something.
-    pub fn changed<F: Drop>(
+    pub fn changed<T: Drop, F: Drop>(
         &mut self,
         root: &mut Root<F, A>,
         call: &'static str,
         path: &RelPath,
+        answer: Result<T, Refused>,
+    ) -> Result<(), Failed>
+        ensures cause { HasCause self.old.faults.count self.new.faults.count (IsErr result) }
+        ensures one_made { OneMore self.old.changes self.new.changes }
+        ensures stays { 0 < self.old.faults.count → self.new.faults.first ≡ self.old.faults.first }
+    {
+        self.changes = self.changes.saturating_add(1);
+        match counted(&mut self.faults, root, call, path, answer) {
+            Ok(_) => Ok(()),
+            Err(e) => Err(e),
+        }
+    }
+
+    /// The host's answer to a call that makes safe what was written below the root.
+    pub fn synced(
+        &mut self,
+        call: &'static str,
+        root: &str,
         answer: Result<(), Refused>,
     ) -> Result<(), Failed>
         ensures cause { HasCause self.old.faults.count self.new.faults.count (IsErr result) }
         ensures one_made { OneMore self.old.changes self.new.changes }
+        ensures stays { 0 < self.old.faults.count → self.new.faults.first ≡ self.old.faults.first }
     {
         self.changes = self.changes.saturating_add(1);
-        counted(&mut self.faults, root, call, path, answer)
-    }
-
-    /// The host's answer to a call that makes safe what was written below the root.
-    pub fn synced(&mut self, root: &str, answer: Result<(), Refused>) -> Result<(), Failed>
-        ensures cause { HasCause self.old.faults.count self.new.faults.count (IsErr result) }
-        ensures one_made { OneMore self.old.changes self.new.changes }
-    {
-        self.changes = self.changes.saturating_add(1);
-        self.faults.counted("sync", root, answer)
+        self.faults.counted(call, root, answer)
     }
 }

@@ -1,6 +1,7 @@
 //! A folder of the host that is read and changed.
 
 ghost use Rattle.std.specs.Prelude.{◌≡◌, ◌<◌, IfNone, IfSome};
+ghost use Rattle.ips_host.specs.Roots.{image_root, image_devices};
 ghost use Rattle.ips_host.specs.Silent.{silent, silent_is_sane};
 
 use crate::calls;
@@ -31,9 +32,11 @@ pub struct HostFolder<R: Files + Alloc + Processes + Drop> {
 }
 
 impl<R: Files + Alloc + Processes + Drop> HostFolder<R> {
-    /// The files below this path of the host.
+    /// The files below this path of the host, on the device of the root alone.
     pub fn new(rt: R, root: Text) -> HostFolder<R>
-        ensures { (⟦<HostFolder<R> as Source>⟧.outside).faults result ≡ 0 }
+        ensures faults { (⟦<HostFolder<R> as Source>⟧.outside).faults result ≡ 0 }
+        ensures root { image_root result ≡ root }
+        ensures devices { image_devices result ≡ Devices.OfRoot }
     {
         let root = Root::new(&rt, root, Devices::OfRoot);
         let reading = Reading::none(&rt);
@@ -154,7 +157,7 @@ impl<R: Files + Alloc + Processes + Drop> Folder for HostFolder<R> {
     fn sync(&mut self) -> Result<(), Failed> {
         self.reading.close();
         self.appending.close();
-        let answer = calls::sync(&self.rt, &mut self.root);
-        self.counts.synced(self.root.path(), answer)
+        let calls::Answered { call, answer } = calls::sync(&self.rt, &mut self.root);
+        self.counts.synced(call, self.root.path(), answer)
     }
 }

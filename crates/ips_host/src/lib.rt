@@ -21,10 +21,10 @@ mod standard;
 mod standing;
 mod telling;
 
-pub use fault::FailedCall;
+pub use fault::{FailedCall, Refused};
 pub use folder::HostFolder;
-pub use lock::{Busy, Lock, take_lock};
+pub use lock::{Held, Lock, Unlocked, take_lock};
 pub use sink::HostSink;
 pub use source::HostSource;
 pub use spawner::HostSpawner;
-pub use telling::tell_faults;
+pub use telling::{Told, tell_faults};

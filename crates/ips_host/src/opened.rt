@@ -3,8 +3,7 @@
 ghost use Rattle.std.specs.Prelude.{◌≤◌, IfOk, length};
 
 use crate::fault::{Refused, or_no_memory, or_refused};
-use crate::root::{Root, look};
-use ips_outside::Look;
+use crate::root::{Root, find_file};
 use ips_text::{RelPath, covers};
 use std::alloc::{Alloc, Allocator};
 use std::fs::{Files, OpenOptions};
@@ -106,12 +105,12 @@ fn open<R: Files + Alloc>(
     how: &OpenOptions,
 ) -> Result<(), Refused> {
     opened.close();
-    match look(rt, root, path) {
-        Ok(Look::File { .. }) => match or_refused(how.open(rt, root.place())) {
+    match find_file(rt, root, path) {
+        Ok(true) => match or_refused(how.open(rt, root.place())) {
             Ok(file) => opened.keep(path, file),
             Err(e) => Err(e),
         },
-        Ok(_) => Ok(()),
+        Ok(false) => Ok(()),
         Err(e) => Err(e),
     }
 }

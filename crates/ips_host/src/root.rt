@@ -3,6 +3,7 @@
 ghost use Rattle.std.specs.Prelude.{◌≡◌, IfOk};
 ghost use Rattle.ips_outside.specs.Outside.{IsSmall};
 ghost use Rattle.ips_host.specs.Devices.{is_among};
+ghost use Rattle.ips_host.specs.Rooted.{root_path, root_devices};
 
 use crate::fault::{Refused, or_no_memory};
 use crate::standard::{Standard, take_standard};
@@ -52,6 +53,8 @@ struct Ways<A: Allocator + Clone> {
     known: BTreeSet<Vec<u8, A>, A>,
     // The one that was asked for last.
     known_last: Vec<u8, A>,
+    // The path below the root at which a file was seen last. Nothing but `remove` ends one.
+    file_last: Vec<u8, A>,
     // A directory on the way to one that isn't known.
     below: String<A>,
     // A path of the host.
@@ -61,7 +64,11 @@ struct Ways<A: Allocator + Clone> {
 }
 
 impl<F: Drop, A: Allocator + Clone> Root<F, A> {
-    pub fn new<R: Alloc<A = A>>(rt: &R, root: Text, devices: Devices) -> Root<F, A> {
+    /// The root at this path, which leads on these devices alone.
+    pub fn new<R: Alloc<A = A>>(rt: &R, root: Text, devices: Devices) -> Root<F, A>
+        ensures path { root_path result ≡ root }
+        ensures devices { root_devices result ≡ devices }
+    {
         Root {
             ways: new_ways(rt, root, devices),
             standard: None,
@@ -69,7 +76,9 @@ impl<F: Drop, A: Allocator + Clone> Root<F, A> {
     }
 
     /// The root's own path.
-    pub fn path(&self) -> &str {
+    pub fn path(&self) -> &str
+        ensures { result.now ≡ root_path self.now }
+    {
         self.ways.root.as_str()
     }
 
@@ -88,14 +97,21 @@ impl<F: Drop, A: Allocator + Clone> Root<F, A> {
         mem::swap(&mut self.ways.place, &mut self.ways.aside);
     }
 
-    /// Something failed, so that no directory is known any longer.
+    /// Something failed, so that no directory and no file is known any longer.
     pub fn forget(&mut self) {
         self.ways.known.clear();
         self.ways.known_last.clear();
+        self.forget_file();
     }
 
-    /// A directory is taken away, and with it those that are known below it.
+    /// A file is taken away, so that it isn't known any longer.
+    pub fn forget_file(&mut self) {
+        self.ways.file_last.clear();
+    }
+
+    /// A directory is taken away, and with it what is known below it.
     pub fn forget_at(&mut self, path: &RelPath) {
+        self.forget_file();
         let gone = path.bytes();
         self.ways.known.retain(|dir| !covers(gone, dir.as_slice()));
         if covers(gone, self.ways.known_last.as_slice()) {
@@ -104,12 +120,16 @@ impl<F: Drop, A: Allocator + Clone> Root<F, A> {
     }
 }
 
-fn new_ways<R: Alloc>(rt: &R, root: Text, devices: Devices) -> Ways<R::A> {
+fn new_ways<R: Alloc>(rt: &R, root: Text, devices: Devices) -> Ways<R::A>
+    ensures root { result.root ≡ root }
+    ensures devices { result.devices ≡ devices }
+{
     Ways {
         root,
         devices,
         known: BTreeSet::new(rt.alloc()),
         known_last: Vec::new(rt.alloc()),
+        file_last: Vec::new(rt.alloc()),
         below: String::new(rt.alloc()),
         place: String::new(rt.alloc()),
         aside: String::new(rt.alloc()),
@@ -159,8 +179,44 @@ pub fn look<R: Files + Alloc>(
     ensures { IfOk result IsSmall }
 {
     match find(rt, root, path) {
-        Ok(true) => look_at(rt, root.place()),
+        Ok(true) => {
+            let answer = look_at(rt, root.place());
+            remembered(&mut root.ways, path, answer)
+        }
         Ok(false) => Ok(Look::Absent),
+        Err(e) => Err(e),
+    }
+}
+
+// The same look, of which a file is remembered, where there is memory for its path.
+fn remembered<A: Allocator + Clone>(
+    ways: &mut Ways<A>,
+    path: &RelPath,
+    answer: Result<Look, Refused>,
+) -> Result<Look, Refused>
+    ensures { result ≡ answer }
+{
+    if let Ok(Look::File { .. }) = &answer {
+        ways.file_last.clear();
+        if ways.file_last.extend_from_slice(path.bytes()).is_err() {
+            ways.file_last.clear();
+        }
+    }
+    answer
+}
+
+/// Whether a file stands at the path, whose host's path is then found. The file that was seen last isn't looked at again.
+pub fn find_file<R: Files + Alloc>(
+    rt: &R,
+    root: &mut Root<R::File, R::A>,
+    path: &RelPath,
+) -> Result<bool, Refused> {
+    if root.ways.file_last.as_slice() == path.bytes() {
+        return find(rt, root, path);
+    }
+    match look(rt, root, path) {
+        Ok(Look::File { .. }) => Ok(true),
+        Ok(_) => Ok(false),
         Err(e) => Err(e),
     }
 }

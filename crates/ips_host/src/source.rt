@@ -1,6 +1,7 @@
 //! A folder of the host that is read.
 
 ghost use Rattle.std.specs.Prelude.{◌≡◌, ◌<◌, IfNone, IfSome};
+ghost use Rattle.ips_host.specs.Roots.{repository_root};
 ghost use Rattle.ips_host.specs.Silent.{silent, silent_is_sane};
 
 use crate::fault::{FailedCall, Faults, counted};
@@ -26,7 +27,8 @@ pub struct HostSource<R: Files + Alloc + Drop> {
 impl<R: Files + Alloc + Drop> HostSource<R> {
     /// The files below this path of the host.
     pub fn new(rt: R, root: Text) -> HostSource<R>
-        ensures { (⟦<HostSource<R> as Source>⟧.outside).faults result ≡ 0 }
+        ensures faults { (⟦<HostSource<R> as Source>⟧.outside).faults result ≡ 0 }
+        ensures root { repository_root result ≡ root }
     {
         let root = Root::new(&rt, root, Devices::Any);
         let reading = Reading::none(&rt);

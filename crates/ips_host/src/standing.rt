@@ -1,6 +1,6 @@
 //! What stands at a path of the host, and its permission bits.
 
-ghost use Rattle.std.specs.Prelude.{◌≡◌, ◌%◌, ◌↔◌, IfOk, IsOk, IsTrue};
+ghost use Rattle.std.specs.Prelude.{◌≡◌, ◌%◌, ◌↔◌, ◌⊎◌, Ok, IfOk, IsOk, IsTrue};
 ghost use Rattle.ips_outside.specs.Outside.{IsSmall};
 ghost use Rattle.std.specs.Fs.{metadata_mode, metadata_len, file_type, IsDir, IsFile, IsSymlink};
 
@@ -22,8 +22,10 @@ pub fn look_at<R: Files>(rt: &R, place: &str) -> Result<Look, Refused>
     }
 }
 
-// Whether the host tells by this error that nothing stands there.
-fn tells_absence(kind: ErrorKind) -> bool {
+/// Whether the host tells by this error that nothing stands there.
+pub fn tells_absence(kind: ErrorKind) -> bool
+    ensures { IsTrue result ↔ ((kind ≡ ErrorKind.NotFound) ⊎ (kind ≡ ErrorKind.NotADirectory)) }
+{
     matches!(kind, ErrorKind::NotFound | ErrorKind::NotADirectory)
 }
 
@@ -71,61 +73,75 @@ pub fn look_of(metadata: &Metadata) -> Look
     }
 }
 
-/// Gives the directory or file at the place just this mode. The host would follow a link, so the caller has looked
-/// that none stands there. The host may answer success and leave bits out (setgid where the caller isn't in the group,
-/// or all of them on a file system without modes), so the mode is looked at again.
-pub fn give_mode<R: Files>(rt: &R, place: &str, mode: u16) -> Result<(), Refused> {
+/// Gives the directory or file at the place just this mode, and answers the one that then stands there. The host would
+/// follow a link, so the caller has looked that none stands there. The host may answer success and leave bits out (setgid
+/// where the caller isn't in the group, or all of them on a file system without modes), so the mode is looked at again.
+pub fn give_mode<R: Files>(rt: &R, place: &str, mode: u16) -> Result<u16, Refused>
+    ensures { IfOk result (λ found. found ≡ mode) }
+{
     let permissions = Permissions::from_mode(u32::from(mode));
     match or_refused(fs::set_permissions(rt, place, permissions)) {
-        Ok(()) => confirmed(mode_at(rt, place)?, mode),
+        Ok(()) => confirmed(mode_at(rt, place), mode),
         Err(e) => Err(e),
     }
 }
 
-// No fault just where the mode that was found is the one that was given, with each of its bits.
-fn confirmed(found: u16, mode: u16) -> Result<(), Refused>
-    ensures { IsOk result ↔ (found ≡ mode) }
+// The mode that was found, and no fault, just where it is the one that was given, with each of its bits.
+fn confirmed(found: Result<u16, Refused>, mode: u16) -> Result<u16, Refused>
+    ensures same { IfOk result (λ now. now ≡ mode) }
+    ensures exact { IsOk result ↔ (found ≡ Ok mode) }
 {
-    if found == mode {
-        Ok(())
-    } else {
-        Err(Refused::Mode)
+    match found {
+        Ok(now) if now == mode => Ok(now),
+        Ok(_) => Err(Refused::Mode),
+        Err(e) => Err(e),
     }
 }
 
-/// Gives the directory or file that was just made at the place just this mode, where it hasn't it.
-pub fn keep_mode<R: Files>(rt: &R, place: &str, mode: u16) -> Result<(), Refused> {
-    match mode_at(rt, place) {
-        Ok(found) if found == mode => Ok(()),
-        Ok(_) => give_mode(rt, place, mode),
-        Err(e) => Err(e),
+/// Gives the directory or file that was just made at the place just this mode, where it hasn't it, and answers the one
+/// that then stands there.
+pub fn keep_mode<R: Files>(rt: &R, place: &str, mode: u16) -> Result<u16, Refused>
+    ensures { IfOk result (λ found. found ≡ mode) }
+{
+    match confirmed(mode_at(rt, place), mode) {
+        Err(Refused::Mode) => give_mode(rt, place, mode),
+        answer => answer,
     }
 }
 
 fn mode_at<R: Files>(rt: &R, place: &str) -> Result<u16, Refused> {
-    Ok(mode_of(&fs::symlink_metadata(rt, place)?))
-}
-
-/// Gives the open file just this mode, which is looked at again.
-pub fn give_open_mode<F: OpenFile>(file: &F, mode: u16) -> Result<(), Refused> {
-    let permissions = Permissions::from_mode(u32::from(mode));
-    match or_refused(file.set_permissions(permissions)) {
-        Ok(()) => confirmed(open_mode(file)?, mode),
+    match or_refused(fs::symlink_metadata(rt, place)) {
+        Ok(metadata) => Ok(mode_of(&metadata)),
         Err(e) => Err(e),
     }
 }
 
-/// Gives the open file that was just made just this mode, where it hasn't it.
-pub fn keep_open_mode<F: OpenFile>(file: &F, mode: u16) -> Result<(), Refused> {
-    if open_mode(file)? == mode {
-        Ok(())
-    } else {
-        give_open_mode(file, mode)
+/// Gives the open file just this mode, and answers the one that it then has, which is looked at again.
+pub fn give_open_mode<F: OpenFile>(file: &F, mode: u16) -> Result<u16, Refused>
+    ensures { IfOk result (λ found. found ≡ mode) }
+{
+    let permissions = Permissions::from_mode(u32::from(mode));
+    match or_refused(file.set_permissions(permissions)) {
+        Ok(()) => confirmed(open_mode(file), mode),
+        Err(e) => Err(e),
+    }
+}
+
+/// Gives the open file that was just made just this mode, where it hasn't it, and answers the one that it then has.
+pub fn keep_open_mode<F: OpenFile>(file: &F, mode: u16) -> Result<u16, Refused>
+    ensures { IfOk result (λ found. found ≡ mode) }
+{
+    match confirmed(open_mode(file), mode) {
+        Err(Refused::Mode) => give_open_mode(file, mode),
+        answer => answer,
     }
 }
 
 fn open_mode<F: OpenFile>(file: &F) -> Result<u16, Refused> {
-    Ok(mode_of(&file.metadata()?))
+    match or_refused(file.metadata()) {
+        Ok(metadata) => Ok(mode_of(&metadata)),
+        Err(e) => Err(e),
+    }
 }
 
 /// A file of the host, whatever its names.

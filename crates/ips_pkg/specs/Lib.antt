@@ -1,2 +1,5 @@
+pub mod Clock
 pub mod Ended
+pub mod Ends
 pub mod Locking
+pub mod Named
