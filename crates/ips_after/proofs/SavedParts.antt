@@ -1,11 +1,12 @@
 -- What is saved stands at paths, and has proper parts.
 use Rattle.std.proofs.Common.{◌≡◌, ℕ, ◌<◌, ◌++◌, zero, suc, Bool, true, false, cond, not, ◌&&◌, ◌||◌, List, [], ◌∷◌, Option, Some, None, is_some, refl, sym, ◌∙◌, ap, subst, inl, inr, arith, length}
-use Rattle.std.proofs.lemmas.Bool.{and_parts, or_parts, ltb-true}
+use Rattle.std.proofs.lemmas.Bool.{and_parts, or_parts, ltb-true, not-true}
 use Rattle.ips_text.specs.Path.{IsPath}
 use Rattle.ips_text.specs.Quote.{AreBytes}
 use Rattle.ips_outside.specs.Image.{Entry, Dir, File, Link, Other, Image, IsImage, has_small_mode, is_file}
-use Rattle.ips_steps.specs.declared.target.TargetFault.TheVariants.{Empty, TooLong}
-use Rattle.ips_steps.specs.Targets.{IsTarget}
+use Rattle.ips_steps.specs.declared.target.TargetFault.TheVariants.{Empty, TooLong, Nul}
+use Rattle.ips_steps.proofs.Lists.{clash}
+use Rattle.ips_steps.specs.Targets.{IsTarget, has_nul}
 use Rattle.ips_preserve.specs.declared.keep.Keep.{Keep}
 use Rattle.ips_preserve.specs.declared.keep.Keep.TheVariants.{Lay, Stay, SalvageLay, SaveOld, LayNew, SaveLegacy, Drop, SalvageDrop}
 use Rattle.ips_after.specs.After.{answer_at, was_equal}
@@ -81,7 +82,8 @@ moved_parts (Some (Link g)) x may small bytes h = let one : Link g ≡ x = cc in
   where
     target : IsTarget g
     target Empty none = let parts = and_parts _ _ may in let some = ltb-true 0 (length g) parts.0 in omega (arith, none)
-    target TooLong long = let parts = and_parts _ _ may in let short = ltb-true (length g) 4096 parts.1 in omega (arith, long)
+    target TooLong long = let parts = and_parts _ _ (and_parts _ _ may).1 in let short = ltb-true (length g) 4096 parts.0 in omega (arith, long)
+    target Nul nul = clash (has_nul g) nul (not-true _ (and_parts _ _ (and_parts _ _ may).1).1)
 moved_parts (Some Other) x may small bytes h = cc
 moved_parts None x may small bytes h = cc
 

@@ -3,7 +3,7 @@ use Rattle.std.proofs.Common.{◌≡◌, inl, inr, ℕ, ◌+◌, ◌<◌, ◌≤
 use Rattle.std.proofs.lemmas.List.{length-append}
 use Rattle.ips_outside.specs.State.{State}
 use Rattle.ips_outside.specs.Outside.{Outside, IsOutside, Reads}
-use Rattle.ips_steps.specs.Steps.{Step, laid, can_lay, stage_of}
+use Rattle.ips_steps.specs.Steps.{Step, after, feasible}
 use Rattle.ips_steps.specs.Journal.{allowed}
 use Rattle.ips_steps.specs.View.{sort_of}
 use Rattle.ips_steps.specs.declared.step.Sort.{Sort}
@@ -131,7 +131,7 @@ module _ {F : Type 0} (o : Outside F) (sane : IsOutside o) (old now mid : F) (st
         })
 
     -- and isn't possible
-    pub ends_judging : (new : F) (line : ℕ) → line ≡ s.line → (o.tells old ≡ true → (can_lay (stage_of (o.state mid).held) x (o.state mid).held ≡ false) × Reads o mid new ⊥) → AppliedPart o most old new start s before kinds (Err (BadJournal line))
+    pub ends_judging : (new : F) (line : ℕ) → line ≡ s.line → (o.tells old ≡ true → (feasible (x ∷ []) (o.state mid).held ≡ false) × Reads o mid new ⊥) → AppliedPart o most old new start s before kinds (Err (BadJournal line))
     ends_judging new line number judged = stopped new (BadJournal line)
         (λ told front at.
         let laid = laid_then_read o sane g.done old now mid failure (g.told told front at).1 reads in
@@ -144,14 +144,14 @@ module _ {F : Type 0} (o : Outside F) (sane : IsOutside o) (old now mid : F) (st
           inr (record {
             step = x;
             stands = (s, here);
-            cannot = ap (λ (t : State). can_lay (stage_of t.held) x t.held) wrong.1.kept ∙ wrong.0;
+            cannot = ap (λ (t : State). feasible (x ∷ []) t.held) wrong.1.kept ∙ wrong.0;
             number = numbered;
           }),
           record { stands = (r, (g.told told front at).0); next = inr (inl numbered) },
         ))
 
     pub ends_at_step : (new : F) (more : List Carrier) (result : Result (ℕ × Bool) StepFault) (e : StepFault) → more ≡ kinds → result ≡ Err e → TellsLine s.line e → (o.tells mid ≡ true → ChangedBy o x mid new)
-        → (o.tells mid ≡ true → OnBadJournal {T = Unit {0}} (Err e) (λ line. (can_lay (stage_of (o.state mid).held) x (o.state mid).held ≡ false) × Reads o mid new ⊥))
+        → (o.tells mid ≡ true → OnBadJournal {T = Unit {0}} (Err e) (λ line. (feasible (x ∷ []) (o.state mid).held ≡ false) × Reads o mid new ⊥))
         → AppliedPart o most old new start s before more result
     ends_at_step new more result (BadJournal line) none same number changed bad =
         subst (AppliedPart o most old new start s before more) (sym same) (subst (λ (l : List Carrier). AppliedPart o most old new start s before l (Err (BadJournal line))) (sym none) (ends_judging new line number (λ told. bad (told_mid told))))
@@ -160,7 +160,7 @@ module _ {F : Type 0} (o : Outside F) (sane : IsOutside o) (old now mid : F) (st
 
     -- and is laid
     pub going_on : (new : F) (more : List Carrier) → s.is_open ≡ true → more ≡ counted (sort_of x) kinds → o.tells new ≡ o.tells old → o.faults new ≡ o.faults old → o.changes mid ≤ o.changes new
-        → (o.tells old ≡ true → (can_lay (stage_of (o.state mid).held) x (o.state mid).held ≡ true) × ((o.state new).held ≡ laid (stage_of (o.state mid).held) x (o.state mid).held) × ChangedBy o x mid new)
+        → (o.tells old ≡ true → (feasible (x ∷ []) (o.state mid).held ≡ true) × ((o.state new).held ≡ after (x ∷ []) (o.state mid).held) × ChangedBy o x mid new)
         → Going o old new start s before more (count + 1)
     going_on new more is_open tallied same_kind faults made step = record {
       done = g.done ++ x ∷ [];
@@ -172,10 +172,9 @@ module _ {F : Type 0} (o : Outside F) (sane : IsOutside o) (old now mid : F) (st
       changes = omega (arith, g.changes, reads.none_made, made);
       told = λ told front at.
           let laid = laid_then_read o sane g.done old now mid failure (g.told told front at).1 reads in
-          let may : allowed g.done ≡ true = allowed_behind front g.done (g.told told front at).0.1.listed.names in
           let here = step told in (
             subst (λ (l : List Step). IsAt (journal_of (o.state old).held) l s) (append_assoc front g.done (x ∷ [])) (next_at told front at),
-            laid_one_more o sane g.done x old mid new may laid here.0 here.1 here.2,
+            laid_one_more o sane g.done x old mid new laid here.0 here.1 here.2,
           );
     }
 

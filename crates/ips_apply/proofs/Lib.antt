@@ -1,6 +1,8 @@
-pub mod Copies
+pub mod Puts
+pub mod Judged
 pub mod Walks
 pub mod Changes
+pub mod Naming
 pub mod Turns
 pub mod Carried
 pub mod Takers

@@ -1,14 +1,15 @@
 -- A directory that was seen, and what stands there behind a step.
-use Rattle.std.proofs.Common.{◌≡◌, ⊎_elim, inl, inr, ℕ, Bool, true, false, ◌||◌, ◌&&◌, nat_lt, List, [], ◌∷◌, length, Option, Some, None, is_none, unwrap_or, refl, sym, ◌∙◌, ap, subst}
+use Rattle.std.proofs.Common.{◌≡◌, ⊎_elim, inl, inr, ℕ, Bool, true, false, not, ◌||◌, ◌&&◌, nat_lt, List, [], ◌∷◌, length, Option, Some, None, is_none, unwrap_or, refl, sym, ◌∙◌, ap, subst}
 use Rattle.std.proofs.lemmas.Bool.{and_parts, or_from}
 use Rattle.ips_text.specs.Ancestry.{same_path, covers, parent}
 use Rattle.ips_text.proofs.Ancestry.{same_path-true, covers-parent}
-use Rattle.ips_outside.specs.Image.{Entry, Dir, Image, IsImage, is_dir, dir_or_none, has_parent}
+use Rattle.ips_outside.specs.Image.{Entry, Dir, Image, IsImage, is_dir, is_file, dir_or_none, has_parent}
 use Rattle.ips_outside.proofs.Placed.{look_placed}
-use Rattle.ips_steps.specs.Steps.{Step, Gone, Fresh, Mode, Put, Symlink, Hard, Stage, laid, can_lay, frees, freed, met, at_parent, path_of}
+use Rattle.ips_steps.specs.Steps.{Step, Gone, Fresh, Mode, Put, Symlink, Hard, after, feasible, sets, frees, freed, at_parent, path_of}
 use Rattle.ips_steps.proofs.Laying.{has_parent_kept}
-use Rattle.ips_steps.proofs.Within.{laid_within}
+use Rattle.ips_steps.proofs.Linked.{after_within}
 use Rattle.ips_apply.specs.Judging.{IsKnown, seen_with}
+use Rattle.ips_apply.proofs.Puts.{put_parts}
 
 dir_stands : (e : Option Entry) → is_dir e ≡ true → is_none e ≡ false
 dir_stands (Some e) dir = refl
@@ -26,8 +27,8 @@ known_stands t known dir p formed is told above =
     go false other there up = subst (λ (b : Bool). (b || is_dir (t.look dir)) ≡ true) (dir_stands (t.look known) there) (formed.below_dirs dir known up other)
 
 -- a step leaves its parent
-parent_left : (stage : Stage) (s : Step) (t : Image) → ((dir : List ℕ) → parent (path_of s) ≡ Some dir → frees s dir ≡ false) → has_parent t (path_of s) ≡ true → has_parent (laid stage s t) (path_of s) ≡ true
-parent_left stage s t off here = has_parent_kept (path_of s) (freed (s ∷ [])) (met stage (s ∷ []) t) t (laid stage s t) (laid_within stage (s ∷ []) t) (go (parent (path_of s)) refl) here
+parent_left : (s : Step) (t : Image) → ((dir : List ℕ) → parent (path_of s) ≡ Some dir → frees s dir ≡ false) → has_parent t (path_of s) ≡ true → has_parent (after (s ∷ []) t) (path_of s) ≡ true
+parent_left s t off here = has_parent_kept (path_of s) (freed (s ∷ [])) (sets (s ∷ []) t) t (after (s ∷ []) t) (after_within (s ∷ []) t) (go (parent (path_of s)) refl) here
   where
     go : (above : Option (List ℕ)) → parent (path_of s) ≡ above → at_parent (freed (s ∷ [])) above ≡ false
     go (Some dir) is = or_from (frees s dir) false (off dir is) refl
@@ -41,14 +42,14 @@ parent_seen t p = go (parent p)
     go None here = inl refl
 
 -- behind a step the directory stands that it made, or its parent
-pub seen_stands : (stage : Stage) (s : Step) (t : Image) → can_lay stage s t ≡ true → IsKnown (laid stage s t) (seen_with s)
-seen_stands stage (Gone p) t can = inl refl
-seen_stands stage (Fresh m p) t can = inr (ap is_dir (look_placed p (Some (Dir m false)) t))
-seen_stands stage (Mode m p) t can = parent_seen (laid stage (Mode m p) t) p (parent_left stage (Mode m p) t (λ dir is. refl) can)
-seen_stands stage (Put n m p) t can = parent_seen (laid stage (Put n m p) t) p (parent_left stage (Put n m p) t (covers-parent p) (and_parts (has_parent t p) _ can).0)
-seen_stands stage (Symlink p target) t can = parent_seen (laid stage (Symlink p target) t) p (parent_left stage (Symlink p target) t (covers-parent p) can)
-seen_stands stage (Hard p to) t can = parent_seen (laid stage (Hard p to) t) p (parent_left stage (Hard p to) t (covers-parent p) (and_parts (has_parent t p) _ can).0)
+pub seen_stands : (s : Step) (t : Image) → feasible (s ∷ []) t ≡ true → IsKnown (after (s ∷ []) t) (seen_with s)
+seen_stands (Gone p) t can = inl refl
+seen_stands (Fresh m p) t can = inr (ap is_dir (look_placed p (Some (Dir m false)) t))
+seen_stands (Mode m p) t can = parent_seen (after (Mode m p ∷ []) t) p (parent_left (Mode m p) t (λ dir is. refl) (and_parts (has_parent t p) true can).0)
+seen_stands (Put n m p) t can = parent_seen (after (Put n m p ∷ []) t) p (parent_left (Put n m p) t (covers-parent p) (put_parts n m p t can).0)
+seen_stands (Symlink p target) t can = parent_seen (after (Symlink p target ∷ []) t) p (parent_left (Symlink p target) t (covers-parent p) (and_parts (has_parent t p) true can).0)
+seen_stands (Hard p to) t can = parent_seen (after (Hard p to ∷ []) t) p (parent_left (Hard p to) t (covers-parent p) (and_parts (has_parent t p) _ (and_parts (has_parent t p && (not (covers p to) && is_file (t.look to))) true can).0).0)
 
 -- the same where the step was judged on an image that a call which only reads left
-pub seen_behind : (stage : Stage) (s : Step) (t u : Image) (known : List ℕ) → can_lay stage s t ≡ true → u ≡ laid stage s t → known ≡ seen_with s → IsKnown u known
-seen_behind stage s t u known can held is = subst (IsKnown u) (sym is) (subst (λ (v : Image). IsKnown v (seen_with s)) (sym held) (seen_stands stage s t can))
+pub seen_behind : (s : Step) (t u : Image) (known : List ℕ) → feasible (s ∷ []) t ≡ true → u ≡ after (s ∷ []) t → known ≡ seen_with s → IsKnown u known
+seen_behind s t u known can held is = subst (IsKnown u) (sym is) (subst (λ (v : Image). IsKnown v (seen_with s)) (sym held) (seen_stands s t can))

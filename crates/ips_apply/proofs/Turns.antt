@@ -1,12 +1,13 @@
 -- One more step behind a list of them.
-use Rattle.std.proofs.Common.{◌≡◌, ℕ, Bool, true, false, ◌||◌, List, [], ◌∷◌, ◌++◌, length, drop, unwrap_or, refl, sym, ◌∙◌, ap, ap₂, subst}
+use Rattle.std.proofs.Common.{◌≡◌, ℕ, Bool, true, false, ◌||◌, List, [], ◌∷◌, ◌++◌, length, drop, unwrap_or, refl, sym, ◌∙◌, ap, subst}
 use Rattle.std.proofs.Math.Seq.{drop-append_seam, drop-length}
-use Rattle.std.proofs.lemmas.Bool.{and_parts, and_from, or_parts, or_from}
+use Rattle.std.proofs.lemmas.Bool.{and_parts, or_parts, or_from}
 use Rattle.ips_outside.specs.Image.{Image}
 use Rattle.ips_outside.specs.Outside.{Outside, IsOutside, Reads}
-use Rattle.ips_steps.specs.Steps.{Step, Stage, laid, all_laid, can_lay, possible, frees, freed, meets, met, after, stage_of}
+use Rattle.ips_steps.specs.Steps.{Step, frees, freed, after, feasible, sets}
 use Rattle.ips_steps.specs.Journal.{step_allowed, allowed}
-use Rattle.ips_steps.proofs.PrivateNames.{journal_kept, same_bytes, same_stage}
+use Rattle.ips_steps.proofs.Linked.{after_append, feasible_append, sets_append}
+use Rattle.ips_steps.proofs.PrivateNames.{journal_kept, same_bytes}
 use Rattle.ips_folder.proofs.Runs.{keeps_then, keeps_wider, one_read}
 use Rattle.ips_journal.specs.Reading.{journal_of}
 use Rattle.ips_outside.proofs.Moments.{agrees_self}
@@ -19,22 +20,8 @@ freed_more (x ∷ rest) s q off =
     let more = freed_more rest s q parts.1 in
     (or_from (frees x q) _ parts.0 more.0, more.1)
 
-met_more : (stage : Stage) (steps : List Step) (s : Step) (t : Image) (q : List ℕ) → met stage (steps ++ s ∷ []) t q ≡ false → (met stage steps t q ≡ false) × (meets s (all_laid stage steps t) q ≡ false)
-met_more stage [] s t q off = (refl, (or_parts (meets s t q) false off).0)
-met_more stage (x ∷ rest) s t q off =
-    let parts = or_parts (meets x t q) _ off in
-    let more = met_more stage rest s (laid stage x t) q parts.1 in
-    (or_from (meets x t q) _ parts.0 more.0, more.1)
-
-laid_more : (stage : Stage) (steps : List Step) (s : Step) (t : Image) → all_laid stage (steps ++ s ∷ []) t ≡ laid stage s (all_laid stage steps t)
-laid_more stage [] s t = refl
-laid_more stage (x ∷ rest) s t = laid_more stage rest s (laid stage x t)
-
-possible_more : (stage : Stage) (steps : List Step) (s : Step) (t : Image) → possible stage steps t ≡ true → can_lay stage s (all_laid stage steps t) ≡ true → possible stage (steps ++ s ∷ []) t ≡ true
-possible_more stage [] s t can here = and_from (can_lay stage s t) true here refl
-possible_more stage (x ∷ rest) s t can here =
-    let parts = and_parts (can_lay stage x t) _ can in
-    and_from (can_lay stage x t) _ parts.0 (possible_more stage rest s (laid stage x t) parts.1 here)
+sets_more : (steps : List Step) (s : Step) (t : Image) (q : List ℕ) → sets (steps ++ s ∷ []) t q ≡ false → (sets steps t q ≡ false) × (sets (s ∷ []) (after steps t) q ≡ false)
+sets_more steps s t q off = or_parts (sets steps t q) (sets (s ∷ []) (after steps t) q) (sym (sets_append steps (s ∷ []) t q) ∙ off)
 
 pub allowed_behind : (front steps : List Step) → allowed (front ++ steps) ≡ true → allowed steps ≡ true
 allowed_behind [] steps may = may
@@ -49,26 +36,22 @@ module _ {F : Type 0} (o : Outside F) (sane : IsOutside o) where
     moments = keeps_then o (freed steps) _ old mid new done.moments (one_read o sane (freed steps) _ mid new failure read);
   }
 
-  -- nothing moves the journal, nor the contents
+  -- nothing moves the journal
   pub journal_stays : (steps : List Step) (old new : F) → allowed steps ≡ true → AreLaid o steps old new → journal_of (o.state new).held ≡ journal_of (o.state old).held
   journal_stays steps old new may done =
       ap (λ bytes. unwrap_or bytes []) (same_bytes _ _ (done.moments.now.agrees.but_mode _ (journal_kept steps may)))
-
-  pub stage_stays : (steps : List Step) (old new : F) → allowed steps ≡ true → AreLaid o steps old new → stage_of (o.state new).held ≡ stage_of (o.state old).held
-  stage_stays steps old new may done = same_stage steps _ (o.state old).held (o.state new).held may done.moments.now.agrees
 
   -- what one more step changes
   pub changed_more : (steps : List Step) (s : Step) (old mid new : F) → AreLaid o steps old mid → ChangedBy o s mid new → ChangedByAll o (steps ++ s ∷ []) old new
   changed_more steps s old mid new done step =
       let t = (o.state old).held in
-      let stage = stage_of t in
       let all = steps ++ s ∷ [] in
-      let loose : List ℕ → Bool = λ q. freed all q || met stage all t q in
+      let loose : List ℕ → Bool = λ q. freed all q || sets all t q in
       keeps_then o (freed all) loose old mid new
-      (keeps_wider o (freed steps) (λ q. freed steps q || met stage steps t q) (freed all) loose old mid (λ q off. (freed_more steps s q off).0)
-      (λ q off. let parts = or_parts (freed all q) _ off in or_from (freed steps q) _ (freed_more steps s q parts.0).0 (met_more stage steps s t q parts.1).0) done.moments)
-      (keeps_wider o (frees s) (λ q. frees s q || meets s (o.state mid).held q) (freed all) loose mid new (λ q off. (freed_more steps s q off).1)
-      (λ q off. let parts = or_parts (freed all q) _ off in or_from (frees s q) _ (freed_more steps s q parts.0).1 (ap (λ (u : Image). meets s u q) done.held ∙ (met_more stage steps s t q parts.1).1)) step)
+      (keeps_wider o (freed steps) (λ q. freed steps q || sets steps t q) (freed all) loose old mid (λ q off. (freed_more steps s q off).0)
+      (λ q off. let parts = or_parts (freed all q) _ off in or_from (freed steps q) _ (freed_more steps s q parts.0).0 (sets_more steps s t q parts.1).0) done.moments)
+      (keeps_wider o (frees s) (λ q. frees s q || sets (s ∷ []) (o.state mid).held q) (freed all) loose mid new (λ q off. (freed_more steps s q off).1)
+      (λ q off. let parts = or_parts (freed all q) _ off in or_from (frees s q) _ (freed_more steps s q parts.0).1 (ap (λ (u : Image). sets (s ∷ []) u q) done.held ∙ (sets_more steps s t q parts.1).1)) step)
 
   -- what is held, where no step was begun behind those that are laid
   pub held_none : (steps : List Step) (old new : F) → AreLaid o steps old new → AgreesBut (drop (length steps) steps) (after steps (o.state old).held) (o.state new).held
@@ -83,21 +66,16 @@ module _ {F : Type 0} (o : Outside F) (sane : IsOutside o) where
       let apart : (q : List ℕ) → freed (s ∷ []) q ≡ false → frees s q ≡ false = λ q off. (or_parts (frees s q) false off).0 in
       let agrees = step.now.agrees in
       let here : AgreesBut (s ∷ []) (o.state mid).held (o.state new).held = record {
-        look = λ q off set. agrees.look q (apart q off) (or_from (frees s q) (meets s (o.state mid).held q) (apart q off) (or_parts (meets s (o.state mid).held q) false set).0);
+        look = λ q off unset. agrees.look q (apart q off) (or_from (frees s q) (sets (s ∷ []) (o.state mid).held q) (apart q off) unset);
         but_mode = λ q off. agrees.but_mode q (apart q off);
         same = λ a b f g. agrees.same a b (apart a f) (apart b g);
       } in
       subst (λ (more : List Step). AgreesBut more t (o.state new).held) (sym (drop-append_seam steps (s ∷ []))) (subst (λ (u : Image). AgreesBut (s ∷ []) u (o.state new).held) done.held here)
 
-  pub laid_one_more : (steps : List Step) (s : Step) (old mid new : F) → allowed steps ≡ true → AreLaid o steps old mid → can_lay (stage_of (o.state mid).held) s (o.state mid).held ≡ true
-      → (o.state new).held ≡ laid (stage_of (o.state mid).held) s (o.state mid).held → ChangedBy o s mid new → AreLaid o (steps ++ s ∷ []) old new
-  laid_one_more steps s old mid new may done can held step =
-      let t = (o.state old).held in
-      let stage = stage_of t in
-      let same : stage_of (o.state mid).held ≡ stage = stage_stays steps old mid may done in
-      let here : can_lay stage s (all_laid stage steps t) ≡ true = ap₂ (λ (c : Stage) (u : Image). can_lay c s u) (sym same) (sym done.held) ∙ can in
-      record {
-        can = possible_more stage steps s t done.can here;
-        held = held ∙ ap₂ (λ (c : Stage) (u : Image). laid c s u) same done.held ∙ sym (laid_more stage steps s t);
-        moments = changed_more steps s old mid new done step;
-      }
+  pub laid_one_more : (steps : List Step) (s : Step) (old mid new : F) → AreLaid o steps old mid → feasible (s ∷ []) (o.state mid).held ≡ true
+      → (o.state new).held ≡ after (s ∷ []) (o.state mid).held → ChangedBy o s mid new → AreLaid o (steps ++ s ∷ []) old new
+  laid_one_more steps s old mid new done can held step = record {
+    can = feasible_append steps (s ∷ []) (o.state old).held done.can (ap (feasible (s ∷ [])) (sym done.held) ∙ can);
+    held = held ∙ ap (after (s ∷ [])) done.held ∙ sym (after_append steps (s ∷ []) (o.state old).held);
+    moments = changed_more steps s old mid new done step;
+  }

@@ -3,7 +3,7 @@ use Rattle.std.specs.Prelude.{◌≡◌, ◌⊎◌, ℕ, ◌+◌, ◌-◌, ◌^�
 use Rattle.ips_outside.specs.Image.{Image, Agrees}
 use Rattle.ips_outside.specs.Outside.{Outside}
 use Rattle.ips_folder.specs.Calls.{ChangesOnly}
-use Rattle.ips_steps.specs.Steps.{Step, can_lay, possible, after, frees, freed, meets, met, stage_of}
+use Rattle.ips_steps.specs.Steps.{Step, after, feasible, sets, frees, freed}
 use Rattle.ips_steps.specs.Journal.{IsJournal}
 use Rattle.ips_kinds.specs.Tallies.{Carrier, all_counted}
 use Rattle.ips_journal.specs.Text.{journal_text}
@@ -12,17 +12,17 @@ use Rattle.ips_journal.specs.Reading.{ReaderState, IsAt, IsNextLine, journal_of}
 use Rattle.ips_journal.specs.declared.fault.StepFault.{StepFault}
 use Rattle.ips_journal.specs.declared.fault.StepFault.TheVariants.{BadJournal, FolderFault}
 
--- At every moment of the run, and now, nothing is changed and touched but what the step frees and the modes that it meets.
+-- At every moment of the run, and now, nothing is changed and touched but what the step frees and the modes that it sets.
 abbrev pub ChangedBy : {F : Type 0} → Outside F → Step → F → F → Type 0
-ChangedBy o s old new = ChangesOnly o (frees s) (λ q. frees s q || meets s (o.state old).held q) old new
+ChangedBy o s old new = ChangesOnly o (frees s) (λ q. frees s q || sets (s ∷ []) (o.state old).held q) old new
 
 -- The same for steps that are laid one after another.
 abbrev pub ChangedByAll : {F : Type 0} → Outside F → List Step → F → F → Type 0
-ChangedByAll o steps old new = ChangesOnly o (freed steps) (λ q. freed steps q || met (stage_of (o.state old).held) steps (o.state old).held q) old new
+ChangedByAll o steps old new = ChangesOnly o (freed steps) (λ q. freed steps q || sets steps (o.state old).held q) old new
 
--- The second image is the first, but at what these steps free, and but for the modes that they meet.
+-- The second image is the first, but at what these steps free, and but for the modes that they set.
 abbrev pub AgreesBut : List Step → Image → Image → Type 0
-AgreesBut steps t u = Agrees (freed steps) (met (stage_of t) steps t) t u
+AgreesBut steps t u = Agrees (freed steps) (sets steps t) t u
 
 -- a fact of the line that a fault of the journal names
 abbrev pub OnBadJournal : {T : Type 0} → Result T StepFault → (ℕ → Type 0) → Type 0
@@ -34,9 +34,9 @@ OnBadJournal (Err FolderFault) P = Unit {0}
 abbrev pub BeginsWith : List ℕ → List Step → Type 0
 BeginsWith text steps = (r : ReaderState) × IsAt text steps r
 
--- These steps were possible one after another and are laid, and nothing else was changed or touched.
+-- These steps were feasible one after another and are laid, and nothing else was changed or touched.
 pub record AreLaid {F : Type 0} (o : Outside F) (steps : List Step) (old new : F) : Type 0 where
-  pub can : IsTrue (possible (stage_of (o.state old).held) steps (o.state old).held)
+  pub can : IsTrue (feasible steps (o.state old).held)
   pub held : (o.state new).held ≡ after steps (o.state old).held
   pub moments : ChangedByAll o steps old new
 
@@ -44,16 +44,16 @@ pub record AreLaid {F : Type 0} (o : Outside F) (steps : List Step) (old new : F
 pub record IsImpossible (text : List ℕ) (front : List Step) (t : Image) (line : ℕ) : Type 0 where
   pub step : Step
   pub stands : BeginsWith text (front ++ step ∷ [])
-  pub cannot : IsFalse (can_lay (stage_of t) step t)
+  pub cannot : IsFalse (feasible (step ∷ []) t)
   pub number : line ≡ length front + 2
 
 -- Behind the front these steps were laid, and one more may have been begun: what is held is what the steps make of the old image,
--- but at what that one frees, and but for the modes that it meets. Nothing else was changed or touched.
+-- but at what that one frees, and but for the modes that it sets. Nothing else was changed or touched.
 pub record AreBegun {F : Type 0} (o : Outside F) (text : List ℕ) (front steps : List Step) (old new : F) : Type 0 where
   pub begun : List Step
   pub one_more : (begun ≡ steps) ⊎ ((s : Step) × (begun ≡ steps ++ s ∷ []))
   pub stands : BeginsWith text (front ++ begun)
-  pub can : IsTrue (possible (stage_of (o.state old).held) steps (o.state old).held)
+  pub can : IsTrue (feasible steps (o.state old).held)
   pub held : AgreesBut (drop (length steps) begun) (after steps (o.state old).held) (o.state new).held
   pub moments : ChangedByAll o begun old new
 

@@ -1,41 +1,38 @@
 //! The acts of a step, each of them calls on the folder.
 
-ghost use Rattle.std.specs.Prelude.{◌≡◌, ◌<◌, ◌≤◌, IsTrue, IsErr, OnOk, MatchOption, Some, None, length};
+ghost use Rattle.std.specs.Prelude.{◌≡◌, ◌<◌, ◌≤◌, IsTrue, IsErr, OnOk, MatchOption, Some, None};
+ghost use Rattle.ips_outside.specs.Image.{is_file};
 ghost use Rattle.ips_outside.specs.Outside.{HasCause};
 ghost use Rattle.ips_outside.specs.Change.{moded, names};
 ghost use Rattle.ips_outside.specs.State.{nowhere};
 ghost use Rattle.ips_folder.specs.Calls.{ChangesOnly};
-ghost use Rattle.ips_steps.specs.Steps.{stage_of};
-ghost use Rattle.ips_steps.specs.Journal.{IsProper, step_allowed};
+ghost use Rattle.ips_steps.specs.Journal.{IsProper};
 ghost use Rattle.ips_steps.specs.View.{step_of};
 ghost use Rattle.ips_kinds.specs.declared.kind.Act.TheVariants as act;
 ghost use Rattle.ips_journal.specs.Reading.{stage_for};
-ghost use Rattle.ips_apply.specs.Acting.{acted, cleared, with_dir, with_file, with_content, with_link, with_name, with_step_mode, CanAct};
+ghost use Rattle.ips_apply.specs.Acting.{acted, cleared, with_dir, with_link, with_name, with_step_mode, CanAct};
 ghost use Rattle.ips_apply.specs.Applied.{ChangedBy};
-ghost use Rattle.ips_apply.specs.Judging.{content_size};
+ghost use Rattle.ips_apply.specs.Judging.{has_other_mode, content_differs};
 
-use crate::copying::copy_sized;
 use ips_folder::Folder;
 use ips_kinds::{Act, Sort, Step};
 use ips_outside::{Failed, Look, Source};
 use ips_text::RelPath;
 
-/// Does one act of the step, where it can be done; the content that the step puts has so many bytes.
+/// Does one act of the step, where it can be done. The caller says whether the content that the step puts has another mode than
+/// the step.
 pub(crate) fn perform<F: Folder>(
     folder: &mut F,
     step: &Step,
     act: Act,
     content: Option<&RelPath>,
-    size: u64,
-    buffer: &mut [u8],
+    other_mode: bool,
 ) -> Result<(), Failed>
     requires can { IsTrue (F.outside.tells folder.old) → CanAct (step_of step.now) act (F.outside.state folder.old).held }
     requires proper { IsProper (step_of step.now) }
-    requires allowed { IsTrue (step_allowed (step_of step.now)) }
     requires content { MatchOption content (stage_for (step_of step.now) ≡ None) (λ p. stage_for (step_of step.now) ≡ Some p.now.bytes) }
-    requires size { IsTrue (F.outside.tells folder.old) → size ≡ content_size (stage_of (F.outside.state folder.old).held) (step_of step.now) }
-    requires room { 0 < length buffer.old }
-    ensures done { IsTrue (F.outside.tells folder.old) → OnOk result ((F.outside.state folder.new).held ≡ acted (stage_of (F.outside.state folder.old).held) (step_of step.now) act (F.outside.state folder.old).held) }
+    requires mode { IsTrue (F.outside.tells folder.old) → other_mode ≡ content_differs (F.outside.state folder.old).held (step_of step.now) }
+    ensures done { IsTrue (F.outside.tells folder.old) → OnOk result ((F.outside.state folder.new).held ≡ acted (step_of step.now) act (F.outside.state folder.old).held) }
     ensures any_moment { IsTrue (F.outside.tells folder.old) → ChangedBy F.outside (step_of step.now) folder.old folder.new }
     ensures same_kind { F.outside.tells folder.new ≡ F.outside.tells folder.old }
     ensures changes { F.outside.changes folder.old ≤ F.outside.changes folder.new }
@@ -44,10 +41,8 @@ pub(crate) fn perform<F: Folder>(
     match act {
         Act::Clear => clear(folder, step),
         Act::MakeDir => make_dir(folder, step),
-        Act::MakeFile => make_file(folder, step),
-        Act::Copy => copy_content(folder, step, content, size, buffer),
         Act::MakeLink => make_link(folder, step),
-        Act::MakeHard => make_hard(folder, step),
+        Act::MakeHard => make_hard(folder, step, content, other_mode),
         Act::SetMode => set_mode(folder, step),
         Act::Finished => Ok(()),
     }
@@ -84,46 +79,6 @@ fn make_dir<F: Folder>(folder: &mut F, step: &Step) -> Result<(), Failed>
     }
 }
 
-/// Makes the empty file of a put.
-fn make_file<F: Folder>(folder: &mut F, step: &Step) -> Result<(), Failed>
-    requires can { IsTrue (F.outside.tells folder.old) → CanAct (step_of step.now) act.MakeFile (F.outside.state folder.old).held }
-    ensures done { IsTrue (F.outside.tells folder.old) → OnOk result ((F.outside.state folder.new).held ≡ with_file (step_of step.now) (F.outside.state folder.old).held) }
-    ensures any_moment { IsTrue (F.outside.tells folder.old) → ChangedBy F.outside (step_of step.now) folder.old folder.new }
-    ensures same_kind { F.outside.tells folder.new ≡ F.outside.tells folder.old }
-    ensures changes { F.outside.changes folder.old ≤ F.outside.changes folder.new }
-    ensures cause { HasCause (F.outside.faults folder.old) (F.outside.faults folder.new) (IsErr result) }
-{
-    match step {
-        Step::Put { path, .. } => folder.make_file(path),
-        _ => Ok(()),
-    }
-}
-
-/// Fills the file of a put with its content.
-fn copy_content<F: Folder>(
-    folder: &mut F,
-    step: &Step,
-    content: Option<&RelPath>,
-    size: u64,
-    buffer: &mut [u8],
-) -> Result<(), Failed>
-    requires can { IsTrue (F.outside.tells folder.old) → CanAct (step_of step.now) act.Copy (F.outside.state folder.old).held }
-    requires allowed { IsTrue (step_allowed (step_of step.now)) }
-    requires content { MatchOption content (stage_for (step_of step.now) ≡ None) (λ p. stage_for (step_of step.now) ≡ Some p.now.bytes) }
-    requires size { IsTrue (F.outside.tells folder.old) → size ≡ content_size (stage_of (F.outside.state folder.old).held) (step_of step.now) }
-    requires room { 0 < length buffer.old }
-    ensures done { IsTrue (F.outside.tells folder.old) → OnOk result ((F.outside.state folder.new).held ≡ with_content (stage_of (F.outside.state folder.old).held) (step_of step.now) (F.outside.state folder.old).held) }
-    ensures any_moment { IsTrue (F.outside.tells folder.old) → ChangedBy F.outside (step_of step.now) folder.old folder.new }
-    ensures same_kind { F.outside.tells folder.new ≡ F.outside.tells folder.old }
-    ensures changes { F.outside.changes folder.old ≤ F.outside.changes folder.new }
-    ensures cause { HasCause (F.outside.faults folder.old) (F.outside.faults folder.new) (IsErr result) }
-{
-    match (step, content) {
-        (Step::Put { path, .. }, Some(from)) => copy_sized(folder, from, size, path, buffer),
-        _ => Ok(()),
-    }
-}
-
 /// Makes the step's symbolic link.
 fn make_link<F: Folder>(folder: &mut F, step: &Step) -> Result<(), Failed>
     requires can { IsTrue (F.outside.tells folder.old) → CanAct (step_of step.now) act.MakeLink (F.outside.state folder.old).held }
@@ -139,24 +94,57 @@ fn make_link<F: Folder>(folder: &mut F, step: &Step) -> Result<(), Failed>
     }
 }
 
-/// Makes the step's path one more name of its target.
-fn make_hard<F: Folder>(folder: &mut F, step: &Step) -> Result<(), Failed>
+/// Makes the step's path one more name of its target, or of the content that the step puts, which gets the step's mode first.
+fn make_hard<F: Folder>(
+    folder: &mut F,
+    step: &Step,
+    content: Option<&RelPath>,
+    other_mode: bool,
+) -> Result<(), Failed>
     requires can { IsTrue (F.outside.tells folder.old) → CanAct (step_of step.now) act.MakeHard (F.outside.state folder.old).held }
+    requires proper { IsProper (step_of step.now) }
+    requires content { MatchOption content (stage_for (step_of step.now) ≡ None) (λ p. stage_for (step_of step.now) ≡ Some p.now.bytes) }
+    requires mode { IsTrue (F.outside.tells folder.old) → other_mode ≡ content_differs (F.outside.state folder.old).held (step_of step.now) }
     ensures done { IsTrue (F.outside.tells folder.old) → OnOk result ((F.outside.state folder.new).held ≡ with_name (step_of step.now) (F.outside.state folder.old).held) }
     ensures any_moment { IsTrue (F.outside.tells folder.old) → ChangedBy F.outside (step_of step.now) folder.old folder.new }
     ensures same_kind { F.outside.tells folder.new ≡ F.outside.tells folder.old }
     ensures changes { F.outside.changes folder.old ≤ F.outside.changes folder.new }
     ensures cause { HasCause (F.outside.faults folder.old) (F.outside.faults folder.new) (IsErr result) }
 {
-    match step {
-        Step::Hard { path, to } => folder.make_hard(path, to),
+    match (step, content) {
+        (Step::Put { path, mode, .. }, Some(staged)) => {
+            give_mode(folder, staged, *mode, other_mode)?;
+            folder.make_hard(path, staged)
+        }
+        (Step::Hard { path, to }, _) => folder.make_hard(path, to),
         _ => Ok(()),
     }
 }
 
-/// Sets the mode that the step names.
+/// Gives the file at the path the mode, where it has another.
+fn give_mode<F: Folder>(
+    folder: &mut F,
+    path: &RelPath,
+    mode: u16,
+    other_mode: bool,
+) -> Result<(), Failed>
+    requires file { IsTrue (F.outside.tells folder.old) → IsTrue (is_file ((F.outside.state folder.old).held.look path.now.bytes)) }
+    requires mode { mode < 4096 }
+    requires other { IsTrue (F.outside.tells folder.old) → other_mode ≡ has_other_mode mode ((F.outside.state folder.old).held.look path.now.bytes) }
+    ensures done { IsTrue (F.outside.tells folder.old) → OnOk result ((F.outside.state folder.new).held ≡ moded mode path.now.bytes (F.outside.state folder.old).held) }
+    ensures any_moment { IsTrue (F.outside.tells folder.old) → ChangesOnly F.outside nowhere (names (F.outside.state folder.old).held path.now.bytes) folder.old folder.new }
+    ensures same_kind { F.outside.tells folder.new ≡ F.outside.tells folder.old }
+    ensures changes { F.outside.changes folder.old ≤ F.outside.changes folder.new }
+    ensures cause { HasCause (F.outside.faults folder.old) (F.outside.faults folder.new) (IsErr result) }
+{
+    if !other_mode {
+        return Ok(());
+    }
+    folder.set_mode(path, mode)
+}
+
+/// Sets the mode of a step that sets one.
 fn set_mode<F: Folder>(folder: &mut F, step: &Step) -> Result<(), Failed>
-    requires can { IsTrue (F.outside.tells folder.old) → CanAct (step_of step.now) act.SetMode (F.outside.state folder.old).held }
     requires proper { IsProper (step_of step.now) }
     ensures done { IsTrue (F.outside.tells folder.old) → OnOk result ((F.outside.state folder.new).held ≡ with_step_mode (step_of step.now) (F.outside.state folder.old).held) }
     ensures any_moment { IsTrue (F.outside.tells folder.old) → ChangedBy F.outside (step_of step.now) folder.old folder.new }
@@ -166,7 +154,6 @@ fn set_mode<F: Folder>(folder: &mut F, step: &Step) -> Result<(), Failed>
 {
     match step {
         Step::Mode { path, mode } => set_standing_mode(folder, path, *mode),
-        Step::Put { path, mode, .. } => folder.set_mode(path, *mode),
         _ => Ok(()),
     }
 }

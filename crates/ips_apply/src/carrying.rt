@@ -1,9 +1,9 @@
 //! A step carried out by the first kind that takes it.
 
-ghost use Rattle.std.specs.Prelude.{◌≡◌, ◌<◌, ◌≤◌, IsTrue, IsFalse, IsErr, IfNone, IfSome, OnOk, OnErr, MatchOption, Some, None, length, slice_get};
+ghost use Rattle.std.specs.Prelude.{◌≡◌, ◌<◌, ◌≤◌, IsTrue, IsFalse, IsErr, IfNone, IfSome, OnOk, OnErr, MatchOption, [], ◌∷◌, Some, None, length, slice_get};
 ghost use Rattle.ips_outside.specs.Outside.{HasCause};
-ghost use Rattle.ips_steps.specs.Steps.{laid, can_lay, stage_of};
-ghost use Rattle.ips_steps.specs.Journal.{IsProper, step_allowed};
+ghost use Rattle.ips_steps.specs.Steps.{after, feasible};
+ghost use Rattle.ips_steps.specs.Journal.{IsProper};
 ghost use Rattle.ips_steps.specs.View.{step_of, sort_of};
 ghost use Rattle.ips_steps.specs.declared.step.Sort.{Sort};
 ghost use Rattle.ips_kinds.specs.Acts.{acts, tally_after};
@@ -11,7 +11,7 @@ ghost use Rattle.ips_kinds.specs.Tallies.{seen_by, taken, counted, IsFirstTaker}
 ghost use Rattle.ips_kinds.specs.declared.kind.Act.TheVariants as act;
 ghost use Rattle.ips_journal.specs.Reading.{stage_for};
 ghost use Rattle.ips_apply.specs.Applied.{ChangedBy};
-ghost use Rattle.ips_apply.specs.Judging.{content_size};
+ghost use Rattle.ips_apply.specs.Judging.{content_differs};
 
 use crate::acting::perform;
 use ips_folder::Folder;
@@ -19,24 +19,21 @@ use ips_kinds::{Act, Kind, Step};
 use ips_outside::{Failed, Source};
 use ips_text::RelPath;
 
-/// Carries out a step that can be laid, by the first kind that takes it; the content that it puts has so many bytes.
+/// Carries out a step that can be laid, by the first kind that takes it. The caller says whether the content that it puts has
+/// another mode than the step.
 pub(crate) fn lay<F: Folder>(
     folder: &mut F,
     kinds: &mut Vec<Box<dyn Kind>>,
     step: &Step,
     content: Option<&RelPath>,
-    size: u64,
-    buffer: &mut [u8],
+    other_mode: bool,
 ) -> Result<(), Failed>
     requires takers { (s : Sort) → IsTrue (taken (seen_by sorts finished kinds.old.items) s) }
-    requires can { IsTrue (F.outside.tells folder.old) → IsTrue (can_lay (stage_of (F.outside.state folder.old).held) (step_of step.now) (F.outside.state folder.old).held) }
+    requires can { IsTrue (F.outside.tells folder.old) → IsTrue (feasible (step_of step.now ∷ []) (F.outside.state folder.old).held) }
     requires proper { IsProper (step_of step.now) }
-    requires allowed { IsTrue (step_allowed (step_of step.now)) }
     requires content { MatchOption content (stage_for (step_of step.now) ≡ None) (λ p. stage_for (step_of step.now) ≡ Some p.now.bytes) }
-    requires size { IsTrue (F.outside.tells folder.old) → size ≡ content_size (stage_of (F.outside.state folder.old).held) (step_of step.now) }
-    requires room { 0 < length buffer.old }
-    ensures done { IsTrue (F.outside.tells folder.old) → OnOk result
-        ((F.outside.state folder.new).held ≡ laid (stage_of (F.outside.state folder.old).held) (step_of step.now) (F.outside.state folder.old).held) }
+    requires mode { IsTrue (F.outside.tells folder.old) → other_mode ≡ content_differs (F.outside.state folder.old).held (step_of step.now) }
+    ensures done { IsTrue (F.outside.tells folder.old) → OnOk result ((F.outside.state folder.new).held ≡ after (step_of step.now ∷ []) (F.outside.state folder.old).held) }
     ensures any_moment { IsTrue (F.outside.tells folder.old) → ChangedBy F.outside (step_of step.now) folder.old folder.new }
     ensures counted { OnOk result (seen_by sorts finished kinds.new.items ≡ counted (sort_of (step_of step.now)) (seen_by sorts finished kinds.old.items)) }
     ensures uncounted { OnErr result (seen_by sorts finished kinds.new.items ≡ seen_by sorts finished kinds.old.items) }
@@ -47,7 +44,7 @@ pub(crate) fn lay<F: Folder>(
     let Some(place) = first_taker(kinds, step) else {
         unreachable!()
     };
-    carry_out(folder, &mut kinds[place], step, content, size, buffer)?;
+    carry_out(folder, &mut kinds[place], step, content, other_mode)?;
     Ok(())
 }
 
@@ -57,18 +54,14 @@ fn carry_out<F: Folder>(
     kind: &mut Box<dyn Kind>,
     step: &Step,
     content: Option<&RelPath>,
-    size: u64,
-    buffer: &mut [u8],
+    other_mode: bool,
 ) -> Result<(), Failed>
     requires takes { IsTrue (sorts kind.old (sort_of (step_of step.now))) }
-    requires can { IsTrue (F.outside.tells folder.old) → IsTrue (can_lay (stage_of (F.outside.state folder.old).held) (step_of step.now) (F.outside.state folder.old).held) }
+    requires can { IsTrue (F.outside.tells folder.old) → IsTrue (feasible (step_of step.now ∷ []) (F.outside.state folder.old).held) }
     requires proper { IsProper (step_of step.now) }
-    requires allowed { IsTrue (step_allowed (step_of step.now)) }
     requires content { MatchOption content (stage_for (step_of step.now) ≡ None) (λ p. stage_for (step_of step.now) ≡ Some p.now.bytes) }
-    requires size { IsTrue (F.outside.tells folder.old) → size ≡ content_size (stage_of (F.outside.state folder.old).held) (step_of step.now) }
-    requires room { 0 < length buffer.old }
-    ensures done { IsTrue (F.outside.tells folder.old) → OnOk result
-        ((F.outside.state folder.new).held ≡ laid (stage_of (F.outside.state folder.old).held) (step_of step.now) (F.outside.state folder.old).held) }
+    requires mode { IsTrue (F.outside.tells folder.old) → other_mode ≡ content_differs (F.outside.state folder.old).held (step_of step.now) }
+    ensures done { IsTrue (F.outside.tells folder.old) → OnOk result ((F.outside.state folder.new).held ≡ after (step_of step.now ∷ []) (F.outside.state folder.old).held) }
     ensures any_moment { IsTrue (F.outside.tells folder.old) → ChangedBy F.outside (step_of step.now) folder.old folder.new }
     ensures sorts { sorts kind.new ≡ sorts kind.old }
     ensures counted { OnOk result (finished kind.new ≡ tally_after act.Finished (finished kind.old)) }
@@ -83,7 +76,7 @@ fn carry_out<F: Folder>(
         if let Act::Finished = act {
             return Ok(());
         }
-        perform(folder, step, act, content, size, buffer)?;
+        perform(folder, step, act, content, other_mode)?;
         turn += 1;
     }
 }

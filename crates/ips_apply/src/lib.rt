@@ -4,18 +4,15 @@
 //! journal's grammar. At every moment only what the steps say is changed. No memory is taken.
 //!
 //! In reading order: `applying` goes through the journal, `judging` says whether a step is possible, `known` has the directory
-//! that wasn't to be looked at again, `carrying` finds the step's kind and follows that kind's acts, `acting` does one act, and
-//! `copying` fills a file.
+//! that needn't be looked at again, `carrying` finds the step's kind and follows that kind's acts, and `acting` does one act.
 #![tactic(auto)]
 
 mod acting;
 mod applying;
 mod carrying;
-mod copying;
 mod judging;
 mod known;
 
 pub use applying::{apply, apply_block};
-pub use copying::copy;
 pub use ips_journal::{StepFault, StepReader};
 pub use ips_kinds::{Act, Kind, Step};

@@ -1,13 +1,12 @@
 -- Contents written one by one into the stage.
-use Rattle.std.proofs.Common.{◌≡◌, ◌⊎◌, inl, inr, ⊎_elim, ℕ, ◌+◌, ◌%◌, ◌<◌, ◌≤◌, ◌^◌, Bool, true, false, ◌==◌, List, [], ◌∷◌, ◌++◌, length, get_or, slice_get, Option, Some, None, is_none, Err, append_assoc, refl, sym, ◌∙◌, ap, subst, arith}
-use Rattle.std.proofs.lemmas.Bool.{or_parts, or_cases, ne_eqb, false_from_ne_true, cases_lt}
-use Rattle.std.proofs.lemmas.Fmt.{decimal_by_steps}
+use Rattle.std.proofs.Common.{◌≡◌, ◌⊎◌, inl, inr, ⊎_elim, ℕ, ◌+◌, ◌<◌, ◌≤◌, ◌^◌, Bool, true, false, List, length, get_or, slice_get, Option, Some, None, is_none, Err, refl, sym, ◌∙◌, ap, subst, arith}
+use Rattle.std.proofs.lemmas.Bool.{or_parts, or_cases, false_from_ne_true, cases_lt}
 use Rattle.std.proofs.lemmas.Option.{slice_get_read}
-use Rattle.ips_text.specs.Ancestry.{same_path, covers, is_below, parent}
+use Rattle.ips_text.specs.Ancestry.{same_path, covers, is_below}
 use Rattle.ips_text.specs.Reading.{IfBad}
 use Rattle.ips_text.specs.declared.refusal.Or.{Or}
 use Rattle.ips_text.specs.declared.refusal.Or.TheVariants.{Bad, OutOfMemory}
-use Rattle.ips_text.proofs.Ancestry.{same_path-true, covers_trans, parent_cut, parent_on}
+use Rattle.ips_text.proofs.Ancestry.{same_path-true, covers-self, covers_trans}
 use Rattle.ips_outside.specs.Image.{Entry, File, Image, IsImage, Agrees, is_file, is_dir, file_bytes, has_parent, dir_or_none}
 use Rattle.ips_outside.specs.State.{nowhere}
 use Rattle.ips_outside.specs.Outside.{HasCause}
@@ -15,48 +14,30 @@ use Rattle.ips_folder.specs.Calls.{CanMake}
 use Rattle.ips_steps.specs.Steps.{stage_name, stage_path, stage_of}
 use Rattle.ips_steps.specs.Private.{is_private}
 use Rattle.ips_steps.proofs.Lists.{clash}
-use Rattle.ips_steps.proofs.Numbered.{contents_apart}
+use Rattle.ips_steps.proofs.Numbered.{contents_apart, content_parent, content_covered}
 use Rattle.ips_digest.specs.declared.name.PayloadName.{PayloadName}
 use Rattle.ips_repo.specs.Files.{file_at}
 use Rattle.ips_repo.specs.Places.{payload_place}
 use Rattle.ips_journal.specs.declared.staged.Staged.{Staged}
 use Rattle.ips_journal.specs.declared.staged.Staged.TheVariants.{Payload, Bytes, Standing}
-use Rattle.ips_commit.specs.Contents.{IsContent, IsStanding, IsApart, IsSeen, IsIntactContent, IsPayloadFault, IsPayloadFileFault, SaysOfContent, SaysOfStage}
+use Rattle.ips_commit.specs.Contents.{IsContent, IsStanding, IsApart, IsSeen, IsIntactContent, IsPayloadFault, IsPayloadFileFault, SaysOfContent, SaysOfStage, HoldsAlone, AreAlone}
 use Rattle.ips_commit.specs.Staging.{HoldsOnly}
 use Rattle.ips_commit.specs.declared.fault.StageFault.{StageFault}
 use Rattle.ips_commit.specs.declared.fault.StageFault.TheVariants as stage
+use Rattle.ips_commit.proofs.Written.{own_modes}
 
 -- ---- the places of the contents
 
-stage_covers : (n : ℕ) → covers stage_name (stage_path n) ≡ true
-unfolding stage_name
-stage_covers n = refl
-
-pub stage_apart : (n : ℕ) → covers (stage_path n) stage_name ≡ false
-unfolding stage_name
-stage_apart n = refl
-
 -- what isn't in the stage is not at or below a content's place
 pub content_within : (n : ℕ) (q : List ℕ) → covers stage_name q ≡ false → covers (stage_path n) q ≡ false
-content_within n q off = false_from_ne_true _ (λ c. clash (covers stage_name q) (covers_trans stage_name (stage_path n) q (stage_covers n) c) off)
+content_within n q off = false_from_ne_true _ (λ c. clash (covers stage_name q) (covers_trans stage_name (stage_path n) q (content_covered n) c) off)
 
 pub content_in_stage : (n : ℕ) (p : List ℕ) → p ≡ stage_path n → (q : List ℕ) → covers stage_name q ≡ false → covers p q ≡ false
 content_in_stage n p at q off = ap (λ (x : List ℕ). covers x q) at ∙ content_within n q off
 
--- what was written at a content's place
-pub wrote_at : (n : ℕ) (p : List ℕ) → p ≡ stage_path n → (t u : Image) → Agrees (covers p) nowhere t u → Agrees (covers (stage_path n)) nowhere t u
-wrote_at n p at t u h = subst (λ (x : List ℕ). Agrees (covers x) nowhere t u) at h
-
-content_parent : (n : ℕ) → n < 2 ^ 64 → parent (stage_path n) ≡ Some stage_name
-content_parent = decimal_by_steps (λ n ds. parent (stage_name ++ 47 ∷ ds) ≡ Some stage_name)
-    (λ n small. one_more [] (48 + n) (not_cut n) (parent_cut stage_name))
-    (λ n ds large so_far. one_more ds (48 + n % 10) (not_cut (n % 10)) so_far)
-  where
-    not_cut : (n : ℕ) → (48 + n == 47) ≡ false
-    not_cut n = ne_eqb (48 + n) 47 (λ e. omega (arith, e))
-
-    one_more : (ds : List ℕ) (c : ℕ) → (c == 47) ≡ false → parent (stage_name ++ 47 ∷ ds) ≡ Some stage_name → parent (stage_name ++ 47 ∷ (ds ++ c ∷ [])) ≡ Some stage_name
-    one_more ds c off so_far = ap parent (sym (append_assoc stage_name (47 ∷ ds) (c ∷ []))) ∙ parent_on (stage_name ++ 47 ∷ ds) c off ∙ so_far
+-- what was written at a content's place, and set in its mode
+pub wrote_at : (n : ℕ) (p : List ℕ) → p ≡ stage_path n → (t u : Image) → Agrees (covers p) (covers p) t u → Agrees (covers (stage_path n)) nowhere t u
+wrote_at n p at t u h = subst (λ (x : List ℕ). Agrees (covers x) nowhere t u) at (own_modes (covers p) t u h)
 
 -- a content stands below the stage
 pub content_below : (n : ℕ) → is_below stage_name (stage_path n) ≡ true
@@ -68,8 +49,8 @@ none_there None is = refl
 none_there (Some x) is = cc
 
 -- one content more stands there, and nothing else
-pub only_more : (i : ℕ) (u v : Image) → Agrees (covers (stage_path i)) nowhere u v → IsImage v → (bytes : List ℕ) → v.look (stage_path i) ≡ Some (File 384 bytes) → HoldsOnly i u → HoldsOnly (i + 1) v
-only_more i u v wrote formed bytes file before q below there = at (covers (stage_path i) q) refl (same_path (stage_path i) q) refl
+pub only_more : (i : ℕ) (u v : Image) → Agrees (covers (stage_path i)) nowhere u v → IsImage v → (mode : ℕ) (bytes : List ℕ) → v.look (stage_path i) ≡ Some (File mode bytes) → HoldsOnly i u → HoldsOnly (i + 1) v
+only_more i u v wrote formed mode bytes file before q below there = at (covers (stage_path i) q) refl (same_path (stage_path i) q) refl
   where
     place : List ℕ
     place = stage_path i
@@ -79,14 +60,62 @@ only_more i u v wrote formed bytes file before q below there = at (covers (stage
     at true covered true same = (i, omega arith, sym (same_path-true place q same))
     at true covered false apart = elim (or_cases (is_none (v.look q)) (is_dir (v.look place)) (formed.below_dirs place q covered apart)) [
       | inl none ↦ absurd (there (none_there (v.look q) none))
-      | inr dir ↦ absurd (let bad : is_dir (Some (File 384 bytes)) ≡ true = ap is_dir (sym file) ∙ dir in cc)
+      | inr dir ↦ absurd (let bad : is_dir (Some (File mode bytes)) ≡ true = ap is_dir (sym file) ∙ dir in cc)
     ]
 
-pub can_put : (t : Image) (n : ℕ) (p : List ℕ) → p ≡ stage_path n → n < 2 ^ 64 → t.look (stage_path n) ≡ None → is_dir (t.look stage_name) ≡ true → CanMake t p
-can_put t n p at small none dir = record {
+pub can_put : (t : Image) (n : ℕ) (p : List ℕ) → p ≡ stage_path n → t.look (stage_path n) ≡ None → is_dir (t.look stage_name) ≡ true → CanMake t p
+can_put t n p at none dir = record {
   absent = ap t.look at ∙ none;
-  parent = ap (has_parent t) at ∙ ap (dir_or_none t) (content_parent n small) ∙ dir;
+  parent = ap (has_parent t) at ∙ ap (dir_or_none t) (content_parent n) ∙ dir;
 }
+
+-- ---- no content has a further name
+
+-- where nothing stands in the stage
+pub none_alone : (t : Image) → IsImage t → ((q : List ℕ) → is_below stage_name q ≡ true → t.look q ≡ None) → AreAlone t
+none_alone t formed none n q small same =
+    let file : is_file (t.look (stage_path n)) ≡ true = (formed.files (stage_path n) q same).0 in
+    let bad : is_file None ≡ true = ap is_file (sym (none (stage_path n) (content_below n))) ∙ file in
+    cc
+
+-- one content more, a file of its own
+module _ (i mode : ℕ) (few : i < 2 ^ 64) (bytes : List ℕ) (u v : Image) (wrote : Agrees (covers (stage_path i)) nowhere u v) (formed : IsImage v) (made : HoldsAlone (stage_path i) mode bytes v) where
+  -- nothing below it is a file
+  at_place : (q : List ℕ) → covers (stage_path i) q ≡ true → is_file (v.look q) ≡ true → q ≡ stage_path i
+  at_place q covered file = go (same_path (stage_path i) q) refl
+    where
+      go : (s : Bool) → same_path (stage_path i) q ≡ s → q ≡ stage_path i
+      go true same = sym (same_path-true (stage_path i) q same)
+      go false apart = elim (or_cases (is_none (v.look q)) (is_dir (v.look (stage_path i))) (formed.below_dirs (stage_path i) q covered apart)) [
+        | inl none ↦ absurd (let bad : is_file None ≡ true = ap is_file (sym (none_there (v.look q) none)) ∙ file in cc)
+        | inr dir ↦ absurd (let bad : is_dir (Some (File mode bytes)) ≡ true = ap is_dir (sym made.file) ∙ dir in cc)
+      ]
+
+  other_alone : AreAlone u → (n : ℕ) (q : List ℕ) → n < 2 ^ 64 → (n ≡ i → ⊥) → v.same (stage_path n) q ≡ true → q ≡ stage_path n
+  other_alone before n q small other same = go (covers (stage_path i) q) refl
+    where
+      apart : covers (stage_path i) (stage_path n) ≡ false
+      apart = contents_apart i n few small (λ e. other (sym e))
+
+      go : (c : Bool) → covers (stage_path i) q ≡ c → q ≡ stage_path n
+      go false off = before n q small (sym (wrote.same (stage_path n) q apart off) ∙ same)
+      go true covered =
+          let files = formed.files (stage_path n) q same in
+          let here : q ≡ stage_path i = at_place q covered (ap is_file (sym files.1) ∙ files.0) in
+          let back : v.same (stage_path i) (stage_path n) ≡ true = formed.sym (stage_path i) (stage_path n) ∙ ap (v.same (stage_path n)) (sym here) ∙ same in
+          let one : stage_path n ≡ stage_path i = made.sole (stage_path n) back in
+          clash (covers (stage_path i) (stage_path n)) (ap (covers (stage_path i)) one ∙ covers-self (stage_path i)) apart
+
+  pub alone_more : AreAlone u → AreAlone v
+  alone_more before n q small same = elim (cases_lt n i) [
+    | inl less ↦ other_alone before n q small (λ e. omega (arith, less, e)) same
+    | inr over ↦ elim (cases_lt i n) [
+      | inl more ↦ other_alone before n q small (λ e. omega (arith, more, e)) same
+      | inr within ↦
+          let here : n ≡ i = omega (arith, over, within) in
+          made.sole q (ap (λ (k : ℕ). v.same (stage_path k) q) (sym here) ∙ same) ∙ ap stage_path (sym here)
+    ]
+  ]
 
 -- ---- what is seen stays while the stage is filled
 
@@ -146,9 +175,9 @@ module _ (staged : List Staged) (i : ℕ) (s : Staged) (lt : i < length staged) 
       (up_to n small)
 
   module _ (tells : Bool) (repository : Image) (publisher : List ℕ) (t u v : Image) (few : i < 2 ^ 64) (wrote : Agrees (covers (stage_path i)) nowhere u v) where
-    pub written_more : (bytes : List ℕ) → v.look (stage_path i) ≡ Some (File 384 bytes) → IsContent tells repository publisher t s bytes
+    pub written_more : (mode : ℕ) (bytes : List ℕ) → v.look (stage_path i) ≡ Some (File mode bytes) → IsContent tells repository publisher t s bytes
         → ((n : ℕ) (x : Staged) → n < i → slice_get staged n ≡ Some x → IsWritten tells repository publisher t u n x) → (n : ℕ) (x : Staged) → n < i + 1 → slice_get staged n ≡ Some x → IsWritten tells repository publisher t v n x
-    written_more bytes file content before = each_more (IsWritten tells repository publisher t v) (bytes, ap file_bytes file, content)
+    written_more mode bytes file content before = each_more (IsWritten tells repository publisher t v) (bytes, ap file_bytes file, content)
         (λ n x less at. let old = before n x less at in (old.0, ap file_bytes (wrote.look (stage_path n) (contents_apart i n (omega arith) (omega arith) (λ same. omega (arith, same))) refl) ∙ old.1, old.2))
 
     pub empty_more : ((n : ℕ) → i ≤ n → n < 2 ^ 64 → u.look (stage_path n) ≡ None) → (n : ℕ) → i + 1 ≤ n → n < 2 ^ 64 → v.look (stage_path n) ≡ None
@@ -185,3 +214,9 @@ says_of_stage tells repository publisher staged i (Bytes given) at before stage.
 says_of_stage tells repository publisher staged i (Standing from) at before (stage.Payload other why) says = cc
 says_of_stage tells repository publisher staged i (Standing from) at before stage.SourceFault says = tt
 says_of_stage tells repository publisher staged i (Standing from) at before stage.FolderFault says = tt
+
+-- a fault of the folder is one of any content
+pub folder_said : (tells : Bool) (repository : Image) (publisher : List ℕ) (s : Staged) → SaysOfContent tells repository publisher s stage.FolderFault
+folder_said tells repository publisher (Payload name) = tt
+folder_said tells repository publisher (Bytes given) = refl
+folder_said tells repository publisher (Standing from) = refl

@@ -17,7 +17,7 @@ use Rattle.ips_commit.specs.Pending.{HasNoOtherMark}
 use Rattle.ips_commit.specs.Staging.{IsStaged}
 use Rattle.ips_commit.specs.Phases.{Opens, IsUnderWay}
 use Rattle.ips_commit.specs.Recovering.{AreLaidTo, IsJournalled}
-use Rattle.ips_commit.proofs.CutOff.{none_laid, as_own, laid_alike, content_else}
+use Rattle.ips_commit.proofs.CutOff.{none_laid, as_own, laid_alike, content_else, stage_else}
 use Rattle.ips_commit.proofs.OwnNames.{unmarked_gate}
 use Rattle.ips_commit.proofs.Marked.{mark_own}
 use Rattle.ips_commit.proofs.Owing.{ready_text, owes_less, opening_owed, gate_opened}
@@ -51,7 +51,7 @@ module _ {F : Type 0} (o : Outside F) (sane : IsOutside o) where
 
       -- so many steps are laid, told of the image before
       pub laid_since : (n : ℕ) (u : Image) (before now : List Carrier) → AreLaidTo steps n (o.state mid).held u before now → AreLaidTo steps n (o.state old).held u before now
-      laid_since n u counts now are = laid_alike (covers gate_name) gate_private steps n (o.state old).held (o.state mid).held u counts now staged.ready.lists.names (λ k. (content_else k).1) run.now.agrees are
+      laid_since n u counts now are = laid_alike (covers gate_name) gate_private (λ k. (content_else k).1) stage_else.1 steps n (o.state old).held (o.state mid).held u counts now staged.ready.lists.names run.now.agrees are
 
       -- from then on the new image is due
       module _ (new : F) (owed : Throughout o mid new (FolderOwes journal_text before (Some a) true)) where

@@ -7,12 +7,11 @@ use Rattle.ips_text.specs.Ancestry.{same_path, covers}
 use Rattle.ips_outside.specs.Image.{Image, Agrees}
 use Rattle.ips_outside.specs.State.{nowhere}
 use Rattle.ips_outside.proofs.Moments.{agrees_less, agrees_on}
-use Rattle.ips_steps.specs.Steps.{Step, Gone, Fresh, Mode, Put, Symlink, Hard, stage_name, stage_path, stage_of, after, freed, meets, met}
+use Rattle.ips_steps.specs.Steps.{Step, Gone, Fresh, Mode, Put, Symlink, Hard, stage_name, stage_path, after, freed, sets}
 use Rattle.ips_steps.specs.Private.{gate_name, mark_front, begins, is_private}
 use Rattle.ips_steps.specs.Journal.{step_allowed, allowed}
-use Rattle.ips_steps.proofs.Apart.{own_alike}
+use Rattle.ips_steps.proofs.Linked.{own_alike}
 use Rattle.ips_steps.proofs.Lists.{clash}
-use Rattle.ips_steps.proofs.PrivateNames.{same_bytes}
 use Rattle.ips_kinds.specs.Tallies.{Carrier}
 use Rattle.ips_apply.specs.Applied.{AgreesBut}
 use Rattle.ips_apply.proofs.Turns.{allowed_behind}
@@ -34,7 +33,7 @@ one_at_most steps begun (inr one) = inr (one.0, ap (drop (length steps)) one.1 �
 -- ---- what is seen but for that
 
 pub seen_but : (begun : List Step) (t u : Image) → AgreesBut begun t u → IsSeenBut begun t u
-seen_but begun t u h = agrees_less (freed begun) (met (stage_of t) begun t) _ _ t u (λ q off. (or_parts (freed begun q) (is_private q) off).0) (λ q l. l) h
+seen_but begun t u h = agrees_less (freed begun) (sets begun t) _ _ t u (λ q off. (or_parts (freed begun q) (is_private q) off).0) (λ q l. l) h
 
 -- where nothing was begun, or nothing is told of what was
 pub seen_same : (begun : List Step) (t u : Image) → Agrees is_private nowhere t u → IsSeenBut begun t u
@@ -65,6 +64,11 @@ pub content_else : (n : ℕ) → (begins mark_front (stage_path n) ≡ false) ×
 unfolding mark_front gate_name stage_name
 content_else n = (refl, refl)
 
+-- nor is their folder
+pub stage_else : (begins mark_front stage_name ≡ false) × (covers gate_name stage_name ≡ false)
+unfolding mark_front gate_name stage_name
+stage_else = (refl, refl)
+
 module _ (apart : List ℕ → Bool) (own : (q : List ℕ) → apart q ≡ true → is_private q ≡ true) where
   off : (q : List ℕ) → is_private q ≡ false → apart q ≡ false
   off q seen = false_from_ne_true _ (λ a. clash (is_private q) (own q a) seen)
@@ -72,51 +76,52 @@ module _ (apart : List ℕ → Bool) (own : (q : List ℕ) → apart q ≡ true 
   pub as_own : (t u : Image) → Agrees apart nowhere t u → Agrees is_private nowhere t u
   as_own t u h = agrees_less apart nowhere is_private nowhere t u off (λ q l. l) h
 
-  meets_alike : (s : Step) (t u : Image) → step_allowed s ≡ true → Agrees apart nowhere t u → (q : List ℕ) → is_private q ≡ false → meets s u q ≡ meets s t q
-  meets_alike (Gone p) t u may h q seen = refl
-  meets_alike (Fresh m p) t u may h q seen = refl
-  meets_alike (Mode m p) t u may h q seen = ap (λ (b : Bool). same_path p q || b) (h.same p q (off p (not-true _ may)) (off q seen))
-  meets_alike (Put n m p) t u may h q seen = refl
-  meets_alike (Symlink p target) t u may h q seen = refl
-  meets_alike (Hard p to) t u may h q seen = refl
-
-  one_alike : (s : Step) (t u v : Image) → step_allowed s ≡ true → Agrees apart nowhere t u → IsSeenBut (s ∷ []) u v → IsSeenBut (s ∷ []) t v
-  one_alike s t u v may h k = record {
-    look = λ q f l. k.look q f (ap (λ (b : Bool). b || false) (meets_alike s t u may h q (seen q f)) ∙ l) ∙ h.look q (off q (seen q f)) refl;
-    but_mode = λ q f. k.but_mode q f ∙ h.but_mode q (off q (seen q f));
-    same = λ a b f g. k.same a b f g ∙ h.same a b (off a (seen a f)) (off b (seen b g));
-  }
-    where
-      seen : (q : List ℕ) → (freed (s ∷ []) q || is_private q) ≡ false → is_private q ≡ false
-      seen q f = (or_parts (freed (s ∷ []) q) (is_private q) f).1
-
   none_alike : (t u v : Image) → Agrees apart nowhere t u → IsSeenBut [] u v → IsSeenBut [] t v
   none_alike t u v h k = seen_same [] t v (agrees_on is_private nowhere t u v (as_own t u h) (none_begun u v k))
 
-  pub but_alike : (begun : List Step) → (begun ≡ []) ⊎ ((s : Step) × (begun ≡ s ∷ [])) → allowed begun ≡ true → (t u v : Image) → Agrees apart nowhere t u → IsSeenBut begun u v → IsSeenBut begun t v
-  but_alike begun (inl none) may t u v h k = subst (λ (l : List Step). IsSeenBut l t v) (sym none) (none_alike t u v h (subst (λ (l : List Step). IsSeenBut l u v) none k))
-  but_alike begun (inr one) may t u v h k =
-      let s = one.0 in
-      let may_one : allowed (s ∷ []) ≡ true = ap allowed (sym one.1) ∙ may in
-      subst (λ (l : List Step). IsSeenBut l t v) (sym one.1) (one_alike s t u v (and_parts (step_allowed s) _ may_one).0 h (subst (λ (l : List Step). IsSeenBut l u v) one.1 k))
+  -- and the contents aren't among these names
+  module _ (files : (n : ℕ) → apart (stage_path n) ≡ false) where
+    sets_alike : (s : Step) (t u : Image) → step_allowed s ≡ true → Agrees apart nowhere t u → (q : List ℕ) → is_private q ≡ false → sets (s ∷ []) u q ≡ sets (s ∷ []) t q
+    sets_alike (Gone p) t u may h q seen = refl
+    sets_alike (Fresh m p) t u may h q seen = refl
+    sets_alike (Mode m p) t u may h q seen = ap (λ (b : Bool). (same_path p q || b) || false) (h.same p q (off p (not-true _ may)) (off q seen))
+    sets_alike (Put n m p) t u may h q seen = ap (λ (b : Bool). (same_path (stage_path n) q || b) || false) (h.same (stage_path n) q (files n) (off q seen))
+    sets_alike (Symlink p target) t u may h q seen = refl
+    sets_alike (Hard p to) t u may h q seen = refl
 
-  -- the same number of steps is laid from either
-  pub laid_alike : (steps : List Step) (n : ℕ) (t u v : Image) (before now : List Carrier) → allowed steps ≡ true → ((k : ℕ) → apart (stage_path k) ≡ false) → Agrees apart nowhere t u → AreLaidTo steps n u v before now → AreLaidTo steps n t v before now
-  laid_alike steps n t u v before now may uncontained h are =
-      let contents : stage_of u ≡ stage_of t = λ i k. same_bytes (u.look (stage_path k)) (t.look (stage_path k)) (h.but_mode (stage_path k) (uncontained k)) i in
-      let parts : allowed (take n steps ++ drop n steps) ≡ true = ap allowed (take-append-drop n steps) ∙ may in
-      let rest : allowed (take 1 (drop n steps) ++ drop 1 (drop n steps)) ≡ true = ap allowed (take-append-drop 1 (drop n steps)) ∙ allowed_behind (take n steps) (drop n steps) parts in
-      let alike = own_alike apart (take n steps) t u (allowed_before (take n steps) (drop n steps) parts) own contents h in
-      record {
-        few = are.few;
-        can = sym alike.0 ∙ are.can;
-        held = but_alike (take 1 (drop n steps)) (first_only (drop n steps)) (allowed_before (take 1 (drop n steps)) (drop 1 (drop n steps)) rest) (after (take n steps) t) (after (take n steps) u) v alike.1 are.held;
-        tallies = are.tallies;
-      }
-    where
-      first_only : (l : List Step) → (take 1 l ≡ []) ⊎ ((s : Step) × (take 1 l ≡ s ∷ []))
-      first_only [] = inl refl
-      first_only (s ∷ l) = inr (s, refl)
+    one_alike : (s : Step) (t u v : Image) → step_allowed s ≡ true → Agrees apart nowhere t u → IsSeenBut (s ∷ []) u v → IsSeenBut (s ∷ []) t v
+    one_alike s t u v may h k = record {
+      look = λ q f l. k.look q f (sets_alike s t u may h q (seen q f) ∙ l) ∙ h.look q (off q (seen q f)) refl;
+      but_mode = λ q f. k.but_mode q f ∙ h.but_mode q (off q (seen q f));
+      same = λ a b f g. k.same a b f g ∙ h.same a b (off a (seen a f)) (off b (seen b g));
+    }
+      where
+        seen : (q : List ℕ) → (freed (s ∷ []) q || is_private q) ≡ false → is_private q ≡ false
+        seen q f = (or_parts (freed (s ∷ []) q) (is_private q) f).1
+
+    pub but_alike : (begun : List Step) → (begun ≡ []) ⊎ ((s : Step) × (begun ≡ s ∷ [])) → allowed begun ≡ true → (t u v : Image) → Agrees apart nowhere t u → IsSeenBut begun u v → IsSeenBut begun t v
+    but_alike begun (inl none) may t u v h k = subst (λ (l : List Step). IsSeenBut l t v) (sym none) (none_alike t u v h (subst (λ (l : List Step). IsSeenBut l u v) none k))
+    but_alike begun (inr one) may t u v h k =
+        let s = one.0 in
+        let may_one : allowed (s ∷ []) ≡ true = ap allowed (sym one.1) ∙ may in
+        subst (λ (l : List Step). IsSeenBut l t v) (sym one.1) (one_alike s t u v (and_parts (step_allowed s) _ may_one).0 h (subst (λ (l : List Step). IsSeenBut l u v) one.1 k))
+
+    -- the same number of steps is laid from either
+    pub laid_alike : apart stage_name ≡ false → (steps : List Step) (n : ℕ) (t u v : Image) (before now : List Carrier) → allowed steps ≡ true → Agrees apart nowhere t u → AreLaidTo steps n u v before now → AreLaidTo steps n t v before now
+    laid_alike dir steps n t u v before now may h are =
+        let parts : allowed (take n steps ++ drop n steps) ≡ true = ap allowed (take-append-drop n steps) ∙ may in
+        let rest : allowed (take 1 (drop n steps) ++ drop 1 (drop n steps)) ≡ true = ap allowed (take-append-drop 1 (drop n steps)) ∙ allowed_behind (take n steps) (drop n steps) parts in
+        let alike = own_alike apart own files dir (take n steps) t u (allowed_before (take n steps) (drop n steps) parts) h in
+        record {
+          few = are.few;
+          can = sym alike.0 ∙ are.can;
+          held = but_alike (take 1 (drop n steps)) (first_only (drop n steps)) (allowed_before (take 1 (drop n steps)) (drop 1 (drop n steps)) rest) (after (take n steps) t) (after (take n steps) u) v alike.1 are.held;
+          tallies = are.tallies;
+        }
+      where
+        first_only : (l : List Step) → (take 1 l ≡ []) ⊎ ((s : Step) × (take 1 l ≡ s ∷ []))
+        first_only [] = inl refl
+        first_only (s ∷ l) = inr (s, refl)
 
 -- ---- some steps and what follows them
 

@@ -1,21 +1,19 @@
 -- Turns of laying one after another.
-use Rattle.std.proofs.Common.{◌≡◌, inl, inr, ⊎_elim, ℕ, ◌+◌, ◌*◌, ◌≤◌, min, Bool, true, false, ◌&&◌, List, [], ◌∷◌, ◌++◌, append_assoc, append-nil, length, length-append, take, Result, Ok, Err, Some, refl, sym, ◌∙◌, ap, subst, arith}
-use Rattle.std.proofs.lemmas.Bool.{and_parts, and_from}
+use Rattle.std.proofs.Common.{◌≡◌, inl, inr, ⊎_elim, ℕ, ◌+◌, ◌*◌, ◌≤◌, min, Bool, true, false, List, [], ◌∷◌, ◌++◌, append_assoc, append-nil, length, length-append, take, Result, Ok, Err, Some, refl, sym, ◌∙◌, ap, subst, arith}
 use Rattle.ips_outside.specs.Image.{Image, Agrees}
 use Rattle.ips_outside.specs.State.{nowhere}
 use Rattle.ips_outside.specs.Outside.{Outside, IsOutside}
 use Rattle.ips_outside.proofs.Moments.{agrees_self, agrees_on, within_self}
 use Rattle.ips_folder.proofs.Runs.{started, joins}
-use Rattle.ips_steps.specs.Steps.{Step, Stage, laid, all_laid, after, can_lay, possible, stage_of, met}
+use Rattle.ips_steps.specs.Steps.{Step, after, feasible, sets}
 use Rattle.ips_steps.specs.Private.{mark_front, begins}
 use Rattle.ips_steps.specs.Journal.{IsJournal, allowed}
 use Rattle.ips_steps.specs.Owed.{IsOpen, FolderOwes}
 use Rattle.ips_steps.specs.View.{sort_of}
 use Rattle.ips_steps.specs.declared.step.Sort.{Sort}
-use Rattle.ips_steps.proofs.Apart.{marks_alike}
+use Rattle.ips_steps.proofs.Linked.{after_append, after_within, feasible_append, marks_alike}
 use Rattle.ips_steps.proofs.Owing.{owes_laying}
-use Rattle.ips_steps.proofs.PrivateNames.{mark_private, same_stage}
-use Rattle.ips_steps.proofs.Within.{laid_within}
+use Rattle.ips_steps.proofs.PrivateNames.{mark_private}
 use Rattle.ips_kinds.specs.Tallies.{Carrier, counted, all_counted, taken}
 use Rattle.ips_kinds.proofs.Counting.{taken_stays}
 use Rattle.ips_journal.specs.Text.{journal_text}
@@ -25,7 +23,7 @@ use Rattle.ips_journal.specs.declared.fault.StepFault.{StepFault}
 use Rattle.ips_journal.specs.declared.fault.StepFault.TheVariants.{BadJournal, FolderFault}
 use Rattle.ips_apply.proofs.Turns.{allowed_behind}
 use Rattle.ips_commit.specs.Phases.{IsUnderWay, AreMarkedOff, IsHeldUp, AreCutOff, LaysTo, Lays, LaysThousand, LaysAll, ended_of}
-use Rattle.ips_commit.proofs.CutOff.{allowed_both, but_alike}
+use Rattle.ips_commit.proofs.CutOff.{allowed_both, but_alike, content_else}
 use Rattle.ips_commit.proofs.Lays.{begins_next, front_grown, allowed_before}
 use Rattle.ips_commit.proofs.Marked.{journal_laid, journal_marked, same_marks}
 use Rattle.ips_commit.proofs.Owing.{nodes, ready_text, safe_left}
@@ -36,42 +34,20 @@ pub counted_on : (first second : List Step) (kinds : List Carrier) → all_count
 counted_on [] second kinds = refl
 counted_on (s ∷ first) second kinds = counted_on first second (counted (sort_of s) kinds)
 
-laid_on : (stage : Stage) (first second : List Step) (t : Image) → all_laid stage (first ++ second) t ≡ all_laid stage second (all_laid stage first t)
-laid_on stage [] second t = refl
-laid_on stage (s ∷ first) second t = laid_on stage first second (laid stage s t)
-
-possible_on : (stage : Stage) (first second : List Step) (t : Image) → possible stage first t ≡ true → possible stage second (all_laid stage first t) ≡ true → possible stage (first ++ second) t ≡ true
-possible_on stage [] second t can rest = rest
-possible_on stage (s ∷ first) second t can rest =
-    let parts = and_parts (can_lay stage s t) _ can in
-    and_from (can_lay stage s t) _ parts.0 (possible_on stage first second (laid stage s t) parts.1 rest)
-
 -- the second part laid on what the first one left, but for marks
-module _ (t mid : Image) (first second : List Step) (may : allowed first ≡ true) (may_2 : allowed second ≡ true) (h : Agrees (begins mark_front) nowhere (after first t) mid) where
-  same_contents : stage_of (after first t) ≡ stage_of t
-  same_contents = same_stage first (met (stage_of t) first t) t (after first t) may (laid_within (stage_of t) first t)
-
-  pub both_possible : possible (stage_of t) first t ≡ true → possible (stage_of mid) second mid ≡ true → possible (stage_of t) (first ++ second) t ≡ true
-  both_possible can can_2 =
-      let alike = marks_alike second (after first t) mid may_2 h in
-      possible_on (stage_of t) first second t can (subst (λ (c : Stage). possible c second (after first t) ≡ true) same_contents (sym alike.0 ∙ can_2))
-
-  both_after : after (first ++ second) t ≡ after second (after first t)
-  both_after = laid_on (stage_of t) first second t ∙ ap (λ (c : Stage). all_laid c second (after first t)) (sym same_contents)
+module _ (t mid : Image) (first second : List Step) (may_2 : allowed second ≡ true) (h : Agrees (begins mark_front) nowhere (after first t) mid) where
+  pub both_feasible : feasible first t ≡ true → feasible second mid ≡ true → feasible (first ++ second) t ≡ true
+  both_feasible can can_2 = feasible_append first second t can (sym (marks_alike second (after first t) mid may_2 h).0 ∙ can_2)
 
   pub both_agree : Agrees (begins mark_front) nowhere (after (first ++ second) t) (after second mid)
-  both_agree = subst (λ (u : Image). Agrees (begins mark_front) nowhere u (after second mid)) (sym both_after) (marks_alike second (after first t) mid may_2 h).1
+  both_agree = subst (λ (u : Image). Agrees (begins mark_front) nowhere u (after second mid)) (sym (after_append first second t)) (marks_alike second (after first t) mid may_2 h).1
 
   pub both_held : (new : Image) → Agrees (begins mark_front) nowhere (after second mid) new → Agrees (begins mark_front) nowhere (after (first ++ second) t) new
   both_held new last = agrees_on (begins mark_front) nowhere (after (first ++ second) t) (after second mid) new both_agree last
 
 -- a step that can't be laid can't be where only marks are others
-pub cannot_alike : (s : Step) (t u : Image) → allowed (s ∷ []) ≡ true → Agrees (begins mark_front) nowhere t u → can_lay (stage_of u) s u ≡ false → can_lay (stage_of t) s t ≡ false
-cannot_alike s t u may h cannot = alone (can_lay (stage_of t) s t) (sym (marks_alike (s ∷ []) t u may h).0 ∙ ap (λ (b : Bool). b && true) cannot)
-  where
-    alone : (b : Bool) → (b && true) ≡ false → b ≡ false
-    alone true is = is
-    alone false is = refl
+pub cannot_alike : (s : Step) (t u : Image) → allowed (s ∷ []) ≡ true → Agrees (begins mark_front) nowhere t u → feasible (s ∷ []) u ≡ false → feasible (s ∷ []) t ≡ false
+cannot_alike s t u may h cannot = sym (marks_alike (s ∷ []) t u may h).0 ∙ cannot
 
 module _ {F : Type 0} (o : Outside F) (sane : IsOutside o) (first : ℕ) where
   -- ---- before the first turn
@@ -115,7 +91,7 @@ module _ {F : Type 0} (o : Outside F) (sane : IsOutside o) (first : ℕ) where
 
       pub same_text : journal_of (o.state mid).held ≡ text
       same_text = journal_marked (after one.steps t) (o.state mid).held laid_off.1.held
-          ∙ journal_laid one.steps may_first (met (stage_of t) one.steps t) t (after one.steps t) (laid_within (stage_of t) one.steps t)
+          ∙ journal_laid one.steps may_first (sets one.steps t) t (after one.steps t) (after_within one.steps t)
 
       pub way_half : IsUnderWay (o.state mid) one.marks
       way_half = laid_off.1.way
@@ -146,11 +122,10 @@ module _ {F : Type 0} (o : Outside F) (sane : IsOutside o) (first : ℕ) where
 
         off : allowed two.steps ≡ true → AreMarkedOff o two.steps two.marks mid new → AreMarkedOff o both two.marks old new
         off may_2 last =
-            let may = may_first told way front at in
             let h = (laid_off told way front at).1.held in
             record {
-              can = both_possible t (o.state mid).held one.steps two.steps may may_2 h (laid_off told way front at).1.can last.can;
-              held = both_held t (o.state mid).held one.steps two.steps may may_2 h (o.state new).held last.held;
+              can = both_feasible t (o.state mid).held one.steps two.steps may_2 h (laid_off told way front at).1.can last.can;
+              held = both_held t (o.state mid).held one.steps two.steps may_2 h (o.state new).held last.held;
               way = last.way;
             }
 
@@ -158,14 +133,13 @@ module _ {F : Type 0} (o : Outside F) (sane : IsOutside o) (first : ℕ) where
         held_up : (line : ℕ) → IsHeldUp o (journal_of (o.state mid).held) (front ++ one.steps) two.steps two.marks line mid new → IsHeldUp o text front both two.marks line old new
         held_up line up =
             let s = up.next.step in
-            let may = may_first told way front at in
             let h = (laid_off told way front at).1.held in
             let names : allowed (((front ++ one.steps) ++ two.steps) ++ s ∷ []) ≡ true = up.next.stands.1.1.listed.names in
             let last : allowed (s ∷ []) ≡ true = allowed_behind ((front ++ one.steps) ++ two.steps) (s ∷ []) names in
             let may_2 : allowed two.steps ≡ true = allowed_behind (front ++ one.steps) two.steps (allowed_before ((front ++ one.steps) ++ two.steps) (s ∷ []) names) in
             record {
-              can = both_possible t (o.state mid).held one.steps two.steps may may_2 h (laid_off told way front at).1.can up.can;
-              held = both_held t (o.state mid).held one.steps two.steps may may_2 h (o.state new).held up.held;
+              can = both_feasible t (o.state mid).held one.steps two.steps may_2 h (laid_off told way front at).1.can up.can;
+              held = both_held t (o.state mid).held one.steps two.steps may_2 h (o.state new).held up.held;
               next = record {
                 step = s;
                 stands = (
@@ -173,7 +147,7 @@ module _ {F : Type 0} (o : Outside F) (sane : IsOutside o) (first : ℕ) where
                   subst (λ (l : List ℕ). IsAt l ((front ++ both) ++ s ∷ []) up.next.stands.0) (same_text told way front at)
                       (subst (λ (l : List Step). IsAt (journal_of (o.state mid).held) (l ++ s ∷ []) up.next.stands.0) assoc up.next.stands.1),
                 );
-                cannot = cannot_alike s (after both t) (after two.steps (o.state mid).held) last (both_agree t (o.state mid).held one.steps two.steps may may_2 h) up.next.cannot;
+                cannot = cannot_alike s (after both t) (after two.steps (o.state mid).held) last (both_agree t (o.state mid).held one.steps two.steps may_2 h) up.next.cannot;
                 number = subst (λ (l : List Step). line ≡ length l + 2) assoc up.next.number;
               };
               marked = up.marked;
@@ -192,9 +166,9 @@ module _ {F : Type 0} (o : Outside F) (sane : IsOutside o) (first : ℕ) where
               names = subst (λ (l : List Step). allowed l ≡ true) whole (allowed_both one.steps (two.steps ++ cut.begun) may cut.names);
               next = λ all lists is. subst (λ (l : List Step). l ≡ take (length l) all) (append_assoc front one.steps (two.steps ++ cut.begun) ∙ ap (λ (l : List Step). front ++ l) whole)
                   (cut.next all lists (same_text told way front at ∙ is));
-              can = both_possible t (o.state mid).held one.steps two.steps may may_2 h (laid_off told way front at).1.can cut.can;
-              held = but_alike (begins mark_front) mark_private cut.begun cut.one_more (allowed_behind two.steps cut.begun cut.names) (after both t) (after two.steps (o.state mid).held) (o.state new).held
-                  (both_agree t (o.state mid).held one.steps two.steps may may_2 h) cut.held;
+              can = both_feasible t (o.state mid).held one.steps two.steps may_2 h (laid_off told way front at).1.can cut.can;
+              held = but_alike (begins mark_front) mark_private (λ k. (content_else k).0) cut.begun cut.one_more (allowed_behind two.steps cut.begun cut.names) (after both t) (after two.steps (o.state mid).held) (o.state new).held
+                  (both_agree t (o.state mid).held one.steps two.steps may_2 h) cut.held;
               gate = cut.gate;
             }
 

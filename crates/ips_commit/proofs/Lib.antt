@@ -3,6 +3,8 @@ pub mod OwnNames
 pub mod Leftovers
 pub mod Swept
 pub mod Written
+pub mod Copies
+pub mod Puts
 pub mod AllWritten
 pub mod GateOpens
 pub mod Lays

@@ -12,10 +12,10 @@ use Rattle.ips_outside.proofs.Images.{HasNodes}
 use Rattle.ips_outside.proofs.Moments.{agrees_less, within_crash}
 use Rattle.ips_folder.specs.Calls.{ChangesOnly, Throughout}
 use Rattle.ips_folder.proofs.Runs.{joins, weaker, keeps_wider}
-use Rattle.ips_steps.specs.Steps.{Step, stage_name, stage_of, freed, met}
+use Rattle.ips_steps.specs.Steps.{Step, stage_name, freed, sets}
 use Rattle.ips_steps.specs.Private.{gate_name, journal_name, mark_front, mark_name, begins, is_private, visible}
 use Rattle.ips_steps.specs.Owed.{AreMarks, steps_left, IsReady, IsOpen, Owes, Old, Open, New, FolderOwes}
-use Rattle.ips_steps.proofs.AtTurn.{front_frees, front_meets}
+use Rattle.ips_steps.proofs.AtTurn.{front_frees, front_sets}
 use Rattle.ips_steps.proofs.Lists.{clash}
 use Rattle.ips_steps.proofs.PrivateNames.{gate_private, visible_agrees}
 use Rattle.ips_steps.proofs.Owing.{open_laying, gate_ready, owes_laying, owes_opening, owes_closing, owes_sweeping, closed_seen}
@@ -103,19 +103,19 @@ module _ {F : Type 0} (o : Outside F) (sane : IsOutside o) where
     abbrev left : List Step
     left = steps_left marks steps
 
-    laying_wide : HasBegun o (journal_of t) (take (1000 * marks) steps) old new → ChangesOnly o (freed left) (λ q. freed left q || met (stage_of t) left t q) old new
+    laying_wide : HasBegun o (journal_of t) (take (1000 * marks) steps) old new → ChangesOnly o (freed left) (λ q. freed left q || sets left t q) old new
     laying_wide begun =
         let next : begun.begun ≡ take (length begun.begun) left = next_of steps begun.begun (1000 * marks) (begun.next steps is_open.ready.lists (ready_text steps marks a t is_open.ready)) in
         let some = take (length begun.begun) left in
-        let laid : ChangesOnly o (freed some) (λ q. freed some q || met (stage_of t) some t q) old new =
-        subst (λ (l : List Step). ChangesOnly o (freed l) (λ q. freed l q || met (stage_of t) l t q) old new) next begun.moments in
-        keeps_wider o (freed some) (λ q. freed some q || met (stage_of t) some t q) (freed left) (λ q. freed left q || met (stage_of t) left t q) old new
+        let laid : ChangesOnly o (freed some) (λ q. freed some q || sets some t q) old new =
+        subst (λ (l : List Step). ChangesOnly o (freed l) (λ q. freed l q || sets l t q) old new) next begun.moments in
+        keeps_wider o (freed some) (λ q. freed some q || sets some t q) (freed left) (λ q. freed left q || sets left t q) old new
         (front_frees left (length begun.begun))
-        (λ q none. let parts = or_parts (freed left q) (met (stage_of t) left t q) none in or_from (freed some q) (met (stage_of t) some t q) (front_frees left (length begun.begun) q parts.0) (front_meets (stage_of t) left (length begun.begun) t q parts.1))
+        (λ q none. let parts = or_parts (freed left q) (sets left t q) none in or_from (freed some q) (sets some t q) (front_frees left (length begun.begun) q parts.0) (front_sets left (length begun.begun) t q parts.1))
         laid
 
     pub laying_owed : IsSettled (o.state old) → HasBegun o (journal_of t) (take (1000 * marks) steps) old new → (b : Image) (due : Bool) → Throughout o old new (FolderOwes journal_text b (Some a) due)
-    laying_owed clean begun b due = weaker o old new (ChangedWithin (freed left) (λ q. freed left q || met (stage_of t) left t q) (o.state old)) (FolderOwes journal_text b (Some a) due)
+    laying_owed clean begun b due = weaker o old new (ChangedWithin (freed left) (λ q. freed left q || sets left t q) (o.state old)) (FolderOwes journal_text b (Some a) due)
         (λ s w. owes_laying journal_text steps marks a b due (o.state old) s is_open (nodes old told) clean w) (laying_wide begun).moments
 
     pub laying_open : HasBegun o (journal_of t) (take (1000 * marks) steps) old new → IsOpen journal_text steps marks a (o.state new).held
@@ -126,7 +126,7 @@ module _ {F : Type 0} (o : Outside F) (sane : IsOutside o) where
     -- a crash leaves the marks
     pub laying_left : HasBegun o (journal_of t) (take (1000 * marks) steps) old new → IsSettled (o.state old) → (c : Image) → MayLeave (o.state new) c → AreMarks c marks
     laying_left begun clean c may =
-        let loose = λ (q : List ℕ). freed left q || met (stage_of t) left t q in
+        let loose = λ (q : List ℕ). freed left q || sets left t q in
         let h = agrees_less _ _ (freed left) loose t c (λ q f. or_from _ _ f (clean.whole q)) (λ q l. or_from _ _ l (clean.modes q)) (within_crash (freed left) loose (o.state old) (o.state new) c (laying_wide begun).now may) in
         (open_laying journal_text steps marks a t c is_open (nodes old told) (record { look = λ q f l. h.look q f (or_from _ _ f l); but_mode = h.but_mode; same = h.same })).ready.marked
 

@@ -18,7 +18,7 @@ use Rattle.ips_steps.specs.Steps.{Step, after}
 use Rattle.ips_steps.specs.Private.{gate_name, mark_front, mark_name, begins, visible}
 use Rattle.ips_steps.specs.Journal.{allowed}
 use Rattle.ips_steps.specs.Owed.{AreMarks, steps_left, IsOpen, Owes, Old, Open, New, FolderOwes}
-use Rattle.ips_steps.proofs.Apart.{marks_alike}
+use Rattle.ips_steps.proofs.Linked.{marks_alike}
 use Rattle.ips_steps.proofs.Lists.{clash}
 use Rattle.ips_steps.proofs.PrivateNames.{mark_private}
 use Rattle.ips_steps.proofs.Owing.{owed_open}
@@ -35,7 +35,7 @@ use Rattle.ips_commit.specs.declared.fault.CommitFault.TheVariants as fault
 use Rattle.ips_commit.specs.Pending.{HasNoOtherMark, AreMarkNames, IsSwept, HasCommitted, is_swept, is_other, mark_names}
 use Rattle.ips_commit.specs.Phases.{IsUnderWay}
 use Rattle.ips_commit.specs.Recovering.{AreCounted, AreLaidTo, CanResume, IsJournalled, IsStuckAt, IsPlaced, IsUnfinished, CanRollForward, IfBadJournal, SaysOfFinding, SaysOfSteps, SaysOfLaying, SaysOfRecovery}
-use Rattle.ips_commit.proofs.CutOff.{none_laid, as_own, laid_alike, content_else}
+use Rattle.ips_commit.proofs.CutOff.{none_laid, as_own, laid_alike, content_else, stage_else}
 use Rattle.ips_commit.proofs.Going.{cannot_alike}
 use Rattle.ips_commit.proofs.Lays.{allowed_before}
 use Rattle.ips_commit.proofs.Marked.{absent_later, gate_marked, journal_marked}
@@ -294,7 +294,7 @@ module _ {F : Type 0} (o : Outside F) (sane : IsOutside o) (old mid : F) (marks 
     first_unfinished s before now steps m is found = record {
       laid = found.laid;
       are = subst (λ (l : List Step). AreLaidTo l found.laid t s.held before now) (rest_as t r count placed steps m is)
-          (laid_alike (begins mark_front) mark_private left found.laid t u s.held before now may (λ k. (content_else k).0) agree found.are);
+          (laid_alike (begins mark_front) mark_private (λ k. (content_else k).0) stage_else.0 left found.laid t u s.held before now may agree found.are);
       gate = λ lt. found.gate (subst (λ (l : List Step). found.laid < length l) (sym (rest_as t r count placed steps m is)) lt);
       resumes = λ a is_open.
           let some = found.resumes a (first_still steps m a is_open) in

@@ -5,13 +5,13 @@ use Rattle.ips_outside.specs.State.{IsSettled, nowhere, MayLeave}
 use Rattle.ips_outside.specs.Outside.{Outside}
 use Rattle.ips_folder.specs.Calls.{ChangesOnly, Throughout}
 use Rattle.ips_folder.proofs.Runs.{joins}
-use Rattle.ips_steps.specs.Steps.{Step, stage_of, after, possible, met}
+use Rattle.ips_steps.specs.Steps.{Step, after, feasible, sets}
 use Rattle.ips_steps.specs.Private.{gate_name, mark_front, begins, is_private, visible}
 use Rattle.ips_steps.specs.Journal.{IsJournal, allowed}
 use Rattle.ips_steps.specs.Owed.{AreMarks, steps_left, IsReady, IsOpen, FolderOwes}
 use Rattle.ips_steps.proofs.PrivateNames.{mark_private, visible_agrees}
 use Rattle.std.proofs.lemmas.List.{length-take}
-use Rattle.ips_steps.proofs.Within.{laid_within}
+use Rattle.ips_steps.proofs.Linked.{after_within}
 use Rattle.ips_apply.proofs.Turns.{allowed_behind}
 use Rattle.ips_kinds.specs.Tallies.{Carrier, all_counted}
 use Rattle.ips_journal.specs.Text.{journal_text}
@@ -98,11 +98,11 @@ module _ {F : Type 0} (o : Outside F) (first : ℕ) (old at : F) (told : o.tells
     is_front = next_of steps laid (1000 * first) (all.lays.next told way front from steps is.lists is.text_is)
 
     -- so many of them are laid where this is held and these were begun
-    laid_to : (new : F) (begun : List Step) → (begun ≡ []) ⊎ ((s : Step) × (begun ≡ s ∷ [])) → laid ++ begun ≡ take (length (laid ++ begun)) left → possible (stage_of t) laid t ≡ true
+    laid_to : (new : F) (begun : List Step) → (begun ≡ []) ⊎ ((s : Step) × (begun ≡ s ∷ [])) → laid ++ begun ≡ take (length (laid ++ begun)) left → feasible laid t ≡ true
         → IsSeenBut begun (after laid t) (o.state new).held → AreLaidTo left (length laid) t (o.state new).held counts now
     laid_to new begun one next can held = record {
       few = let count = ap length is_front in let cut = length-take (length laid) left in omega (arith, count, cut);
-      can = subst (λ (l : List Step). possible (stage_of t) l t ≡ true) is_front can;
+      can = subst (λ (l : List Step). feasible l t ≡ true) is_front can;
       held = seen_next (drop (length laid) left) begun (after (take (length laid) left) t) (o.state new).held one
           (next_of left begun (length laid) (subst (λ (l : List Step). l ++ begun ≡ take (length (l ++ begun)) left) is_front next))
           (subst (λ (l : List Step). IsSeenBut begun (after l t) (o.state new).held) is_front held);
@@ -133,10 +133,10 @@ module _ {F : Type 0} (o : Outside F) (first : ℕ) (old at : F) (told : o.tells
         let may : allowed laid ≡ true = allowed_behind front laid (allowed_before (front ++ laid) (s ∷ []) up.next.stands.1.1.listed.names) in
         record {
           laid = length laid;
-          can = subst (λ (l : List Step). possible (stage_of t) l t ≡ true) is_front up.can;
+          can = subst (λ (l : List Step). feasible l t ≡ true) is_front up.can;
           next = subst (λ (l : List Step). IsImpossible text (front ++ l) (after l t) line) is_front up.next;
           held = subst (λ (l : List Step). Agrees (begins mark_front) nowhere (after l t) (o.state at).held) is_front up.held;
-          gate = gate_marked (after laid t) (o.state at).held up.held (gate_laid laid may (met (stage_of t) laid t) t (after laid t) (laid_within (stage_of t) laid t) way.gate);
+          gate = gate_marked (after laid t) (o.state at).held up.held (gate_laid laid may (sets laid t) t (after laid t) (after_within laid t) way.gate);
           marked = subst (λ (k : ℕ). AreMarks (o.state at).held k) (so_many line was) up.marked;
           others = subst (λ (k : ℕ). HasNoOtherMark (o.state at).held (mark_names k)) (so_many line was) up.others;
           tallies = all.lays.tallies ∙ ap (λ (l : List Step). all_counted l counts) is_front;
@@ -172,7 +172,7 @@ module _ {F : Type 0} (o : Outside F) (first : ℕ) (old at : F) (told : o.tells
           }
 
       pub roll_can : CanRollForward t steps first
-      roll_can = record { is = is; can = subst (λ (l : List Step). possible (stage_of t) l t ≡ true) all_left off.2.can }
+      roll_can = record { is = is; can = subst (λ (l : List Step). feasible l t ≡ true) all_left off.2.can }
 
       pub roll_counted : now ≡ all_counted left counts
       roll_counted = all.lays.tallies ∙ ap (λ (l : List Step). all_counted l counts) all_left

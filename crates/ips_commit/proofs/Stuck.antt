@@ -1,14 +1,10 @@
 -- What is ready isn't stuck.
-use Rattle.std.proofs.Common.{◌≡◌, ℕ, ◌*◌, true, List, [], ◌∷◌, ◌++◌, length, take, slice_get, Option, Some, append_assoc, sym, ap, subst}
-use Rattle.ips_outside.specs.Image.{Image, Agrees}
-use Rattle.ips_outside.proofs.Moments.{agrees_less}
-use Rattle.ips_steps.specs.Steps.{Step, stage_of, after, all_laid, can_lay, freed, met}
+use Rattle.std.proofs.Common.{◌≡◌, ℕ, ◌*◌, true, List, [], ◌∷◌, ◌++◌, length, take, slice_get, Some, append_assoc, sym, ap, subst}
+use Rattle.ips_outside.specs.Image.{Image}
+use Rattle.ips_steps.specs.Steps.{Step, after, feasible}
 use Rattle.ips_steps.specs.Owed.{steps_left, IsOpen}
-use Rattle.ips_steps.proofs.AtTurn.{can_at, front_frees}
+use Rattle.ips_steps.proofs.AtTurn.{can_at}
 use Rattle.ips_steps.proofs.Lists.{clash}
-use Rattle.ips_steps.proofs.Within.{laid_within}
-use Rattle.ips_steps.proofs.PrivateNames.{same_stage}
-use Rattle.ips_steps.proofs.Owing.{left_allowed}
 use Rattle.ips_journal.specs.Text.{journal_text}
 use Rattle.ips_journal.specs.Reading.{IsAt, journal_of}
 use Rattle.ips_journal.proofs.JournalLaws.{in_order}
@@ -37,10 +33,5 @@ module _ (steps : List Step) (marks : ℕ) (a t : Image) (is_open : IsOpen journ
       let next = next_of steps (laid ++ s ∷ []) (1000 * marks) begins in
       let k = length laid in
       let is_front = front_less laid left s next in
-      let can : can_lay (stage_of t) s (all_laid (stage_of t) (take k left) t) ≡ true = can_at (stage_of t) left k s t (at_front laid left s next) is_open.ready.can in
-      let here : can_lay (stage_of t) s (after laid t) ≡ true = subst (λ (l : List Step). can_lay (stage_of t) s (all_laid (stage_of t) l t) ≡ true) (sym is_front) can in
-      let within : Agrees (freed left) (met (stage_of t) (take k left) t) t (after (take k left) t) =
-      agrees_less (freed (take k left)) (met (stage_of t) (take k left) t) (freed left) (met (stage_of t) (take k left) t) t (after (take k left) t) (front_frees left k) (λ q l. l) (laid_within (stage_of t) (take k left) t) in
-      let stage : stage_of (after laid t) ≡ stage_of t = subst (λ (l : List Step). stage_of (after l t) ≡ stage_of t) (sym is_front)
-      (same_stage left (met (stage_of t) (take k left) t) t (after (take k left) t) (left_allowed journal_text steps marks a t is_open.ready) within) in
-      clash (can_lay (stage_of (after laid t)) s (after laid t)) (subst (λ (c : ℕ → Option (List ℕ)). can_lay c s (after laid t) ≡ true) (sym stage) here) stuck.cannot
+      let can : feasible (s ∷ []) (after (take k left) t) ≡ true = can_at left k s t (at_front laid left s next) is_open.ready.can in
+      clash (feasible (s ∷ []) (after laid t)) (subst (λ (l : List Step). feasible (s ∷ []) (after l t) ≡ true) (sym is_front) can) stuck.cannot

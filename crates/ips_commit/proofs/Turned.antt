@@ -8,7 +8,7 @@ use Rattle.ips_outside.specs.Outside.{Outside, IsOutside}
 use Rattle.ips_outside.proofs.Moments.{agrees_self, agrees_on, agrees_less, within_crash}
 use Rattle.ips_folder.specs.Calls.{ChangesOnly, Syncs, Throughout}
 use Rattle.ips_folder.proofs.Runs.{joins, weaker, keeps_then, one_sync}
-use Rattle.ips_steps.specs.Steps.{Step, after, possible, stage_of, freed, met}
+use Rattle.ips_steps.specs.Steps.{Step, after, feasible, freed, sets}
 use Rattle.ips_steps.specs.Private.{gate_name, mark_front, mark_name, begins, is_private, visible}
 use Rattle.ips_steps.specs.Journal.{IsJournal, allowed}
 use Rattle.ips_steps.specs.Owed.{AreMarks, steps_left, IsOpen, FolderOwes}
@@ -70,7 +70,7 @@ module _ {F : Type 0} (o : Outside F) (sane : IsOutside o) (first : ℕ) (old at
 
   -- all that was begun was finished, and nothing but the updater's own names was changed since
   cut_behind : (new : F) (front steps : List Step) → allowed steps ≡ true → ((all : List Step) → IsJournal all → text ≡ journal_text all → front ++ steps ≡ take (length (front ++ steps)) all)
-      → possible (stage_of t) steps t ≡ true → Agrees is_private nowhere (after steps t) (o.state new).held
+      → feasible steps t ≡ true → Agrees is_private nowhere (after steps t) (o.state new).held
       → (o.state new).held.look gate_name ≢ None → AreCutOff o text front steps old new
   cut_behind new front steps may next can held gate = record {
     begun = [];
@@ -132,7 +132,7 @@ module _ {F : Type 0} (o : Outside F) (sane : IsOutside o) (first : ℕ) (old at
 
       moments : o.tells old ≡ true → (front : List Step) → From front → ChangedByAll o steps old mid
       moments told front from =
-          let loose = λ (q : List ℕ). freed steps q || met (stage_of t) steps t q in
+          let loose = λ (q : List ℕ). freed steps q || sets steps t q in
           keeps_then o (freed steps) loose old at mid (done.ends told front from).1.moments (one_sync o sane (freed steps) loose at mid answer (kind ∙ told) sync)
 
       begun : o.tells old ≡ true → (front : List Step) → From front → HasBegun o text front old mid
@@ -232,7 +232,7 @@ module _ {F : Type 0} (o : Outside F) (sane : IsOutside o) (first : ℕ) (old at
             are_next : steps ≡ take 1000 (steps_left first all)
             are_next = next_of all steps (1000 * first) (next told (take (1000 * first) all) from all is_open.ready.lists (ready_text all first x t is_open.ready)) ∙ ap (λ (k : ℕ). take k (steps_left first all)) thousand
 
-            rest : (possible (stage_of u) (steps_left (first + 1) all) u ≡ true) × (visible (after (steps_left (first + 1) all) u) ≡ x)
+            rest : (feasible (steps_left (first + 1) all) u ≡ true) × (visible (after (steps_left (first + 1) all) u) ≡ x)
             rest = thousand_laid journal_text all first x t u is_open.ready (held told (take (1000 * first) all) from ∙ ap (λ (l : List Step). after l t) are_next)
 
             bare : u.look (mark_name (first + 2)) ≡ None

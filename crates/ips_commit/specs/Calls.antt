@@ -27,10 +27,10 @@ use Rattle.ips_commit.specs.declared.fault.StageFault.TheVariants as stage
 use Rattle.ips_commit.specs.declared.fault.CommitFault.{CommitFault}
 use Rattle.ips_commit.specs.declared.fault.CommitFault.TheVariants as fault
 
--- One content is written: nothing but the path and what is below it is changed, the source is only read, and a fault of either
--- is told just where a call on it failed.
-pub record WritesAt {S F : Type 0} (q : Outside S) (o : Outside F) (path : List ℕ) (source_old source_new : S) (old new : F) (result : Result (Unit {0}) (Or StageFault)) : Type 0 where
-  pub any_moment : IsTrue (o.tells old) → ChangesOnly o (covers path) nowhere old new
+-- One content is written: nothing is changed but the path, what is below it and these modes, the source is only read, and a
+-- fault of either is told just where a call on it failed.
+pub record WritesAt {S F : Type 0} (q : Outside S) (o : Outside F) (path : List ℕ) (loose : List ℕ → Bool) (source_old source_new : S) (old new : F) (result : Result (Unit {0}) (Or StageFault)) : Type 0 where
+  pub any_moment : IsTrue (o.tells old) → ChangesOnly o (covers path) loose old new
   pub reads : Reads q source_old source_new (result ≡ Err (Bad stage.SourceFault))
   pub cause : HasCause (o.faults old) (o.faults new) (result ≡ Err (Bad stage.FolderFault))
   pub same_kind : o.tells new ≡ o.tells old

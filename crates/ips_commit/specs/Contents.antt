@@ -1,5 +1,5 @@
 -- What is to be staged, and why a payload isn't.
-use Rattle.std.specs.Prelude.{◌≡◌, ◌≢◌, ℕ, ◌<◌, ◌≤◌, Bool, IsTrue, IsFalse, List, length, slice_get, Option, Some, None}
+use Rattle.std.specs.Prelude.{◌≡◌, ◌≢◌, ℕ, ◌+◌, ◌^◌, ◌<◌, ◌≤◌, Bool, IsTrue, IsFalse, List, length, take, slice_get, Option, Some, None}
 use Rattle.ips_text.specs.Ancestry.{covers}
 use Rattle.ips_text.specs.declared.limits.Which.TheVariants.{PayloadBytes}
 use Rattle.ips_outside.specs.Image.{Image, File, is_file, file_bytes}
@@ -9,8 +9,9 @@ use Rattle.ips_repo.specs.Places.{payload_place}
 use Rattle.ips_repo.specs.Payload.{payload_limit, digest_by, IsDamage}
 use Rattle.ips_repo.specs.declared.fault.RepoFault.{RepoFault}
 use Rattle.ips_repo.specs.declared.fault.RepoFault.TheVariants as fault
-use Rattle.ips_steps.specs.Steps.{Stage}
+use Rattle.ips_steps.specs.Steps.{Step, Gone, Fresh, Mode, Put, Symlink, Hard, Stage, stage_path}
 use Rattle.ips_steps.specs.Private.{is_private}
+use Rattle.ips_journal.specs.Reading.{puts_in}
 use Rattle.ips_journal.specs.declared.staged.Staged.{Staged}
 use Rattle.ips_journal.specs.declared.staged.Staged.TheVariants.{Payload, Bytes, Standing}
 use Rattle.ips_commit.specs.declared.fault.StageFault.{StageFault}
@@ -128,7 +129,32 @@ IsSeen (Standing from) = IsFalse (is_private from.bytes)
 abbrev pub AreSeen : List Staged → Type 0
 AreSeen staged = (n : ℕ) (s : Staged) → slice_get staged n ≡ Some s → IsSeen s
 
--- The file at the path has these bytes and no other name.
-pub record HoldsAlone (path bytes : List ℕ) (t : Image) : Type 0 where
-  pub file : t.look path ≡ Some (File 384 bytes)
+-- The file at the path has this mode and these bytes, and no other name.
+pub record HoldsAlone (path : List ℕ) (mode : ℕ) (bytes : List ℕ) (t : Image) : Type 0 where
+  pub file : t.look path ≡ Some (File mode bytes)
   pub sole : (q : List ℕ) → IsTrue (t.same path q) → q ≡ path
+
+-- no content has a further name
+abbrev pub AreAlone : Image → Type 0
+AreAlone t = (n : ℕ) (q : List ℕ) → n < 2 ^ 64 → IsTrue (t.same (stage_path n) q) → q ≡ stage_path n
+
+-- each content that the steps put is a file, with the mode of its put
+abbrev pub HaveModes : List Step → Image → Type 0
+HaveModes steps t = (k n m : ℕ) (p : List ℕ) → slice_get steps k ≡ Some (Put n m p) → (bytes : List ℕ) × (t.look (stage_path n) ≡ Some (File m bytes))
+
+-- the mode of the content that a step puts
+abbrev pub mode_put : Step → Option ℕ
+mode_put (Gone p) = None
+mode_put (Fresh m p) = None
+mode_put (Mode m p) = None
+mode_put (Put n m p) = Some m
+mode_put (Symlink p target) = None
+mode_put (Hard p to) = None
+
+-- The first of the steps from a place on that puts a content puts it with this mode, and the next place is behind it. Where
+-- none does, any mode and place will do.
+pub record IsNextPut (steps : List Step) (place mode next : ℕ) : Type 0 where
+  pub small : mode < 4096
+  pub within : next ≤ length steps
+  pub found : puts_in (take place steps) < puts_in steps → (k : ℕ) × (n : ℕ) × (p : List ℕ) × (slice_get steps k ≡ Some (Put n mode p))
+      × (puts_in (take k steps) ≡ puts_in (take place steps)) × (next ≡ k + 1)

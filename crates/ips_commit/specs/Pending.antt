@@ -3,7 +3,7 @@ use Rattle.std.specs.Prelude.{◌≡◌, ◌≢◌, ◌⊎◌, ℕ, zero, suc, B
 use Rattle.std.specs.List.{list_all, list_any}
 use Rattle.ips_text.specs.Ancestry.{same_path, covers}
 use Rattle.ips_outside.specs.Image.{Image}
-use Rattle.ips_outside.specs.State.{State, ChangedWithin, IsSettled, nowhere, settled}
+use Rattle.ips_outside.specs.State.{State, ChangedWithin, IsSettled, settled}
 use Rattle.ips_steps.specs.Steps.{stage_name}
 use Rattle.ips_steps.specs.Private.{journal_name, gate_name, mark_front, mark_name, begins, is_private, visible}
 use Rattle.ips_commit.specs.declared.found.Pending.{Pending}
@@ -32,9 +32,9 @@ abbrev pub is_swept : List ℕ → Bool
 is_swept q = covers stage_name q || (covers journal_name q || begins mark_front q)
 
 -- Invisible changes alone: either nothing has happened yet; or a sync has made safe what was held, and since then only the
--- stage, the journal and marks were changed and touched.
+-- stage, the journal and marks were changed and touched, whole or in their modes.
 abbrev pub IsBehindGate : State → State → Type 0
-IsBehindGate old s = (s ≡ old) ⊎ ChangedWithin is_swept nowhere (settled old) s
+IsBehindGate old s = (s ≡ old) ⊎ ChangedWithin is_swept is_swept (settled old) s
 
 -- no mark stands but these, and nothing below another
 abbrev pub HasNoOtherMark : Image → List (List ℕ) → Type 0

@@ -4,7 +4,7 @@ use Rattle.ips_outside.specs.Image.{Image, Agrees}
 use Rattle.ips_outside.specs.State.{State, MayLeave, IsSettled, nowhere, settled}
 use Rattle.ips_outside.specs.Outside.{Outside, Elapses}
 use Rattle.ips_folder.specs.Calls.{Throughout}
-use Rattle.ips_steps.specs.Steps.{Step, after, possible, stage_of, freed, met}
+use Rattle.ips_steps.specs.Steps.{Step, after, feasible, sets, freed}
 use Rattle.ips_steps.specs.Journal.{IsJournal, allowed}
 use Rattle.ips_steps.specs.Private.{gate_name, mark_front, begins, is_private}
 use Rattle.ips_steps.specs.Owed.{AreMarks, IsOpen, FolderOwes}
@@ -36,34 +36,34 @@ pub record IsUnderWay (s : State) (count : ℕ) : Type 0 where
   pub marked : AreMarks s.held count
   pub others : HasNoOtherMark s.held (mark_names count)
 
--- These steps were possible and are laid, but for what stands at the names of marks: there are so many.
+-- These steps were feasible and are laid, but for what stands at the names of marks: there are so many.
 pub record AreMarkedOff {F : Type 0} (o : Outside F) (steps : List Step) (count : ℕ) (old new : F) : Type 0 where
-  pub can : IsTrue (possible (stage_of (o.state old).held) steps (o.state old).held)
+  pub can : IsTrue (feasible steps (o.state old).held)
   pub held : Agrees (begins mark_front) nowhere (after steps (o.state old).held) (o.state new).held
   pub way : IsUnderWay (o.state new) count
 
--- These steps were possible and are laid, but for what stands at the names of marks, and the next can't be laid at its turn. So
+-- These steps were feasible and are laid, but for what stands at the names of marks, and the next can't be laid at its turn. So
 -- many marks stand, and no other.
 pub record IsHeldUp {F : Type 0} (o : Outside F) (text : List ℕ) (front steps : List Step) (marks line : ℕ) (old new : F) : Type 0 where
-  pub can : IsTrue (possible (stage_of (o.state old).held) steps (o.state old).held)
+  pub can : IsTrue (feasible steps (o.state old).held)
   pub held : Agrees (begins mark_front) nowhere (after steps (o.state old).held) (o.state new).held
   pub next : IsImpossible text (front ++ steps) (after steps (o.state old).held) line
   pub marked : AreMarks (o.state new).held marks
   pub others : HasNoOtherMark (o.state new).held (mark_names marks)
 
--- The second image is the first, but at what these steps free, but for the modes that they meet, and but at the updater's own names.
+-- The second image is the first, but at what these steps free, but for the modes that they set, and but at the updater's own names.
 abbrev pub IsSeenBut : List Step → Image → Image → Type 0
-IsSeenBut steps t u = Agrees (λ q. freed steps q || is_private q) (met (stage_of t) steps t) t u
+IsSeenBut steps t u = Agrees (λ q. freed steps q || is_private q) (sets steps t) t u
 
--- These steps were possible and are laid, and one more may have been begun; they are the next ones of whatever list the text is
--- the journal of. What is held is what the steps make, but at what that one frees and meets, and but at the updater's own names;
+-- These steps were feasible and are laid, and one more may have been begun; they are the next ones of whatever list the text is
+-- the journal of. What is held is what the steps make, but at what that one frees and sets, and but at the updater's own names;
 -- the gate still stands open.
 pub record AreCutOff {F : Type 0} (o : Outside F) (text : List ℕ) (front steps : List Step) (old new : F) : Type 0 where
   pub begun : List Step
   pub one_more : (begun ≡ []) ⊎ ((s : Step) × (begun ≡ s ∷ []))
   pub names : IsTrue (allowed (steps ++ begun))
   pub next : (all : List Step) → IsJournal all → text ≡ journal_text all → front ++ (steps ++ begun) ≡ take (length (front ++ (steps ++ begun))) all
-  pub can : IsTrue (possible (stage_of (o.state old).held) steps (o.state old).held)
+  pub can : IsTrue (feasible steps (o.state old).held)
   pub held : IsSeenBut begun (after steps (o.state old).held) (o.state new).held
   pub gate : (o.state new).held.look gate_name ≢ None
 

@@ -5,7 +5,7 @@ use Rattle.ips_text.specs.declared.refusal.Or.TheVariants.{Bad, OutOfMemory}
 use Rattle.ips_outside.specs.Image.{Image, Agrees}
 use Rattle.ips_outside.specs.State.{State, MayLeave, nowhere}
 use Rattle.ips_outside.specs.Outside.{Outside}
-use Rattle.ips_steps.specs.Steps.{Step, after, possible, stage_of}
+use Rattle.ips_steps.specs.Steps.{Step, after, feasible}
 use Rattle.ips_steps.specs.Private.{gate_name, mark_front, mark_name, begins}
 use Rattle.ips_steps.specs.Journal.{IsJournal}
 use Rattle.ips_steps.specs.Owed.{AreMarks, steps_left, IsOpen}
@@ -45,14 +45,14 @@ pub record IsOpenedOver {F : Type 0} (o : Outside F) (steps : List Step) (old ne
 -- The journal lists these steps, and those that the marks leave can be laid.
 pub record CanRollForward (t : Image) (steps : List Step) (count : ℕ) : Type 0 where
   pub is : IsJournalled t steps count
-  pub can : IsTrue (possible (stage_of t) (steps_left count steps) t)
+  pub can : IsTrue (feasible (steps_left count steps) t)
 
 -- Of the steps that so many marks leave so many can be laid, and then the next can't; its line has this number. They are laid,
 -- but for what stands at the names of marks, each counted by the first kind that takes it, and the gate stands open. A mark more
 -- stands for each thousand of them, and no other.
 pub record IsStuckAt (t u : Image) (before now : List Carrier) (steps : List Step) (count : ℕ) (line : ℕ) : Type 0 where
   pub laid : ℕ
-  pub can : IsTrue (possible (stage_of t) (take laid (steps_left count steps)) t)
+  pub can : IsTrue (feasible (take laid (steps_left count steps)) t)
   pub next : IsImpossible (journal_of t) (take (1000 * count) steps ++ take laid (steps_left count steps)) (after (take laid (steps_left count steps)) t) line
   pub held : Agrees (begins mark_front) nowhere (after (take laid (steps_left count steps)) t) u
   pub gate : u.look gate_name ≢ None
@@ -129,14 +129,14 @@ SaysOfLaying t u before now Unfinished = Unit {0}
 SaysOfLaying t u before now (BadJournal line) = IsStuck t u before now line
 
 -- So many of these steps are laid: what is held is what they make of the image, but at what the next one frees, but for the modes
--- that it meets, and but at the updater's own names.
+-- that it sets, and but at the updater's own names.
 abbrev pub IsLaidTo : List Step → ℕ → Image → Image → Type 0
 IsLaidTo steps laid t u = IsSeenBut (take 1 (drop laid steps)) (after (take laid steps) t) u
 
--- So many of these steps were possible and are laid, and each of them was counted by the first kind that takes it.
+-- So many of these steps were feasible and are laid, and each of them was counted by the first kind that takes it.
 pub record AreLaidTo (steps : List Step) (laid : ℕ) (t u : Image) (before now : List Carrier) : Type 0 where
   pub few : laid ≤ length steps
-  pub can : IsTrue (possible (stage_of t) (take laid steps) t)
+  pub can : IsTrue (feasible (take laid steps) t)
   pub held : IsLaidTo steps laid t u
   pub tallies : now ≡ all_counted (take laid steps) before
 

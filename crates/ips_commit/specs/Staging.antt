@@ -2,6 +2,7 @@
 use Rattle.std.specs.Prelude.{◌≡◌, ◌≢◌, ◌⊎◌, ℕ, ◌<◌, Bool, false, IsTrue, List, length, Some, None, is_some}
 use Rattle.ips_text.specs.Ancestry.{is_below}
 use Rattle.ips_outside.specs.Image.{Image, Dir, is_dir, file_bytes}
+use Rattle.ips_outside.specs.Change.{with_entry_at}
 use Rattle.ips_outside.specs.State.{State, IsSettled}
 use Rattle.ips_steps.specs.Steps.{Step, Stage, stage_name, stage_path, stage_of, all_laid, possible, sound}
 use Rattle.ips_steps.specs.Private.{records_name, journal_name, gate_name, mark_front, begins, visible}
@@ -10,7 +11,7 @@ use Rattle.ips_journal.specs.Text.{journal_text}
 use Rattle.ips_journal.specs.Reading.{puts_in}
 use Rattle.ips_journal.specs.declared.staged.Staged.{Staged}
 use Rattle.ips_commit.specs.Pending.{is_swept}
-use Rattle.ips_commit.specs.Contents.{StagedContents, AreStanding}
+use Rattle.ips_commit.specs.Contents.{StagedContents, AreStanding, AreAlone, HaveModes}
 
 -- What can be staged on an image: a sound list of steps, with one content for each `put`. It is possible whatever bytes these
 -- have. Contents that are taken from the image are files there. `var/pkg` stands, and the gate is closed.
@@ -42,10 +43,11 @@ abbrev pub HoldsOnly : ℕ → Image → Type 0
 HoldsOnly count t = (q : List ℕ) → IsTrue (is_below stage_name q) → t.look q ≢ None → (n : ℕ) × (n < count) × (q ≡ stage_path n)
 
 -- The list was staged with the contents that were to be staged. It means what is seen once it is laid with these on the
--- image that was held before. Nobody else may enter the stage.
+-- image that was held before. Each content has the mode of the step that puts it. Nobody else may enter the stage.
 pub record HasStaged (tells : Bool) (repository : Image) (publisher : List ℕ) (steps : List Step) (staged : List Staged) (t : Image) (s : State) : Type 0 where
   pub contents : Stage
   pub are : StagedContents tells repository publisher t staged contents
+  pub modes : HaveModes steps s.held
   pub stage : s.held.look stage_name ≡ Some (Dir 448 false)
   pub only : HoldsOnly (length staged) s.held
   pub is : IsStaged steps (visible (all_laid contents steps t)) s
@@ -54,11 +56,14 @@ pub record HasStaged (tells : Bool) (repository : Image) (publisher : List ℕ) 
 abbrev pub IsCleared : Image → Type 0
 IsCleared t = (q : List ℕ) → IsTrue (is_swept q) → t.look q ≡ None
 
--- The contents and this text of a journal are written, and nothing is touched.
-pub record IsFilled (tells : Bool) (repository : Image) (publisher text : List ℕ) (staged : List Staged) (t : Image) (s : State) : Type 0 where
+-- The contents and the journal of these steps are written, and nothing is touched. Each content has the mode of the step that
+-- puts it and, leaving the journal aside, no further name.
+pub record IsFilled (tells : Bool) (repository : Image) (publisher : List ℕ) (steps : List Step) (staged : List Staged) (t : Image) (s : State) : Type 0 where
   pub safe : IsSettled s
-  pub journal : file_bytes (s.held.look journal_name) ≡ Some text
+  pub journal : file_bytes (s.held.look journal_name) ≡ Some (journal_text steps)
   pub stage : s.held.look stage_name ≡ Some (Dir 448 false)
   pub only : HoldsOnly (length staged) s.held
   pub contents : StagedContents tells repository publisher t staged (stage_of s.held)
+  pub modes : HaveModes steps s.held
+  pub alone : AreAlone (with_entry_at journal_name None s.held)
   pub unmarked : (q : List ℕ) → IsTrue (begins mark_front q) → s.held.look q ≡ None

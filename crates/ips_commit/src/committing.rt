@@ -1,6 +1,6 @@
 //! A staged change committed.
 
-ghost use Rattle.std.specs.Prelude.{◌<◌, ◌≤◌, [], IsTrue, length};
+ghost use Rattle.std.specs.Prelude.{◌≤◌, [], IsTrue};
 ghost use Rattle.ips_folder.specs.Calls.{CanMake};
 ghost use Rattle.ips_steps.specs.Private.{gate_name};
 ghost use Rattle.ips_steps.specs.declared.step.Sort.{Sort};
@@ -44,7 +44,6 @@ pub fn commit<F: Folder>(
         &memory.names,
         &mut memory.reader,
         kinds,
-        &mut memory.buffer,
         &mut memory.mark,
     )
 }
@@ -55,13 +54,11 @@ fn run<F: Folder>(
     names: &OwnNames,
     reader: &mut StepReader,
     kinds: &mut Vec<Box<dyn Kind>>,
-    buffer: &mut [u8],
     mark: &mut RelPath,
 ) -> Result<u64, CommitFault>
     requires gate { IsTrue (F.outside.tells folder.old) → CanMake (F.outside.state folder.old).held gate_name }
     requires unmarked { IsTrue (F.outside.tells folder.old) → HasNoOtherMark (F.outside.state folder.old).held [] }
     requires takers { (s : Sort) → IsTrue (taken (seen_by sorts finished kinds.old.items) s) }
-    requires room { 0 < length buffer.old }
     requires path { 1023 ≤ mark.old.room }
     ensures path { 1023 ≤ mark.new.room }
     ensures commits { Commits F.outside folder.old folder.new (seen_by sorts finished kinds.old.items) (seen_by sorts finished kinds.new.items) result }
@@ -70,7 +67,7 @@ fn run<F: Folder>(
         return Err(CommitFault::Unfinished);
     };
     reader.rewind();
-    match roll(folder, names, reader, kinds, buffer, mark, 0) {
+    match roll(folder, names, reader, kinds, mark, 0) {
         Ok(count) => Ok(count),
         Err(fault) => Err(fault),
     }

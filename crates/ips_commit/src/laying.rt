@@ -1,6 +1,6 @@
 //! The steps of a journal laid behind an open gate, with a mark made after each thousand.
 
-ghost use Rattle.std.specs.Prelude.{◌≡◌, ◌+◌, ◌<◌, ◌≤◌, List, [], Some, Err, IsTrue, IsFalse, IsErr, IfOk, OnOk, length};
+ghost use Rattle.std.specs.Prelude.{◌≡◌, ◌+◌, ◌<◌, ◌≤◌, List, [], Some, Err, IsTrue, IsFalse, IsErr, IfOk, OnOk};
 ghost use Rattle.ips_text.specs.Ancestry.{covers};
 ghost use Rattle.ips_outside.specs.Image.{File};
 ghost use Rattle.ips_outside.specs.State.{IsSettled, nowhere};
@@ -31,13 +31,11 @@ pub(crate) fn lay_marked<F: Folder>(
     folder: &mut F,
     reader: &mut StepReader,
     kinds: &mut Vec<Box<dyn Kind>>,
-    buffer: &mut [u8],
     mark: &mut RelPath,
     first: u64,
 ) -> Result<(u64, u64), StepFault>
     requires open { IsTrue reader.old.is_open }
     requires takers { (s : Sort) → IsTrue (taken (seen_by sorts finished kinds.old.items) s) }
-    requires room { 0 < length buffer.old }
     requires path { 1023 ≤ mark.old.room }
     requires few { first ≤ 18446744073709552 }
     requires way { IsTrue (F.outside.tells folder.old) → IsUnderWay (F.outside.state folder.old) first }
@@ -50,7 +48,7 @@ pub(crate) fn lay_marked<F: Folder>(
     ensures changes { F.outside.changes folder.old ≤ F.outside.changes folder.new }
 {
     for turn in 0..TOO_MANY {
-        let laid = match lay_thousand(folder, reader, kinds, buffer, mark, first + turn) {
+        let laid = match lay_thousand(folder, reader, kinds, mark, first + turn) {
             Ok(laid) => laid,
             Err(fault) => return Err(fault),
         };
@@ -70,13 +68,11 @@ fn lay_thousand<F: Folder>(
     folder: &mut F,
     reader: &mut StepReader,
     kinds: &mut Vec<Box<dyn Kind>>,
-    buffer: &mut [u8],
     mark: &mut RelPath,
     marks: u64,
 ) -> Result<(u64, bool), StepFault>
     requires open { IsTrue reader.old.is_open }
     requires takers { (s : Sort) → IsTrue (taken (seen_by sorts finished kinds.old.items) s) }
-    requires room { 0 < length buffer.old }
     requires path { 1023 ≤ mark.old.room }
     requires few { marks < 36893488147419105 }
     requires way { IsTrue (F.outside.tells folder.old) → IsUnderWay (F.outside.state folder.old) marks }
@@ -88,7 +84,7 @@ fn lay_thousand<F: Folder>(
     ensures same_kind { F.outside.tells folder.new ≡ F.outside.tells folder.old }
     ensures changes { F.outside.changes folder.old ≤ F.outside.changes folder.new }
 {
-    let laid = match apply_block(folder, reader, kinds, buffer, 1000) {
+    let laid = match apply_block(folder, reader, kinds, 1000) {
         Ok(laid) => laid,
         Err(fault) => return Err(fault),
     };

@@ -11,6 +11,7 @@
 
 mod committing;
 mod contents;
+mod copying;
 mod fault;
 mod finding;
 mod found;

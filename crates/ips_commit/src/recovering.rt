@@ -1,6 +1,6 @@
 //! What a run that was stopped left, brought to an end.
 
-ghost use Rattle.std.specs.Prelude.{◌≡◌, ◌≢◌, ◌<◌, ◌≤◌, ℕ, List, Option, Bool, None, Err, IsTrue, IfErr, OnOk, length};
+ghost use Rattle.std.specs.Prelude.{◌≡◌, ◌≢◌, ◌≤◌, ℕ, List, Option, Bool, None, Err, IsTrue, IfErr, OnOk};
 ghost use Rattle.std.specs.List.{list_all};
 ghost use Rattle.ips_outside.specs.Image.{Image};
 ghost use Rattle.ips_outside.specs.State.{IsSettled};
@@ -58,7 +58,6 @@ pub fn recover<F: Folder>(
         kinds,
         &memory.names,
         &mut memory.reader,
-        &mut memory.buffer,
         &mut memory.mark,
     )
 }
@@ -70,10 +69,8 @@ fn restore<F: Folder>(
     kinds: &mut Vec<Box<dyn Kind>>,
     names: &OwnNames,
     reader: &mut StepReader,
-    buffer: &mut [u8],
     mark: &mut RelPath,
 ) -> Result<bool, Or<CommitFault>>
-    requires room { 0 < length buffer.old }
     requires path { 1023 ≤ mark.old.room }
     requires safe { IsTrue (F.outside.tells folder.old) → IsSettled (F.outside.state folder.old) }
     requires takers { (s : Sort) → IsTrue (taken (seen_by sorts finished kinds.old.items) s) }
@@ -89,7 +86,7 @@ fn restore<F: Folder>(
         Err(fault) => return Err(fault),
     };
     if is_open {
-        match roll_forward(folder, names, reader, kinds, &marks, count, buffer, mark) {
+        match roll_forward(folder, names, reader, kinds, &marks, count, mark) {
             Ok(()) => return Ok(true),
             Err(fault) => return Err(Or::Bad(fault)),
         }
@@ -109,14 +106,12 @@ fn roll_forward<F: Folder>(
     kinds: &mut Vec<Box<dyn Kind>>,
     marks: &[RelPath],
     count: u64,
-    buffer: &mut [u8],
     mark: &mut RelPath,
 ) -> Result<(), CommitFault>
     requires safe { IsTrue (F.outside.tells folder.old) → IsSettled (F.outside.state folder.old) }
     requires open { IsTrue reader.old.is_open }
     requires takers { (s : Sort) → IsTrue (taken (seen_by sorts finished kinds.old.items) s) }
     requires own { IsTrue (list_all (begins mark_front) (path_bytes marks.now)) }
-    requires room { 0 < length buffer.old }
     requires path { 1023 ≤ mark.old.room }
     requires few { count ≤ 18446744073709552 }
     requires gate { IsTrue (F.outside.tells folder.old) → (F.outside.state folder.old).held.look gate_name ≢ None }
@@ -144,7 +139,7 @@ fn roll_forward<F: Folder>(
     let Ok(()) = keep_first(folder, marks, count) else {
         return Err(CommitFault::Unfinished);
     };
-    match roll(folder, names, reader, kinds, buffer, mark, count) {
+    match roll(folder, names, reader, kinds, mark, count) {
         Ok(_) => Ok(()),
         Err(fault) => Err(fault),
     }

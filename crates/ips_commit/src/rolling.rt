@@ -1,6 +1,6 @@
 //! The steps behind an open gate laid to the end, the gate closed, and what is left swept.
 
-ghost use Rattle.std.specs.Prelude.{◌≡◌, ◌*◌, ◌<◌, ◌≤◌, ℕ, List, Bool, Some, Err, IsTrue, IfOk, IfErr, length, take};
+ghost use Rattle.std.specs.Prelude.{◌≡◌, ◌*◌, ◌≤◌, ℕ, List, Bool, Some, Err, IsTrue, IfOk, IfErr, length, take};
 ghost use Rattle.ips_outside.specs.Image.{Image};
 ghost use Rattle.ips_outside.specs.Outside.{HasCause};
 ghost use Rattle.ips_folder.specs.Calls.{Throughout};
@@ -33,13 +33,11 @@ pub(crate) fn roll<F: Folder>(
     names: &OwnNames,
     reader: &mut StepReader,
     kinds: &mut Vec<Box<dyn Kind>>,
-    buffer: &mut [u8],
     mark: &mut RelPath,
     first: u64,
 ) -> Result<u64, CommitFault>
     requires open { IsTrue reader.old.is_open }
     requires takers { (s : Sort) → IsTrue (taken (seen_by sorts finished kinds.old.items) s) }
-    requires room { 0 < length buffer.old }
     requires path { 1023 ≤ mark.old.room }
     requires few { first ≤ 18446744073709552 }
     requires way { IsTrue (F.outside.tells folder.old) → IsUnderWay (F.outside.state folder.old) first }
@@ -68,7 +66,7 @@ pub(crate) fn roll<F: Folder>(
     ensures same_kind { F.outside.tells folder.new ≡ F.outside.tells folder.old }
     ensures changes { F.outside.changes folder.old ≤ F.outside.changes folder.new }
 {
-    let laid = match lay_marked(folder, reader, kinds, buffer, mark, first) {
+    let laid = match lay_marked(folder, reader, kinds, mark, first) {
         Ok(laid) => laid,
         Err(StepFault::FolderFault) => return Err(CommitFault::Unfinished),
         Err(StepFault::BadJournal { line }) => return Err(CommitFault::BadJournal { line }),

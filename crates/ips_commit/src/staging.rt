@@ -11,6 +11,7 @@ ghost use Rattle.ips_steps.specs.Journal.{IsJournal};
 ghost use Rattle.ips_steps.specs.Owed.{FolderOwes};
 ghost use Rattle.ips_steps.specs.View.{step_of};
 ghost use Rattle.ips_journal.specs.Text.{journal_text};
+ghost use Rattle.ips_journal.specs.Reading.{puts_in};
 ghost use Rattle.ips_journal.specs.Writing.{IsWritten, KeepsTouched};
 ghost use Rattle.ips_commit.specs.Answers.{IsBad};
 ghost use Rattle.ips_commit.specs.Pending.{IsBehindGate, is_swept};
@@ -19,6 +20,7 @@ ghost use Rattle.ips_commit.specs.Staging.{CanStage, HasStaged, IsCleared, IsFil
 ghost use Rattle.ips_commit.specs.Calls.{Stages};
 
 use crate::contents::write_contents;
+use crate::copying::new_buffer;
 use crate::fault::StageFault;
 use crate::names::OwnNames;
 use crate::ready::Ready;
@@ -31,8 +33,9 @@ use ips_text::Or;
 use std::alloc::Global;
 
 /// Stages the steps of a change with the contents that they put: makes safe what was written before, takes away what a run
-/// that was stopped left, writes each content and then the journal, and makes that safe. What is staged stands at the
-/// updater's own names behind a closed gate, so what is seen stays as it is. A payload is hashed as it is written.
+/// that was stopped left, writes each content with the mode of its step and then the journal, and makes that safe. What is
+/// staged stands at the updater's own names behind a closed gate, so what is seen stays as it is. A payload is hashed as it
+/// is written.
 pub fn stage<S: Source, F: Folder>(
     alloc: Global,
     publisher: &str,
@@ -65,10 +68,12 @@ pub fn stage<S: Source, F: Folder>(
     ensures begun { Rose (F.outside.changes folder.old) (F.outside.changes folder.new)
         ⊎ ((F.outside.changes folder.new ≡ F.outside.changes folder.old) × (F.outside.state folder.new ≡ F.outside.state folder.old)) }
 {
-    let Ok(mut ready) = Ready::new(alloc) else {
+    let Ok(ready) = Ready::new(alloc) else {
         return Err(Or::OutOfMemory);
     };
-    let memory = &mut ready;
+    let Ok(mut buffer) = new_buffer(alloc) else {
+        return Err(Or::OutOfMemory);
+    };
     match write_stage(
         alloc,
         publisher,
@@ -76,8 +81,8 @@ pub fn stage<S: Source, F: Folder>(
         staged,
         source,
         folder,
-        &memory.names,
-        &mut memory.buffer,
+        &ready.names,
+        &mut buffer,
     ) {
         Ok(()) => Ok(ready),
         Err(fault) => Err(fault),
@@ -96,14 +101,15 @@ fn write_stage<S: Source, F: Folder>(
     buffer: &mut [u8],
 ) -> Result<(), Or<StageFault>>
     requires lists { IsJournal (map step_of steps.now) }
+    requires counted { IsTrue (F.outside.tells folder.old) → puts_in (map step_of steps.now) ≡ length staged.now }
     requires room { 0 < length buffer.old }
     requires records { IsTrue (F.outside.tells folder.old) → IsTrue (is_dir ((F.outside.state folder.old).held.look records_name)) }
     requires standing { IsTrue (F.outside.tells folder.old) → AreStanding (F.outside.state folder.old).held staged.now }
     requires seen { AreSeen staged.now }
     ensures any_moment { IsTrue (F.outside.tells folder.old) → Throughout F.outside folder.old folder.new (IsBehindGate (F.outside.state folder.old)) }
-    ensures within { IsTrue (F.outside.tells folder.old) → OnOk result (ChangedWithin is_swept nowhere (settled (F.outside.state folder.old)) (F.outside.state folder.new)) }
+    ensures within { IsTrue (F.outside.tells folder.old) → OnOk result (ChangedWithin is_swept is_swept (settled (F.outside.state folder.old)) (F.outside.state folder.new)) }
     ensures filled { IsTrue (F.outside.tells folder.old) → OnOk result
-        (IsFilled (S.outside.tells source.old) (S.outside.state source.old).held publisher.now (journal_text (map step_of steps.now)) staged.now (F.outside.state folder.old).held (F.outside.state folder.new)) }
+        (IsFilled (S.outside.tells source.old) (S.outside.state source.old).held publisher.now (map step_of steps.now) staged.now (F.outside.state folder.old).held (F.outside.state folder.new)) }
     ensures unready { IsTrue (F.outside.tells folder.old) → OnErr result (NoMoreReady (F.outside.state folder.old) (F.outside.state folder.new)) }
     ensures stages { Stages S.outside F.outside publisher.now staged.now source.old source.new folder.old folder.new result }
     ensures changed { risen (F.outside.changes folder.old) ≤ F.outside.changes folder.new }
@@ -152,21 +158,22 @@ fn fill<S: Source, F: Folder>(
     buffer: &mut [u8],
 ) -> Result<(), Or<StageFault>>
     requires lists { IsJournal (map step_of steps.now) }
+    requires counted { IsTrue (F.outside.tells folder.old) → puts_in (map step_of steps.now) ≡ length staged.now }
     requires room { 0 < length buffer.old }
     requires records { IsTrue (F.outside.tells folder.old) → IsTrue (is_dir ((F.outside.state folder.old).held.look records_name)) }
     requires cleared { IsTrue (F.outside.tells folder.old) → IsCleared (F.outside.state folder.old).held }
     requires standing { IsTrue (F.outside.tells folder.old) → AreStanding (F.outside.state folder.old).held staged.now }
     requires seen { AreSeen staged.now }
     ensures filled { IsTrue (F.outside.tells folder.old) → OnOk result
-        (IsFilled (S.outside.tells source.old) (S.outside.state source.old).held publisher.now (journal_text (map step_of steps.now)) staged.now (F.outside.state folder.old).held (F.outside.state folder.new)) }
-    ensures any_moment { IsTrue (F.outside.tells folder.old) → ChangesOnly F.outside is_swept nowhere folder.old folder.new }
+        (IsFilled (S.outside.tells source.old) (S.outside.state source.old).held publisher.now (map step_of steps.now) staged.now (F.outside.state folder.old).held (F.outside.state folder.new)) }
+    ensures any_moment { IsTrue (F.outside.tells folder.old) → ChangesOnly F.outside is_swept is_swept folder.old folder.new }
     ensures unready { IsTrue (F.outside.tells folder.old) → OnErr result (NothingReady (F.outside.state folder.new)) }
     ensures stages { Stages S.outside F.outside publisher.now staged.now source.old source.new folder.old folder.new result }
 {
     let Ok(()) = folder.make_dir(&names.stage, 0o700) else {
         return Err(Or::Bad(StageFault::FolderFault));
     };
-    write_contents(alloc, publisher, staged, source, folder, buffer)?;
+    write_contents(alloc, publisher, steps, staged, source, folder, buffer)?;
     match write_journal(alloc, steps, folder, names) {
         Ok(()) => Ok(()),
         Err(Or::Bad(Failed)) => Err(Or::Bad(StageFault::FolderFault)),

@@ -265,6 +265,8 @@ read 0 journal 1;put 0 0644 a;put 0 0644 b;end 2; -> bad line 3
 # no target, and one that isn't quoted so
 read 0 journal 1;link a ;end 1; -> bad line 2
 read 0 journal 1;link a %2f;end 1; -> bad line 2
+# no system takes a target with a NUL
+read 0 journal 1;link a b%00;end 1; -> bad line 2
 ";
 
 // The call that fails: a look, a read of the text and one behind its end.
@@ -292,10 +294,10 @@ write gone a;fresh 0755 b;mode 0700 var/pkg;put 0 0644 b/c;link b/d %252F;hard b
 # targets of any bytes, as a journal quotes them
 write link a /c -> journal 1;link a %252Fc;end 1;
 lend 2 journal 1;link a %2Fc;end 1; -> Link a to /c;
-write link a %00 -> journal 1;link a %2500;end 1;
-lend 2 journal 1;link a %00;end 1; -> Link a to %00;
-write link a a%00b%FF -> journal 1;link a a%2500b%25FF;end 1;
-lend 2 journal 1;link a a%00b%FF;end 1; -> Link a to a%00b%FF;
+write link a %01 -> journal 1;link a %2501;end 1;
+lend 2 journal 1;link a %01;end 1; -> Link a to %01;
+write link a a%01b%FF -> journal 1;link a a%2501b%25FF;end 1;
+lend 2 journal 1;link a a%01b%FF;end 1; -> Link a to a%01b%FF;
 ";
 
 // What is lent of each step, from a line on.
@@ -311,7 +313,7 @@ lend 4 journal 1;gone usr%20a/b;mode 0700 var/pkg;put 0 0644 a;link a/b %2Fc;har
 fn journals_are_read_and_written(rt: HostRuntime) {
     let alloc = rt.alloc();
     let mut reader = StepReader::new(alloc).expect(&rt, "memory");
-    play(&rt, alloc, &mut reader, BAD_LINES, 17);
+    play(&rt, alloc, &mut reader, BAD_LINES, 18);
     play(&rt, alloc, &mut reader, FAULTS, 3);
     play(&rt, alloc, &mut reader, WRITTEN, 12);
     play(&rt, alloc, &mut reader, LENT, 2);

@@ -48,8 +48,6 @@ fn act_word(act: Act) -> &'static str {
     match act {
         Act::Clear => "Clear",
         Act::MakeDir => "MakeDir",
-        Act::MakeFile => "MakeFile",
-        Act::Copy => "Copy",
         Act::MakeLink => "MakeLink",
         Act::MakeHard => "MakeHard",
         Act::SetMode => "SetMode",
@@ -123,7 +121,7 @@ gone usr/bin -> Clear Finished
 fresh 0755 usr/bin -> Clear MakeDir Finished
 mode 0700 usr/bin -> SetMode Finished
 tallies -> 1;1;1;0;0;0;
-put 0 0644 usr/bin -> Clear MakeFile Copy SetMode Finished
+put 0 0644 usr/bin -> Clear MakeHard Finished
 link usr/bin ../sbin -> Clear MakeLink Finished
 hard usr/bin usr/sbin -> Clear MakeHard Finished
 tallies -> 1;1;1;1;1;1;

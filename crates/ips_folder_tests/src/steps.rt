@@ -86,6 +86,7 @@ fn held(target: Result<Target, Or<TargetFault>>, bytes: &[u8]) -> &'static str {
         Ok(_) => "other bytes",
         Err(Or::Bad(TargetFault::Empty)) => "empty",
         Err(Or::Bad(TargetFault::TooLong)) => "too long",
+        Err(Or::Bad(TargetFault::Nul)) => "nul",
         Err(Or::OutOfMemory) => "out of memory",
     }
 }
@@ -144,9 +145,9 @@ const TARGETS: &str = "
 # no UTF-8
 0 %ff%01 -> these bytes
 0 nothing -> empty
-# a NUL, which a folder can hold
-0 %00 -> these bytes
-0 a%00 -> these bytes
+# a NUL, which a folder can hold and no system takes
+0 %00 -> nul
+0 a%00 -> nul
 # the longest
 4095 nothing -> these bytes
 4096 nothing -> too long
@@ -170,10 +171,10 @@ fn set(rt: &impl Abort, target: &mut Target, longest: &[u8])
     assert!(rt; target.set(longest).is_ok());
     assert!(rt; target.bytes() == longest);
     assert!(rt; target.set(b"c").is_ok());
-    assert!(rt; target.set(b"d\0").is_ok());
-    assert!(rt; target.bytes() == b"d\0".as_slice());
+    assert!(rt; matches!(target.set(b"d\0"), Err(TargetFault::Nul)));
+    assert!(rt; target.bytes() == b"c".as_slice());
     assert!(rt; matches!(target.set(b""), Err(TargetFault::Empty)));
-    assert!(rt; target.bytes() == b"d\0".as_slice());
+    assert!(rt; target.bytes() == b"c".as_slice());
 }
 
 #[test]

@@ -5,13 +5,11 @@ use Rattle.ips_steps.specs.declared.step.Sort.{Sort}
 use Rattle.ips_steps.specs.declared.step.Sort.TheVariants as sort
 use Rattle.ips_kinds.specs.Acts.{acts}
 use Rattle.ips_kinds.specs.declared.kind.Act.{Act}
-use Rattle.ips_kinds.specs.declared.kind.Act.TheVariants.{Clear, MakeDir, MakeFile, Copy, MakeLink, MakeHard, SetMode, Finished}
+use Rattle.ips_kinds.specs.declared.kind.Act.TheVariants.{Clear, MakeDir, MakeLink, MakeHard, SetMode, Finished}
 
 abbrev is_finished : Act → Bool
 is_finished Clear = false
 is_finished MakeDir = false
-is_finished MakeFile = false
-is_finished Copy = false
 is_finished MakeLink = false
 is_finished MakeHard = false
 is_finished SetMode = false
@@ -20,8 +18,6 @@ is_finished Finished = true
 finished_is : (act : Act) → is_finished act ≡ true → act ≡ Finished
 finished_is Clear is = cc
 finished_is MakeDir is = cc
-finished_is MakeFile is = cc
-finished_is Copy is = cc
 finished_is MakeLink is = cc
 finished_is MakeHard is = cc
 finished_is SetMode is = cc

@@ -3,14 +3,14 @@ use Rattle.std.specs.Prelude.{ℕ, ◌+◌, ◌-◌, ◌^◌, min, Bool, true, f
 use Rattle.ips_steps.specs.declared.step.Sort.{Sort}
 use Rattle.ips_steps.specs.declared.step.Sort.TheVariants as sort
 use Rattle.ips_kinds.specs.declared.kind.Act.{Act}
-use Rattle.ips_kinds.specs.declared.kind.Act.TheVariants.{Clear, MakeDir, MakeFile, Copy, MakeLink, MakeHard, SetMode, Finished}
+use Rattle.ips_kinds.specs.declared.kind.Act.TheVariants.{Clear, MakeDir, MakeLink, MakeHard, SetMode, Finished}
 
 -- the acts of each sort of step, turn by turn
 abbrev pub acts : Sort → List Act
 acts sort.Gone = Clear ∷ Finished ∷ []
 acts sort.Fresh = Clear ∷ MakeDir ∷ Finished ∷ []
 acts sort.Mode = SetMode ∷ Finished ∷ []
-acts sort.Put = Clear ∷ MakeFile ∷ Copy ∷ SetMode ∷ Finished ∷ []
+acts sort.Put = Clear ∷ MakeHard ∷ Finished ∷ []
 acts sort.Link = Clear ∷ MakeLink ∷ Finished ∷ []
 acts sort.Hard = Clear ∷ MakeHard ∷ Finished ∷ []
 
@@ -18,8 +18,6 @@ acts sort.Hard = Clear ∷ MakeHard ∷ Finished ∷ []
 abbrev pub tally_after : Act → ℕ → ℕ
 tally_after Clear n = n
 tally_after MakeDir n = n
-tally_after MakeFile n = n
-tally_after Copy n = n
 tally_after MakeLink n = n
 tally_after MakeHard n = n
 tally_after SetMode n = n

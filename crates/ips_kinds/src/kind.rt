@@ -19,13 +19,9 @@ pub enum Act {
     Clear,
     /// Make the directory.
     MakeDir,
-    /// Make an empty file.
-    MakeFile,
-    /// Put the step's content into the file.
-    Copy,
     /// Make the symbolic link.
     MakeLink,
-    /// Make one more name of the file that the step names.
+    /// Make one more name of the file that the step names, or of its staged content.
     MakeHard,
     /// Set the mode.
     SetMode,

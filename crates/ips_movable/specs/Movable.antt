@@ -1,18 +1,19 @@
 -- What can be moved into the salvage folder.
-use Rattle.std.specs.Prelude.{◌≡◌, ℕ, Bool, true, false, not, ◌&&◌, ◌||◌, IsTrue, IsFalse, List, ◌∷◌, ◌++◌, Some, length, nat_lt, slice_get, take}
+use Rattle.std.specs.Prelude.{◌≡◌, ℕ, Bool, true, false, not, ◌&&◌, ◌||◌, IsTrue, IsFalse, List, ◌∷◌, ◌++◌, Some, length, slice_get, take}
 use Rattle.std.specs.List.{AllByRecursion}
 use Rattle.ips_text.specs.Path.{IsPath}
 use Rattle.ips_text.specs.Quote.{AreBytes}
 use Rattle.ips_outside.specs.Image.{Image}
+use Rattle.ips_steps.specs.Targets.{is_target}
 use Rattle.ips_after.specs.Salvage.{is_long_path, movable}
 use Rattle.ips_found.specs.Found.{Found, FoundDir, FoundFile, FoundLink, FoundOther, found_told}
 use Rattle.ips_found.specs.declared.found.Thing.{Thing}
 
--- a step can make again what was found: a directory without names that are no paths, a file, or a symbolic link that says 1 to 4,095 bytes
+-- a step can make again what was found: a directory without names that are no paths, a file, or a symbolic link that says 1 to 4,095 bytes without NUL
 abbrev pub can_be_made : Found → Bool
 can_be_made (FoundDir m f) = not f
 can_be_made (FoundFile m) = true
-can_be_made (FoundLink g) = nat_lt 0 (length g) && nat_lt (length g) 4096
+can_be_made (FoundLink g) = is_target g
 can_be_made FoundOther = false
 
 -- the thing can't be moved below the folder: no step can make it again, or its name there is too long for a path

@@ -1,9 +1,10 @@
 //! The first thing that can't be moved.
 
-ghost use Rattle.std.specs.Prelude.{◌≡◌, ◌&&◌, ◌++◌, ◌∷◌, false, IfNone, IfSome, length, nat_lt};
+ghost use Rattle.std.specs.Prelude.{◌≡◌, ◌++◌, ◌∷◌, false, IfNone, IfSome, length};
 ghost use Rattle.std.specs.List.{AllByRecursion};
 ghost use Rattle.ips_text.specs.Path.{IsPath};
 ghost use Rattle.ips_text.specs.Quote.{AreBytes};
+ghost use Rattle.ips_steps.specs.Targets.{is_target};
 ghost use Rattle.ips_found.specs.Found.{found_told};
 ghost use Rattle.ips_movable.specs.Movable as spec;
 ghost use Rattle.ips_movable.specs.Movable.{CanMove, IsFirstFixed, SaysBytes};
@@ -47,8 +48,8 @@ fn can_be_made(found: &Found) -> bool
 
 // Whether a symbolic link that a step makes can say this.
 fn can_be_said(target: &[u8]) -> bool
-    ensures short { result ≡ (nat_lt 0 (length target.now) && nat_lt (length target.now) 4096) }
+    ensures target { result ≡ is_target target.now }
     ensures bytes { AreBytes target.now }
 {
-    !target.is_empty() && target.len() < 4096
+    !target.is_empty() && target.len() < 4096 && !target.contains(&0)
 }

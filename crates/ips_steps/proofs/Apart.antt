@@ -1,17 +1,13 @@
 -- A list laid on two images that agree but at paths that it doesn't read. Whether it is sound doesn't matter there.
-use Rattle.std.proofs.Common.{◌≡◌, ℕ, Bool, true, false, cond, not, ◌&&◌, ◌||◌, List, [], ◌∷◌, Option, Some, None, is_some, refl, sym, ◌∙◌, ap, subst}
-use Rattle.std.proofs.lemmas.Bool.{and_parts, and_from, or_parts, not-true, not_from_false, false_from_ne_true}
+use Rattle.std.proofs.Common.{◌≡◌, ℕ, Bool, true, false, cond, not, ◌&&◌, ◌||◌, List, [], ◌∷◌, Option, Some, None, is_some, refl, ◌∙◌, ap}
+use Rattle.std.proofs.lemmas.Bool.{and_parts, and_from, or_parts, not-true, not_from_false}
 use Rattle.ips_text.specs.Ancestry.{same_path, covers, is_below, parent}
 use Rattle.ips_outside.specs.Image.{Entry, Image, Agrees, is_dir, is_file, with_mode, has_parent, dir_or_none}
 use Rattle.ips_outside.specs.Change.{joined}
 use Rattle.ips_outside.specs.State.{nowhere}
-use Rattle.ips_steps.specs.Steps.{Step, Gone, Fresh, Mode, Put, Symlink, Hard, Stage, stage_name, stage_path, stage_of, laid, all_laid, after, can_lay, possible, at_parent, clear_of, all_clear_of}
-use Rattle.ips_steps.specs.Private.{mark_front, begins, is_private, visible}
-use Rattle.ips_steps.specs.Journal.{allowed}
+use Rattle.ips_steps.specs.Steps.{Step, Gone, Fresh, Mode, Put, Symlink, Hard, Stage, laid, all_laid, can_lay, possible, at_parent, clear_of, all_clear_of}
 use Rattle.ips_outside.proofs.Agree.{placed_agrees, moded_agrees, same_two}
 use Rattle.ips_outside.proofs.Moments.{agrees_less}
-use Rattle.ips_steps.proofs.Lists.{clash}
-use Rattle.ips_steps.proofs.PrivateNames.{all_clear, mark_private, same_bytes, visible_agrees}
 
 -- one of two entries, alike in both
 either_alike : (s c : Bool) (d e x y : Option Entry) → d ≡ e → x ≡ y → cond s d (cond c None x) ≡ cond s e (cond c None y)
@@ -30,7 +26,7 @@ module _ (apart : List ℕ → Bool) where
   parent_alike t u h None off = refl
 
   -- the step can be laid on both or on neither
-  can_alike : (stage : Stage) (s : Step) (t u : Image) → clear_of apart s ≡ true → Agrees apart nowhere t u → can_lay stage s u ≡ can_lay stage s t
+  pub can_alike : (stage : Stage) (s : Step) (t u : Image) → clear_of apart s ≡ true → Agrees apart nowhere t u → can_lay stage s u ≡ can_lay stage s t
   can_alike stage (Gone p) t u cl h = refl
   can_alike stage (Fresh m p) t u cl h = parent_alike t u h (parent p) (not-true _ cl)
   can_alike stage (Mode m p) t u cl h = parent_alike t u h (parent p) (not-true _ (and_parts _ _ cl).0)
@@ -52,7 +48,7 @@ module _ (apart : List ℕ → Bool) where
       look_alike q f = either_alike (same_path p q) (covers p q) (u.look to) (t.look to) (u.look q) (t.look q) (h.look to off refl) (h.look q f refl)
 
   -- and leaves them alike
-  step_alike : (stage : Stage) (s : Step) (t u : Image) → clear_of apart s ≡ true → Agrees apart nowhere t u → Agrees apart nowhere (laid stage s t) (laid stage s u)
+  pub step_alike : (stage : Stage) (s : Step) (t u : Image) → clear_of apart s ≡ true → Agrees apart nowhere t u → Agrees apart nowhere (laid stage s t) (laid stage s u)
   step_alike stage (Gone p) t u cl h = placed_agrees p None apart nowhere t u (wider p t u h)
   step_alike stage (Fresh m p) t u cl h = placed_agrees p _ apart nowhere t u (wider p t u h)
   step_alike stage (Mode m p) t u cl h = moded_agrees m p apart nowhere t u (not-true _ (and_parts _ _ cl).1) (agrees_less apart nowhere apart _ t u (λ q f. f) (λ q l. refl) h)
@@ -83,24 +79,6 @@ module _ (apart : List ℕ → Bool) where
     step_fewer (Symlink p target) cl = parent_fewer (parent p) cl
     step_fewer (Hard p to) cl = let cls = and_parts _ _ cl in and_from _ _ (parent_fewer (parent p) cls.0) (not_from_false _ (fewer to (not-true _ cls.1)))
 
-    all_fewer : (steps : List Step) → all_clear_of more steps ≡ true → all_clear_of apart steps ≡ true
+    pub all_fewer : (steps : List Step) → all_clear_of more steps ≡ true → all_clear_of apart steps ≡ true
     all_fewer [] cl = refl
     all_fewer (s ∷ rest) cl = let cls = and_parts (clear_of more s) (all_clear_of more rest) cl in and_from _ _ (step_fewer s cls.0) (all_fewer rest cls.1)
-
-  -- A list that a journal can have, on images that agree but at private names, with the same contents.
-  pub own_alike : (steps : List Step) (t u : Image) → allowed steps ≡ true → ((q : List ℕ) → apart q ≡ true → is_private q ≡ true) → stage_of u ≡ stage_of t → Agrees apart nowhere t u
-      → (possible (stage_of u) steps u ≡ possible (stage_of t) steps t) × Agrees apart nowhere (after steps t) (after steps u) × (visible (after steps u) ≡ visible (after steps t))
-  own_alike steps t u may own contents h =
-      let off : (q : List ℕ) → is_private q ≡ false → apart q ≡ false = λ q seen. false_from_ne_true _ (λ a. clash (is_private q) (own q a) seen) in
-      let both = list_alike (stage_of t) steps t u (all_fewer is_private off steps (all_clear steps may)) h in
-      let Alike : Stage → Type 0 = λ stage. (possible stage steps u ≡ possible (stage_of t) steps t) × Agrees apart nowhere (after steps t) (all_laid stage steps u) × (visible (all_laid stage steps u) ≡ visible (after steps t)) in
-      subst Alike (sym contents) (both.0, both.1, visible_agrees _ _ (agrees_less apart nowhere is_private nowhere _ _ off (λ q l. l) both.1))
-
-front_stage_off : (n : ℕ) → begins mark_front (stage_path n) ≡ false
-unfolding mark_front stage_name
-front_stage_off n = refl
-
--- The same on images that agree but at names of marks.
-pub marks_alike : (steps : List Step) (t u : Image) → allowed steps ≡ true → Agrees (begins mark_front) nowhere t u
-    → (possible (stage_of u) steps u ≡ possible (stage_of t) steps t) × Agrees (begins mark_front) nowhere (after steps t) (after steps u) × (visible (after steps u) ≡ visible (after steps t))
-marks_alike steps t u may h = own_alike (begins mark_front) steps t u may mark_private (λ i n. same_bytes (u.look (stage_path n)) (t.look (stage_path n)) (h.but_mode (stage_path n) (front_stage_off n)) i) h

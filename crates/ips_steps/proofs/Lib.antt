@@ -8,6 +8,8 @@ pub mod ByPath
 pub mod AtTurn
 pub mod PrivateNames
 pub mod Numbered
+pub mod Linked
+pub mod ByName
 pub mod Owing
 pub mod Unmarking
 pub mod Examples

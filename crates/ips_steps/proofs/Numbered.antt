@@ -1,9 +1,9 @@
 -- Paths that end in a number: none is at or above another.
-use Rattle.std.proofs.Common.{◌≡◌, ℕ, ◌+◌, ◌%◌, ◌^◌, ◌<◌, Bool, true, false, ◌||◌, ◌==◌, if◌then◌else◌, zero, suc, ◌/◌, List, [], ◌∷◌, ◌++◌, refl, sym, ap, ◌∙◌, arith}
+use Rattle.std.proofs.Common.{◌≡◌, ℕ, ◌+◌, ◌%◌, ◌^◌, ◌<◌, Bool, true, false, cond, ◌||◌, ◌==◌, if◌then◌else◌, zero, suc, ◌/◌, List, [], ◌∷◌, ◌++◌, Some, None, refl, sym, ap, ◌∙◌, arith}
 use Rattle.std.proofs.lemmas.Bool.{and_parts, or_parts, or_from, eqb-true, ne_eqb, false_from_ne_true, lt-ltb}
 use Rattle.std.proofs.lemmas.Fmt.{decimal_injective}
 use Rattle.std.specs.Fmt.{decimal, digits, digits_onto, digit_glyph}
-use Rattle.ips_text.specs.Ancestry.{covers}
+use Rattle.ips_text.specs.Ancestry.{covers, parent, behind}
 use Rattle.ips_steps.specs.Steps.{stage_name, stage_path}
 use Rattle.ips_steps.specs.Private.{mark_front, mark_name, begins}
 use Rattle.ips_steps.proofs.Lists.{clash}
@@ -66,3 +66,26 @@ one_mark p n b c = covers_front mark_front p (decimal n) b c (number_whole n)
 
 pub contents_apart : (m n : ℕ) → m < 2 ^ 64 → n < 2 ^ 64 → (m ≡ n → ⊥) → covers (stage_path m) (stage_path n) ≡ false
 contents_apart m n lm ln apart = false_from_ne_true _ (λ c. numbers_apart m n lm ln apart (covers_behind stage_name (47 ∷ decimal m) (47 ∷ decimal n) c))
+
+-- ---- the folder of the contents
+
+parent_whole : (q : List ℕ) → cut q ≡ false → parent q ≡ None
+parent_whole [] whole = refl
+parent_whole (b ∷ q) whole =
+    let parts = or_parts (b == 47) (cut q) whole in
+    ap (behind b) (parent_whole q parts.1) ∙ ap (λ (x : Bool). cond x (Some []) None) parts.0
+
+parent_before : (p q : List ℕ) → cut q ≡ false → parent (p ++ 47 ∷ q) ≡ Some p
+parent_before [] q whole = ap (behind 47) (parent_whole q whole)
+parent_before (a ∷ p) q whole = ap (behind a) (parent_before p q whole)
+
+pub content_parent : (n : ℕ) → parent (stage_path n) ≡ Some stage_name
+content_parent n = parent_before stage_name (decimal n) (number_whole n)
+
+pub content_covered : (n : ℕ) → covers stage_name (stage_path n) ≡ true
+unfolding stage_name
+content_covered n = refl
+
+pub content_above : (n : ℕ) → covers (stage_path n) stage_name ≡ false
+unfolding stage_name
+content_above n = refl

@@ -7,26 +7,17 @@ use Rattle.ips_text.specs.Ancestry.{covers}
 use Rattle.ips_outside.specs.Image.{Entry, Dir, File, Link, Other, Image, Agrees, with_mode, file_bytes}
 use Rattle.ips_outside.specs.Change.{with_entry_at}
 use Rattle.ips_outside.specs.State.{State, MayLeave, ChangedWithin, IsSettled, nowhere, untouched, settled}
-use Rattle.ips_steps.specs.Steps.{Step, Stage, stage_name, stage_path, stage_of, all_laid, after, possible, sound, sound_before, freed, met}
+use Rattle.ips_steps.specs.Steps.{Step, stage_name, stage_path, after, feasible, sets, sound, sound_before, freed}
 use Rattle.ips_steps.specs.Private.{journal_name, gate_name, mark_front, mark_name, is_private, visible}
 use Rattle.ips_steps.specs.Journal.{allowed, step_allowed}
 use Rattle.ips_steps.specs.Owed.{AreMarks, steps_left, IsReady, IsOpen, Owes, Old, Open, New, FolderOwes, IsPrivate}
 use Rattle.ips_outside.proofs.Images.{HasNodes, image_ext}
 use Rattle.ips_outside.proofs.Moments.{agrees_less, within_crash, placed_within}
-use Rattle.ips_steps.proofs.Again.{again, again_but}
 use Rattle.ips_steps.proofs.Lists.{clash}
-use Rattle.ips_steps.proofs.Within.{laid_within}
-use Rattle.ips_steps.proofs.AtTurn.{rest_possible, rest_laid, front_frees}
+use Rattle.ips_steps.proofs.Linked.{own_again}
+use Rattle.ips_steps.proofs.AtTurn.{rest_feasible, rest_after}
 use Rattle.ips_steps.proofs.Numbered.{marks_apart}
-use Rattle.ips_steps.proofs.PrivateNames.{private_below, mark_private, begins_front, gate_private, journal_kept, gate_kept, marks_kept, all_clear, same_bytes, same_stage, visible_alike, visible_agrees}
-
--- ---- a list that a journal can have, laid again with its own contents
-
-pub laid_again : (steps : List Step) (t u : Image) → HasNodes t → allowed steps ≡ true → sound steps ≡ true → possible (stage_of t) steps t ≡ true
-    → Agrees (freed steps) (met (stage_of t) steps t) t u → (possible (stage_of u) steps u ≡ true) × (after steps u ≡ after steps t)
-laid_again steps t u n may so po h =
-    let P : Stage → Type 0 = λ stage. (possible stage steps u ≡ true) × (all_laid stage steps u ≡ after steps t) in
-    subst P (sym (same_stage steps _ t u may h)) (again (stage_of t) steps t u n so po h)
+use Rattle.ips_steps.proofs.PrivateNames.{private_below, mark_private, begins_front, gate_private, journal_kept, gate_kept, marks_kept, same_bytes, visible_alike, visible_agrees}
 
 -- ---- the steps that are left
 
@@ -62,9 +53,13 @@ journal_off : covers gate_name journal_name ≡ false
 unfolding gate_name journal_name
 journal_off = refl
 
-stage_off : (k : ℕ) → covers gate_name (stage_path k) ≡ false
+contents_off : (k : ℕ) → covers gate_name (stage_path k) ≡ false
 unfolding gate_name stage_name
-stage_off k = refl
+contents_off k = refl
+
+stage_off : covers gate_name stage_name ≡ false
+unfolding gate_name stage_name
+stage_off = refl
 
 marks_off : (k : ℕ) → covers gate_name (mark_name k) ≡ false
 unfolding gate_name mark_front
@@ -92,9 +87,13 @@ mark_journal_off : (k : ℕ) → covers (mark_name k) journal_name ≡ false
 unfolding mark_front journal_name
 mark_journal_off k = refl
 
-mark_stage_off : (k n : ℕ) → covers (mark_name k) (stage_path n) ≡ false
+mark_contents_off : (k n : ℕ) → covers (mark_name k) (stage_path n) ≡ false
 unfolding mark_front stage_name
-mark_stage_off k n = refl
+mark_contents_off k n = refl
+
+mark_stage_off : (k : ℕ) → covers (mark_name k) stage_name ≡ false
+unfolding mark_front stage_name
+mark_stage_off k = refl
 
 at_mark : (k : ℕ) (q : List ℕ) → is_private q ≡ false → covers (mark_name k) q ≡ false
 at_mark k q seen = false_from_ne_true _ (λ c. clash (is_private q) (private_below (mark_name k) q (mark_private (mark_name k) (begins_front mark_front (decimal k))) c) seen)
@@ -117,33 +116,31 @@ module _ (text : List Step → List ℕ) (steps : List Step) (marks : ℕ) (a : 
 
   -- It stays ready, and means the same, whatever stands at its paths, in its modes, and at private paths but the journal,
   -- the stage and the marks.
-  ready_again : (t u : Image) → IsReady text steps marks a t → HasNodes t → file_bytes (u.look journal_name) ≡ file_bytes (t.look journal_name) → stage_of u ≡ stage_of t → AreMarks u marks
-      → Agrees (λ q. freed left q || is_private q) (met (stage_of t) left t) t u → IsReady text steps marks a u
-  ready_again t u r n journal stage marked h =
-      let both = again_but is_private (stage_of t) left t u n (left_sound t r) (all_clear left (left_allowed t r)) r.can h in
-      let Again : Stage → Type 0 = λ contents. (possible contents left u ≡ true) × (visible (all_laid contents left u) ≡ visible (after left t)) in
-      let there : Again (stage_of u) = subst Again (sym stage) (both.0, visible_agrees _ _ both.1) in
-      record {
-        lists = r.lists;
-        is_sound = r.is_sound;
-        journal = journal ∙ r.journal;
-        marked = marked;
-        can = there.0;
-        means = there.1 ∙ r.means;
-      }
+  module _ (apart : List ℕ → Bool) (own : (q : List ℕ) → apart q ≡ true → is_private q ≡ true) (files : (n : ℕ) → apart (stage_path n) ≡ false) (dir : apart stage_name ≡ false) where
+    ready_again : (t u : Image) → IsReady text steps marks a t → HasNodes t → file_bytes (u.look journal_name) ≡ file_bytes (t.look journal_name) → AreMarks u marks
+        → Agrees (λ q. freed left q || apart q) (sets left t) t u → IsReady text steps marks a u
+    ready_again t u r n journal marked h =
+        let both = own_again apart own files dir left t u n (left_allowed t r) (left_sound t r) r.can h in
+        record {
+          lists = r.lists;
+          is_sound = r.is_sound;
+          journal = journal ∙ r.journal;
+          marked = marked;
+          can = both.0;
+          means = both.1 ∙ r.means;
+        }
 
   -- ---- while steps are laid
 
-  ready_laying : (t u : Image) → IsReady text steps marks a t → HasNodes t → Agrees (freed left) (met (stage_of t) left t) t u → IsReady text steps marks a u
+  ready_laying : (t u : Image) → IsReady text steps marks a t → HasNodes t → Agrees (freed left) (sets left t) t u → IsReady text steps marks a u
   ready_laying t u r n h =
       let may = left_allowed t r in
-      ready_again t u r n
+      ready_again nowhere (λ q no. cc) (λ k. refl) refl t u r n
       (same_bytes _ _ (h.but_mode journal_name (journal_kept left may)))
-      (same_stage left _ t u may h)
       (same_marks t u marks (λ i. h.but_mode (mark_name i) (marks_kept left i may)) r.marked)
-      (agrees_less _ _ _ _ t u (λ q f. (or_parts (freed left q) (is_private q) f).0) (λ q l. l) h)
+      (agrees_less _ _ _ _ t u (λ q f. (or_parts (freed left q) false f).0) (λ q l. l) h)
 
-  pub open_laying : (t u : Image) → IsOpen text steps marks a t → HasNodes t → Agrees (freed left) (met (stage_of t) left t) t u → IsOpen text steps marks a u
+  pub open_laying : (t u : Image) → IsOpen text steps marks a t → HasNodes t → Agrees (freed left) (sets left t) t u → IsOpen text steps marks a u
   open_laying t u o n h = record {
     gate = λ gone. o.gate (none_alike (u.look gate_name) (t.look gate_name) (h.but_mode gate_name (gate_kept left (left_allowed t o.ready))) gone);
     ready = ready_laying t u o.ready n h;
@@ -151,7 +148,7 @@ module _ (text : List Step → List ℕ) (steps : List Step) (marks : ℕ) (a : 
 
   -- From an open gate with nothing touched, whatever the steps have changed and touched so far, the folder owes the same.
   pub owes_laying : (b : Image) (due : Bool) (old s : State) → IsOpen text steps marks a old.held → HasNodes old.held → IsSettled old
-      → ChangedWithin (freed left) (λ q. freed left q || met (stage_of old.held) left old.held q) old s → FolderOwes text b (Some a) due s
+      → ChangedWithin (freed left) (λ q. freed left q || sets left old.held q) old s → FolderOwes text b (Some a) due s
   owes_laying b due old s o n clean w = record {
     now = Open steps marks (open_laying old.held s.held o n (agrees_kept _ _ old.held s.held w.agrees));
     left = λ c may.
@@ -162,11 +159,10 @@ module _ (text : List Step → List ℕ) (steps : List Step) (marks : ℕ) (a : 
   -- ---- as the gate opens and closes
 
   pub gate_ready : (t u : Image) → IsReady text steps marks a t → HasNodes t → Agrees (covers gate_name) nowhere t u → IsReady text steps marks a u
-  gate_ready t u r n h = ready_again t u r n
+  gate_ready t u r n h = ready_again (covers gate_name) gate_private contents_off stage_off t u r n
       (same_bytes _ _ (h.but_mode journal_name journal_off))
-      (λ i k. same_bytes (u.look (stage_path k)) (t.look (stage_path k)) (h.but_mode (stage_path k) (stage_off k)) i)
       (same_marks t u marks (λ i. h.but_mode (mark_name i) (marks_off i)) r.marked)
-      (agrees_less _ _ _ _ t u (λ q f. not_at_gate q (or_parts (freed left q) (is_private q) f).1) (λ q l. refl) h)
+      (agrees_less _ _ _ _ t u (λ q f. (or_parts (freed left q) (covers gate_name q) f).1) (λ q l. refl) h)
 
   module _ (old s : State) (r : IsReady text steps marks a old.held) (n : HasNodes old.held) (clean : IsSettled old) (w : ChangedWithin (covers gate_name) nowhere old s) where
     -- As the gate opens, before its sync: the old image, or the steps that mean the new one.
@@ -198,7 +194,7 @@ module _ (text : List Step → List ℕ) (steps : List Step) (marks : ℕ) (a : 
 
   -- The next thousand steps are laid and safe, and nothing stands at the mark after the next.
   module _ (t : Image) (o : IsOpen text steps marks a t) (n : HasNodes t) (few : marks + 2 < 2 ^ 64)
-      (can : possible (stage_of t) (steps_left (marks + 1) steps) t ≡ true) (means : visible (after (steps_left (marks + 1) steps) t) ≡ a)
+      (can : feasible (steps_left (marks + 1) steps) t ≡ true) (means : visible (after (steps_left (marks + 1) steps) t) ≡ a)
       (bare : t.look (mark_name (marks + 2)) ≡ None) where
     -- the list is ready with one more mark, but that the mark doesn't stand yet
     module _ (u : Image) (h : Agrees (covers (mark_name next)) nowhere t u) where
@@ -208,21 +204,21 @@ module _ (text : List Step → List ℕ) (steps : List Step) (marks : ℕ) (a : 
       open_gate : u.look gate_name ≢ None
       open_gate gone = o.gate (sym (h.look gate_name (mark_gate_off next) refl) ∙ gone)
 
-      contents : stage_of u ≡ stage_of t
-      contents = λ i k. same_bytes (u.look (stage_path k)) (t.look (stage_path k)) (h.but_mode (stage_path k) (mark_stage_off next k)) i
-
       journal_bytes : file_bytes (u.look journal_name) ≡ file_bytes (t.look journal_name)
       journal_bytes = same_bytes _ _ (h.but_mode journal_name (mark_journal_off next))
 
-      wider : (list : List Step) → Agrees (λ q. freed list q || is_private q) (met (stage_of t) list t) t u
-      wider list = agrees_less _ _ _ _ t u (λ q f. at_mark next q (or_parts (freed list q) (is_private q) f).1) (λ q l. refl) h
+      at_own : (q : List ℕ) → covers (mark_name next) q ≡ true → is_private q ≡ true
+      at_own q c = private_below (mark_name next) q (mark_private (mark_name next) (begins_front mark_front (decimal next))) c
+
+      wider : (list : List Step) → Agrees (λ q. freed list q || covers (mark_name next) q) (sets list t) t u
+      wider list = agrees_less _ _ _ _ t u (λ q f. (or_parts (freed list q) (covers (mark_name next) q) f).1) (λ q l. refl) h
 
       lower : (i : ℕ) → i < marks → u.look (mark_name (i + 1)) ≢ None
       lower i lt gone = o.ready.marked.stand i lt (sym (elsewhere (i + 1) (omega (arith, few, lt)) (λ e. omega (arith, e, lt))) ∙ gone)
 
       -- the mark isn't there: as before
       unmarked : u.look (mark_name next) ≡ None → IsReady text steps marks a u
-      unmarked gone = ready_again t u o.ready n journal_bytes contents (record { stand = lower; last = gone }) (wider left)
+      unmarked gone = ready_again (covers (mark_name next)) at_own (mark_contents_off next) (mark_stage_off next) t u o.ready n journal_bytes (record { stand = lower; last = gone }) (wider left)
 
       -- the mark is there: a thousand steps less are left
       one_more : u.look (mark_name next) ≢ None → AreMarks u next
@@ -241,16 +237,14 @@ module _ (text : List Step → List ℕ) (steps : List Step) (marks : ℕ) (a : 
       marked there =
           let rest = steps_left next steps in
           let may = allowed_left (1000 * next) steps o.ready.lists.names in
-          let both = again_but is_private (stage_of t) rest t u n (sound_left (1000 * next) steps o.ready.is_sound) (all_clear rest may) can (wider rest) in
-          let Again : Stage → Type 0 = λ stage. (possible stage rest u ≡ true) × (visible (all_laid stage rest u) ≡ visible (after rest t)) in
-          let here : Again (stage_of u) = subst Again (sym contents) (both.0, visible_agrees _ _ both.1) in
+          let both = own_again (covers (mark_name next)) at_own (mark_contents_off next) (mark_stage_off next) rest t u n may (sound_left (1000 * next) steps o.ready.is_sound) can (wider rest) in
           record {
             lists = o.ready.lists;
             is_sound = o.ready.is_sound;
             journal = journal_bytes ∙ o.ready.journal;
             marked = one_more there;
-            can = here.0;
-            means = here.1 ∙ means;
+            can = both.0;
+            means = both.1 ∙ means;
           }
 
       pub open_marked : u.look (mark_name next) ≢ None → IsOpen text steps next a u
@@ -265,7 +259,7 @@ module _ (text : List Step → List ℕ) (steps : List Step) (marks : ℕ) (a : 
 
   -- As a mark is made, before its sync, the folder owes the same.
   pub owes_marking : (b : Image) (due : Bool) (old s : State) → IsOpen text steps marks a old.held → HasNodes old.held → IsSettled old → marks + 2 < 2 ^ 64
-      → possible (stage_of old.held) (steps_left (marks + 1) steps) old.held ≡ true → visible (after (steps_left (marks + 1) steps) old.held) ≡ a
+      → feasible (steps_left (marks + 1) steps) old.held ≡ true → visible (after (steps_left (marks + 1) steps) old.held) ≡ a
       → old.held.look (mark_name (marks + 2)) ≡ None → ChangedWithin (covers (mark_name (marks + 1))) nowhere old s → FolderOwes text b (Some a) due s
   owes_marking b due old s o n clean few can means bare w = record {
     now = either_mark old.held o n few can means bare s.held w.agrees b due;
@@ -275,19 +269,14 @@ module _ (text : List Step → List ℕ) (steps : List Step) (marks : ℕ) (a : 
 
   -- A front of the steps that are left is laid: the rest can be laid, and means the same.
   front_laid : (t : Image) → IsReady text steps marks a t → (n : ℕ)
-      → (possible (stage_of (after (take n left) t)) (drop n left) (after (take n left) t) ≡ true) × (visible (after (drop n left) (after (take n left) t)) ≡ a)
-  front_laid t r n =
-      let u = after (take n left) t in
-      let within = agrees_less _ _ _ (met (stage_of t) (take n left) t) t u (λ q f. front_frees left n q f) (λ q l. l) (laid_within (stage_of t) (take n left) t) in
-      let same : stage_of u ≡ stage_of t = same_stage left _ t u (left_allowed t r) within in
-      let P : Stage → Type 0 = λ stage. (possible stage (drop n left) u ≡ true) × (visible (all_laid stage (drop n left) u) ≡ a) in
-      subst P (sym same) (rest_possible (stage_of t) left n t r.can, ap visible (rest_laid (stage_of t) left n t) ∙ r.means)
+      → (feasible (drop n left) (after (take n left) t) ≡ true) × (visible (after (drop n left) (after (take n left) t)) ≡ a)
+  front_laid t r n = (rest_feasible left n t r.can, ap visible (rest_after left n t) ∙ r.means)
 
   -- So where a thousand of them are laid the next mark can be made.
   pub thousand_laid : (t u : Image) → IsReady text steps marks a t → u ≡ after (take 1000 left) t
-      → (possible (stage_of u) (steps_left (marks + 1) steps) u ≡ true) × (visible (after (steps_left (marks + 1) steps) u) ≡ a)
+      → (feasible (steps_left (marks + 1) steps) u ≡ true) × (visible (after (steps_left (marks + 1) steps) u) ≡ a)
   thousand_laid t u r is =
-      let Next : Image → List Step → Type 0 = λ v list. (possible (stage_of v) list v ≡ true) × (visible (after list v) ≡ a) in
+      let Next : Image → List Step → Type 0 = λ v list. (feasible list v ≡ true) × (visible (after list v) ≡ a) in
       subst (λ (v : Image). Next v (steps_left (marks + 1) steps)) (sym is) (subst (Next (after (take 1000 left) t)) (sym (next_left marks steps)) (front_laid t r 1000))
 
 -- ---- where private names alone are touched

@@ -137,7 +137,7 @@ unnamed q p is own may = false_from_ne_true _ (λ covered. go covered (same_path
         let dir : up.dir ≡ records_name = let one = sym up.is ∙ is in cc in
         clash (covers p records_name) (ap (covers p) (sym dir) ∙ up.up) (not-true _ parts.1)
 
-stage_unnamed : (p : List ℕ) → may_name p ≡ true → covers p stage_name ≡ false
+pub stage_unnamed : (p : List ℕ) → may_name p ≡ true → covers p stage_name ≡ false
 stage_unnamed p may = unnamed stage_name p stage_parent (stage_private stage_name (covers-self stage_name)) may
 
 journal_unnamed : (p : List ℕ) → may_name p ≡ true → covers p journal_name ≡ false
@@ -149,7 +149,7 @@ gate_unnamed p may = unnamed gate_name p gate_parent (gate_private gate_name (co
 seen_of : (p : List ℕ) → may_name p ≡ true → is_private p ≡ false
 seen_of p may = not-true _ (and_parts (not (is_private p)) (not (covers p records_name)) may).0
 
-content_unnamed : (n : ℕ) (p : List ℕ) → may_name p ≡ true → covers p (stage_path n) ≡ false
+pub content_unnamed : (n : ℕ) (p : List ℕ) → may_name p ≡ true → covers p (stage_path n) ≡ false
 content_unnamed n p may = false_from_ne_true _ (λ covered. elim (or_cases (covers p stage_name) (covers stage_name p) (covers_chain p stage_name (stage_path n) covered (covers_more stage_name _))) [
   | inl up ↦ clash (covers p stage_name) up (stage_unnamed p may)
   | inr down ↦ clash (is_private p) (stage_private p down) (seen_of p may)

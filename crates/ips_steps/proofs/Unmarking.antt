@@ -4,11 +4,11 @@ use Rattle.std.proofs.lemmas.Bool.{or_from, cases_lt, false_from_ne_true}
 use Rattle.std.proofs.lemmas.List.{drop_all, length-drop}
 use Rattle.ips_outside.specs.Image.{Entry, Image, Agrees, file_bytes}
 use Rattle.ips_outside.specs.State.{State, ChangedWithin, IsSettled, nowhere}
-use Rattle.ips_steps.specs.Steps.{Step, stage_of, after, possible}
+use Rattle.ips_steps.specs.Steps.{Step, after, feasible}
 use Rattle.ips_steps.specs.Private.{journal_name, gate_name, mark_front, mark_name, begins, visible}
 use Rattle.ips_steps.specs.Owed.{AreMarks, steps_left, IsOpen, Owes, Open, FolderOwes}
 use Rattle.ips_outside.proofs.Moments.{agrees_less, within_crash}
-use Rattle.ips_steps.proofs.Apart.{marks_alike}
+use Rattle.ips_steps.proofs.Linked.{marks_alike}
 use Rattle.ips_steps.proofs.Lists.{clash}
 use Rattle.ips_steps.proofs.Owing.{left_allowed}
 
@@ -26,7 +26,7 @@ pub open_unmarked : (text : List Step → List ℕ) (steps : List Step) (marks k
 open_unmarked text steps marks kept a t u o same marked h =
     let r = o.ready in
     let alike = marks_alike (steps_left marks steps) t u (left_allowed text steps marks a t r) h in
-    let Can : List Step → Type 0 = λ list. (possible (stage_of u) list u ≡ true) × (visible (after list u) ≡ a) in
+    let Can : List Step → Type 0 = λ list. (feasible list u ≡ true) × (visible (after list u) ≡ a) in
     let there : Can (steps_left kept steps) = subst Can (sym same) (alike.0 ∙ r.can, alike.2 ∙ r.means) in
     record {
       gate = λ gone. o.gate (sym (h.look gate_name front_gate_off refl) ∙ gone);

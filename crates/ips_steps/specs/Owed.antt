@@ -2,7 +2,7 @@
 use Rattle.std.specs.Prelude.{◌≡◌, ◌≢◌, ℕ, ◌+◌, ◌*◌, ◌<◌, Bool, false, IsTrue, List, drop, Option, Some, None}
 use Rattle.ips_outside.specs.Image.{Image, file_bytes}
 use Rattle.ips_outside.specs.State.{State, MayLeave}
-use Rattle.ips_steps.specs.Steps.{Step, stage_of, after, possible, sound}
+use Rattle.ips_steps.specs.Steps.{Step, after, feasible, sound}
 use Rattle.ips_steps.specs.Private.{journal_name, gate_name, mark_name, is_private, visible}
 use Rattle.ips_steps.specs.Journal.{IsJournal}
 
@@ -22,7 +22,7 @@ pub record IsReady (text : List Step → List ℕ) (steps : List Step) (marks : 
   pub is_sound : IsTrue (sound steps)
   pub journal : file_bytes (t.look journal_name) ≡ Some (text steps)
   pub marked : AreMarks t marks
-  pub can : IsTrue (possible (stage_of t) (steps_left marks steps) t)
+  pub can : IsTrue (feasible (steps_left marks steps) t)
   pub means : visible (after (steps_left marks steps) t) ≡ a
 
 -- It is ready, and something stands at the gate.

@@ -60,10 +60,6 @@ abbrev pub all_laid : Stage → List Step → Image → Image
 all_laid stage [] t = t
 all_laid stage (s ∷ rest) t = all_laid stage rest (laid stage s t)
 
--- the image after a list that is laid with the contents that the image holds
-abbrev pub after : List Step → Image → Image
-after steps t = all_laid (stage_of t) steps t
-
 -- A step can be laid where its parent is a directory, a content has its file, and a hard link's target is a file that
 -- doesn't go with what stands at the link's own path. What goes asks for nothing.
 abbrev pub can_lay : Stage → Step → Image → Bool
@@ -139,6 +135,33 @@ clear_of apart (Mode m p) = not (at_parent apart (parent p)) && not (apart p)
 clear_of apart (Put n m p) = not (at_parent apart (parent p))
 clear_of apart (Symlink p target) = not (at_parent apart (parent p))
 clear_of apart (Hard p to) = not (at_parent apart (parent p)) && not (apart to)
+
+-- The steps as they are laid on a folder that holds the contents. A put gives the file of its content the put's mode, and its
+-- path one more name of that file.
+abbrev pub linked : List Step → List Step
+linked [] = []
+linked (Gone p ∷ rest) = Gone p ∷ linked rest
+linked (Fresh m p ∷ rest) = Fresh m p ∷ linked rest
+linked (Mode m p ∷ rest) = Mode m p ∷ linked rest
+linked (Put n m p ∷ rest) = Mode m (stage_path n) ∷ Hard p (stage_path n) ∷ linked rest
+linked (Symlink p target ∷ rest) = Symlink p target ∷ linked rest
+linked (Hard p to ∷ rest) = Hard p to ∷ linked rest
+
+-- no content, for lists that put none
+abbrev pub no_contents : Stage
+no_contents n = None
+
+-- the image after a list that is laid with the contents that the image holds
+abbrev pub after : List Step → Image → Image
+after steps t = all_laid no_contents (linked steps) t
+
+-- a list is feasible where each step can be laid so at its turn
+abbrev pub feasible : List Step → Image → Bool
+feasible steps t = possible no_contents (linked steps) t
+
+-- a step of the list, laid so, sets the mode of what then stands at the path
+abbrev pub sets : List Step → Image → List ℕ → Bool
+sets steps t q = met no_contents (linked steps) t q
 
 -- no step of the list reads anything at these paths
 abbrev pub all_clear_of : (List ℕ → Bool) → List Step → Bool

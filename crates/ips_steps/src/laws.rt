@@ -1,21 +1,29 @@
 //! Laws of steps, each the contract of a function that does nothing.
 
-ghost use Rattle.std.specs.Prelude.{◌≡◌, ◌≢◌, ℕ, ◌+◌, ◌^◌, ◌<◌, List, take, drop, slice_get, Bool, false, ◌||◌, IsTrue, IsFalse, Option, Some, None};
+ghost use Rattle.std.specs.Prelude.{◌≡◌, ◌≢◌, ℕ, ◌+◌, ◌^◌, ◌<◌, List, [], ◌∷◌, take, drop, slice_get, Bool, false, ◌||◌, IsTrue, IsFalse, Option, Some, None};
 ghost use Rattle.ips_text.specs.Ancestry.{covers};
 ghost use Rattle.ips_outside.specs.Image.{Image, IsImage, Agrees};
 ghost use Rattle.ips_outside.specs.State.{State, MayLeave, ChangedWithin, IsSettled, nowhere, untouched, settled};
-ghost use Rattle.ips_steps.specs.Steps.{Step, Stage, laid, all_laid, can_lay, possible, sound, frees, freed, meets, met, all_clear_of, distinct, stage_path, stage_of, after};
+ghost use Rattle.ips_steps.specs.Steps.{Step, Stage, laid, all_laid, can_lay, possible, sound, frees, freed, met, all_clear_of, distinct, stage_name, stage_path, stage_of, after, feasible, sets};
 ghost use Rattle.ips_steps.specs.Private.{gate_name, mark_front, mark_name, begins, is_private, visible};
-ghost use Rattle.ips_steps.specs.Journal.{IsProper, AllProper, allowed};
+ghost use Rattle.ips_steps.specs.Journal.{IsJournal, IsProper, AllProper, allowed};
 ghost use Rattle.ips_steps.specs.Outcome.{outcome, all_fit, IsLaidByPath};
 ghost use Rattle.ips_steps.specs.Owed.{AreMarks, steps_left, IsReady, IsOpen, Owes, FolderOwes, IsPrivate};
 
-/// Laying again gives the same image: a sound list of a journal that is possible on an image is possible on each image
+/// What is laid by a name is what the steps mean. On an image in which no content has a further name, a list of a journal that
+/// is possible is feasible, and what is seen once it is laid is what the steps say with the contents that stand there.
+pub fn laid_by_name()
+    ensures { (steps : List Step) (t : Image) → IsImage t → IsJournal steps → IsTrue (possible (stage_of t) steps t)
+        → ((n : ℕ) (q : List ℕ) → n < 2 ^ 64 → IsTrue (t.same (stage_path n) q) → q ≡ stage_path n)
+        → IsTrue (feasible steps t) × (visible (after steps t) ≡ visible (all_laid (stage_of t) steps t)) }
+{}
+
+/// Laying again gives the same image: a sound list of a journal that is feasible on an image is feasible on each image
 /// that agrees with it but at and below the paths of its steps other than modes and in the modes that it sets, and leaves the same
 /// there.
 pub fn laid_again()
-    ensures { (steps : List Step) (t u : Image) → IsImage t → IsTrue (allowed steps) → IsTrue (sound steps) → IsTrue (possible (stage_of t) steps t)
-        → Agrees (freed steps) (met (stage_of t) steps t) t u → IsTrue (possible (stage_of u) steps u) × (after steps u ≡ after steps t) }
+    ensures { (steps : List Step) (t u : Image) → IsImage t → IsTrue (allowed steps) → IsTrue (sound steps) → IsTrue (feasible steps t)
+        → Agrees (freed steps) (sets steps t) t u → IsTrue (feasible steps u) × (after steps u ≡ after steps t) }
 {}
 
 /// The same for images that differ also apart from that, at paths that the list doesn't read; they then differ only there.
@@ -26,17 +34,16 @@ pub fn laid_again_apart()
         → IsTrue (possible stage steps u) × Agrees apart nowhere (all_laid stage steps t) (all_laid stage steps u) }
 {}
 
-/// A list of a journal reads none of the updater's own names. On images that agree but at paths that a list doesn't read it
-/// is possible on both or on neither, and leaves them so; whether it is sound doesn't matter.
+/// A list of a journal reads none of the updater's own names but the contents. On images that agree but at paths that a list
+/// doesn't read it is possible on both or on neither, and leaves them so; whether it is sound doesn't matter.
 pub fn laid_apart()
     ensures each { (apart : List ℕ → Bool) (stage : Stage) (steps : List Step) (t u : Image) → IsTrue (all_clear_of apart steps) → Agrees apart nowhere t u
         → (possible stage steps u ≡ possible stage steps t) × Agrees apart nowhere (all_laid stage steps t) (all_laid stage steps u) }
-    ensures own { (apart : List ℕ → Bool) (steps : List Step) (t u : Image) → IsTrue (allowed steps) → ((q : List ℕ) → IsTrue (apart q) → IsTrue (is_private q))
-        → stage_of u ≡ stage_of t → Agrees apart nowhere t u
-        → (possible (stage_of u) steps u ≡ possible (stage_of t) steps t) × Agrees apart nowhere (after steps t) (after steps u)
-        × (visible (after steps u) ≡ visible (after steps t)) }
+    ensures own { (apart : List ℕ → Bool) (steps : List Step) (t u : Image) → IsTrue (allowed steps)
+        → ((q : List ℕ) → IsTrue (apart q) → IsTrue (is_private q) × IsFalse (covers stage_name q)) → Agrees apart nowhere t u
+        → (feasible steps u ≡ feasible steps t) × Agrees apart nowhere (after steps t) (after steps u) × (visible (after steps u) ≡ visible (after steps t)) }
     ensures marks { (steps : List Step) (t u : Image) → IsTrue (allowed steps) → Agrees (begins mark_front) nowhere t u
-        → (possible (stage_of u) steps u ≡ possible (stage_of t) steps t) × Agrees (begins mark_front) nowhere (after steps t) (after steps u)
+        → (feasible steps u ≡ feasible steps t) × Agrees (begins mark_front) nowhere (after steps t) (after steps u)
         × (visible (after steps u) ≡ visible (after steps t)) }
 {}
 
@@ -56,24 +63,24 @@ pub fn stays_formed()
     ensures step { (stage : Stage) (s : Step) (t : Image) → IsImage t → IsProper s → IsTrue (can_lay stage s t) → IsImage (laid stage s t) }
     ensures list { (stage : Stage) (steps : List Step) (t : Image) → IsImage t → AllProper steps → IsTrue (possible stage steps t)
         → IsImage (all_laid stage steps t) }
+    ensures linked { (steps : List Step) (t : Image) → IsImage t → AllProper steps → IsTrue (feasible steps t) → IsImage (after steps t) }
 {}
 
-/// A possible list is laid turn by turn: at its turn each step can be laid on what those before it left, and changes what
-/// the list changes. Behind a front the rest is possible, and leaves what the list leaves.
+/// A feasible list is laid turn by turn: at its turn each step can be laid on what those before it left, and changes what
+/// the list changes. Behind a front the rest is feasible, and leaves what the list leaves.
 pub fn laid_turn_by_turn()
-    ensures can { (stage : Stage) (steps : List Step) (k : ℕ) (s : Step) (t : Image) → slice_get steps k ≡ Some s
-        → IsTrue (possible stage steps t) → IsTrue (can_lay stage s (all_laid stage (take k steps) t)) }
-    ensures next { (stage : Stage) (steps : List Step) (k : ℕ) (s : Step) (t : Image) → slice_get steps k ≡ Some s
-        → all_laid stage (take (k + 1) steps) t ≡ laid stage s (all_laid stage (take k steps) t) }
+    ensures can { (steps : List Step) (k : ℕ) (s : Step) (t : Image) → slice_get steps k ≡ Some s
+        → IsTrue (feasible steps t) → IsTrue (feasible (s ∷ []) (after (take k steps) t)) }
+    ensures next { (steps : List Step) (k : ℕ) (s : Step) (t : Image) → slice_get steps k ≡ Some s
+        → after (take (k + 1) steps) t ≡ after (s ∷ []) (after (take k steps) t) }
     ensures frees { (steps : List Step) (k : ℕ) (s : Step) (q : List ℕ) → slice_get steps k ≡ Some s
         → IsFalse (freed steps q) → IsFalse (frees s q) }
-    ensures meets { (stage : Stage) (steps : List Step) (k : ℕ) (s : Step) (t : Image) (q : List ℕ) → slice_get steps k ≡ Some s
-        → IsFalse (met stage steps t q) → IsFalse (meets s (all_laid stage (take k steps) t) q) }
-    ensures rest { (stage : Stage) (steps : List Step) (n : ℕ) (t : Image) → IsTrue (possible stage steps t)
-        → IsTrue (possible stage (drop n steps) (all_laid stage (take n steps) t)) }
-    ensures whole { (stage : Stage) (steps : List Step) (n : ℕ) (t : Image)
-        → all_laid stage (drop n steps) (all_laid stage (take n steps) t) ≡ all_laid stage steps t }
-    ensures within { (stage : Stage) (steps : List Step) (t : Image) → Agrees (freed steps) (met stage steps t) t (all_laid stage steps t) }
+    ensures sets { (steps : List Step) (k : ℕ) (s : Step) (t : Image) (q : List ℕ) → slice_get steps k ≡ Some s
+        → IsFalse (sets steps t q) → IsFalse (sets (s ∷ []) (after (take k steps) t) q) }
+    ensures rest { (steps : List Step) (n : ℕ) (t : Image) → IsTrue (feasible steps t)
+        → IsTrue (feasible (drop n steps) (after (take n steps) t)) }
+    ensures whole { (steps : List Step) (n : ℕ) (t : Image) → after (drop n steps) (after (take n steps) t) ≡ after steps t }
+    ensures within { (steps : List Step) (t : Image) → Agrees (freed steps) (sets steps t) t (after steps t) }
 {}
 
 /// Changes at the updater's own names don't show. Where they alone are touched, each image that a crash may leave looks
@@ -106,14 +113,14 @@ pub fn numbered_apart()
 /// steps. While private names other than the gate are written behind a closed gate, it owes what it owed.
 pub fn still_owed()
     ensures laying { (text : List Step → List ℕ) (steps : List Step) (marks : ℕ) (b a : Image) (due : Bool) (old s : State) → IsOpen text steps marks a old.held → IsImage old.held → IsSettled old
-        → ChangedWithin (freed (steps_left marks steps)) (λ q. freed (steps_left marks steps) q || met (stage_of old.held) (steps_left marks steps) old.held q) old s
+        → ChangedWithin (freed (steps_left marks steps)) (λ q. freed (steps_left marks steps) q || sets (steps_left marks steps) old.held q) old s
         → FolderOwes text b (Some a) due s }
     ensures opening { (text : List Step → List ℕ) (steps : List Step) (marks : ℕ) (a : Image) (old s : State) → IsReady text steps marks a old.held → IsImage old.held → IsSettled old
         → ChangedWithin (covers gate_name) nowhere old s → FolderOwes text (visible old.held) (Some a) false s }
     ensures closing { (text : List Step → List ℕ) (steps : List Step) (marks : ℕ) (b a : Image) (due : Bool) (old s : State) → IsReady text steps marks a old.held → IsImage old.held → IsSettled old
         → visible old.held ≡ a → ChangedWithin (covers gate_name) nowhere old s → FolderOwes text b (Some a) due s }
     ensures marking { (text : List Step → List ℕ) (steps : List Step) (marks : ℕ) (b a : Image) (due : Bool) (old s : State) → IsOpen text steps marks a old.held → IsImage old.held → IsSettled old
-        → marks + 2 < 2 ^ 64 → IsTrue (possible (stage_of old.held) (steps_left (marks + 1) steps) old.held)
+        → marks + 2 < 2 ^ 64 → IsTrue (feasible (steps_left (marks + 1) steps) old.held)
         → visible (after (steps_left (marks + 1) steps) old.held) ≡ a → old.held.look (mark_name (marks + 2)) ≡ None
         → ChangedWithin (covers (mark_name (marks + 1))) nowhere old s → FolderOwes text b (Some a) due s }
     ensures unmarking { (text : List Step → List ℕ) (steps : List Step) (marks kept : ℕ) (b a : Image) (due : Bool) (free : List ℕ → Bool) (old s : State) → IsOpen text steps marks a old.held
@@ -132,11 +139,11 @@ pub fn still_ready()
     ensures opening { (text : List Step → List ℕ) (steps : List Step) (marks : ℕ) (a t u : Image) → IsReady text steps marks a t → IsImage t
         → Agrees (covers gate_name) nowhere t u → IsReady text steps marks a u }
     ensures laying { (text : List Step → List ℕ) (steps : List Step) (marks : ℕ) (a t u : Image) → IsOpen text steps marks a t → IsImage t
-        → Agrees (freed (steps_left marks steps)) (met (stage_of t) (steps_left marks steps) t) t u → IsOpen text steps marks a u }
+        → Agrees (freed (steps_left marks steps)) (sets (steps_left marks steps) t) t u → IsOpen text steps marks a u }
     ensures thousand { (text : List Step → List ℕ) (steps : List Step) (marks : ℕ) (a t u : Image) → IsReady text steps marks a t → u ≡ after (take 1000 (steps_left marks steps)) t
-        → IsTrue (possible (stage_of u) (steps_left (marks + 1) steps) u) × (visible (after (steps_left (marks + 1) steps) u) ≡ a) }
+        → IsTrue (feasible (steps_left (marks + 1) steps) u) × (visible (after (steps_left (marks + 1) steps) u) ≡ a) }
     ensures marking { (text : List Step → List ℕ) (steps : List Step) (marks : ℕ) (a t u : Image) → IsOpen text steps marks a t → IsImage t
-        → marks + 2 < 2 ^ 64 → IsTrue (possible (stage_of t) (steps_left (marks + 1) steps) t)
+        → marks + 2 < 2 ^ 64 → IsTrue (feasible (steps_left (marks + 1) steps) t)
         → visible (after (steps_left (marks + 1) steps) t) ≡ a → t.look (mark_name (marks + 2)) ≡ None
         → Agrees (covers (mark_name (marks + 1))) nowhere t u → u.look (mark_name (marks + 1)) ≢ None → IsOpen text steps (marks + 1) a u }
     ensures unmarking { (text : List Step → List ℕ) (steps : List Step) (marks kept : ℕ) (a t u : Image) → IsOpen text steps marks a t

@@ -8,16 +8,18 @@ use ips_text::Or;
 use std::alloc::{AllocError, Global};
 use std::marker::Model;
 
-/// Why bytes are no target. No bytes have both faults.
+/// Why bytes are no target: the first of these that they have.
 #[derive(Drop)]
 pub enum TargetFault {
     /// There are no bytes.
     Empty,
     /// There are more than 4,095 bytes.
     TooLong,
+    /// One of them is NUL, which no system takes.
+    Nul,
 }
 
-/// The target of a symbolic link: 1 to 4,095 bytes of any kind. It needn't be UTF-8, and nothing need stand there.
+/// The target of a symbolic link: 1 to 4,095 bytes without NUL. It needn't be UTF-8, and nothing need stand there.
 /// Contracts see its bytes and the number of bytes that it keeps room for.
 #[derive(Drop)]
 pub struct Target {
@@ -118,6 +120,8 @@ fn fault_of(bytes: &[u8]) -> Option<TargetFault>
         Some(TargetFault::Empty)
     } else if bytes.len() > 4095 {
         Some(TargetFault::TooLong)
+    } else if bytes.contains(&0) {
+        Some(TargetFault::Nul)
     } else {
         None
     }

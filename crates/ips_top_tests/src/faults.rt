@@ -272,7 +272,7 @@ const MARKED: &str = r#"
 does | image-create -p test -> 0 done
 catalog | many 1 ->
 many | many@1 | 3000 ->
-with | -R i -s r install many | before 7664 -> 1 "folder fault: unfinished\n"
+with | -R i -s r install many | before 7667 -> 1 "folder fault: unfinished\n"
 laid -> 2300
 look | var/pkg/done.2 -> file 600 ""
 look | var/pkg/done.3 -> absent
@@ -285,7 +285,7 @@ begin ->
 does | image-create -p test -> 0 done
 catalog | many 1 ->
 many | many@1 | 3000 ->
-with | -R i -s r install many | after 9067 -> 1 "folder fault: unfinished\n"
+with | -R i -s r install many | after 9070 -> 1 "folder fault: unfinished\n"
 laid -> 3000
 look | var/pkg/done.3 -> file 600 ""
 does | fix -> 0 recovered: new image
@@ -297,7 +297,7 @@ const UNMARKED: &str = r#"
 does | image-create -p test -> 0 done
 catalog | many 1 ->
 many | many@1 | 3000 ->
-with | -R i -s r install many | gone 9067 -> 1 "folder fault: unfinished\n"
+with | -R i -s r install many | gone 9070 -> 1 "folder fault: unfinished\n"
 laid -> 3000
 look | var/pkg/done.2 -> file 600 ""
 look | var/pkg/done.3 -> absent
@@ -307,7 +307,7 @@ begin ->
 does | image-create -p test -> 0 done
 catalog | many 1 ->
 many | many@1 | 3000 ->
-with | -R i -s r install many | before 6060 -> 1 "folder fault: unfinished\n"
+with | -R i -s r install many | before 6063 -> 1 "folder fault: unfinished\n"
 laid -> 1500
 look | var/pkg/done.1 -> file 600 ""
 put | var/pkg/done.3 | ->

@@ -19,8 +19,8 @@ use Rattle.ips_after.specs.Request.{IsWant, WantDir, WantFile, WantHard, WantLin
 use Rattle.ips_after.proofs.Fits.{below_of}
 use Rattle.ips_after.proofs.Sorted.{sorted_once}
 use Rattle.ips_steps.specs.declared.target.TargetFault.{TargetFault}
-use Rattle.ips_steps.specs.declared.target.TargetFault.TheVariants.{Empty, TooLong}
-use Rattle.ips_steps.specs.Targets.{HasFault}
+use Rattle.ips_steps.specs.declared.target.TargetFault.TheVariants.{Empty, TooLong, Nul}
+use Rattle.ips_steps.specs.Targets.{HasFault, has_nul}
 use Rattle.ips_steps.proofs.Lists.{clash}
 use Rattle.ips_change.specs.wanted.Wanted.{AreLinkBytes, HasLinkBytes, want_of, wanted_among, wanted_of}
 
@@ -137,4 +137,5 @@ proper_at entries q w proper bytes is =
         target_of : (fault : TargetFault) → HasFault fault g → ⊥
         target_of Empty none = let some = h.some in omega arith
         target_of TooLong long = let short = h.short in omega arith
+        target_of Nul nul = clash (has_nul g) nul h.text
     go (Hard x) h b = h

@@ -35,9 +35,7 @@ impl Kind for PutKind {
     fn next(&mut self, _step: &Step, turn: u8) -> Act {
         match turn {
             0 => Act::Clear,
-            1 => Act::MakeFile,
-            2 => Act::Copy,
-            3 => Act::SetMode,
+            1 => Act::MakeHard,
             _ => finish(&mut self.tally),
         }
     }

@@ -2,23 +2,20 @@
 -- or one line of the journal is bad.
 use Rattle.std.proofs.Common.{◌≡◌, inl, inr, ⊎_elim, ℕ, zero, suc, ◌+◌, ◌*◌, ◌<◌, ◌≤◌, true, false, List, [], ◌∷◌, ◌++◌, append_assoc, length, length-append, take, drop, slice_get, Some, sym, ◌∙◌, ap, subst, arith}
 use Rattle.std.proofs.Math.ListN.{drop_of_length-le}
-use Rattle.std.proofs.lemmas.Bool.{and_parts, cases_lt}
+use Rattle.std.proofs.lemmas.Bool.{cases_lt}
 use Rattle.std.proofs.lemmas.List.{take_all}
 use Rattle.ips_outside.specs.Image.{Image}
-use Rattle.ips_steps.specs.Steps.{Stage, Step, after, all_laid, can_lay, laid, met, possible, stage_of}
-use Rattle.ips_steps.specs.Journal.{allowed}
+use Rattle.ips_steps.specs.Steps.{Step, after, feasible}
 use Rattle.ips_steps.specs.Owed.{steps_left}
 use Rattle.ips_steps.proofs.AtTurn.{can_at}
+use Rattle.ips_steps.proofs.Linked.{after_turn, feasible_parts}
 use Rattle.ips_steps.proofs.Lists.{clash}
-use Rattle.ips_steps.proofs.PrivateNames.{same_stage}
-use Rattle.ips_steps.proofs.Within.{laid_within}
 use Rattle.ips_kinds.specs.Tallies.{Carrier}
 use Rattle.ips_journal.specs.Bad.{IsBadLine}
 use Rattle.ips_journal.specs.Reading.{IsAt, journal_of}
 use Rattle.ips_journal.proofs.JournalLaws.{in_order, none_bad, one_line, one_text}
-use Rattle.ips_apply.proofs.Turns.{allowed_behind}
 use Rattle.ips_commit.specs.Recovering.{AreCounted, CanRollForward, IsBadJournal, IsJournalled, IsStuck, IsStuckAt}
-use Rattle.ips_commit.proofs.Lays.{allowed_before, front_less, next_of}
+use Rattle.ips_commit.proofs.Lays.{front_less, next_of}
 
 -- ---- what the marks leave
 
@@ -57,21 +54,22 @@ record StopsAt (t : Image) (front rest : List Step) (line : ℕ) : Type 0 where
   place : ℕ
   step : Step
   stands : slice_get rest place ≡ Some step
-  can : possible (stage_of t) (take place rest) t ≡ true
-  cannot : can_lay (stage_of t) step (after (take place rest) t) ≡ false
+  can : feasible (take place rest) t ≡ true
+  cannot : feasible (step ∷ []) (after (take place rest) t) ≡ false
   number : line ≡ length front + place + 2
 
 -- a step before that many can be laid at its turn
-laid_before : (stage : Stage) (rest : List Step) (k n : ℕ) (s : Step) (t : Image) → slice_get rest k ≡ Some s → k < n → possible stage (take n rest) t ≡ true → can_lay stage s (all_laid stage (take k rest) t) ≡ true
-laid_before stage [] k n s t at less can = cc
-laid_before stage (x ∷ rest) k zero s t at less can = absurd (omega (arith, less))
-laid_before stage (x ∷ rest) zero (suc n) s t at less can = let one : x ≡ s = cc in subst (λ (y : Step). can_lay stage y t ≡ true) one (and_parts (can_lay stage x t) _ can).0
-laid_before stage (x ∷ rest) (suc k) (suc n) s t at less can = laid_before stage rest k n s (laid stage x t) at (omega (arith, less)) (and_parts (can_lay stage x t) _ can).1
+laid_before : (rest : List Step) (k n : ℕ) (s : Step) (t : Image) → slice_get rest k ≡ Some s → k < n → feasible (take n rest) t ≡ true → feasible (s ∷ []) (after (take k rest) t) ≡ true
+laid_before [] k n s t at less can = cc
+laid_before (x ∷ rest) k zero s t at less can = absurd (omega (arith, less))
+laid_before (x ∷ rest) zero (suc n) s t at less can = let one : x ≡ s = cc in subst (λ (y : Step). feasible (y ∷ []) t ≡ true) one (feasible_parts x (take n rest) t can).0
+laid_before (x ∷ rest) (suc k) (suc n) s t at less can =
+    ap (feasible (s ∷ [])) (after_turn x (take k rest) t) ∙ laid_before rest k n s (after (x ∷ []) t) at (omega (arith, less)) (feasible_parts x (take n rest) t can).1
 
 -- so the rest stops at one step
 stops_first : (t : Image) (front rest : List Step) (m n : ℕ) (a : StopsAt t front rest m) (b : StopsAt t front rest n) → a.place < b.place → ⊥
 stops_first t front rest m n a b less =
-    clash (can_lay (stage_of t) a.step (after (take a.place rest) t)) (laid_before (stage_of t) rest a.place b.place a.step t a.stands less b.can) a.cannot
+    clash (feasible (a.step ∷ []) (after (take a.place rest) t)) (laid_before rest a.place b.place a.step t a.stands less b.can) a.cannot
 
 stops_once : (t : Image) (front rest : List Step) (m n : ℕ) (a : StopsAt t front rest m) (b : StopsAt t front rest n) → m ≡ n
 stops_once t front rest m n a b = elim (cases_lt a.place b.place) [
@@ -115,19 +113,13 @@ module _ (t u : Image) (before now : List Carrier) (steps : List Step) (count li
   is_front : could ≡ take (length could) rest
   is_front = front_less could rest s next
 
-  may : allowed could ≡ true
-  may = allowed_behind front could (allowed_before (front ++ could) (s ∷ []) x.next.stands.1.1.listed.names)
-
-  stage : stage_of (after could t) ≡ stage_of t
-  stage = same_stage could (met (stage_of t) could t) t (after could t) may (laid_within (stage_of t) could t)
-
   stops : StopsAt t front rest line
   stops = record {
     place = length could;
     step = s;
     stands = stands;
-    can = subst (λ (l : List Step). possible (stage_of t) l t ≡ true) is_front x.can;
-    cannot = subst (λ (l : List Step). can_lay (stage_of t) s (after l t) ≡ false) is_front (subst (λ (c : Stage). can_lay c s (after could t) ≡ false) stage x.next.cannot);
+    can = subst (λ (l : List Step). feasible l t ≡ true) is_front x.can;
+    cannot = subst (λ (l : List Step). feasible (s ∷ []) (after l t) ≡ false) is_front x.next.cannot;
     number = let many = x.next.number in let sum = length-append front could in omega (arith, many, sum);
   }
 
@@ -147,10 +139,10 @@ module _ (t : Image) (a b : List Step) (m n : ℕ) (x : IsJournalled t a m) (y :
       subst (λ (l : List Step). StopsAt t (take (1000 * n) b) l line) same_left.rest (subst (λ (l : List Step). StopsAt t l (steps_left m b) line) same_left.front moved)
 
   -- what the marks leave can't be laid to its end where it is stuck
-  never_both : (line : ℕ) → possible (stage_of t) (steps_left n b) t ≡ true → StopsAt t (take (1000 * m) a) (steps_left m a) line → ⊥
+  never_both : (line : ℕ) → feasible (steps_left n b) t ≡ true → StopsAt t (take (1000 * m) a) (steps_left m a) line → ⊥
   never_both line can stop =
       let here = stops_there line stop in
-      clash (can_lay (stage_of t) here.step (after (take here.place (steps_left n b)) t)) (can_at (stage_of t) (steps_left n b) here.place here.step t here.stands can) here.cannot
+      clash (feasible (here.step ∷ []) (after (take here.place (steps_left n b)) t)) (can_at (steps_left n b) here.place here.step t here.stands can) here.cannot
 
 module _ (t : Image) where
   -- the journal of steps has no bad line

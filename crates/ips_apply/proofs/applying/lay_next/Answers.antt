@@ -1,6 +1,6 @@
-use Rattle.std.proofs.Common.{◌≡◌, true, IsErr, is_some, sym, ◌∙◌, ap, subst}
+use Rattle.std.proofs.Common.{◌≡◌, true, [], ◌∷◌, IsErr, is_some, sym, ◌∙◌, ap, subst}
 use Rattle.ips_outside.specs.State.{State}
-use Rattle.ips_steps.specs.Steps.{Step, can_lay, stage_of}
+use Rattle.ips_steps.specs.Steps.{Step, feasible}
 use Rattle.ips_steps.specs.View.{step_of}
 use Rattle.ips_apply.specs.Applied.{ChangedBy}
 use Rattle.ips_apply.proofs.Changes.{read_then_changed}
@@ -26,6 +26,6 @@ returns-clause-known g c = λ told.
     let s = step_of c.step-step.result.now in
     let old = g.F.Source.outside.state c.args.folder.now in
     let mid = g.F.Source.outside.state c.judge.new.folder in
-    let can : can_lay (stage_of old.held) s old.held ≡ true = sym (c.in_ok-size.ensures.found told) ∙ ap is_some c.in-Some.is in
-    seen_behind (stage_of mid.held) s mid.held (g.F.Source.outside.state c.lay.new.folder).held c.go_behind.new.self
-    (ap (λ (u : State). can_lay (stage_of u.held) s u.held) c.judge.ensures.reads.kept ∙ can) (c.in_ok-lay.ensures.done (c.judge.ensures.reads.call.same_kind ∙ told)) c.go_behind.ensures
+    let can : feasible (s ∷ []) old.held ≡ true = sym (c.in_ok-other_mode.ensures.found told) ∙ ap is_some c.in-Some.is in
+    seen_behind s mid.held (g.F.Source.outside.state c.lay.new.folder).held c.go_behind.new.self
+    (ap (λ (u : State). feasible (s ∷ []) u.held) c.judge.ensures.reads.kept ∙ can) (c.in_ok-lay.ensures.done (c.judge.ensures.reads.call.same_kind ∙ told)) c.go_behind.ensures

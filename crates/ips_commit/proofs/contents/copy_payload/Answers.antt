@@ -26,7 +26,7 @@ loop-count-preserved g c =
       kind = c.append.ensures.call.same_kind ∙ inv.kind;
       changes = omega (arith, inv.changes, c.append.ensures.one_made.later);
       faults = c.append.ensures.call.cause.steady (answered c.append.result _ c.in-Ok-append.is) ∙ inv.faults;
-      holds = λ told. subst (λ (bytes : List ℕ). HoldsAlone p bytes (g.F.Source.outside.state c.append.new.self).held) (sym (ap (λ (r : PayloadReading). r.bytes) c.in-Ok.ensures.given))
+      holds = λ told. subst (λ (bytes : List ℕ). HoldsAlone p 384 bytes (g.F.Source.outside.state c.append.new.self).held) (sym (ap (λ (r : PayloadReading). r.bytes) c.in-Ok.ensures.given))
           (alone_appended p c.loop-count.payload.bytes part (g.F.Source.outside.state c.loop-count.folder).held (g.F.Source.outside.state c.append.new.self).held (inv.holds told)
           (ap (λ (s : State). s.held) (c.in-Ok-append.ensures.done (inv.kind ∙ told))));
       moments = λ told. wrote_then g.F.Source.outside g.met.F.Source.sane (covers p) p (λ q off. off) c.args.folder.now c.loop-count.folder c.append.new.self _ c.append.result

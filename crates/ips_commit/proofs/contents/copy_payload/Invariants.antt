@@ -17,7 +17,7 @@ invariant-loop-count g l = record {
   kind : g.F.Source.outside.tells l.folder ≡ g.F.Source.outside.tells l.fn.folder;
   faults : g.F.Source.outside.faults l.folder ≡ g.F.Source.outside.faults l.fn.folder;
   changes : g.F.Source.outside.changes l.fn.folder ≤ g.F.Source.outside.changes l.folder;
-  holds : IsTrue (g.F.Source.outside.tells l.fn.folder) → HoldsAlone l.path.bytes l.payload.bytes (g.F.Source.outside.state l.folder).held;
+  holds : IsTrue (g.F.Source.outside.tells l.fn.folder) → HoldsAlone l.path.bytes 384 l.payload.bytes (g.F.Source.outside.state l.folder).held;
   moments : IsTrue (g.F.Source.outside.tells l.fn.folder) → ChangesOnly g.F.Source.outside (covers l.path.bytes) nowhere l.fn.folder l.folder;
 }
 

@@ -7,7 +7,7 @@ use Rattle.ips_folder.specs.Calls.{IsSole}
 use Rattle.ips_folder.proofs.Runs.{keeps_then}
 use Rattle.ips_folder.proofs.Filled.{sole_placed}
 use Rattle.ips_commit.proofs.Swept.{wrote}
-use Rattle.ips_commit.proofs.Written.{filled_file, bytes_read}
+use Rattle.ips_commit.proofs.Written.{alone_filled, bytes_read}
 use Rattle.ips_commit.proofs.contents.write_copy.Goals as goal
 
 pub copy-requires-clause-can : goal.copy-requires-clause-can
@@ -32,7 +32,7 @@ returns-clause-written g c = λ told.
     let same : u.look from ≡ t.look from = made.now.agrees.look from c.requires.apart refl in
     let file : file_bytes (t.look from) ≡ Some (readable (u.look from)) = bytes_read (t.look from) (c.requires.standing told) ∙ ap (λ (e : Option Entry). Some (readable e)) (sym same) in (
       readable (u.look from),
-      filled_file p (readable (u.look from)) t u (g.F.Source.outside.state c.copy.new.folder).held (ap (λ (s : State). s.held) (c.in_ok-make_file.ensures.done told))
+      alone_filled p (readable (u.look from)) t u (g.F.Source.outside.state c.copy.new.folder).held (ap (λ (s : State). s.held) (c.in_ok-make_file.ensures.done told))
           (c.in_ok-copy.ensures.copied (c.make_file.ensures.call.same_kind ∙ told)),
       file,
     )

@@ -4,7 +4,7 @@ use Rattle.ips_outside.specs.State.{State}
 use Rattle.ips_folder.specs.Calls.{IsSole}
 use Rattle.ips_folder.proofs.Filled.{sole_placed}
 use Rattle.ips_commit.proofs.Swept.{wrote, wrote_then}
-use Rattle.ips_commit.proofs.Written.{filled_file}
+use Rattle.ips_commit.proofs.Written.{alone_filled}
 use Rattle.ips_commit.proofs.contents.write_file.Goals as goal
 
 pub append-requires : goal.append-requires
@@ -20,7 +20,7 @@ returns-in_err-append-clause-any_moment g c = λ told.
 
 pub returns-clause-written : goal.returns-clause-written
 returns-clause-written g c = λ told.
-    filled_file c.args.path.now.bytes c.args.bytes.now (g.F.Source.outside.state c.args.folder.now).held (g.F.Source.outside.state c.make_file.new.self).held (g.F.Source.outside.state c.append.new.self).held
+    alone_filled c.args.path.now.bytes c.args.bytes.now (g.F.Source.outside.state c.args.folder.now).held (g.F.Source.outside.state c.make_file.new.self).held (g.F.Source.outside.state c.append.new.self).held
     (ap (λ (s : State). s.held) (c.in_ok-make_file.ensures.done told)) (ap (λ (s : State). s.held) (c.in_ok-append.ensures.done (c.make_file.ensures.call.same_kind ∙ told)))
 
 pub returns-clause-any_moment : goal.returns-clause-any_moment

@@ -12,7 +12,7 @@ pub copy_payload-requires-clause-can : goal.copy_payload-requires-clause-can
 copy_payload-requires-clause-can g c = λ told_now.
     let told = sym c.make_file.ensures.call.same_kind ∙ told_now in
     let u = (g.F.Source.outside.state c.make_file.new.self).held in
-    subst (λ (bytes : List ℕ). HoldsAlone c.args.path.now.bytes bytes u) (sym c.in_ok-payload.ensures.opened.nothing_given)
+    subst (λ (bytes : List ℕ). HoldsAlone c.args.path.now.bytes 384 bytes u) (sym c.in_ok-payload.ensures.opened.nothing_given)
     (alone_placed c.args.path.now.bytes (g.F.Source.outside.state c.args.folder.now).held u (ap (λ (s : State). s.held) (c.in-Ok.ensures.done told)))
 
 pub returns-in_default-clause-writes : goal.returns-in_default-clause-writes

@@ -7,7 +7,7 @@ use Rattle.ips_folder.proofs.Runs.{keeps_then, one_sync}
 use Rattle.ips_steps.specs.Private.{gate_name}
 use Rattle.ips_folder.proofs.Filled.{sole_placed}
 use Rattle.ips_commit.proofs.Swept.{wrote, wrote_then}
-use Rattle.ips_commit.proofs.Written.{filled_file}
+use Rattle.ips_commit.proofs.Written.{alone_filled}
 use Rattle.ips_commit.proofs.GateOpens.{on_err, not_begun, not_written, not_now, not_synced, never, opens, not_behind}
 use Rattle.ips_commit.proofs.gate.open.Goals as goal
 
@@ -98,6 +98,6 @@ returns-clause-opened g c = λ told.
     let here_1 = not_now o sane p at c.args.folder.now c.args.folder.now c.make_file.new.self _ c.make_file.result here told c.make_file.ensures in
     let filled = not_written o sane p at c.args.folder.now c.make_file.new.self c.append.new.self _ c.append.result made here_1 told_1 c.append.ensures in
     let stands : (o.state c.append.new.self).held.look gate_name ≡ Some (File 384 (49 ∷ [])) = subst (λ (q : List ℕ). (o.state c.append.new.self).held.look q ≡ Some (File 384 (49 ∷ []))) at
-    (filled_file p (49 ∷ []) (o.state c.args.folder.now).held (o.state c.make_file.new.self).held (o.state c.append.new.self).held
-    (ap (λ (s : State). s.held) (c.in_ok-make_file.ensures.done told)) (ap (λ (s : State). s.held) (c.in_ok-append.ensures.done told_1))) in
+    (alone_filled p (49 ∷ []) (o.state c.args.folder.now).held (o.state c.make_file.new.self).held (o.state c.append.new.self).held
+    (ap (λ (s : State). s.held) (c.in_ok-make_file.ensures.done told)) (ap (λ (s : State). s.held) (c.in_ok-append.ensures.done told_1))).file in
     opens o sane c.args.folder.now c.append.new.self c.sync.new.self filled c.sync.ensures.call.time (c.in_ok-sync.ensures.done told_2) stands

@@ -1,13 +1,12 @@
 use Rattle.std.proofs.Common.{map, refl, ap, ◌∙◌, sym}
 use Rattle.ips_text.specs.Ancestry.{covers}
-use Rattle.ips_outside.specs.State.{State, nowhere}
+use Rattle.ips_outside.specs.State.{State}
 use Rattle.ips_folder.specs.Calls.{ChangesOnly}
 use Rattle.ips_folder.proofs.Runs.{keeps_then}
 use Rattle.ips_steps.specs.Steps.{stage_name}
 use Rattle.ips_steps.specs.Private.{journal_name}
 use Rattle.ips_steps.specs.View.{step_of}
-use Rattle.ips_journal.specs.Text.{journal_text}
-use Rattle.ips_commit.proofs.Staged.{can_make_stage, can_make_journal, made_dir, made_entry, made_empty, standing_staged, stage_made, stage_kept, journal_kept, all_filled}
+use Rattle.ips_commit.proofs.Staged.{can_make_stage, can_make_journal, made_dir, made_entry, made_empty, standing_staged, stage_made, stage_agrees, stage_kept, journal_kept, all_filled}
 use Rattle.ips_commit.proofs.Unready.{unlisted}
 use Rattle.ips_commit.proofs.GateOpens.{on_err}
 use Rattle.ips_commit.proofs.staging.fill.Goals as goal
@@ -20,6 +19,9 @@ pub returns-in_default-clause-any_moment : goal.returns-in_default-clause-any_mo
 returns-in_default-clause-any_moment g c = λ told.
     stage_kept g.F.Source.outside g.met.F.Source.sane c.args.folder.now c.make_dir.new.self
     (stage_made g.F.Source.outside g.met.F.Source.sane c.args.names.now.stage.bytes c.args.names.now.stage_is c.args.folder.now c.make_dir.new.self _ c.make_dir.result told c.make_dir.ensures)
+
+pub write_contents-requires-clause-counted : goal.write_contents-requires-clause-counted
+write_contents-requires-clause-counted g c = λ told_now. c.requires.counted (sym c.make_dir.ensures.call.same_kind ∙ told_now)
 
 pub write_contents-requires-clause-stage : goal.write_contents-requires-clause-stage
 write_contents-requires-clause-stage g c = λ told_now.
@@ -38,14 +40,15 @@ write_contents-requires-clause-standing g c = λ told_now.
     let o = g.F.Source.outside in
     let told = sym c.make_dir.ensures.call.same_kind ∙ told_now in
     standing_staged (o.state c.args.folder.now).held (o.state c.make_dir.new.self).held
-    (stage_made o g.met.F.Source.sane c.args.names.now.stage.bytes c.args.names.now.stage_is c.args.folder.now c.make_dir.new.self _ c.make_dir.result told c.make_dir.ensures).now.agrees
+    (stage_agrees o g.met.F.Source.sane c.args.folder.now c.make_dir.new.self
+    (stage_made o g.met.F.Source.sane c.args.names.now.stage.bytes c.args.names.now.stage_is c.args.folder.now c.make_dir.new.self _ c.make_dir.result told c.make_dir.ensures))
     c.args.staged.now c.requires.seen (c.requires.standing told)
 
 pub returns-in_err-write_contents-clause-any_moment : goal.returns-in_err-write_contents-clause-any_moment
 returns-in_err-write_contents-clause-any_moment g c = λ told.
     let o = g.F.Source.outside in
     stage_kept o g.met.F.Source.sane c.args.folder.now c.write_contents.new.folder
-    (keeps_then o (covers stage_name) nowhere c.args.folder.now c.make_dir.new.self c.write_contents.new.folder
+    (keeps_then o (covers stage_name) (covers stage_name) c.args.folder.now c.make_dir.new.self c.write_contents.new.folder
     (stage_made o g.met.F.Source.sane c.args.names.now.stage.bytes c.args.names.now.stage_is c.args.folder.now c.make_dir.new.self _ c.make_dir.result told c.make_dir.ensures)
     (c.write_contents.ensures.any_moment (c.make_dir.ensures.call.same_kind ∙ told)))
 
@@ -53,17 +56,17 @@ pub write_journal-requires-clause-can : goal.write_journal-requires-clause-can
 write_journal-requires-clause-can g c = λ told_now.
     let o = g.F.Source.outside in
     let told = sym c.make_dir.ensures.call.same_kind ∙ sym c.write_contents.ensures.stages.same_kind ∙ told_now in
-    let run : ChangesOnly o (covers stage_name) nowhere c.args.folder.now c.write_contents.new.folder =
-    keeps_then o (covers stage_name) nowhere c.args.folder.now c.make_dir.new.self c.write_contents.new.folder
+    let run : ChangesOnly o (covers stage_name) (covers stage_name) c.args.folder.now c.write_contents.new.folder =
+    keeps_then o (covers stage_name) (covers stage_name) c.args.folder.now c.make_dir.new.self c.write_contents.new.folder
     (stage_made o g.met.F.Source.sane c.args.names.now.stage.bytes c.args.names.now.stage_is c.args.folder.now c.make_dir.new.self _ c.make_dir.result told c.make_dir.ensures)
     (c.write_contents.ensures.any_moment (c.make_dir.ensures.call.same_kind ∙ told)) in
-    can_make_journal (o.state c.args.folder.now).held (o.state c.write_contents.new.folder).held journal_name refl run.now.agrees (c.requires.cleared told) (c.requires.records told)
+    can_make_journal (o.state c.args.folder.now).held (o.state c.write_contents.new.folder).held journal_name refl (stage_agrees o g.met.F.Source.sane c.args.folder.now c.write_contents.new.folder run) (c.requires.cleared told) (c.requires.records told)
 
 pub returns-in-Err-OutOfMemory-clause-any_moment : goal.returns-in-Err-OutOfMemory-clause-any_moment
 returns-in-Err-OutOfMemory-clause-any_moment g c = λ told.
     let o = g.F.Source.outside in
-    let run : ChangesOnly o (covers stage_name) nowhere c.args.folder.now c.write_contents.new.folder =
-    keeps_then o (covers stage_name) nowhere c.args.folder.now c.make_dir.new.self c.write_contents.new.folder
+    let run : ChangesOnly o (covers stage_name) (covers stage_name) c.args.folder.now c.write_contents.new.folder =
+    keeps_then o (covers stage_name) (covers stage_name) c.args.folder.now c.make_dir.new.self c.write_contents.new.folder
     (stage_made o g.met.F.Source.sane c.args.names.now.stage.bytes c.args.names.now.stage_is c.args.folder.now c.make_dir.new.self _ c.make_dir.result told c.make_dir.ensures)
     (c.write_contents.ensures.any_moment (c.make_dir.ensures.call.same_kind ∙ told)) in
     journal_kept o g.met.F.Source.sane journal_name refl c.args.folder.now c.write_contents.new.folder c.write_journal.new.folder run
@@ -72,8 +75,8 @@ returns-in-Err-OutOfMemory-clause-any_moment g c = λ told.
 pub returns-in-Err-Bad-clause-any_moment : goal.returns-in-Err-Bad-clause-any_moment
 returns-in-Err-Bad-clause-any_moment g c = λ told.
     let o = g.F.Source.outside in
-    let run : ChangesOnly o (covers stage_name) nowhere c.args.folder.now c.write_contents.new.folder =
-    keeps_then o (covers stage_name) nowhere c.args.folder.now c.make_dir.new.self c.write_contents.new.folder
+    let run : ChangesOnly o (covers stage_name) (covers stage_name) c.args.folder.now c.write_contents.new.folder =
+    keeps_then o (covers stage_name) (covers stage_name) c.args.folder.now c.make_dir.new.self c.write_contents.new.folder
     (stage_made o g.met.F.Source.sane c.args.names.now.stage.bytes c.args.names.now.stage_is c.args.folder.now c.make_dir.new.self _ c.make_dir.result told c.make_dir.ensures)
     (c.write_contents.ensures.any_moment (c.make_dir.ensures.call.same_kind ∙ told)) in
     journal_kept o g.met.F.Source.sane journal_name refl c.args.folder.now c.write_contents.new.folder c.write_journal.new.folder run
@@ -82,8 +85,8 @@ returns-in-Err-Bad-clause-any_moment g c = λ told.
 pub returns-in-Ok-write_journal-clause-any_moment : goal.returns-in-Ok-write_journal-clause-any_moment
 returns-in-Ok-write_journal-clause-any_moment g c = λ told.
     let o = g.F.Source.outside in
-    let run : ChangesOnly o (covers stage_name) nowhere c.args.folder.now c.write_contents.new.folder =
-    keeps_then o (covers stage_name) nowhere c.args.folder.now c.make_dir.new.self c.write_contents.new.folder
+    let run : ChangesOnly o (covers stage_name) (covers stage_name) c.args.folder.now c.write_contents.new.folder =
+    keeps_then o (covers stage_name) (covers stage_name) c.args.folder.now c.make_dir.new.self c.write_contents.new.folder
     (stage_made o g.met.F.Source.sane c.args.names.now.stage.bytes c.args.names.now.stage_is c.args.folder.now c.make_dir.new.self _ c.make_dir.result told c.make_dir.ensures)
     (c.write_contents.ensures.any_moment (c.make_dir.ensures.call.same_kind ∙ told)) in
     journal_kept o g.met.F.Source.sane journal_name refl c.args.folder.now c.write_contents.new.folder c.write_journal.new.folder run
@@ -94,13 +97,14 @@ returns-in-Ok-write_journal-clause-filled g c = λ told.
     let o = g.F.Source.outside in
     let told_1 = c.make_dir.ensures.call.same_kind ∙ told in
     let told_2 = c.write_contents.ensures.stages.same_kind ∙ told_1 in
-    let made : ChangesOnly o (covers stage_name) nowhere c.args.folder.now c.make_dir.new.self =
+    let made : ChangesOnly o (covers stage_name) (covers stage_name) c.args.folder.now c.make_dir.new.self =
     stage_made o g.met.F.Source.sane c.args.names.now.stage.bytes c.args.names.now.stage_is c.args.folder.now c.make_dir.new.self _ c.make_dir.result told c.make_dir.ensures in
-    let run : ChangesOnly o (covers stage_name) nowhere c.args.folder.now c.write_contents.new.folder =
-    keeps_then o (covers stage_name) nowhere c.args.folder.now c.make_dir.new.self c.write_contents.new.folder made (c.write_contents.ensures.any_moment told_1) in
-    all_filled (g.S.Source.outside.tells c.args.source.now) (g.S.Source.outside.state c.args.source.now).held c.args.publisher.now (journal_text (map step_of c.args.steps.now)) c.args.staged.now journal_name
-    (o.state c.args.folder.now).held (o.state c.make_dir.new.self).held (o.state c.write_contents.new.folder).held (o.state c.write_journal.new.folder) refl
-    (c.requires.cleared told) c.requires.seen made.now.agrees run.now.agrees (c.write_journal.ensures.any_moment told_2).now.agrees (c.in_ok-write_contents.ensures.written told_1)
+    let run : ChangesOnly o (covers stage_name) (covers stage_name) c.args.folder.now c.write_contents.new.folder =
+    keeps_then o (covers stage_name) (covers stage_name) c.args.folder.now c.make_dir.new.self c.write_contents.new.folder made (c.write_contents.ensures.any_moment told_1) in
+    all_filled (g.S.Source.outside.tells c.args.source.now) (g.S.Source.outside.state c.args.source.now).held c.args.publisher.now (map step_of c.args.steps.now) c.args.staged.now
+    (o.state c.args.folder.now).held (o.state c.make_dir.new.self).held (o.state c.write_contents.new.folder).held (o.state c.write_journal.new.folder)
+    (c.requires.cleared told) c.requires.seen (stage_agrees o g.met.F.Source.sane c.args.folder.now c.make_dir.new.self made) (stage_agrees o g.met.F.Source.sane c.args.folder.now c.write_contents.new.folder run)
+    (c.write_journal.ensures.any_moment told_2).now.agrees (c.in_ok-write_contents.ensures.written told_1) (c.in_ok-write_contents.ensures.modes told_1) (c.in_ok-write_contents.ensures.alone told_1)
     (c.in_ok-write_contents.ensures.stands told_1 ∙ made_entry c.args.names.now.stage.bytes (o.state c.args.folder.now).held (o.state c.make_dir.new.self).held c.args.names.now.stage_is (ap (λ (s : State). s.held) (c.in-Ok.ensures.done told)))
     (c.in_ok-write_contents.ensures.only told_1) (c.in-Ok-write_journal.ensures.written told_2) (c.in-Ok-write_journal.ensures.safe told_2)
 
@@ -108,16 +112,16 @@ pub returns-in_default-clause-unready : goal.returns-in_default-clause-unready
 returns-in_default-clause-unready g c = λ told.
     let o = g.F.Source.outside in
     let made = stage_made o g.met.F.Source.sane c.args.names.now.stage.bytes c.args.names.now.stage_is c.args.folder.now c.make_dir.new.self _ c.make_dir.result told c.make_dir.ensures in
-    unlisted (o.state c.args.folder.now).held (o.state c.make_dir.new.self) (c.requires.cleared told) made.now.agrees
+    unlisted (o.state c.args.folder.now).held (o.state c.make_dir.new.self) (c.requires.cleared told) (stage_agrees o g.met.F.Source.sane c.args.folder.now c.make_dir.new.self made)
 
 pub returns-in_err-write_contents-clause-unready : goal.returns-in_err-write_contents-clause-unready
 returns-in_err-write_contents-clause-unready g c = λ told.
     let o = g.F.Source.outside in
-    let run : ChangesOnly o (covers stage_name) nowhere c.args.folder.now c.write_contents.new.folder =
-    keeps_then o (covers stage_name) nowhere c.args.folder.now c.make_dir.new.self c.write_contents.new.folder
+    let run : ChangesOnly o (covers stage_name) (covers stage_name) c.args.folder.now c.write_contents.new.folder =
+    keeps_then o (covers stage_name) (covers stage_name) c.args.folder.now c.make_dir.new.self c.write_contents.new.folder
     (stage_made o g.met.F.Source.sane c.args.names.now.stage.bytes c.args.names.now.stage_is c.args.folder.now c.make_dir.new.self _ c.make_dir.result told c.make_dir.ensures)
     (c.write_contents.ensures.any_moment (c.make_dir.ensures.call.same_kind ∙ told)) in
-    on_err _ _ (unlisted (o.state c.args.folder.now).held (o.state c.write_contents.new.folder) (c.requires.cleared told) run.now.agrees)
+    on_err _ _ (unlisted (o.state c.args.folder.now).held (o.state c.write_contents.new.folder) (c.requires.cleared told) (stage_agrees o g.met.F.Source.sane c.args.folder.now c.write_contents.new.folder run))
 
 pub returns-in-Err-OutOfMemory-clause-unready : goal.returns-in-Err-OutOfMemory-clause-unready
 returns-in-Err-OutOfMemory-clause-unready g c = λ told.

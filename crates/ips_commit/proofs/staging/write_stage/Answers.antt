@@ -1,12 +1,14 @@
 use Rattle.std.proofs.Common.{map, inl, ◌∙◌, sym}
 use Rattle.ips_outside.proofs.Moments.{within_then}
-use Rattle.ips_outside.specs.State.{nowhere, settled}
+use Rattle.ips_outside.specs.State.{settled}
 use Rattle.ips_steps.specs.View.{step_of}
-use Rattle.ips_journal.specs.Text.{journal_text}
 use Rattle.ips_commit.specs.Pending.{is_swept}
-use Rattle.ips_commit.proofs.Staged.{standing_swept, records_swept, behind_then, filled_swept}
+use Rattle.ips_commit.proofs.Staged.{standing_swept, records_swept, behind_then, filled_swept, with_modes}
 use Rattle.ips_commit.proofs.GateOpens.{on_err}
 use Rattle.ips_commit.proofs.staging.write_stage.Goals as goal
+
+pub fill-requires-clause-counted : goal.fill-requires-clause-counted
+fill-requires-clause-counted g c = λ told_now. c.requires.counted (sym c.settle.ensures.same_kind ∙ told_now)
 
 pub fill-requires-clause-records : goal.fill-requires-clause-records
 fill-requires-clause-records g c = λ told_now.
@@ -33,13 +35,14 @@ returns-clause-any_moment g c = λ told.
 pub returns-clause-within : goal.returns-clause-within
 returns-clause-within g c = λ told.
     let o = g.F.Source.outside in
-    within_then is_swept nowhere (settled (o.state c.args.folder.now)) (o.state c.settle.new.folder) (o.state c.fill.new.folder) (c.in-Ok.ensures.within told)
+    within_then is_swept is_swept (settled (o.state c.args.folder.now)) (o.state c.settle.new.folder) (o.state c.fill.new.folder)
+    (with_modes (settled (o.state c.args.folder.now)) (o.state c.settle.new.folder) (c.in-Ok.ensures.within told))
     (c.fill.ensures.any_moment (c.settle.ensures.same_kind ∙ told)).now
 
 pub returns-clause-filled : goal.returns-clause-filled
 returns-clause-filled g c = λ told.
     let o = g.F.Source.outside in
-    filled_swept (g.S.Source.outside.tells c.args.source.now) (g.S.Source.outside.state c.args.source.now).held c.args.publisher.now (journal_text (map step_of c.args.steps.now)) c.args.staged.now
+    filled_swept (g.S.Source.outside.tells c.args.source.now) (g.S.Source.outside.state c.args.source.now).held c.args.publisher.now (map step_of c.args.steps.now) c.args.staged.now
     (o.state c.args.folder.now).held (o.state c.settle.new.folder).held (o.state c.fill.new.folder) (c.in-Ok.ensures.within told).agrees c.requires.seen
     (c.in_ok-fill.ensures.filled (c.settle.ensures.same_kind ∙ told))
 

@@ -8,7 +8,7 @@ use Rattle.ips_folder.proofs.Runs.{keeps_then, keeps_wider}
 use Rattle.ips_commit.specs.Pending.{is_swept}
 use Rattle.ips_commit.proofs.OwnNames.{stage_swept, journal_swept, marks_swept}
 use Rattle.ips_commit.proofs.Swept.{wrote, wrote_then, swept_all}
-use Rattle.ips_commit.proofs.Staged.{stage_made}
+use Rattle.ips_commit.proofs.Staged.{stage_made, stage_agrees}
 use Rattle.ips_commit.proofs.Unready.{no_journal, not_gone, gone_by, staged_over, marks_over}
 use Rattle.ips_commit.proofs.GateOpens.{on_err}
 use Rattle.ips_commit.proofs.sweeping.sweep.Goals as goal
@@ -64,7 +64,7 @@ returns-in_err-remove-2-clause-unready g c = λ told.
     let o = g.F.Source.outside in
     let gone = gone_by c.args.names.now.journal.bytes c.args.names.now.journal_is (o.state c.args.folder.now) (o.state c.remove.new.self) (c.in_ok-remove.ensures.done told) in
     let run = stage_made o g.met.F.Source.sane c.args.names.now.stage.bytes c.args.names.now.stage_is c.remove.new.self c.remove-2.new.self _ c.remove-2.result (c.remove.ensures.call.same_kind ∙ told) c.remove-2.ensures in
-    on_err _ _ (inl (no_journal (o.state c.remove-2.new.self) (staged_over (o.state c.remove.new.self).held (o.state c.remove-2.new.self).held run.now.agrees gone)))
+    on_err _ _ (inl (no_journal (o.state c.remove-2.new.self) (staged_over (o.state c.remove.new.self).held (o.state c.remove-2.new.self).held (stage_agrees o g.met.F.Source.sane c.remove.new.self c.remove-2.new.self run) gone)))
 
 pub returns-in_err-remove_all-clause-unready : goal.returns-in_err-remove_all-clause-unready
 returns-in_err-remove_all-clause-unready g c = λ told.
@@ -74,4 +74,4 @@ returns-in_err-remove_all-clause-unready g c = λ told.
     let gone = gone_by c.args.names.now.journal.bytes c.args.names.now.journal_is (o.state c.args.folder.now) (o.state c.remove.new.self) (c.in_ok-remove.ensures.done told) in
     let run = stage_made o g.met.F.Source.sane c.args.names.now.stage.bytes c.args.names.now.stage_is c.remove.new.self c.remove-2.new.self _ c.remove-2.result told_1 c.remove-2.ensures in
     on_err _ _ (inl (no_journal (o.state c.remove_all.new.folder) (marks_over (o.state c.remove-2.new.self).held (o.state c.remove_all.new.folder).held (c.remove_all.ensures.any_moment told_2).now.agrees
-    (staged_over (o.state c.remove.new.self).held (o.state c.remove-2.new.self).held run.now.agrees gone))))
+    (staged_over (o.state c.remove.new.self).held (o.state c.remove-2.new.self).held (stage_agrees o g.met.F.Source.sane c.remove.new.self c.remove-2.new.self run) gone))))

@@ -5,8 +5,8 @@ use Rattle.ips_movable.proofs.fixing.can_be_said.Goals as goal
 abbrev IsByte : ℕ → Type 0
 IsByte b = b < 256
 
-pub returns-then-not-is_empty-clause-bytes : goal.returns-then-not-is_empty-clause-bytes
-returns-then-not-is_empty-clause-bytes c = recursion_from_All IsByte c.args.target.now (All-from_get_or IsByte c.args.target.now 0 (λ i within. omega (arith, c.type_inv.target i)))
+pub returns-then-target-lt4096-clause-bytes : goal.returns-then-target-lt4096-clause-bytes
+returns-then-target-lt4096-clause-bytes c = recursion_from_All IsByte c.args.target.now (All-from_get_or IsByte c.args.target.now 0 (λ i within. omega (arith, c.type_inv.target i)))
 
-pub returns-else-not-is_empty-clause-bytes : goal.returns-else-not-is_empty-clause-bytes
-returns-else-not-is_empty-clause-bytes c = recursion_from_All IsByte c.args.target.now (All-from_get_or IsByte c.args.target.now 0 (λ i within. omega (arith, c.type_inv.target i)))
+pub returns-else-target-lt4096-clause-bytes : goal.returns-else-target-lt4096-clause-bytes
+returns-else-target-lt4096-clause-bytes c = recursion_from_All IsByte c.args.target.now (All-from_get_or IsByte c.args.target.now 0 (λ i within. omega (arith, c.type_inv.target i)))

@@ -1,6 +1,6 @@
-//! A file's bytes put at the end of another file of the same folder.
+//! A file's bytes put at the end of another file of the same folder, a buffer at a time.
 
-ghost use Rattle.std.specs.Prelude.{◌≡◌, ◌+◌, ◌<◌, ◌≤◌, IsTrue, IsFalse, IfOk, IsErr, OnOk, length};
+ghost use Rattle.std.specs.Prelude.{◌≡◌, ◌+◌, ◌<◌, ◌≤◌, IsTrue, IsFalse, IfOk, IsErr, OnOk, length, vec_len};
 ghost use Rattle.ips_text.specs.Ancestry.{covers};
 ghost use Rattle.ips_outside.specs.Change.{appended};
 ghost use Rattle.ips_outside.specs.State.{nowhere};
@@ -10,9 +10,20 @@ ghost use Rattle.ips_folder.specs.Calls.{IsSole, ChangesOnly};
 use ips_folder::Folder;
 use ips_outside::{Failed, Look, Source};
 use ips_text::RelPath;
+use std::alloc::{AllocError, Global};
+
+// The size of the buffer through which contents are copied.
+const BUFFER_BYTES: usize = 65_536;
+
+/// The buffer through which contents are copied.
+pub(crate) fn new_buffer(alloc: Global) -> Result<Vec<u8>, AllocError>
+    ensures { IfOk result (λ buffer. 0 < vec_len buffer) }
+{
+    Ok(vec![in alloc; 0u8; BUFFER_BYTES]?)
+}
 
 /// Puts all bytes of the file `from` at the end of the file at `path`, a buffer at a time.
-pub fn copy<F: Folder>(
+pub(crate) fn copy<F: Folder>(
     folder: &mut F,
     from: &RelPath,
     path: &RelPath,
@@ -32,8 +43,8 @@ pub fn copy<F: Folder>(
     copy_sized(folder, from, size, path, buffer)
 }
 
-/// The same where the file `from` has so many bytes.
-pub(crate) fn copy_sized<F: Folder>(
+// The same where the file `from` has so many bytes.
+fn copy_sized<F: Folder>(
     folder: &mut F,
     from: &RelPath,
     size: u64,
@@ -63,7 +74,7 @@ pub(crate) fn copy_sized<F: Folder>(
     Ok(())
 }
 
-/// The length in bytes of the file at the path; 0 where no file stands.
+// The length in bytes of the file at the path; 0 where no file stands.
 fn size_of<F: Folder>(folder: &mut F, path: &RelPath) -> Result<u64, Failed>
     ensures found { IsTrue (F.outside.tells folder.old) → IfOk result (λ size. size ≡ length (readable ((F.outside.state folder.old).held.look path.now.bytes))) }
     ensures reads { Reads F.outside folder.old folder.new (IsErr result) }
@@ -74,8 +85,8 @@ fn size_of<F: Folder>(folder: &mut F, path: &RelPath) -> Result<u64, Failed>
     }
 }
 
-/// Reads the file's bytes from the place `at` on, as far as the place `end` and the buffer reach, and answers how
-/// many: at least one where the file goes on there.
+// Reads the file's bytes from the place `at` on, as far as the place `end` and the buffer reach, and answers how
+// many: at least one where the file goes on there.
 fn read_part<F: Folder>(
     folder: &mut F,
     path: &RelPath,

@@ -1,6 +1,6 @@
 use Rattle.std.proofs.Common.{IsErr, ◌∙◌}
-use Rattle.ips_apply.proofs.Copies.{kept_behind}
-use Rattle.ips_apply.proofs.copying.copy.Goals as goal
+use Rattle.ips_commit.proofs.Copies.{kept_behind}
+use Rattle.ips_commit.proofs.copying.copy.Goals as goal
 
 pub returns-clause-any_moment : goal.returns-clause-any_moment
 returns-clause-any_moment g c = λ told.

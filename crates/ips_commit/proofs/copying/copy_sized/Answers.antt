@@ -1,7 +1,7 @@
 use Rattle.std.proofs.Common.{IsErr}
 use Rattle.ips_outside.proofs.Reading.{answered}
-use Rattle.ips_apply.proofs.Copies.{kept_writing, copied_more}
-use Rattle.ips_apply.proofs.copying.copy_sized.Goals as goal
+use Rattle.ips_commit.proofs.Copies.{kept_writing, copied_more}
+use Rattle.ips_commit.proofs.copying.copy_sized.Goals as goal
 
 pub returns-in_err-append-clause-any_moment : goal.returns-in_err-append-clause-any_moment
 returns-in_err-append-clause-any_moment g c =
