@@ -4,6 +4,19 @@
 
 _pkg_commands="image-create install update uninstall fix verify list contents history search rebuild-index change-facet change-variant set-mediator unset-mediator avoid unavoid freeze unfreeze set-publisher unset-publisher update-format gen"
 
+# Behind mogrify stand -d and a folder, and then two files of that folder.
+_pkg_mogrify() {
+  case ${#words[@]} in
+    3) _pkg_take < <(echo -d) ;;
+    4) _pkg_folders d ;;
+    5 | 6)
+      compopt -o filenames 2>/dev/null
+      local folder=${words[3]}
+      case $folder in '~/'*) folder=$HOME/${folder:2} ;; esac
+      mapfile -t COMPREPLY < <(cd -- "$folder" 2>/dev/null && compgen -f -- "$word") ;;
+  esac
+}
+
 # The options of a command.
 _pkg_options() {
   case $1 in
@@ -162,6 +175,7 @@ _pkg() {
     words=("${COMP_WORDS[@]:0:COMP_CWORD+1}")
   fi
   word=${words[-1]}
+  [ ${#words[@]} -lt 3 ] || [ "${words[1]}" != mogrify ] || { _pkg_mogrify; return; }
   for ((i = 1; i < ${#words[@]} - 1; i++)); do
     one=${words[i]} before=
     if [ -z "$command" ]; then
@@ -193,7 +207,7 @@ _pkg() {
     options=($_pkg_commands)
     [[ " ${words[*]:1} " == *" -R "* ]] || options+=(-R)
     [[ " ${words[*]:1} " == *" -s "* ]] || options+=(-s)
-    [ ${#words[@]} -gt 2 ] || options+=(--help --version)
+    [ ${#words[@]} -gt 2 ] || options+=(mogrify --help --version)
     _pkg_take < <(printf '%s\n' "${options[@]}")
     return
   fi

@@ -61,7 +61,7 @@ keys_stand P (a ∷ attrs) h f =
     go key some true = h.0
     go key some false = some
 
-keys_gathered : (pairs : List Pair) (attrs : List Attr) → KeysRun pairs → AreAttrs attrs → Gathers pairs attrs → AllByRecursion (λ (a : Attr). IsRunOfBytes in_key a.key) attrs
+pub keys_gathered : (pairs : List Pair) (attrs : List Attr) → KeysRun pairs → AreAttrs attrs → Gathers pairs attrs → AllByRecursion (λ (a : Attr). IsRunOfBytes in_key a.key) attrs
 keys_gathered pairs attrs h a g = keys_stand (IsRunOfBytes in_key) attrs a (λ key some. key_given (IsRunOfBytes in_key) pairs key h (let P : List (List ℕ) → Type 0 = λ l. 0 < length l in subst P (g key) some))
 
 -- ---- payloads

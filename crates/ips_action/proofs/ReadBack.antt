@@ -55,7 +55,7 @@ keys_of_one : (key : List ℕ) (values : List (List ℕ)) → IsRunOfBytes in_ke
 keys_of_one key [] h = tt
 keys_of_one key (value ∷ values) h = (h, keys_of_one key values h)
 
-keys_of : (attrs : List Attr) → AllByRecursion (λ (a : Attr). IsRunOfBytes in_key a.key) attrs → AllByRecursion (λ (p : Pair). IsRunOfBytes in_key p.key) (pairs_of attrs)
+pub keys_of : (attrs : List Attr) → AllByRecursion (λ (a : Attr). IsRunOfBytes in_key a.key) attrs → AllByRecursion (λ (p : Pair). IsRunOfBytes in_key p.key) (pairs_of attrs)
 keys_of [] h = tt
 keys_of (attr ∷ attrs) h = all_append (λ (p : Pair). IsRunOfBytes in_key p.key) (pairs_of_one attr) (pairs_of attrs) (keys_of_one attr.key attr.values h.0) (keys_of attrs h.1)
 
@@ -80,7 +80,7 @@ values_of_one name key [] false e = refl
 values_of_one name key (value ∷ values) true e = rw e (ap (λ (l : List (List ℕ)). value ∷ l) (values_of_one name key values true e))
 values_of_one name key (value ∷ values) false e = rw e (values_of_one name key values false e)
 
-values_back : (attrs : List Attr) → AreAttrs attrs → (key : List ℕ) → values_in key (pairs_of attrs) ≡ values_of key attrs
+pub values_back : (attrs : List Attr) → AreAttrs attrs → (key : List ℕ) → values_in key (pairs_of attrs) ≡ values_of key attrs
 values_back [] h key = refl
 values_back (attr ∷ attrs) h key =
     filter_joined key (pairs_of_one attr) (pairs_of attrs)

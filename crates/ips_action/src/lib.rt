@@ -25,7 +25,7 @@ pub use fault::ActionFault;
 pub use judging::takes_payload;
 pub use key::Key;
 pub use kind::ActionKind;
-pub use printing::{actions_read_back, print_line};
+pub use printing::{actions_read_back, print_line, print_parts};
 pub use reading::parse_line;
 pub use table::{Row, Times, rows};
 pub use target::leads_to;

@@ -7,7 +7,8 @@ ghost use Rattle.ips_action.specs.Action.{line_text, attr_text, payload_word, If
 ghost use Rattle.ips_action.specs.Meaning.{Means};
 
 use crate::action::Action;
-use crate::attrs::{Attr, AttrList};
+use crate::attrs::{Attr, AttrList, Attrs};
+use crate::kind::ActionKind;
 use ips_digest::PayloadName;
 use ips_line::{push_pair, push_payload};
 use ips_text::Text;
@@ -19,10 +20,23 @@ use std::alloc::{AllocError, Global};
 pub fn print_line(alloc: Global, action: &Action) -> Result<Text, AllocError>
     ensures { IfOk result (λ text. text ≡ line_text action.now) }
 {
+    print_parts(alloc, action.kind, &action.payload, &action.attrs)
+}
+
+/// The same spelling of any kind, payload's name and attributes, which needn't be an action of the table.
+pub fn print_parts(
+    alloc: Global,
+    kind: ActionKind,
+    payload: &Option<PayloadName>,
+    attrs: &Attrs,
+) -> Result<Text, AllocError>
+    requires { IfName payload.now }
+    ensures { IfOk result (λ text. text ≡ line_text (record { kind = kind; payload = payload.now; attrs = attrs.now })) }
+{
     let mut out = String::new(alloc);
-    out.push_str(action.kind.name())?;
-    push_name(&mut out, &action.payload)?;
-    push_attrs(&mut out, action.attrs.list())?;
+    out.push_str(kind.name())?;
+    push_name(&mut out, payload)?;
+    push_attrs(&mut out, attrs.list())?;
     Ok(Text::from_string(out))
 }
 

@@ -18,6 +18,8 @@ pub mod Stuck
 pub mod Rolls
 pub mod Committed
 pub mod Staged
+pub mod Tried
 pub mod Unready
+pub mod Masked
 pub mod Places
 pub mod Rolled

@@ -1,5 +1,5 @@
 -- A list of steps staged behind a closed gate.
-use Rattle.std.proofs.Common.{◌≡◌, inl, inr, ⊎_elim, ℕ, ◌<◌, ◌≤◌, Bool, true, false, cond, ◌||◌, List, length, ◌++◌, Option, Some, None, Result, is_some, refl, sym, ◌∙◌, ap, subst, arith}
+use Rattle.std.proofs.Common.{◌≡◌, inl, inr, ⊎_elim, ℕ, ◌<◌, ◌≤◌, Bool, true, false, cond, ◌||◌, List, [], length, ◌++◌, Option, Some, None, Result, is_some, refl, sym, ◌∙◌, ap, subst, arith}
 use Rattle.std.specs.Fmt.{decimal}
 use Rattle.std.proofs.lemmas.Bool.{or_parts, or_right, and_parts, not-true, cases_lt}
 use Rattle.std.proofs.lemmas.Option.{slice_get_cases}
@@ -94,6 +94,14 @@ module _ {F : Type 0} (o : Outside F) (sane : IsOutside o) (old : F) where
   pub behind_then : (mid new : F) → Throughout o old mid Behind → ChangedWithin is_swept nowhere (settled (o.state old)) (o.state mid) → ChangesOnly o is_swept is_swept mid new → Throughout o old new Behind
   behind_then mid new so_far here run = joins o old mid new Behind so_far
       (weaker o mid new (ChangedWithin is_swept is_swept (o.state mid)) Behind (λ s w. inr (within_then is_swept is_swept (settled (o.state old)) (o.state mid) s (with_modes (settled (o.state old)) (o.state mid) here) w)) run.moments)
+
+  -- since nothing was touched only what is swept was changed
+  pub clean_behind : IsSettled (o.state old) → (new : F) → ChangesOnly o is_swept nowhere old new → Throughout o old new Behind
+  clean_behind clean new run = weaker o old new (ChangedWithin is_swept nowhere (o.state old)) Behind (λ s w. inr (with_modes (settled (o.state old)) s (record {
+    whole = λ q off safe. w.whole q off (clean.whole q);
+    modes = λ q off safe. w.modes q off (clean.modes q);
+    agrees = w.agrees;
+  }))) run.moments
 
   -- ---- at every moment what is seen is owed
 
@@ -257,6 +265,13 @@ without_journal t u h n q same = go (covers journal_name q) refl (sym at ∙ sam
     go true is there = cc
     go false off there = sym (h.same (stage_path n) q (content_unlisted n) off) ∙ there
 
+-- no mark is made
+pub stage_unmarked : (t u : Image) → IsCleared t → Agrees (covers stage_name) nowhere t u → HasNoOtherMark u []
+stage_unmarked t u cleared h q is others = let cut = behind_front mark_front q is in h.look q (ap (covers stage_name) cut.1 ∙ mark_stage cut.0) refl ∙ cleared q (mark_is_swept q is)
+
+pub journal_unmarked : (t u v : Image) → IsCleared t → Agrees (covers stage_name) nowhere t u → Agrees (covers journal_name) nowhere u v → HasNoOtherMark v []
+journal_unmarked t u v cleared h last q is others = let cut = behind_front mark_front q is in last.look q (ap (covers journal_name) cut.1 ∙ mark_journal cut.0) refl ∙ stage_unmarked t u cleared h q is others
+
 pub all_filled : (tells : Bool) (repository : Image) (publisher : List ℕ) (steps : List Step) (staged : List Staged) (t u v : Image) (s : State) → IsCleared t → AreSeen staged
     → Agrees (covers stage_name) nowhere t u → Agrees (covers stage_name) nowhere t v → Agrees (covers journal_name) nowhere v s.held → StagedContents tells repository publisher u staged (stage_of v)
     → HaveModes steps v → AreAlone v → v.look stage_name ≡ Some (Dir 448 false) → HoldsOnly (length staged) v
@@ -271,14 +286,12 @@ all_filled tells repository publisher steps staged t u v s cleared seen made fil
       (old.0, ap file_bytes (last.look (stage_path n) (content_unlisted n) refl) ∙ old.1, old.2);
   modes = λ k n m p there. let old = modes k n m p there in (old.0, last.look (stage_path n) (content_unlisted n) refl ∙ old.1);
   alone = λ n q small same. alone n q small (without_journal v s.held last n q same);
-  unmarked = λ q is.
-      let cut = behind_front mark_front q is in
-      last.look q (ap (covers journal_name) cut.1 ∙ mark_journal cut.0) refl ∙ filled.look q (ap (covers stage_name) cut.1 ∙ mark_stage cut.0) refl ∙ cleared q (mark_is_swept q is);
+  unmarked = λ q is. journal_unmarked t v s.held cleared filled last q is refl;
 }
 
 -- ---- the list stands ready
 
-some_content : (tells : Bool) (repository : Image) (publisher : List ℕ) (t : Image) (staged : List Staged) (contents : ℕ → Option (List ℕ)) → StagedContents tells repository publisher t staged contents
+pub some_content : (tells : Bool) (repository : Image) (publisher : List ℕ) (t : Image) (staged : List Staged) (contents : ℕ → Option (List ℕ)) → StagedContents tells repository publisher t staged contents
     → (n : ℕ) → n < length staged → is_some (contents n) ≡ true
 some_content tells repository publisher t staged contents are n lt = elim (slice_get_cases staged n).1 [
   | inl there ↦ let content = are n there.0 there.2 in ap is_some content.1

@@ -1,5 +1,5 @@
 -- Why no list of steps stands ready.
-use Rattle.std.proofs.Common.{◌≡◌, ◌⊎◌, inl, inr, ⊎_elim, ℕ, Bool, true, ◌||◌, List, Some, None, refl, sym, ◌∙◌, ap}
+use Rattle.std.proofs.Common.{◌≡◌, ◌⊎◌, inl, inr, ⊎_elim, ℕ, Bool, true, ◌||◌, List, Some, None, Result, Ok, Err, refl, sym, ◌∙◌, ap, subst}
 use Rattle.ips_text.specs.Ancestry.{covers}
 use Rattle.ips_text.proofs.Ancestry.{covers-self}
 use Rattle.ips_outside.specs.Image.{Image, Agrees, file_bytes}
@@ -10,7 +10,12 @@ use Rattle.ips_steps.specs.Steps.{stage_name}
 use Rattle.ips_steps.specs.Private.{journal_name, mark_front, begins}
 use Rattle.ips_steps.proofs.Lists.{clash}
 use Rattle.ips_journal.specs.Text.{journal_text}
-use Rattle.ips_commit.specs.Staging.{IsCleared, NothingReady, NoMoreReady}
+use Rattle.ips_text.specs.declared.refusal.Or.{Or}
+use Rattle.ips_text.specs.declared.refusal.Or.TheVariants.{Bad, OutOfMemory}
+use Rattle.ips_commit.specs.Answers.{IfStarved}
+use Rattle.ips_commit.specs.Staging.{IsCleared, LeavesNothing, NothingReady, NoMoreReady}
+use Rattle.ips_commit.specs.declared.fault.StageFault.{StageFault}
+use Rattle.ips_commit.specs.declared.fault.StageFault.TheVariants as stage
 use Rattle.ips_commit.proofs.Staged.{journal_staged, journal_is_swept}
 
 -- nothing stands at the journal
@@ -38,9 +43,6 @@ module _ (p : List ℕ) (at : p ≡ journal_name) where
   pub not_made : (old new : State) → old.held.look journal_name ≡ None → MayChange (covers p) nowhere old new → NothingReady new
   not_made old new none may = ⊎_elim (λ same. no_journal new (ap (λ (s : State). s.held.look journal_name) same ∙ none)) (λ now. now) (failed_at old new may)
 
-  pub not_gone : (old new : State) → MayChange (covers p) nowhere old new → NoMoreReady old new
-  not_gone old new may = ⊎_elim (λ same. inr (ap (λ (s : State). s.held) same)) (λ now. inl now) (failed_at old new may)
-
   pub gone_by : (old new : State) → new ≡ written p (with_entry_at p None old.held) old → new.held.look journal_name ≡ None
   gone_by old new done = ap new.held.look (sym at) ∙ ap (λ (s : State). s.held.look p) done ∙ look_placed p None old.held
 
@@ -62,3 +64,30 @@ unlisted t s cleared h = no_journal s (staged_over t s.held h (cleared journal_n
 -- the image was the same until then
 pub same_until : (old mid new : State) → mid.held ≡ old.held → NoMoreReady mid new → NoMoreReady old new
 same_until old mid new same now = ⊎_elim (λ none. inl none) (λ kept. inr (kept ∙ same)) now
+
+-- nothing has happened, or nothing is ready
+pub no_more : (old new : State) → (new ≡ old) ⊎ NothingReady new → NoMoreReady old new
+no_more old new is = ⊎_elim (λ same. inr (ap (λ (s : State). s.held) same)) (λ now. inl now) is
+
+-- where nothing was ready, nothing is
+pub still_none : (old new : State) → NothingReady old → (new ≡ old) ⊎ NothingReady new → NothingReady new
+still_none old new none is = ⊎_elim (λ same. subst NothingReady (sym same) none) (λ now. now) is
+
+-- ---- what a refusal leaves
+
+pub leaves_nothing : (t u : Image) (fault : Or StageFault) → IsCleared u → LeavesNothing t u fault
+leaves_nothing t u (Bad (stage.Payload name why)) cleared = cleared
+leaves_nothing t u (Bad stage.SourceFault) cleared = cleared
+leaves_nothing t u (Bad stage.FolderFault) cleared = tt
+leaves_nothing t u OutOfMemory cleared = inl cleared
+
+-- a fact that holds anyway
+pub if_starved : {T E : Type 0} (r : Result T (Or E)) (P : Type 0) → P → IfStarved r P
+if_starved (Ok x) P p = tt
+if_starved (Err (Bad why)) P p = tt
+if_starved (Err OutOfMemory) P p = p
+
+-- a fact where memory ran out
+pub starved_of : (T : Type 0) {E : Type 0} (e : Or E) (P : Type 0) → e ≡ OutOfMemory → IfStarved {T = T} (Err e) P → P
+starved_of T (Bad why) P is given = cc
+starved_of T OutOfMemory P is given = given

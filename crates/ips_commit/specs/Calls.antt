@@ -37,11 +37,11 @@ pub record WritesAt {S F : Type 0} (q : Outside S) (o : Outside F) (path : List 
   pub changes : o.changes old ≤ o.changes new
 
 -- Contents are staged out of a source that is only read: once that is done each payload of the list is intact, a payload that is
--- refused is the first that isn't, and a fault of the source or the folder is told just where a call on it failed.
-pub record Stages {S F T : Type 0} (q : Outside S) (o : Outside F) (publisher : List ℕ) (staged : List Staged) (source_old source_new : S) (old new : F) (result : Result T (Or StageFault)) : Type 0 where
+-- refused is the first that isn't, a fault of the folder is told just where a call on it failed, and one of the source as is said.
+pub record Stages {S F T : Type 0} (q : Outside S) (o : Outside F) (publisher : List ℕ) (staged : List Staged) (is_sources : Type 0) (source_old source_new : S) (old new : F) (result : Result T (Or StageFault)) : Type 0 where
   pub intact : IsTrue (q.tells source_old) → OnOk result (AreIntactContents (q.state source_old).held publisher staged)
   pub refused : IfBad result (SaysOfStage (q.tells source_old) (q.state source_old).held publisher staged)
-  pub reads : Reads q source_old source_new (result ≡ Err (Bad stage.SourceFault))
+  pub reads : Reads q source_old source_new is_sources
   pub cause : HasCause (o.faults old) (o.faults new) (result ≡ Err (Bad stage.FolderFault))
   pub same_kind : o.tells new ≡ o.tells old
   pub changes : o.changes old ≤ o.changes new

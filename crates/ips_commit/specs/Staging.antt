@@ -10,8 +10,12 @@ use Rattle.ips_steps.specs.Owed.{IsReady}
 use Rattle.ips_journal.specs.Text.{journal_text}
 use Rattle.ips_journal.specs.Reading.{puts_in}
 use Rattle.ips_journal.specs.declared.staged.Staged.{Staged}
+use Rattle.ips_text.specs.declared.refusal.Or.{Or}
+use Rattle.ips_text.specs.declared.refusal.Or.TheVariants.{Bad, OutOfMemory}
 use Rattle.ips_commit.specs.Pending.{is_swept}
 use Rattle.ips_commit.specs.Contents.{StagedContents, AreStanding, AreAlone, HaveModes}
+use Rattle.ips_commit.specs.declared.fault.StageFault.{StageFault}
+use Rattle.ips_commit.specs.declared.fault.StageFault.TheVariants as stage
 
 -- What can be staged on an image: a sound list of steps, with one content for each `put`. It is possible whatever bytes these
 -- have. Contents that are taken from the image are files there. `var/pkg` stands, and the gate is closed.
@@ -55,6 +59,14 @@ pub record HasStaged (tells : Bool) (repository : Image) (publisher : List ℕ) 
 -- nothing stands where staging writes
 abbrev pub IsCleared : Image → Type 0
 IsCleared t = (q : List ℕ) → IsTrue (is_swept q) → t.look q ≡ None
+
+-- What a refusal leaves where staging writes: nothing. Where memory ran out it may be that nothing was written; then the image is
+-- the one from before. Where a call on the folder failed, what was staged may be left.
+abbrev pub LeavesNothing : Image → Image → Or StageFault → Type 0
+LeavesNothing old new (Bad (stage.Payload name fault)) = IsCleared new
+LeavesNothing old new (Bad stage.SourceFault) = IsCleared new
+LeavesNothing old new (Bad stage.FolderFault) = Unit {0}
+LeavesNothing old new OutOfMemory = IsCleared new ⊎ (new ≡ old)
 
 -- The contents and the journal of these steps are written, and nothing is touched. Each content has the mode of the step that
 -- puts it and, leaving the journal aside, no further name.

@@ -1,4 +1,4 @@
-//! Contents, written into the stage one by one.
+//! Contents, written into the stage one by one, and what is tried beside them.
 
 ghost use Rattle.std.specs.Prelude.{◌≡◌, ◌⊎◌, ◌<◌, ◌≤◌, ℕ, List, Some, None, Err, IsTrue, IsFalse, IsErr, IfOk, IfErr, OnOk, length, map};
 ghost use Rattle.ips_text.specs.Ancestry.{covers, is_below};
@@ -27,14 +27,50 @@ use ips_digest::PayloadName;
 use ips_folder::Folder;
 use ips_journal::Staged;
 use ips_outside::{Failed, Source};
+use ips_rehearse::{Rehearsed, rehearse};
 use ips_repo::{Payload, RepoFault};
 use ips_steps::Step;
 use ips_text::{Or, RelPath};
 use std::alloc::Global;
 
 /// Writes each content into the stage, a directory with nothing below it, under its number and with the mode of the step that
-/// puts it.
-pub(crate) fn write_contents<S: Source, F: Folder>(
+/// puts it. Then it tries there what the steps ask of the file system.
+pub(crate) fn write_tried<'a, S: Source, F: Folder>(
+    alloc: Global,
+    publisher: &str,
+    steps: &'a [Step],
+    staged: &[Staged],
+    source: &mut S,
+    folder: &mut F,
+    buffer: &mut [u8],
+) -> Result<Rehearsed<'a>, Or<StageFault>>
+    requires lists { IsJournal (map step_of steps.now) }
+    requires counted { IsTrue (F.outside.tells folder.old) → puts_in (map step_of steps.now) ≡ length staged.now }
+    requires stage { IsTrue (F.outside.tells folder.old) → IsTrue (is_dir ((F.outside.state folder.old).held.look stage_name)) }
+    requires empty { IsTrue (F.outside.tells folder.old) → (q : List ℕ) → IsTrue (is_below stage_name q) → (F.outside.state folder.old).held.look q ≡ None }
+    requires standing { IsTrue (F.outside.tells folder.old) → AreStanding (F.outside.state folder.old).held staged.now }
+    requires seen { AreSeen staged.now }
+    requires room { 0 < length buffer.old }
+    ensures of { IfOk result (λ tried. tried ≡ map step_of steps.now) }
+    ensures written { IsTrue (F.outside.tells folder.old) → OnOk result
+        (StagedContents (S.outside.tells source.old) (S.outside.state source.old).held publisher.now (F.outside.state folder.old).held staged.now (stage_of (F.outside.state folder.new).held)) }
+    ensures modes { IsTrue (F.outside.tells folder.old) → OnOk result (HaveModes (map step_of steps.now) (F.outside.state folder.new).held) }
+    ensures alone { IsTrue (F.outside.tells folder.old) → OnOk result (AreAlone (F.outside.state folder.new).held) }
+    ensures stands { IsTrue (F.outside.tells folder.old) → OnOk result ((F.outside.state folder.new).held.look stage_name ≡ (F.outside.state folder.old).held.look stage_name) }
+    ensures only { IsTrue (F.outside.tells folder.old) → OnOk result (HoldsOnly (length staged.now) (F.outside.state folder.new).held) }
+    ensures any_moment { IsTrue (F.outside.tells folder.old) → ChangesOnly F.outside (covers stage_name) (covers stage_name) folder.old folder.new }
+    ensures stages { Stages S.outside F.outside publisher.now staged.now (result ≡ Err (Bad fault.SourceFault)) source.old source.new folder.old folder.new result }
+{
+    write_contents(alloc, publisher, steps, staged, source, folder, buffer)?;
+    match rehearse(alloc, steps, staged.len() as u64, folder) {
+        Ok(tried) => Ok(tried),
+        Err(Or::Bad(Failed)) => Err(Or::Bad(StageFault::FolderFault)),
+        Err(Or::OutOfMemory) => Err(Or::OutOfMemory),
+    }
+}
+
+// Writes the contents alone.
+fn write_contents<S: Source, F: Folder>(
     alloc: Global,
     publisher: &str,
     steps: &[Step],
@@ -57,7 +93,7 @@ pub(crate) fn write_contents<S: Source, F: Folder>(
     ensures stands { IsTrue (F.outside.tells folder.old) → OnOk result ((F.outside.state folder.new).held.look stage_name ≡ (F.outside.state folder.old).held.look stage_name) }
     ensures only { IsTrue (F.outside.tells folder.old) → OnOk result (HoldsOnly (length staged.now) (F.outside.state folder.new).held) }
     ensures any_moment { IsTrue (F.outside.tells folder.old) → ChangesOnly F.outside (covers stage_name) (covers stage_name) folder.old folder.new }
-    ensures stages { Stages S.outside F.outside publisher.now staged.now source.old source.new folder.old folder.new result }
+    ensures stages { Stages S.outside F.outside publisher.now staged.now (result ≡ Err (Bad fault.SourceFault)) source.old source.new folder.old folder.new result }
 {
     let mut place = 0;
     for (number, content) in staged.iter().enumerate() {

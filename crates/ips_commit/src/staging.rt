@@ -1,7 +1,8 @@
 //! A list of steps staged, with all that it puts.
 
-ghost use Rattle.std.specs.Prelude.{◌≡◌, ◌⊎◌, ◌<◌, ◌≤◌, [], Option, false, Some, IsTrue, IsErr, OnOk, OnErr, length, map};
+ghost use Rattle.std.specs.Prelude.{◌≡◌, ◌⊎◌, ◌<◌, ◌≤◌, [], Option, false, Some, Err, IsTrue, IsErr, IfErr, OnOk, OnErr, length, map};
 ghost use Rattle.ips_text.specs.Ancestry.{covers};
+ghost use Rattle.ips_text.specs.declared.refusal.Or.TheVariants.{Bad};
 ghost use Rattle.ips_outside.specs.Image.{Image, is_dir, file_bytes};
 ghost use Rattle.ips_outside.specs.State.{IsSettled, ChangedWithin, nowhere, settled};
 ghost use Rattle.ips_outside.specs.Outside.{HasCause, Rose, risen};
@@ -13,13 +14,14 @@ ghost use Rattle.ips_steps.specs.View.{step_of};
 ghost use Rattle.ips_journal.specs.Text.{journal_text};
 ghost use Rattle.ips_journal.specs.Reading.{puts_in};
 ghost use Rattle.ips_journal.specs.Writing.{IsWritten, KeepsTouched};
-ghost use Rattle.ips_commit.specs.Answers.{IsBad};
-ghost use Rattle.ips_commit.specs.Pending.{IsBehindGate, is_swept};
+ghost use Rattle.ips_commit.specs.Answers.{IsBad, IfStarved, IsToldOrMasked};
+ghost use Rattle.ips_commit.specs.Pending.{HasNoOtherMark, IsBehindGate, is_swept};
 ghost use Rattle.ips_commit.specs.Contents.{AreStanding, AreSeen};
-ghost use Rattle.ips_commit.specs.Staging.{CanStage, HasStaged, IsCleared, IsFilled, NothingReady, NoMoreReady};
+ghost use Rattle.ips_commit.specs.Staging.{CanStage, HasStaged, IsCleared, IsFilled, LeavesNothing, NothingReady, NoMoreReady};
 ghost use Rattle.ips_commit.specs.Calls.{Stages};
+ghost use Rattle.ips_commit.specs.declared.fault.StageFault.TheVariants as fault;
 
-use crate::contents::write_contents;
+use crate::contents::write_tried;
 use crate::copying::new_buffer;
 use crate::fault::StageFault;
 use crate::names::OwnNames;
@@ -28,14 +30,20 @@ use crate::sweeping::{marks, sweep};
 use ips_folder::Folder;
 use ips_journal::{JournalWriter, Staged};
 use ips_outside::{Failed, Source};
+use ips_rehearse::Rehearsed;
 use ips_steps::Step;
 use ips_text::Or;
 use std::alloc::Global;
 
 /// Stages the steps of a change with the contents that they put: makes safe what was written before, takes away what a run
-/// that was stopped left, writes each content with the mode of its step and then the journal, and makes that safe. What is
-/// staged stands at the updater's own names behind a closed gate, so what is seen stays as it is. A payload is hashed as it
-/// is written.
+/// that was stopped left, writes each content with the mode of its step, tries what the steps ask of the file system, writes the
+/// journal, and makes that safe. What is staged stands at the updater's own names behind a closed gate, so what is seen stays as
+/// it is. A payload is hashed as it is written.
+///
+/// # Errors
+///
+/// A payload isn't intact, a call failed, or memory ran out. What was written until then is taken away again. Where that fails the
+/// answer is that a call on the folder failed, whatever the refusal was.
 pub fn stage<S: Source, F: Folder>(
     alloc: Global,
     publisher: &str,
@@ -58,11 +66,16 @@ pub fn stage<S: Source, F: Folder>(
     ensures staged { IsTrue (F.outside.tells folder.old) → OnOk result
         (HasStaged (S.outside.tells source.old) (S.outside.state source.old).held publisher.now (map step_of steps.now) staged.now (F.outside.state folder.old).held (F.outside.state folder.new)) }
 
-    // Refused: no list stands ready and safe, unless the image is the one from before.
+    // Refused: no list stands ready and safe, unless the image is the one from before. What was staged is taken away, but where a
+    // call on the folder failed.
     ensures unready { IsTrue (F.outside.tells folder.old) → OnErr result (NoMoreReady (F.outside.state folder.old) (F.outside.state folder.new)) }
+    ensures swept { IsTrue (F.outside.tells folder.old) → IfErr result (LeavesNothing (F.outside.state folder.old).held (F.outside.state folder.new).held) }
 
-    // Each payload is intact, and each refusal has its cause.
-    ensures stages { Stages S.outside F.outside publisher.now staged.now source.old source.new folder.old folder.new result }
+    // Each payload is intact, and each refusal has its cause; that a call on the source failed may be masked by one on the folder that
+    // failed behind it.
+    ensures stages { Stages S.outside F.outside publisher.now staged.now
+        (IsToldOrMasked (S.outside.faults source.old) (S.outside.faults source.new) (result ≡ Err (Bad fault.SourceFault)) (result ≡ Err (Bad fault.FolderFault)))
+        source.old source.new folder.old folder.new result }
 
     // Either a call was made that may change something, or none was and the folder is as it was.
     ensures begun { Rose (F.outside.changes folder.old) (F.outside.changes folder.new)
@@ -89,7 +102,8 @@ pub fn stage<S: Source, F: Folder>(
     }
 }
 
-// Writes the contents and the journal in the place of what was left, and makes them safe.
+// Writes the contents, tries the steps and writes the journal in the place of what was left, and makes them safe. What is written of
+// a change that is refused is taken away.
 fn write_stage<S: Source, F: Folder>(
     alloc: Global,
     publisher: &str,
@@ -111,7 +125,10 @@ fn write_stage<S: Source, F: Folder>(
     ensures filled { IsTrue (F.outside.tells folder.old) → OnOk result
         (IsFilled (S.outside.tells source.old) (S.outside.state source.old).held publisher.now (map step_of steps.now) staged.now (F.outside.state folder.old).held (F.outside.state folder.new)) }
     ensures unready { IsTrue (F.outside.tells folder.old) → OnErr result (NoMoreReady (F.outside.state folder.old) (F.outside.state folder.new)) }
-    ensures stages { Stages S.outside F.outside publisher.now staged.now source.old source.new folder.old folder.new result }
+    ensures swept { IsTrue (F.outside.tells folder.old) → IfErr result (LeavesNothing (F.outside.state folder.old).held (F.outside.state folder.new).held) }
+    ensures stages { Stages S.outside F.outside publisher.now staged.now
+        (IsToldOrMasked (S.outside.faults source.old) (S.outside.faults source.new) (result ≡ Err (Bad fault.SourceFault)) (result ≡ Err (Bad fault.FolderFault)))
+        source.old source.new folder.old folder.new result }
     ensures changed { risen (F.outside.changes folder.old) ≤ F.outside.changes folder.new }
 {
     match settle(alloc, folder, names) {
@@ -119,10 +136,15 @@ fn write_stage<S: Source, F: Folder>(
         Err(Or::Bad(Failed)) => return Err(Or::Bad(StageFault::FolderFault)),
         Err(Or::OutOfMemory) => return Err(Or::OutOfMemory),
     }
-    fill(
+    let Err(fault) = fill(
         alloc, publisher, steps, staged, source, folder, names, buffer,
-    )?;
-    Ok(())
+    ) else {
+        return Ok(());
+    };
+    match sweep(folder, names, &[]) {
+        Ok(()) => Err(fault),
+        Err(Failed) => Err(Or::Bad(StageFault::FolderFault)),
+    }
 }
 
 // Makes safe what was written before, and takes away what a run that was stopped left.
@@ -131,6 +153,7 @@ fn settle<F: Folder>(alloc: Global, folder: &mut F, names: &OwnNames) -> Result<
     ensures within { IsTrue (F.outside.tells folder.old) → OnOk result (ChangedWithin is_swept nowhere (settled (F.outside.state folder.old)) (F.outside.state folder.new)) }
     ensures cleared { IsTrue (F.outside.tells folder.old) → OnOk result (IsCleared (F.outside.state folder.new).held) }
     ensures unready { IsTrue (F.outside.tells folder.old) → OnErr result (NoMoreReady (F.outside.state folder.old) (F.outside.state folder.new)) }
+    ensures starved { IsTrue (F.outside.tells folder.old) → IfStarved result ((F.outside.state folder.new).held ≡ (F.outside.state folder.old).held) }
     ensures cause { HasCause (F.outside.faults folder.old) (F.outside.faults folder.new) (IsBad result) }
     ensures same_kind { F.outside.tells folder.new ≡ F.outside.tells folder.old }
     ensures changes { F.outside.changes folder.old ≤ F.outside.changes folder.new }
@@ -146,7 +169,7 @@ fn settle<F: Folder>(alloc: Global, folder: &mut F, names: &OwnNames) -> Result<
     Ok(())
 }
 
-// Writes the contents and the journal where nothing is left, and makes them safe.
+// Writes the contents, tries the steps and writes the journal where nothing is left, and makes them safe.
 fn fill<S: Source, F: Folder>(
     alloc: Global,
     publisher: &str,
@@ -168,29 +191,30 @@ fn fill<S: Source, F: Folder>(
         (IsFilled (S.outside.tells source.old) (S.outside.state source.old).held publisher.now (map step_of steps.now) staged.now (F.outside.state folder.old).held (F.outside.state folder.new)) }
     ensures any_moment { IsTrue (F.outside.tells folder.old) → ChangesOnly F.outside is_swept is_swept folder.old folder.new }
     ensures unready { IsTrue (F.outside.tells folder.old) → OnErr result (NothingReady (F.outside.state folder.new)) }
-    ensures stages { Stages S.outside F.outside publisher.now staged.now source.old source.new folder.old folder.new result }
+    ensures unmarked { IsTrue (F.outside.tells folder.old) → HasNoOtherMark (F.outside.state folder.new).held [] }
+    ensures stages { Stages S.outside F.outside publisher.now staged.now (result ≡ Err (Bad fault.SourceFault)) source.old source.new folder.old folder.new result }
 {
     let Ok(()) = folder.make_dir(&names.stage, 0o700) else {
         return Err(Or::Bad(StageFault::FolderFault));
     };
-    write_contents(alloc, publisher, steps, staged, source, folder, buffer)?;
-    match write_journal(alloc, steps, folder, names) {
+    let tried = write_tried(alloc, publisher, steps, staged, source, folder, buffer)?;
+    match write_journal(alloc, &tried, folder, names) {
         Ok(()) => Ok(()),
         Err(Or::Bad(Failed)) => Err(Or::Bad(StageFault::FolderFault)),
         Err(Or::OutOfMemory) => Err(Or::OutOfMemory),
     }
 }
 
-// Writes the journal where nothing stands, and makes all that was written safe.
+// Writes the journal where nothing stands, of steps that were tried, and makes all that was written safe.
 fn write_journal<F: Folder>(
     alloc: Global,
-    steps: &[Step],
+    tried: &Rehearsed<'_>,
     folder: &mut F,
     names: &OwnNames,
 ) -> Result<(), Or<Failed>>
-    requires lists { IsJournal (map step_of steps.now) }
+    requires lists { IsJournal tried.now }
     requires can { IsTrue (F.outside.tells folder.old) → CanMake (F.outside.state folder.old).held journal_name }
-    ensures written { IsTrue (F.outside.tells folder.old) → OnOk result (file_bytes ((F.outside.state folder.new).held.look journal_name) ≡ Some (journal_text (map step_of steps.now))) }
+    ensures written { IsTrue (F.outside.tells folder.old) → OnOk result (file_bytes ((F.outside.state folder.new).held.look journal_name) ≡ Some (journal_text tried.now)) }
     ensures safe { IsTrue (F.outside.tells folder.old) → OnOk result (IsSettled (F.outside.state folder.new)) }
     ensures any_moment { IsTrue (F.outside.tells folder.old) → ChangesOnly F.outside (covers journal_name) nowhere folder.old folder.new }
     ensures unready { IsTrue (F.outside.tells folder.old) → OnErr result (NothingReady (F.outside.state folder.new)) }
@@ -201,7 +225,7 @@ fn write_journal<F: Folder>(
     let Ok(mut writer) = JournalWriter::new(alloc) else {
         return Err(Or::OutOfMemory);
     };
-    match write_safely(steps, &mut writer, folder, names) {
+    match write_safely(tried.steps(), &mut writer, folder, names) {
         Ok(()) => Ok(()),
         Err(Failed) => Err(Or::Bad(Failed)),
     }

@@ -1,6 +1,6 @@
 //! What is left behind a closed gate, found and taken away.
 
-ghost use Rattle.std.specs.Prelude.{◌≡◌, ◌≤◌, ℕ, List, None, IsTrue, IsErr, IfOk, OnOk, OnErr};
+ghost use Rattle.std.specs.Prelude.{◌≡◌, ◌⊎◌, ◌≤◌, ℕ, List, None, IsTrue, IsErr, IfOk, OnOk, OnErr};
 ghost use Rattle.std.specs.List.{filter, list_all, list_any};
 ghost use Rattle.ips_text.specs.Ancestry.{covers};
 ghost use Rattle.ips_outside.specs.Image.{is_dir};
@@ -11,7 +11,7 @@ ghost use Rattle.ips_folder.specs.Calls.{ChangesOnly};
 ghost use Rattle.ips_steps.specs.Private.{mark_front, begins};
 ghost use Rattle.ips_commit.specs.Answers.{IsBad};
 ghost use Rattle.ips_commit.specs.Pending.{is_swept, is_other, mark_names, AreMarkNames, HasNoOtherMark, IsSwept};
-ghost use Rattle.ips_commit.specs.Staging.{NoMoreReady};
+ghost use Rattle.ips_commit.specs.Staging.{NothingReady};
 
 use crate::names::{OwnNames, is_among};
 use ips_folder::{Folder, ListFault};
@@ -81,7 +81,7 @@ pub(crate) fn sweep<F: Folder>(
 ) -> Result<(), Failed>
     requires own { IsTrue (list_all (begins mark_front) (path_bytes marks.now)) }
     ensures swept { IsTrue (F.outside.tells folder.old) → OnOk result (IsSwept (path_bytes marks.now) (F.outside.state folder.old).held (F.outside.state folder.new).held) }
-    ensures unready { IsTrue (F.outside.tells folder.old) → OnErr result (NoMoreReady (F.outside.state folder.old) (F.outside.state folder.new)) }
+    ensures unready { IsTrue (F.outside.tells folder.old) → OnErr result ((F.outside.state folder.new ≡ F.outside.state folder.old) ⊎ NothingReady (F.outside.state folder.new)) }
     ensures any_moment { IsTrue (F.outside.tells folder.old) → ChangesOnly F.outside is_swept nowhere folder.old folder.new }
     ensures cause { HasCause (F.outside.faults folder.old) (F.outside.faults folder.new) (IsErr result) }
     ensures same_kind { F.outside.tells folder.new ≡ F.outside.tells folder.old }

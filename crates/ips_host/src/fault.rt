@@ -5,6 +5,7 @@ ghost use Rattle.ips_folder.specs.declared.listing.ListFault.TheVariants as list
 ghost use Rattle.ips_outside.specs.Outside.{HasCause, OneMore};
 
 use crate::root::{Root, text_of};
+use ips_commands::Unwell;
 use ips_folder::ListFault;
 use ips_outside::Failed;
 use ips_text::RelPath;
@@ -30,6 +31,10 @@ pub enum Refused {
     Signal,
     /// The program ended with a status other than 0.
     Status,
+    /// `/dev/null` can't be opened, by the system's error.
+    Null(i32),
+    /// The program of a sync can't be run or waited for, by the system's error.
+    Sync(i32),
 }
 
 impl From<io::Error> for Refused {
@@ -48,17 +53,48 @@ impl From<AllocError> for Refused {
     }
 }
 
+impl From<Unwell> for Refused {
+    fn from(why: Unwell) -> Refused {
+        match why {
+            Unwell::Signal => Refused::Signal,
+            Unwell::Status => Refused::Status,
+        }
+    }
+}
+
 impl Display for Refused {
     fn fmt<W: fmt::Write>(&self, f: &mut Formatter<W>) -> fmt::Result {
         match self {
-            Refused::System(number) => { Display::fmt(&io::Error::from_raw_os_error(*number), f) }
+            Refused::System(number) => write_error(f, *number),
             Refused::Unnumbered => f.write_str("an error without a number"),
             Refused::Memory => f.write_str("memory was refused"),
             Refused::Unfit => f.write_str("something else stands there"),
             Refused::Mode => f.write_str("the mode wasn't kept"),
             Refused::Signal => f.write_str("a signal ended it"),
             Refused::Status => f.write_str("it ended with a status other than 0"),
+            Refused::Null(number) => {
+                f.write_str("/dev/null: ")?;
+                write_error(f, *number)
+            }
+            Refused::Sync(number) => {
+                f.write_str(of_sync(*number))?;
+                write_error(f, *number)
+            }
         }
+    }
+}
+
+// The system's words.
+fn write_error<W: fmt::Write>(f: &mut Formatter<W>, number: i32) -> fmt::Result {
+    Display::fmt(&io::Error::from_raw_os_error(number), f)
+}
+
+// Whose fault it is that a sync can't be made. Of a child nobody is told where SIGCHLD is ignored.
+fn of_sync(number: i32) -> &'static str {
+    if number == libc::ECHILD {
+        "/bin/sync (is SIGCHLD ignored?): "
+    } else {
+        "/bin/sync: "
     }
 }
 
@@ -254,17 +290,20 @@ impl<A: Allocator + Clone> Counts<A> {
     }
 
     /// The host's answer to a call that makes safe what was written below the root.
-    pub fn synced(
+    pub fn synced<T: Drop>(
         &mut self,
         call: &'static str,
         root: &str,
-        answer: Result<(), Refused>,
+        answer: Result<T, Refused>,
     ) -> Result<(), Failed>
         ensures cause { HasCause self.old.faults.count self.new.faults.count (IsErr result) }
         ensures one_made { OneMore self.old.changes self.new.changes }
         ensures stays { 0 < self.old.faults.count → self.new.faults.first ≡ self.old.faults.first }
     {
         self.changes = self.changes.saturating_add(1);
-        self.faults.counted(call, root, answer)
+        match self.faults.counted(call, root, answer) {
+            Ok(_) => Ok(()),
+            Err(e) => Err(e),
+        }
     }
 }

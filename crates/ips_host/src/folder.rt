@@ -8,6 +8,7 @@ use crate::calls;
 use crate::fault::{Counts, FailedCall, Faults, counted, counted_made};
 use crate::opened::{Opened, Reading, append, read};
 use crate::root::{Devices, Root, look};
+use crate::standing::is_one;
 use ips_folder::{Folder, ListFault, Listing};
 use ips_outside::{Failed, Look, Source};
 use ips_text::{RelPath, Text};
@@ -20,7 +21,7 @@ use std::rt::Processes;
 /// Trusted here, and not proved: that the host's calls do what they answer, that nobody else writes below the root in
 /// the meantime, and that after `sync -f` of the root a crash loses nothing of what was written there before. That the
 /// whole folder stands on one file system is looked at: a call at a path whose directory is on another device than the
-/// root fails.
+/// root, or there by another mount, fails.
 #[derive(Drop)]
 pub struct HostFolder<R: Files + Alloc + Processes + Drop> {
     rt: R,
@@ -32,7 +33,7 @@ pub struct HostFolder<R: Files + Alloc + Processes + Drop> {
 }
 
 impl<R: Files + Alloc + Processes + Drop> HostFolder<R> {
-    /// The files below this path of the host, on the device of the root alone.
+    /// The files below this path of the host, on the device of the root alone, by its mount.
     pub fn new(rt: R, root: Text) -> HostFolder<R>
         ensures faults { (⟦<HostFolder<R> as Source>⟧.outside).faults result ≡ 0 }
         ensures root { image_root result ≡ root }
@@ -113,8 +114,11 @@ impl<R: Files + Alloc + Processes + Drop> Folder for HostFolder<R> {
     }
 
     fn same(&mut self, a: &RelPath, b: &RelPath) -> Result<bool, Failed> {
-        let answer = calls::same(&self.rt, &mut self.root, a, b);
-        counted(&mut self.counts.faults, &mut self.root, "lstat", a, answer)
+        let first = calls::node_of(&self.rt, &mut self.root, a);
+        let first = counted(&mut self.counts.faults, &mut self.root, "lstat", a, first)?;
+        let second = calls::node_of(&self.rt, &mut self.root, b);
+        let second = counted(&mut self.counts.faults, &mut self.root, "lstat", b, second)?;
+        Ok(is_one(first, second))
     }
 
     fn make_dir(&mut self, path: &RelPath, mode: u16) -> Result<(), Failed> {

@@ -11,6 +11,7 @@ mod fault;
 mod folder;
 mod listing;
 mod lock;
+mod modes;
 mod opened;
 mod programs;
 mod root;
@@ -19,6 +20,7 @@ mod source;
 mod spawner;
 mod standard;
 mod standing;
+mod stat;
 mod telling;
 
 pub use fault::{FailedCall, Refused};

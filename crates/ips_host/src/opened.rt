@@ -3,7 +3,7 @@
 ghost use Rattle.std.specs.Prelude.{◌≤◌, IfOk, length};
 
 use crate::fault::{Refused, or_no_memory, or_refused};
-use crate::root::{Root, find_file};
+use crate::root::{Kind, Root, kind_at};
 use ips_text::{RelPath, covers};
 use std::alloc::{Alloc, Allocator};
 use std::fs::{Files, OpenOptions};
@@ -105,12 +105,12 @@ fn open<R: Files + Alloc>(
     how: &OpenOptions,
 ) -> Result<(), Refused> {
     opened.close();
-    match find_file(rt, root, path) {
-        Ok(true) => match or_refused(how.open(rt, root.place())) {
+    match kind_at(rt, root, path) {
+        Ok(Kind::File) => match or_refused(how.open(rt, root.place())) {
             Ok(file) => opened.keep(path, file),
             Err(e) => Err(e),
         },
-        Ok(false) => Ok(()),
+        Ok(_) => Ok(()),
         Err(e) => Err(e),
     }
 }

@@ -36,5 +36,8 @@ fn opened<R: Files>(rt: &R) -> Result<Standard<R::File>, Refused> {
 }
 
 fn null_to_read<R: Files>(rt: &R) -> Result<R::File, Refused> {
-    or_refused(OpenOptions::new().read(true).open(rt, "/dev/null"))
+    match or_refused(OpenOptions::new().read(true).open(rt, "/dev/null")) {
+        Err(Refused::System(number)) => Err(Refused::Null(number)),
+        answer => answer,
+    }
 }

@@ -1,11 +1,12 @@
 //! Laws of what packages mean: one list of entries, but for the room of texts; and where they mean something, they have no fault.
 //!
 //! Above them, each a module of its own: what is loaded (`recorded`), what a command comes to (`next_laws`), plans (`plan_laws`), the records that they
-//! leave (`record_laws`), and answers of runs (`answers`).
+//! leave (`record_laws`), answers of runs (`answers`), and the transformation of manifests (`mogrify_laws`).
 #![tactic(auto)]
 
 pub mod answers;
 mod law;
+pub mod mogrify_laws;
 pub mod next_laws;
 pub mod plan_laws;
 pub mod record_laws;

@@ -13,6 +13,8 @@ mod printing;
 mod values;
 mod words;
 
-pub use fault::WordFault;
+pub use classes::{Class, run};
+pub use fault::{Part, WordFault};
 pub use printing::{lines_read_back, push_pair, push_payload, push_words};
+pub use values::{Written, read_value, value};
 pub use words::{Pair, Word, Words, read_words};

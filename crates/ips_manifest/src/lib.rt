@@ -13,5 +13,6 @@ mod physical;
 
 pub use fault::{LineFault, ManifestFault};
 pub use line::Line;
+pub use logical::{Held, Remaining, is_skipped, next_logical};
 pub use manifest::{Manifest, faults_have_lines, manifests_read_back};
 pub use package::Package;

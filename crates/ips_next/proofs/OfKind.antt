@@ -161,4 +161,4 @@ of_kind g (TooLarge which count) is = elim is.undecided [
 of_kind g (NoSolution stems refutation) is = tt
 of_kind g (SearchSpent limit) is = tt
 of_kind g NothingToDo is = tt
-of_kind g SourceFault is = tt
+of_kind g SourceFault is = is

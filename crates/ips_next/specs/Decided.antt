@@ -132,7 +132,8 @@ pub record IsUnchosen (w : What) (old asked : Recorded) (held : Image) (why : Ne
   pub is_posed : IsPosed w old asked held request repository puzzle
   pub unsolved : IsUnsolved puzzle (limit_asked w) why
 
--- Why no packages are chosen: mark and catalog first, then patterns and manifests, then the choice itself.
+-- Why no packages are chosen: mark and catalog first, then patterns and manifests, then the choice itself. A call on the repository fails only where
+-- versions are looked for.
 abbrev pub IsUndecided : What → Recorded → Recorded → Image → NextFault → Type 0
 IsUndecided w old asked held OldFormat = ⊥
 IsUndecided w old asked held NoRepository = DoesNotOpen w old.publisher held repo.NoRepository
@@ -146,7 +147,7 @@ IsUndecided w old asked held (TooLarge which count) = DoesNotOpen w old.publishe
 IsUndecided w old asked held (NoSolution stems refutation) = IsUnchosen w old asked held (NoSolution stems refutation)
 IsUndecided w old asked held (SearchSpent limit) = IsUnchosen w old asked held (SearchSpent limit)
 IsUndecided w old asked held NothingToDo = ⊥
-IsUndecided w old asked held SourceFault = Unit {0}
+IsUndecided w old asked held SourceFault = looks (kind_asked w) ≡ true
 
 -- the fault of a command that poses no puzzle
 abbrev pub unposed : ProblemFault → NextFault
@@ -158,7 +159,7 @@ unposed (problem.BadDepend fmri line) = BadDepend fmri line
 unposed (problem.TooLarge which count) = TooLarge which count
 unposed problem.SourceFault = SourceFault
 
--- it may come of a command of this kind, whatever the source tells: only where versions are looked for is the repository at fault
+-- It may come of a command of this kind, whatever the source tells: only where versions are looked for is the repository at fault, or a call on it.
 abbrev pub MayCome : Kind → NextFault → Type 0
 MayCome k OldFormat = ⊥
 MayCome k NoRepository = looks k ≡ true
@@ -172,7 +173,7 @@ MayCome k (TooLarge which count) = Unit {0}
 MayCome k (NoSolution stems refutation) = Unit {0}
 MayCome k (SearchSpent limit) = Unit {0}
 MayCome k NothingToDo = Unit {0}
-MayCome k SourceFault = Unit {0}
+MayCome k SourceFault = looks k ≡ true
 
 -- patterns name packages: not where the selection is kept
 abbrev pub names : Kind → Bool
@@ -196,4 +197,4 @@ ComesOfKind k (TooLarge which count) = looks k ≡ true
 ComesOfKind k (NoSolution stems refutation) = Unit {0}
 ComesOfKind k (SearchSpent limit) = Unit {0}
 ComesOfKind k NothingToDo = Unit {0}
-ComesOfKind k SourceFault = Unit {0}
+ComesOfKind k SourceFault = looks k ≡ true

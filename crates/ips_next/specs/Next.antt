@@ -13,7 +13,8 @@ use Rattle.ips_words.specs.declared.command.Command.{Command}
 use Rattle.ips_words.specs.declared.what.What.{What}
 use Rattle.ips_words.specs.declared.what.What.TheVariants.{UpdateFormat, RebuildIndex, Search}
 use Rattle.ips_asked.specs.Asked.{IsAskedBy}
-use Rattle.ips_next.specs.Decided.{IsDecided, IsUndecided}
+use Rattle.ips_asked.specs.Requested.{kind_asked}
+use Rattle.ips_next.specs.Decided.{IsDecided, IsUndecided, looks}
 use Rattle.ips_next.specs.declared.fault.NextFault.{NextFault}
 use Rattle.ips_next.specs.declared.fault.NextFault.TheVariants.{OldFormat, NoRepository, BadCatalog, NoMatch, Ambiguous, ManifestMissing, BadManifest, BadDepend, TooLarge, NoSolution, SearchSpent, NothingToDo, SourceFault}
 
@@ -118,7 +119,7 @@ pub record IsRefused (g : Given) (why : NextFault) : Type 0 where
   pub undecided : IsUndecided g.what g.old asked g.held why
 
 -- Each fault comes under its cause, in this order: the format, then what hinders the choice, then that nothing is to be done. A call
--- that failed may come at any time.
+-- that failed may come at any time of a command that looks for versions.
 abbrev pub ComesNext : Given → NextFault → Type 0
 ComesNext g OldFormat = IsOldFormat g.what g.old.format
 ComesNext g NoRepository = IsRefused g NoRepository
@@ -132,4 +133,4 @@ ComesNext g (TooLarge which count) = IsRefused g (TooLarge which count)
 ComesNext g (NoSolution stems refutation) = IsRefused g (NoSolution stems refutation)
 ComesNext g (SearchSpent limit) = IsRefused g (SearchSpent limit)
 ComesNext g NothingToDo = ChangesNothing g
-ComesNext g SourceFault = Unit {0}
+ComesNext g SourceFault = looks (kind_asked g.what) ≡ true

@@ -121,6 +121,7 @@ fn decided_in<S: Source>(
     requires recordable { IsRecordable (posed_of problem.now) }
     requires asked { IsLawful (recorded asked.now) }
     requires repository { is_some repo ≡ looks_at_repository request.now }
+    requires kind { is_some repo ≡ decided.looks (kind_asked what.now) }
     ensures decided { IsTrue (tells_where (is_some repo.entry) (S.outside.tells source.old)) → (old : Recorded) → IsPosed what.now old (recorded asked.now) (S.outside.state source.old).held request.now (option_map (λ r. r.now) repo.entry) (posed_of problem.now)
         → IfOk result (λ d. IsDecided what.now old (recorded asked.now) (S.outside.state source.old).held (map installed d.packages.items) d.avoid.items) }
     ensures lawful { IfOk result IsLawfulChoice }
@@ -162,6 +163,7 @@ fn avoided<S: Source>(
     requires recordable { IsRecordable (posed_of problem.now) }
     requires asked { IsLawful (recorded asked.now) }
     requires repository { is_some repo ≡ looks_at_repository request.now }
+    requires kind { is_some repo ≡ decided.looks (kind_asked what.now) }
     requires choice { IsChoice (posed_of problem.now) choice.now }
     ensures avoided { IsTrue (tells_where (is_some repo.entry) (S.outside.tells source.old)) → (old : Recorded) → IsPosed what.now old (recorded asked.now) (S.outside.state source.old).held request.now (option_map (λ r. r.now) repo.entry) (posed_of problem.now)
         → IfOk result (λ avoid. (kept : Posed) × IsAsked request.now (recorded asked.now) (option_map (λ r. r.now) repo.entry) (S.outside.state source.old).held kept × AreAvoided kept choice.now avoid.items) }

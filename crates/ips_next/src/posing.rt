@@ -37,7 +37,7 @@ pub fn pose<S: Source>(
     ensures posed { IsTrue (tells_where (is_some repo.entry) (S.outside.tells source.old)) → IfOk result (λ p. IsAsked request.now (recorded state.now) (option_map (λ r. r.now) repo.entry) (S.outside.state source.old).held (posed_of p)) }
     ensures recordable { IfOk result (λ p. IsRecordable (posed_of p)) }
     ensures refused { IsTrue (tells_where (is_some repo.entry) (S.outside.tells source.old)) → IfBad result (λ why. (f : problem.ProblemFault) × (why ≡ decided.unposed f) × IsProblemFault request.now (recorded state.now) (option_map (λ r. r.now) repo.entry) (S.outside.state source.old).held f) }
-    ensures early { (k : Kind) → IfBad result (MayCome k) }
+    ensures early { (k : Kind) → decided.looks k ≡ is_some repo.entry → IfBad result (MayCome k) }
     ensures reads { Reads S.outside source.old source.new (result ≡ Err (Bad fault.SourceFault)) }
 {
     match Problem::build(alloc, state, request, repo, source) {

@@ -2,4 +2,5 @@ pub mod Clock
 pub mod Ended
 pub mod Ends
 pub mod Locking
+pub mod Mogrified
 pub mod Named

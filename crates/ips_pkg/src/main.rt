@@ -1,28 +1,40 @@
 //! The program `pkg`: it locks the image's folder, makes the objects of the host and calls the top call, which does everything
-//! else.
+//! else. Where the first word is `mogrify`, it calls that of `ips_mogrify`.
 #![tactic(auto)]
 
 mod locking;
+mod mogrifying;
 mod objects;
 mod working;
 
+use crate::mogrifying::{asks_to_mogrify, mogrified};
 use crate::working::answer;
 use std::process::ExitCode;
 use std::time::Clock;
 use std::{env, io};
 
 fn main(rt: HostRuntime) -> ExitCode {
-    let Ok(words) = words_of(&rt) else {
-        return ExitCode::FAILURE;
+    let words = match words_of(&rt) {
+        Ok(words) => words,
+        Err(e) => return failed(&rt, "the words can't be read", e),
     };
-    let Ok(since) = rt.since_1970() else {
-        return ExitCode::FAILURE;
-    };
-    answer(rt, &words, since)
+    if asks_to_mogrify(&words) {
+        return mogrified(rt, &words);
+    }
+    match rt.since_1970() {
+        Ok(since) => answer(rt, &words, since),
+        Err(e) => failed(&rt, "the clock can't be read", e),
+    }
 }
 
 // The words of the command line, without the program's name.
 fn words_of(rt: &HostRuntime) -> io::Result<Vec<String>> {
     let words = env::args(rt)?.skip(1).collect(rt.alloc())?;
     Ok(words)
+}
+
+// Says why nothing is done.
+fn failed(rt: &HostRuntime, what: &str, why: io::Error) -> ExitCode {
+    let _ = eprintln!(rt; "pkg: {what}: {why}");
+    ExitCode::FAILURE
 }

@@ -5,11 +5,10 @@ ghost use Rattle.std.specs.Duration.{as_nanos};
 ghost use Rattle.std.specs.Process.{exit_status};
 ghost use Rattle.ips_host.specs.Roots.{image_root, repository_root};
 ghost use Rattle.ips_host.specs.Telling.{IsToldOf};
-ghost use Rattle.ips_host.specs.declared.lock.Unlocked.TheVariants.{Busy};
 ghost use Rattle.ips_syntax.specs.Reading.{line_of_words};
 ghost use Rattle.ips_pkg.specs.Clock.{moment_at};
 ghost use Rattle.ips_pkg.specs.Ended.{EndsWith};
-ghost use Rattle.ips_pkg.specs.Ends.{EndsOrStarves, Ends};
+ghost use Rattle.ips_pkg.specs.Ends.{EndsOrStarves, EndsLocked, EndsFound, Ends, number_unlocked};
 ghost use Rattle.ips_pkg.specs.Locking as locking;
 ghost use Rattle.ips_pkg.specs.Named.{IsImageOf};
 
@@ -55,7 +54,23 @@ fn number_for(rt: HostRuntime, words: &[String], since: Duration) -> u8
         return OUT_OF_MEMORY;
     };
     let (image, _) = roots_of(words);
-    match take_lock(&rt, image, lock) {
+    let found = take_lock(&rt, image, lock);
+    number_found(rt, words, since, image, found)
+}
+
+// The number for the words at that time, by what was found as the lock was asked for that they want.
+fn number_found(
+    rt: HostRuntime,
+    words: &[String],
+    since: Duration,
+    image: &str,
+    found: Result<Held<'_>, Unlocked>,
+) -> u8
+    requires lock { IfOk found (λ held. held.lock ≡ locking.lock_for (line_of_words (map string_bytes words.now))) }
+    requires folder { IfOk found (λ held. IsImageOf (map string_bytes words.now) held.folder.now) }
+    ensures { EndsFound (⟦<HostFolder<HostRuntime> as Source>⟧.outside) (⟦<HostSource<HostRuntime> as Source>⟧.outside) (⟦<HostSpawner<HostRuntime> as Spawner>⟧.running) (⟦<HostSink<HostRuntime> as Sink>⟧.taking) image_root repository_root (map string_bytes words.now) (moment_at (as_nanos since)) found.entry result }
+{
+    match found {
         Ok(held) => {
             let number = number_under(rt, words, moment_of(since), &held);
             drop(held);
@@ -67,8 +82,7 @@ fn number_for(rt: HostRuntime, words: &[String], since: Duration) -> u8
 
 // Says why nothing is done, and answers the number for it.
 fn turned_away(rt: &HostRuntime, image: &str, why: Unlocked) -> u8
-    ensures busy { why ≡ Busy → result ≡ 7 }
-    ensures failed { (why ≡ Busy → ⊥) → result ≡ 1 }
+    ensures { result ≡ number_unlocked why }
 {
     match why {
         Unlocked::Busy => {
@@ -99,7 +113,7 @@ fn number_under(rt: HostRuntime, words: &[String], moment: u64, held: &Held<'_>)
     requires moment { moment < 253370764800 }
     requires lock { held.now.lock ≡ locking.lock_for (line_of_words (map string_bytes words.now)) }
     requires folder { IsImageOf (map string_bytes words.now) held.now.folder.now }
-    ensures { Ends (⟦<HostFolder<HostRuntime> as Source>⟧.outside) (⟦<HostSource<HostRuntime> as Source>⟧.outside) (⟦<HostSpawner<HostRuntime> as Spawner>⟧.running) (⟦<HostSink<HostRuntime> as Sink>⟧.taking) image_root repository_root (map string_bytes words.now) moment result }
+    ensures { EndsLocked (⟦<HostFolder<HostRuntime> as Source>⟧.outside) (⟦<HostSource<HostRuntime> as Source>⟧.outside) (⟦<HostSpawner<HostRuntime> as Spawner>⟧.running) (⟦<HostSink<HostRuntime> as Sink>⟧.taking) image_root repository_root (map string_bytes words.now) moment result }
 {
     // It is held meanwhile.
     let _ = held;

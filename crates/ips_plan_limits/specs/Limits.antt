@@ -4,7 +4,7 @@ use Rattle.std.specs.Option.{option_map}
 use Rattle.std.specs.Ordering.{nat_cmp, is_gt}
 use Rattle.std.specs.Cmp.Lexicographic.{slice_cmp}
 use Rattle.ips_text.specs.declared.limits.Which.{Which}
-use Rattle.ips_text.specs.declared.limits.Which.TheVariants.{AccountBytes, ImageFileBytes, Steps}
+use Rattle.ips_text.specs.declared.limits.Which.TheVariants.{AccountBytes, ImageFileBytes, Names, Steps}
 use Rattle.ips_text.specs.Ancestry.{covers, same_path}
 use Rattle.ips_steps.specs.Private.{records_name}
 use Rattle.ips_steps.specs.Steps.{Step, Gone, Fresh, Mode, Put, Symlink, Hard}
@@ -12,6 +12,7 @@ use Rattle.ips_journal.specs.declared.staged.Staged.{Staged}
 use Rattle.ips_journal.specs.declared.staged.Staged.TheVariants.{Payload, Bytes, Standing}
 use Rattle.ips_after.specs.Findings.{is_account_path}
 use Rattle.ips_due.specs.Delivered.{owners_path, drivers_path}
+use Rattle.ips_plan_limits.specs.Names.{most_names}
 use Rattle.ips_plan_limits.specs.declared.large.Large.{Large}
 use Rattle.ips_plan_limits.specs.declared.limits.Excess.{Excess}
 
@@ -72,10 +73,15 @@ least_large staged found (s ∷ later) = least_large staged (lesser_large found 
 abbrev pub first_large : List Staged → List Step → Option (List ℕ × ℕ)
 first_large staged steps = least_large staged None steps
 
--- What of a plan is beyond its limit: its steps, of which there may be 4,000,000, or else the first file that is too large.
+-- The first file that is too large, as what there is too much of.
+abbrev pub large_excess : List Step → List Staged → Option Excess
+large_excess steps staged = option_map (λ (f : List ℕ × ℕ). record { which = which_at f.0; count = f.1 }) (first_large staged steps)
+
+-- What of a plan is beyond its limit: its steps, of which there may be 4,000,000; else the names of one file, of which there may be 32,000; or else the
+-- first file that is too large.
 abbrev pub first_excess : List Step → List Staged → Option Excess
 first_excess steps staged = cond (nat_lt 4000000 (length steps)) (Some (record { which = Steps; count = length steps }))
-    (option_map (λ (f : List ℕ × ℕ). record { which = which_at f.0; count = f.1 }) (first_large staged steps))
+    (cond (nat_lt 32000 (most_names steps)) (Some (record { which = Names; count = most_names steps })) (large_excess steps staged))
 
 -- A file that is too large, as it is told: its path and how many bytes it has.
 abbrev pub large_told : Large → List ℕ × ℕ

@@ -4,6 +4,7 @@
 mod counting;
 mod large;
 mod limits;
+mod names;
 
 pub use counting::counts;
 pub use limits::{Excess, first_excess};

@@ -44,6 +44,7 @@ impl Problem {
         ensures recordable { IfOk result (λ p. IsLawful (recorded state.now) → IsRecordable (posed_of p)) }
         ensures bad { IsTrue (tells_where (is_some repo.entry) (S.outside.tells source.old)) → IfBad result (IsProblemFault request.now (recorded state.now) (option_map (λ r. r.now) repo.entry) (S.outside.state source.old).held) }
         ensures reads { Reads S.outside source.old source.new (result ≡ Err (Bad fault.SourceFault)) }
+        ensures asks { result ≡ Err (Bad fault.SourceFault) → IsTrue (is_some repo.entry) }
     {
         match subject_of(alloc, state, request, repo) {
             Ok(subject) => posed_by(alloc, &subject, source),

@@ -50,6 +50,7 @@ pub fn row_of<S: Source>(
     ensures sound { IfOk result (λ row. IsOverSound subject.now → AllByRecursion IsSoundRead row.reads.items) }
     ensures candidates { IfOk result (λ row. vec_len row.candidates < 2 ^ 32) }
     ensures reads { Reads S.outside source.old source.new (result ≡ Err (Bad fault.SourceFault)) }
+    ensures asks { result ≡ Err (Bad fault.SourceFault) → IsTrue (is_some subject.now.repo) }
 {
     let versions = needed(alloc, subject, stem)?;
     match read_all(alloc, subject, source, stem, versions.as_slice(), total) {
@@ -101,6 +102,7 @@ fn read_all<S: Source>(
     ensures few { total.new ≤ all_manifests_limit }
     ensures sound { IfOk result (λ reads. IsOverSound subject.now → AllByRecursion IsSoundRead reads.items) }
     ensures reads { Reads S.outside source.old source.new (result ≡ Err (Bad fault.SourceFault)) }
+    ensures asks { result ≡ Err (Bad fault.SourceFault) → IsTrue (is_some subject.now.repo) }
 {
     let mut reads = Vec::new(alloc);
     for version in versions {
@@ -130,6 +132,7 @@ fn read_version<S: Source>(
     ensures few { total.new ≤ all_manifests_limit }
     ensures sound { IfOk result (λ read. IsOverSound subject.now → IsSoundRead read) }
     ensures reads { Reads S.outside source.old source.new (result ≡ Err (Bad fault.SourceFault)) }
+    ensures asks { result ≡ Err (Bad fault.SourceFault) → IsTrue (is_some subject.now.repo) }
 {
     match manifest_of(alloc, subject, source, stem, version, total) {
         Ok(manifest) => judged_read(alloc, subject, stem, version, manifest),
@@ -154,6 +157,7 @@ fn manifest_of<S: Source>(
     ensures few { total.new ≤ all_manifests_limit }
     ensures manifest { IfOk result (λ m. IsOverSound subject.now → IsManifest m.lines.items) }
     ensures reads { Reads S.outside source.old source.new (result ≡ Err (Bad fault.SourceFault)) }
+    ensures asks { result ≡ Err (Bad fault.SourceFault) → IsTrue (is_some subject.now.repo) }
 {
     match subject.own(stem, version) {
         Some(package) => Ok(package.manifest.copy(alloc)?),
@@ -178,6 +182,7 @@ fn from_repository<S: Source>(
     ensures few { total.new ≤ all_manifests_limit }
     ensures manifest { IfOk result (λ m. IsManifest m.lines.items) }
     ensures reads { Reads S.outside source.old source.new (result ≡ Err (Bad fault.SourceFault)) }
+    ensures asks { result ≡ Err (Bad fault.SourceFault) → IsTrue (is_some repo.entry) }
 {
     match repo {
         Some(repo) => fetched(alloc, repo, source, stem, version, total),

@@ -49,6 +49,7 @@ pub fn posed_by<S: Source>(
     ensures bad { IsTrue (tells_where (is_some subject.now.repo) (S.outside.tells source.old)) → IfBad result (λ why. (r : ManifestReading) → IsReading subject.now.state.now.settings r
         → IsFirstFault subject.now.state.now.settings (case_in subject.now (S.outside.state source.old).held r) why) }
     ensures reads { Reads S.outside source.old source.new (result ≡ Err (Bad fault.SourceFault)) }
+    ensures asks { result ≡ Err (Bad fault.SourceFault) → IsTrue (is_some subject.now.repo) }
 {
     let mut gathered = begun(alloc, subject)?;
     for _turn in 0..usize::MAX {
@@ -108,6 +109,7 @@ fn next<S: Source>(
         → IsGathered (case_in subject.now (S.outside.state source.old).held r) gathered
         → IsFirstFault subject.now.state.now.settings (case_in subject.now (S.outside.state source.old).held r) why) }
     ensures reads { Reads S.outside source.old source.new (result ≡ Err (Bad fault.SourceFault)) }
+    ensures asks { result ≡ Err (Bad fault.SourceFault) → IsTrue (is_some subject.now.repo) }
 {
     let turn = turn_of(&gathered);
     let mut total = gathered.total;

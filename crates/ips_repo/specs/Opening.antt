@@ -76,6 +76,7 @@ PassesLimit which.PayloadBytes count = ⊥
 PassesLimit which.ImageFileBytes count = ⊥
 PassesLimit which.AccountBytes count = ⊥
 PassesLimit which.Steps count = ⊥
+PassesLimit which.Names count = ⊥
 
 -- The faults of opening a repository: no mark, a bad catalog, a limit of the catalog passed, or a call that failed.
 abbrev pub IsOpeningFault : RepoFault → Type 0

@@ -77,6 +77,7 @@ IsTooLarge total bytes which.PayloadBytes count = ⊥
 IsTooLarge total bytes which.ImageFileBytes count = ⊥
 IsTooLarge total bytes which.AccountBytes count = ⊥
 IsTooLarge total bytes which.Steps count = ⊥
+IsTooLarge total bytes which.Names count = ⊥
 
 -- a file is there, and has this
 abbrev pub IsThere : Option (List ℕ) → (List ℕ → Type 0) → Type 0

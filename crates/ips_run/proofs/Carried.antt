@@ -2,10 +2,10 @@
 use Rattle.std.proofs.Common.{◌≡◌, inl, inr, ⊎_elim, ℕ, Bool, true, false, List, [], Option, Some, None, is_none, ◌||◌, refl, sym, ◌∙◌, ap, subst}
 use Rattle.ips_text.specs.Ancestry.{covers, same_path}
 use Rattle.ips_outside.specs.Image.{Entry, Image, IsImage, is_dir, file_bytes, dir_or_none}
-use Rattle.ips_outside.specs.State.{State, IsSettled}
+use Rattle.ips_outside.specs.State.{State, IsSettled, nowhere}
 use Rattle.ips_outside.specs.Outside.{Outside, IsOutside, Elapses}
-use Rattle.ips_folder.specs.Calls.{CanMake, Throughout}
-use Rattle.ips_folder.proofs.Runs.{started, joins}
+use Rattle.ips_folder.specs.Calls.{CanMake, ChangesOnly, Throughout}
+use Rattle.ips_folder.proofs.Runs.{joins}
 use Rattle.ips_steps.specs.Steps.{Step}
 use Rattle.ips_steps.specs.Private.{records_name, journal_name, gate_name, visible}
 use Rattle.ips_steps.specs.Owed.{FolderOwes}
@@ -15,15 +15,16 @@ use Rattle.ips_kinds.specs.Tallies.{Carrier}
 use Rattle.ips_journal.specs.Text.{journal_text}
 use Rattle.ips_actuate.specs.declared.running.ActFault.{ActFault}
 use Rattle.ips_commit.specs.Due.{IsSafelyOpen, DueOnceOpen}
-use Rattle.ips_commit.specs.Pending.{HasCommitted, HasNoOtherMark}
-use Rattle.ips_commit.specs.Staging.{IsStaged}
+use Rattle.ips_commit.specs.Pending.{HasCommitted, HasNoOtherMark, is_swept}
+use Rattle.ips_commit.specs.Staging.{IsStaged, IsCleared}
 use Rattle.ips_commit.specs.declared.fault.CommitFault.{CommitFault}
 use Rattle.ips_commit.specs.declared.fault.CommitFault.TheVariants as commit_fault
+use Rattle.ips_commit.proofs.Owing.{swept_seen}
 use Rattle.ips_history.specs.Due.{NeverOpen, HasEnded}
 use Rattle.ips_run.specs.declared.ending.Ending.{Ending}
 use Rattle.ips_run.specs.declared.ending.Ending.TheVariants as ending
-use Rattle.ips_run.specs.Ending.{is_done, is_out_of_memory, IsEarly}
-use Rattle.ips_run.specs.Phases.{StaysSafelyShut, uncommitted_as, IsUnrun, Failed, Spawn, IsResumable, IsCarried, IsAsked}
+use Rattle.ips_run.specs.Ending.{is_done, is_failed, is_out_of_memory, IsEarly}
+use Rattle.ips_run.specs.Phases.{IsSafelyShut, StaysSafelyShut, uncommitted_as, IsUnrun, IsUnrunBefore, Failed, Spawn, IsResumable, IsCarried, IsAsked}
 use Rattle.ips_run.proofs.Opened.{always_safely_shut, owes_seen, always_shut, never_open, stays_owed, withdrawn}
 
 -- ---- the gate can be made where a change stands ready
@@ -80,39 +81,38 @@ module _ {F : Type 0} (o : Outside F) (sane : IsOutside o) where
       }))
       due
 
-  module _ (steps : List Step) (a : Image) (old : F) (staged : IsStaged steps a (o.state old)) where
-    owes_here : FolderOwes journal_text (visible (o.state old).held) (Some a) false (o.state old)
-    owes_here = owes_seen (o.state old) (Some a) staged.safe staged.shut
-
   module _ {T : Type 0} (steps : List Step) (a : Image) (old : F) (staged : IsStaged steps a (o.state old)) (before : List Carrier) where
-    -- an actuator before the commit wasn't run to its end
-    pub carried_unrun : (list : List (List (List ℕ))) (why : ActFault) (x : Ending T) → IsUnrun list false why x → IsCarried o a x before before old old
-    carried_unrun list why x is = go why x is
+    -- an actuator before the commit wasn't run to its end, and what stands ready was to be taken away
+    pub carried_before : (new : F) (list : List (List (List ℕ))) (why : ActFault) (x : Ending T) → IsUnrunBefore list why x → ChangesOnly o is_swept nowhere old new
+        → ((c : Option Image) → Throughout o old new (FolderOwes journal_text (visible (o.state old).held) c false)) → (is_failed x ≡ false → IsCleared (o.state new).held) → IsCarried o a x before before old new
+    carried_before new list why x is kept owed cleared = go why x is cleared
       where
-        here : Throughout o old old (FolderOwes journal_text (visible (o.state old).held) (Some a) false)
-        here = started o old (FolderOwes journal_text (visible (o.state old).held) (Some a) false) (sane.only_now old) (owes_here steps a old staged)
+        shut : StaysSafelyShut o old new
+        shut = always_safely_shut o sane (visible (o.state old).held) old new (owed None)
 
-        never : NeverOpen o old old
-        never = started o old (λ s. IsSafelyOpen s → ⊥) (sane.only_now old) (λ is. is.stands staged.shut)
+        never : NeverOpen o old new
+        never = never_open o sane old new (always_shut o sane (visible (o.state old).held) old new (owed None))
 
-        go : (why : ActFault) (x : Ending T) → IsUnrun list false why x → IsCarried o a x before before old old
-        go why x (Failed at) = record { owed = here; due = inl never; done = λ is. cc; kept = λ is. refl; resumes = λ is. cc; unrecovered = refl; readable = refl; has_memory = refl }
-        go why x Spawn = record { owed = here; due = inl never; done = λ is. cc; kept = λ is. refl; resumes = λ is. cc; unrecovered = refl; readable = refl; has_memory = refl }
+        go : (why : ActFault) (x : Ending T) → IsUnrunBefore list why x → (is_failed x ≡ false → IsCleared (o.state new).held) → IsCarried o a x before before old new
+        go why x (inl (Failed at)) cleared = record { owed = owed (Some a); due = inl never; done = λ is. cc; kept = λ is. kept; unopened = λ is. shut; cleared = λ is unfailed. cleared unfailed; resumes = λ is. cc; unrecovered = refl; readable = refl; has_memory = refl }
+        go why x (inl Spawn) cleared = record { owed = owed (Some a); due = inl never; done = λ is. cc; kept = λ is. kept; unopened = λ is. shut; cleared = λ is unfailed. cleared unfailed; resumes = λ is. cc; unrecovered = refl; readable = refl; has_memory = refl }
+        go why x (inr is) cleared = subst (λ (e : Ending T). IsCarried o a e before before old new) (sym is)
+            (record { owed = owed (Some a); due = inl never; done = λ is. cc; kept = λ is. kept; unopened = λ is. shut; cleared = λ is unfailed. cc; resumes = λ is. cc; unrecovered = refl; readable = refl; has_memory = refl })
 
     module _ (new : F) (now : List Carrier) (owed : Throughout o old new (FolderOwes journal_text (visible (o.state old).held) (Some a) false)) (due : DueOnceOpen o (visible (o.state old).held) a old new) where
       -- the commit wasn't
       pub carried_part : (why : CommitFault) (x : Ending T) → why ≡ commit_fault.Unfinished → x ≡ uncommitted_as why → IsResumable o before now new → IsCarried o a x before now old new
       carried_part why x unfinished is resumable = subst (λ (r : Ending T). IsCarried o a r before now old new) (sym (is ∙ ap (λ (w : CommitFault). uncommitted_as w) unfinished))
-          (record { owed = owed; due = due; done = λ is. cc; kept = λ is. cc; resumes = λ is. resumable; unrecovered = refl; readable = refl; has_memory = refl })
+          (record { owed = owed; due = due; done = λ is. cc; kept = λ is. cc; unopened = λ is. cc; cleared = λ is unfailed. cc; resumes = λ is. resumable; unrecovered = refl; readable = refl; has_memory = refl })
 
       module _ (done : HasCommitted a (o.state new)) where
         -- an actuator after it wasn't
         pub carried_but : (list : List (List (List ℕ))) (why : ActFault) (x : Ending T) → IsUnrun list true why x → IsCarried o a x before now old new
-        carried_but list why x (Failed at) = record { owed = owed; due = due; done = λ is. ended a (o.state new) done; kept = λ is. cc; resumes = λ is. cc; unrecovered = refl; readable = refl; has_memory = refl }
-        carried_but list why x Spawn = record { owed = owed; due = due; done = λ is. ended a (o.state new) done; kept = λ is. cc; resumes = λ is. cc; unrecovered = refl; readable = refl; has_memory = refl }
+        carried_but list why x (Failed at) = record { owed = owed; due = due; done = λ is. ended a (o.state new) done; kept = λ is. cc; unopened = λ is. cc; cleared = λ is unfailed. cc; resumes = λ is. cc; unrecovered = refl; readable = refl; has_memory = refl }
+        carried_but list why x Spawn = record { owed = owed; due = due; done = λ is. ended a (o.state new) done; kept = λ is. cc; unopened = λ is. cc; cleared = λ is unfailed. cc; resumes = λ is. cc; unrecovered = refl; readable = refl; has_memory = refl }
 
         pub carried_all : (told : T) → IsCarried o a (ending.Done told) before now old new
-        carried_all told = record { owed = owed; due = due; done = λ is. ended a (o.state new) done; kept = λ is. cc; resumes = λ is. cc; unrecovered = refl; readable = refl; has_memory = refl }
+        carried_all told = record { owed = owed; due = due; done = λ is. ended a (o.state new) done; kept = λ is. cc; unopened = λ is. cc; cleared = λ is unfailed. cc; resumes = λ is. cc; unrecovered = refl; readable = refl; has_memory = refl }
 
   -- ---- the whole
 
@@ -146,8 +146,8 @@ module _ {F : Type 0} (o : Outside F) (sane : IsOutside o) where
             due = due_then (visible (o.state old).held) a old mid new (never_open o sane old mid closed) due;
             done = carried.done;
           };
-          unseen = λ is. ap (λ (f : F). visible (o.state f).held) (carried.kept is) ∙ seen;
-          unopened = λ is. subst (λ (f : F). StaysSafelyShut o old f) (sym (carried.kept is)) (always_safely_shut o sane (visible (o.state old).held) old mid (owed None));
+          unseen = λ is. swept_seen (o.state mid).held (o.state new).held (carried.kept is).now.agrees ∙ seen;
+          unopened = λ is. joins o old mid new IsSafelyShut (always_safely_shut o sane (visible (o.state old).held) old mid (owed None)) (carried.unopened is);
           resumes = carried.resumes;
           unrecovered = carried.unrecovered;
           readable = carried.readable;

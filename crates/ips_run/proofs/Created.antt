@@ -1,5 +1,5 @@
 -- A request of a command that makes an image, by what the making of the directories answered.
-use Rattle.std.proofs.Common.{◌≡◌, ◌⊎◌, inl, inr, ⊎_elim, ℕ, Bool, true, false, List, Result, OnOk, None, refl, sym, ◌∙◌, ap, subst, arith}
+use Rattle.std.proofs.Common.{◌≡◌, ◌⊎◌, inl, inr, ⊎_elim, ℕ, Bool, true, false, not, List, Result, OnOk, None, refl, sym, ◌∙◌, ap, subst, arith}
 use Rattle.ips_text.specs.declared.path.RelPath.{RelPath}
 use Rattle.ips_outside.specs.Image.{Image, is_dir}
 use Rattle.ips_outside.specs.State.{State, IsSettled, nowhere, settled, untouched}
@@ -31,6 +31,7 @@ use Rattle.ips_run.specs.Phases.{IsAsked}
 use Rattle.ips_run.specs.Creating.{IsMissing, IsBlockedBy, HasMade, HasMadeAtLast, HasMadeInPart, IsAsBefore, IsMade, IsSafeAtLast, AreMade, AreUnmade, SaysOfDirectories, ended_as, IsCreated, Standing, Uncreated, Made, Failed}
 use Rattle.ips_run.proofs.Opened.{creates_unfixed}
 use Rattle.ips_run.proofs.Told.{none_run}
+use Rattle.ips_run.proofs.Leaving.{leaves_same, leaves_some, leaves_made}
 use Rattle.ips_run.proofs.Performed.{early_fault}
 use Rattle.ips_run.proofs.Directories.{made_dir, records_below, free_of, on_ok, none_to_make, records_to_make, both_to_make, can_have_still, directories_stand, gate_with, nothing_in_the_way, shut_now, shut_on, shut_then}
 
@@ -99,9 +100,9 @@ unmade_finished o old new ending.SourceFault says left = says
 module _ {T P : Type 0} (r : Running P) (p : P) (n : Effect) (D : Decision T → Type 0) (tells : Bool) (repository : Image) (before : List Carrier) where
   pub comes_unmade : {F : Type 0} (o : Outside F) (old new : F) (x : Ending T) → creates n ≡ true → (o.state old).held.look gate_name ≡ None → AreUnmade o old new x
       → Comes n D tells repository (o.state old).held (o.state new).held before before (HasRun r p p) x
-  comes_unmade o old new (ending.FolderFault unfinished) is gate says = Unopened says.0 refl (none_run r p)
+  comes_unmade o old new (ending.FolderFault unfinished) is gate says = Unopened says.0 (leaves_some n (o.state old).held (o.state new).held (ending.FolderFault unfinished) refl (ap not says.0)) refl (none_run r p)
   comes_unmade o old new (ending.NotDirectory path) is gate says = NotDirectory is gate says.1 (ap (λ (s : State). s.held) says.0.1) refl (none_run r p)
-  comes_unmade o old new ending.OutOfMemory is gate says = Unopened tt refl (none_run r p)
+  comes_unmade o old new ending.OutOfMemory is gate says = Unopened tt (leaves_same n (o.state old).held (o.state new).held ending.OutOfMemory refl (ap (λ (s : State). s.held) says.1)) refl (none_run r p)
   comes_unmade o old new (ending.Done told) is gate says = absurd says
   comes_unmade o old new (ending.Shown told) is gate says = absurd says
   comes_unmade o old new (ending.Refused told) is gate says = absurd says
@@ -120,15 +121,15 @@ module _ {T P : Type 0} (r : Running P) (p : P) (n : Effect) (D : Decision T →
 
     -- what is told of the image with the directories is told of the one without
     before_made : (x : Ending T) → Comes n D tells repository (with_directories held) left before now Ran x → Comes n D tells repository held left before now Ran x
-    before_made x (Unopened why same ran) = Unopened why same ran
-    before_made x (Unfinished unfixed there same ran) = absurd (there shut)
+    before_made x (Unopened why leaves same ran) = Unopened why (leaves_made n held left x is can leaves) same ran
+    before_made x (Unfinished unfixed there kept same ran) = absurd (there shut)
       where
         shut : (with_directories held).look gate_name ≡ None
         shut = gate_with held gate
     before_made x (Back fixing stopped back ran) = absurd (clash (fixes n) fixing (creates_unfixed n is))
     before_made x (NotDirectory creating shut way kept same ran) = absurd (nothing_in_the_way held can _ way)
-    before_made x (Unready decide why same ran) = Unready to_decide why same ran
-    before_made x (Carried c changes decide decided intact carried) = Carried c changes to_decide decided intact carried
+    before_made x (Unready decide why leaves same ran) = Unready to_decide why (leaves_made n held left x is can leaves) same ran
+    before_made x (Carried c changes decide decided intact leaves carried) = Carried c changes to_decide decided intact (leaves_made n held left x is can leaves) carried
 
     pub comes_made : (x : Ending T) → (IsToDecide n (with_directories held) → Comes n D tells repository (with_directories held) left before now Ran x) → Comes n D tells repository held left before now Ran x
     comes_made x comes = before_made x (comes (gate_with held gate, λ fixing. absurd (clash (fixes n) fixing (creates_unfixed n is)), λ creating. can_have_still held can))

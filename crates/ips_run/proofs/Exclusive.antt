@@ -128,12 +128,12 @@ module _ {T : Type 0} (n : Effect) (decides : Decision T → Type 0) (repository
     unopened (ending.Recovered forward) is sound = is
 
     pub before_run : (Ran : List Run → Type 0) (x : Ending T) → Comes n decides true repository held left old now Ran x → is_faulty x ≡ false → Before (way_of x)
-    before_run Ran x (Unopened why same ran) sound = absurd (unopened x why sound)
-    before_run Ran x (Unfinished unfixed there same ran) sound = (unfixed, there)
+    before_run Ran x (Unopened why leaves same ran) sound = absurd (unopened x why sound)
+    before_run Ran x (Unfinished unfixed there kept same ran) sound = (unfixed, there)
     before_run Ran x (Back fixing stopped says ran) sound = back x (fixing, stopped) says sound
     before_run Ran x (NotDirectory {path = path} creating shut way kept same ran) sound = (creating, shut, (path.bytes, way))
-    before_run Ran x (Unready decide says same ran) sound = unready x decide says sound
-    before_run Ran x (Carried c changes decide decided intact says) sound = carried Ran c x (map step_of c.steps.items) c.before.items c.after.items (decide, (c, decided, intact refl)) says sound
+    before_run Ran x (Unready decide says leaves same ran) sound = unready x decide says sound
+    before_run Ran x (Carried c changes decide decided intact leaves says) sound = carried Ran c x (map step_of c.steps.items) c.before.items c.after.items (decide, (c, decided, intact refl)) says sound
 
   -- ---- one alone is so
 

@@ -10,4 +10,5 @@ mod Performed
 mod Unbegun
 mod Listed
 mod Never
+pub mod Leaving
 pub mod Exclusive

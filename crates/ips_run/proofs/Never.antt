@@ -3,7 +3,6 @@ use Rattle.std.proofs.Common.{◌≡◌, ◌≤◌, true, List, None, false, ref
 use Rattle.ips_outside.specs.Image.{Image}
 use Rattle.ips_outside.specs.State.{State, settled}
 use Rattle.ips_outside.specs.Outside.{Outside, IsOutside, Elapses, OneMore}
-use Rattle.ips_folder.specs.Calls.{Throughout}
 use Rattle.ips_folder.proofs.Runs.{started, goes_on, joins}
 use Rattle.ips_steps.specs.Private.{gate_name, visible}
 use Rattle.ips_kinds.specs.Tallies.{Carrier}

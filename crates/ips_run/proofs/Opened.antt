@@ -1,7 +1,7 @@
 -- A run from its opening sync on, by its last phase.
 use Rattle.std.proofs.Common.{◌≡◌, ◌⊎◌, inl, inr, ⊎_elim, arith, ℕ, ◌≤◌, Bool, true, false, cond, List, Option, Some, None, IfSome, is_some, refl, sym, ◌∙◌, ap, subst}
 use Rattle.ips_outside.specs.Image.{Entry, Image}
-use Rattle.ips_outside.specs.State.{State, MayLeave, IsSettled, settled, untouched}
+use Rattle.ips_outside.specs.State.{State, IsSettled, settled, untouched}
 use Rattle.ips_outside.specs.Outside.{Outside, IsOutside, Elapses, OneMore}
 use Rattle.ips_folder.specs.Calls.{Throughout}
 use Rattle.ips_folder.proofs.Runs.{started, goes_on, joins, weaker}

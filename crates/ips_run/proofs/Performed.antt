@@ -14,7 +14,7 @@ use Rattle.ips_run.specs.declared.ending.Ending.TheVariants as ending
 use Rattle.ips_run.specs.declared.next.Next.{Next}
 use Rattle.ips_run.specs.declared.next.Next.TheVariants as next
 use Rattle.ips_run.specs.Ending.{is_left, is_folder_fault, IsEarly}
-use Rattle.ips_run.specs.Comes.{HasRun, IsStopped, IsToDecide, IsUnopened, IsUnready, IsBackTo, Comes, Unopened, Unfinished, Back, Unready}
+use Rattle.ips_run.specs.Comes.{HasRun, IsStopped, IsToDecide, IsUnopened, IsUnready, IsBackTo, Leaves, Comes, Unopened, Unfinished, Back, Unready}
 use Rattle.ips_run.specs.Phases.{next_of}
 use Rattle.ips_run.proofs.Told.{none_run}
 use Rattle.ips_run.proofs.Nexts.{refused_of, stopped_of, shown_of, changed_of, show_is, change_is, create_is}
@@ -70,14 +70,14 @@ module _ {T P : Type 0} (r : Running P) (p : P) (n : Effect) (D : Image → Deci
   abbrev ComesHere : Image → List Carrier → (List Run → Type 0) → Ending T → Type 0
   ComesHere left now Ran x = Comes n (D (image_for n held)) tells repository held left old now Ran x
 
-  pub comes_unopened : (left : Image) (x : Ending T) → IsUnopened x → ComesHere left old (HasRun r p p) x
-  comes_unopened left x is = Unopened is refl (none_run r p)
+  pub comes_unopened : (left : Image) (x : Ending T) → IsUnopened x → Leaves n held left x → ComesHere left old (HasRun r p p) x
+  comes_unopened left x is leaves = Unopened is leaves refl (none_run r p)
 
   module _ (t left : Image) (same : t ≡ held) (found : Pending) (pending : IsPending t found) where
-    pub comes_refused : next_of n found ≡ next.Refuse → ComesHere left old (HasRun r p p) ending.Unfinished
-    comes_refused is =
+    pub comes_refused : next_of n found ≡ next.Refuse → left ≡ held → ComesHere left old (HasRun r p p) ending.Unfinished
+    comes_refused is kept =
         let (unfixed, there) = refused_of t n found pending is in
-        Unfinished unfixed (λ none. there (ap (λ (u : Image). u.look gate_name) same ∙ none)) refl (none_run r p)
+        Unfinished unfixed (λ none. there (ap (λ (u : Image). u.look gate_name) same ∙ none)) kept refl (none_run r p)
 
     pub comes_back : (now : List Carrier) (x : Ending T) → next_of n found ≡ next.Recover → IsBackTo t left old now x → ComesHere left now (HasRun r p p) x
     comes_back now x is back =
@@ -90,8 +90,8 @@ module _ {T P : Type 0} (r : Running P) (p : P) (n : Effect) (D : Image → Deci
         let here : Comes n (D held) tells repository held left old now Ran x = subst (λ (u : Image). Comes n (D u) tells repository u left old now Ran x) same comes in
         subst (λ (u : Image). Comes n (D u) tells repository held left old now Ran x) (sym (image_same n held other)) here
 
-    pub comes_shown : (x : Ending T) → next_of n found ≡ next.Show → IsUnready n (D t) tells repository x → ComesHere left old (HasRun r p p) x
-    comes_shown x is unready = as_held (show_is n found is).1 old (HasRun r p p) x (Unready (shown_of t n found pending is) unready refl (none_run r p))
+    pub comes_shown : (x : Ending T) → next_of n found ≡ next.Show → IsUnready n (D t) tells repository x → Leaves n t left x → ComesHere left old (HasRun r p p) x
+    comes_shown x is unready leaves = as_held (show_is n found is).1 old (HasRun r p p) x (Unready (shown_of t n found pending is) unready leaves refl (none_run r p))
 
     pub comes_asked : (now : List Carrier) (Ran : List Run → Type 0) (x : Ending T) → next_of n found ≡ next.Change → (IsToDecide n t → Comes n (D t) tells repository t left old now Ran x)
         → ComesHere left now Ran x

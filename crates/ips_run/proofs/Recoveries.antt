@@ -1,7 +1,7 @@
 -- A recovery, by its answer.
 use Rattle.std.proofs.Common.{◌≡◌, ◌≢◌, ℕ, Bool, true, false, List, Option, Some, None, Err, Result, is_some, refl, sym, ◌∙◌, ap, subst}
 use Rattle.ips_text.specs.declared.refusal.Or.{Or}
-use Rattle.ips_text.specs.declared.refusal.Or.TheVariants.{Bad, OutOfMemory}
+use Rattle.ips_text.specs.declared.refusal.Or.TheVariants.{Bad}
 use Rattle.ips_text.specs.Reading.{IfBad}
 use Rattle.ips_outside.specs.Image.{Entry, Image}
 use Rattle.ips_outside.specs.State.{State, ChangedWithin, nowhere}
@@ -19,7 +19,6 @@ use Rattle.ips_journal.specs.Text.{journal_text}
 use Rattle.ips_journal.specs.Bad.{IsBadLine}
 use Rattle.ips_journal.specs.Reading.{journal_of}
 use Rattle.ips_journal.proofs.JournalLaws.{none_bad}
-use Rattle.ips_commit.specs.Answers.{IfStarved}
 use Rattle.ips_commit.specs.Pending.{HasCommitted, is_swept}
 use Rattle.ips_commit.specs.Recovering.{SaysOfRecovery, IfBadJournal, IsJournalled, CanRollForward, IsUnfinished}
 use Rattle.ips_commit.specs.declared.fault.CommitFault.{CommitFault}
@@ -201,6 +200,3 @@ bad_of {T = T} result why line is bad none = subst (λ (r : Result T (Or CommitF
 
 pub says_of : (T : Type 0) (e : Or CommitFault) (why : CommitFault) → e ≡ Bad why → (P : CommitFault → Type 0) → IfBad {X = T} {E = CommitFault} (Err e) P → P why
 says_of T e why is P says = subst (λ (x : Or CommitFault). IfBad {X = T} {E = CommitFault} (Err x) P) is says
-
-pub out_of_memory_of : (T : Type 0) (e : Or CommitFault) → e ≡ OutOfMemory → (P : Type 0) → IfStarved {T = T} {E = CommitFault} (Err e) P → P
-out_of_memory_of T e is P out_of_memory = subst (λ (x : Or CommitFault). IfStarved {T = T} {E = CommitFault} (Err x) P) is out_of_memory

@@ -1,5 +1,5 @@
 -- What is told of a decision, ending by ending.
-use Rattle.std.proofs.Common.{◌≡◌, ℕ, Bool, true, false, IsFalse, List, refl, sym, ◌∙◌}
+use Rattle.std.proofs.Common.{◌≡◌, ℕ, Bool, true, IsFalse, List, refl, ◌∙◌}
 use Rattle.ips_steps.proofs.Lists.{clash}
 use Rattle.ips_run.specs.declared.operation.Change.{Change}
 use Rattle.ips_run.specs.declared.operation.Decision.{Decision}

@@ -1,5 +1,6 @@
 -- What a request did, by its ending: what was decided, which actuators were run, and what was laid.
-use Rattle.std.proofs.Common.{◌≡◌, ℕ, ◌≤◌, Bool, true, false, IsTrue, List, [], ◌∷◌, ◌++◌, length, map, take, slice_get, Some, Err, append_assoc, append-nil, refl, sym, ◌∙◌, ap, subst}
+use Rattle.std.proofs.Common.{◌≡◌, inl, inr, arith, ℕ, ◌≤◌, Bool, true, false, IsTrue, List, [], ◌∷◌, ◌++◌, length, map, take, slice_get, Some, Err, append_assoc, append-nil, refl, sym, ◌∙◌, ap, subst}
+use Rattle.std.proofs.lemmas.Option.{slice_get_cases}
 use Rattle.ips_outside.specs.Image.{Image}
 use Rattle.ips_outside.specs.State.{State}
 use Rattle.ips_outside.specs.Running.{Run, Running}
@@ -13,7 +14,9 @@ use Rattle.ips_kinds.specs.Tallies.{Carrier, all_counted}
 use Rattle.ips_actuate.specs.Running.{succeeded, Ends, IsFaultOfRun, IsSpawn}
 use Rattle.ips_actuate.specs.declared.running.ActFault.{ActFault}
 use Rattle.ips_actuate.specs.declared.running.ActFault.TheVariants as act_fault
+use Rattle.ips_commit.specs.Answers.{IsToldOrMasked}
 use Rattle.ips_commit.specs.Contents.{AreIntactContents}
+use Rattle.ips_commit.proofs.Masked.{told_own, told_other}
 use Rattle.ips_commit.specs.Staging.{HasStaged}
 use Rattle.ips_commit.specs.declared.fault.CommitFault.{CommitFault}
 use Rattle.ips_commit.specs.declared.fault.CommitFault.TheVariants as commit_fault
@@ -24,11 +27,11 @@ use Rattle.ips_run.specs.declared.operation.Decision.{Decision}
 use Rattle.ips_run.specs.declared.operation.Decision.TheVariants as decision
 use Rattle.ips_run.specs.declared.ending.Ending.{Ending}
 use Rattle.ips_run.specs.declared.ending.Ending.TheVariants as ending
-use Rattle.ips_run.specs.Ending.{is_left, is_folder_fault, is_source_fault, is_spawn_fault}
+use Rattle.ips_run.specs.Ending.{is_left, is_failed, is_folder_fault, is_source_fault, is_spawn_fault}
 use Rattle.ips_run.specs.declared.preparing.Prepared.{Prepared}
 use Rattle.ips_run.specs.Planned.{IsPlanned}
-use Rattle.ips_run.specs.Comes.{HasRun, IsUnready, IsCarriedTo}
-use Rattle.ips_run.specs.Phases.{uncommitted_as, IsUnrun, Failed, Spawn, IsUnstaged, IsReadied}
+use Rattle.ips_run.specs.Comes.{HasRun, IsUnready, IsGivenUp, IsCarriedTo}
+use Rattle.ips_run.specs.Phases.{uncommitted_as, IsUnrun, IsUnrunBefore, Failed, Spawn, IsUnstaged, IsReadied}
 
 -- nothing is run
 pub none_run : {P : Type 0} (r : Running P) (p : P) → HasRun r p p []
@@ -86,6 +89,35 @@ module _ {P : Type 0} (r : Running P) (steps : List Step) (before behind : List 
         ran = λ tells. let (runs, is, (w, at, ends)) = ran tells in is ∙ ap (λ (l : List Run). r.ran old ++ l) ends;
       }
 
+  -- the same where what stands ready was to be taken away then, and a call failed
+  given_up : (old new : P) (why : ActFault) → IsFaultOfRun before why → RanTo old new before why → IsGivenUp steps before behind start start (HasRun r old new)
+  given_up old new (act_fault.Failed index status) within ran = elim (slice_get_cases before index).1 [
+    | inl there ↦ inl (
+      there.0,
+      status,
+      record {
+        index = index;
+        stands = there.2;
+        failed = within.1;
+        counted = refl;
+        ran = λ tells. let (runs, is, ends) = ran tells in is ∙ ap (λ (l : List Run). r.ran old ++ l) (failed_ran before index status there.0 runs there.2 ends);
+      },
+    )
+    | inr past ↦ absurd (omega (arith, past.0, within.0))
+  ]
+  given_up old new (act_fault.Spawn index) within ran = inr (record {
+    index = index;
+    within = within;
+    counted = refl;
+    ran = λ tells. let (runs, is, (w, at, ends)) = ran tells in is ∙ ap (λ (l : List Run). r.ran old ++ l) ends;
+  })
+
+  pub told_before : (old new : P) (slice : List (List (List ℕ))) → slice ≡ before → (why : ActFault) (x : Ending T) → IsFaultOfRun slice why → IsUnrunBefore before why x → RanTo old new slice why
+      → IsCarriedTo steps before behind told start start (HasRun r old new) x
+  told_before old new slice same why x within (inl unrun) ran = told_unrun old new slice same why x within unrun ran
+  told_before old new slice same why x within (inr is) ran = subst (λ (e : Ending T). IsCarriedTo steps before behind told start start (HasRun r old new) e) (sym is)
+      (inr (refl, given_up old new why (subst (λ (l : List (List (List ℕ))). IsFaultOfRun l why) same within) (subst (λ (l : List (List (List ℕ))). RanTo old new l why) same ran)))
+
   -- all of the list was run
   abbrev RanAll : P → P → List (List (List ℕ)) → Type 0
   RanAll old new list = IsTrue (r.tells old) → (ran : List Run) × (r.ran new ≡ r.ran old ++ ran) × (ran ≡ map succeeded list)
@@ -96,7 +128,7 @@ module _ {P : Type 0} (r : Running P) (steps : List Step) (before behind : List 
   pub told_part : (old mid : P) (slice : List (List (List ℕ))) → slice ≡ before → (now : List Carrier) (why : CommitFault) (x : Ending T) (laid : ℕ) → RanAll old mid slice → why ≡ commit_fault.Unfinished → x ≡ uncommitted_as why
       → laid ≤ length steps → now ≡ all_counted (take laid steps) start → IsCarriedTo steps before behind told start now (HasRun r old mid) x
   told_part old mid slice same now why x laid ran unfinished is few counted = subst (λ (e : Ending T). IsCarriedTo steps before behind told start now (HasRun r old mid) e)
-      (sym (is ∙ ap (λ (w : CommitFault). uncommitted_as w) unfinished)) (refl, record { laid = laid; few = few; counted = counted; ran = all_ran old mid slice before same ran })
+      (sym (is ∙ ap (λ (w : CommitFault). uncommitted_as w) unfinished)) (inl (refl, record { laid = laid; few = few; counted = counted; ran = all_ran old mid slice before same ran }))
 
   module _ (old mid new : P) (same_kind : r.tells mid ≡ r.tells old) (slice : List (List (List ℕ))) (same : slice ≡ before) (first : RanAll old mid slice) (now : List Carrier) (counted : now ≡ all_counted steps start) where
     both_ran : (more : List Run) → IsTrue (r.tells old) → r.ran new ≡ r.ran mid ++ more → r.ran new ≡ r.ran old ++ (map succeeded before ++ more)
@@ -155,6 +187,26 @@ unrun_cause {T = T} list after why x a b (Failed {index = index} {status = statu
     (λ q. clash (is_spawn_fault {T = T} (ending.ActuatorFailed after words status)) q refl)
 unrun_cause {T = T} list after why x a b (Spawn {index = index}) h =
     cause_as a b (IsSpawn (Err (act_fault.Spawn index))) (is_spawn_fault {T = T} (ending.SpawnFault after) ≡ true) h (λ p. refl) (λ q. tt)
+
+-- what holds wherever an actuator wasn't run to its end, and where what stands ready couldn't be taken away, holds before the commit
+pub unrun_before : {T : Type 0} (list : List (List (List ℕ))) (why : ActFault) (x : Ending T) (P : Ending T → Type 0) → IsUnrunBefore list why x → (IsUnrun list false why x → P x) → P (ending.FolderFault false) → P x
+unrun_before list why x P (inl unrun) run fault = run unrun
+unrun_before list why x P (inr is) run fault = subst P (sym is) fault
+
+-- the spawner's fault is told, or the folder's that came behind it
+pub before_cause : {T : Type 0} (list : List (List (List ℕ))) (why : ActFault) (x : Ending T) (a b : ℕ) → IsUnrunBefore list why x → HasCause a b (IsSpawn (Err why))
+    → HasCause a b (IsToldOrMasked a b (is_spawn_fault x ≡ true) (is_failed x ≡ true))
+before_cause list why x a b is h = unrun_before list why x (λ e. HasCause a b (IsToldOrMasked a b (is_spawn_fault e ≡ true) (is_failed e ≡ true))) is
+    (λ unrun. told_own a b _ _ (unrun_cause list false why x a b unrun h)) (told_other a b _ _ h.later (λ bad. cc) refl)
+
+-- where the commit failed it isn't the spawner's
+pub uncommitted_cause : {T : Type 0} (why : CommitFault) (x : Ending T) (a b : ℕ) → x ≡ uncommitted_as why → HasCause a b ⊥ → HasCause a b (IsToldOrMasked a b (is_spawn_fault x ≡ true) (is_failed x ≡ true))
+uncommitted_cause {T = T} why x a b is h = told_own a b _ _ (cause_as a b ⊥ (is_spawn_fault x ≡ true) h (λ bad. absurd bad) (λ spawn. absurd (clash (is_spawn_fault x) spawn (ap (λ (e : Ending T). is_spawn_fault e) is ∙ go why))))
+  where
+    go : (why : CommitFault) → is_spawn_fault {T = T} (uncommitted_as why) ≡ false
+    go commit_fault.Unchanged = refl
+    go commit_fault.Unfinished = refl
+    go (commit_fault.BadJournal line) = refl
 
 -- the same, where the repository was read until then
 pub unready_behind : {T : Type 0} (effect : Effect) (decides : Decision T → Type 0) (tells now_tells : Bool) (repository now_repository : State) (c : Change T) (x : Ending T) → shows effect ≡ false

@@ -64,6 +64,13 @@ abbrev pub is_folder_fault : {T : Type 0} → Ending T → Bool
 is_folder_fault (ending.FolderFault unfinished) = true
 is_folder_fault other = false
 
+-- a change was staged and isn't committed: a payload has a fault, or an actuator before the commit wasn't run to its end
+abbrev pub is_withdrawn : {T : Type 0} → Ending T → Bool
+is_withdrawn (ending.BadPayload name fault) = true
+is_withdrawn (ending.ActuatorFailed after words status) = not after
+is_withdrawn (ending.SpawnFault after) = not after
+is_withdrawn other = false
+
 -- a call on the repository failed
 abbrev pub is_source_fault : {T : Type 0} → Ending T → Bool
 is_source_fault ending.SourceFault = true

@@ -1,9 +1,10 @@
 -- What the phases of a run do to a folder.
 use Rattle.std.specs.Prelude.{◌≡◌, ◌≢◌, ◌⊎◌, ℕ, ◌≤◌, Bool, true, false, cond, IsTrue, IsFalse, List, length, map, take, slice_get, Option, Some, None, IfSome}
 use Rattle.ips_outside.specs.Image.{Image}
-use Rattle.ips_outside.specs.State.{State, MayLeave, settled}
+use Rattle.ips_outside.specs.State.{State, MayLeave, nowhere, settled}
 use Rattle.ips_outside.specs.Outside.{Outside, Rose}
-use Rattle.ips_folder.specs.Calls.{Throughout}
+use Rattle.ips_outside.specs.Running.{Run}
+use Rattle.ips_folder.specs.Calls.{ChangesOnly, Throughout}
 use Rattle.ips_steps.specs.Steps.{Step}
 use Rattle.ips_steps.specs.Private.{gate_name, visible}
 use Rattle.ips_steps.specs.Owed.{FolderOwes}
@@ -13,7 +14,8 @@ use Rattle.ips_journal.specs.Text.{journal_text}
 use Rattle.ips_actuate.specs.declared.running.ActFault.{ActFault}
 use Rattle.ips_actuate.specs.declared.running.ActFault.TheVariants as act_fault
 use Rattle.ips_commit.specs.Contents.{AreIntactContents, SaysOfStage}
-use Rattle.ips_commit.specs.Staging.{IsStaged, NoMoreReady}
+use Rattle.ips_commit.specs.Pending.{is_swept}
+use Rattle.ips_commit.specs.Staging.{IsStaged, IsCleared, NoMoreReady}
 use Rattle.ips_commit.specs.Due.{DueOnceOpen}
 use Rattle.ips_commit.specs.Recovering.{IsJournalled, IsOpenedOver, CanResume, IsUnfinished}
 use Rattle.ips_commit.specs.declared.fault.StageFault.TheVariants as stage
@@ -35,7 +37,8 @@ use Rattle.ips_run.specs.declared.next.Next.{Next}
 use Rattle.ips_run.specs.declared.next.Next.TheVariants as next
 use Rattle.ips_run.specs.declared.ending.Ending.{Ending}
 use Rattle.ips_run.specs.declared.ending.Ending.TheVariants as ending
-use Rattle.ips_run.specs.Ending.{is_done, is_refused, is_unneeded, recovery, is_left, is_bad_journal, is_out_of_memory, TellsAtMost}
+use Rattle.ips_run.specs.Ending.{is_done, is_refused, is_unneeded, recovery, is_left, is_bad_journal, is_out_of_memory, is_failed, TellsAtMost}
+use Rattle.ips_run.specs.Comes.{IsGivenUp}
 
 -- what comes behind a closed gate at which nothing is to be recovered
 abbrev pub decided_next : Effect → Next
@@ -82,21 +85,13 @@ pub data IsUnrun {T : Type 0} (list : List (List (List ℕ))) (after : Bool) : A
   Failed : {index status : ℕ} {words : List (List ℕ)} → slice_get list index ≡ Some words → IsUnrun list after (act_fault.Failed index status) (ending.ActuatorFailed after words status)
   Spawn : {index : ℕ} → IsUnrun list after (act_fault.Spawn index) (ending.SpawnFault after)
 
+-- how it ends where that is before the commit: so; or what stands ready couldn't be taken away
+abbrev pub IsUnrunBefore : {T : Type 0} → List (List (List ℕ)) → ActFault → Ending T → Type 0
+IsUnrunBefore list fault x = IsUnrun list false fault x ⊎ (x ≡ ending.FolderFault false)
+
 -- some of these steps are laid and counted, and a recovery lays no more than a thousand of them again
 abbrev pub IsResumable : {F : Type 0} → Outside F → List Carrier → List Carrier → F → Type 0
 IsResumable o before now new = (steps : List Step) × (laid : ℕ) × (laid ≤ length steps) × (now ≡ all_counted (take laid steps) before) × CanResume (o.state new) 0 laid
-
--- A change is carried out as far as the ending says: the image before it is owed, or the one that it means, which is due
--- once the gate is safely open, and reached at the end; what was refused has changed nothing.
-pub record IsCarried {F T : Type 0} (o : Outside F) (a : Image) (x : Ending T) (before now : List Carrier) (old new : F) : Type 0 where
-  pub owed : Throughout o old new (FolderOwes journal_text (visible (o.state old).held) (Some a) false)
-  pub due : DueOnceOpen o (visible (o.state old).held) a old new
-  pub done : IsTrue (is_done x) → HasEnded (Some a) (o.state new)
-  pub kept : IsTrue (is_refused x) → new ≡ old
-  pub resumes : IsTrue (is_left x) → IsResumable o before now new
-  pub unrecovered : recovery x ≡ None
-  pub readable : IsFalse (is_bad_journal x)
-  pub has_memory : IsFalse (is_out_of_memory x)
 
 -- nothing stands at the gate, and nothing would after a crash
 abbrev pub IsSafelyShut : State → Type 0
@@ -105,6 +100,21 @@ IsSafelyShut s = (s.held.look gate_name ≡ None) × ((c : Image) → MayLeave s
 -- it is so at every moment
 abbrev pub StaysSafelyShut : {F : Type 0} → Outside F → F → F → Type 0
 StaysSafelyShut o old new = Throughout o old new IsSafelyShut
+
+-- A change is carried out as far as the ending says: the image before it is owed, or the one that it means, which is due
+-- once the gate is safely open, and reached at the end; what was refused has changed only what staging writes, and unless a call failed
+-- nothing stands there.
+pub record IsCarried {F T : Type 0} (o : Outside F) (a : Image) (x : Ending T) (before now : List Carrier) (old new : F) : Type 0 where
+  pub owed : Throughout o old new (FolderOwes journal_text (visible (o.state old).held) (Some a) false)
+  pub due : DueOnceOpen o (visible (o.state old).held) a old new
+  pub done : IsTrue (is_done x) → HasEnded (Some a) (o.state new)
+  pub kept : IsTrue (is_refused x) → ChangesOnly o is_swept nowhere old new
+  pub unopened : IsTrue (is_refused x) → StaysSafelyShut o old new
+  pub cleared : IsTrue (is_refused x) → IsFalse (is_failed x) → IsCleared (o.state new).held
+  pub resumes : IsTrue (is_left x) → IsResumable o before now new
+  pub unrecovered : recovery x ≡ None
+  pub readable : IsFalse (is_bad_journal x)
+  pub has_memory : IsFalse (is_out_of_memory x)
 
 -- A request from a closed gate on: the image before it is owed, or one that it means; a refusal leaves what is seen as before and
 -- makes no call at the gate that may change something; and memory runs out only before the gate's call.
@@ -180,3 +190,16 @@ pub record HasFailedInRecovery {F : Type 0} (o : Outside F) (old new : F) : Type
   pub since : IsNotBefore o old opened
   pub rose : Rose (o.faults opened) (o.faults new)
   pub changed : Rose (o.changes opened) (o.changes new)
+
+-- A change that stood ready couldn't be taken away: it was decided on and stood ready at a moment of this run, an actuator before its commit
+-- wasn't run to its end, and since then only what staging writes was changed, and a call failed.
+pub record IsLeftReady {F T : Type 0} (o : Outside F) (decides : Decision T → Type 0) (before now : List Carrier) (Ran : List Run → Type 0) (old new : F) : Type 0 where
+  pub change : Change T
+  pub decided : decides (decision.Change change)
+  pub ready : F
+  pub after : Image
+  pub staged : IsStaged (map step_of change.steps.items) after (o.state ready)
+  pub since : IsNotBefore o old ready
+  pub given_up : IsGivenUp (map step_of change.steps.items) change.before.items change.after.items before now Ran
+  pub kept : ChangesOnly o is_swept nowhere ready new
+  pub rose : Rose (o.faults ready) (o.faults new)

@@ -1,30 +1,35 @@
 //! A change that stands ready, carried out.
 
-ghost use Rattle.std.specs.Prelude.{◌≡◌, ◌≤◌, [], List, IsTrue, IsFalse};
+ghost use Rattle.std.specs.Prelude.{◌≡◌, ◌≤◌, [], List, Option, None, false, IsTrue, IsFalse};
 ghost use Rattle.ips_outside.specs.Image.{Image};
+ghost use Rattle.ips_outside.specs.State.{IsSettled, nowhere};
 ghost use Rattle.ips_outside.specs.Outside.{HasCause, Rose};
-ghost use Rattle.ips_folder.specs.Calls.{CanMake};
+ghost use Rattle.ips_folder.specs.Calls.{CanMake, ChangesOnly, Throughout};
 ghost use Rattle.ips_steps.specs.Steps.{Step};
-ghost use Rattle.ips_steps.specs.Private.{gate_name};
+ghost use Rattle.ips_steps.specs.Private.{gate_name, visible};
+ghost use Rattle.ips_steps.specs.Owed.{FolderOwes};
 ghost use Rattle.ips_steps.specs.declared.step.Sort.{Sort};
 ghost use Rattle.ips_kinds.specs.Tallies.{seen_by, taken};
+ghost use Rattle.ips_journal.specs.Text.{journal_text};
 ghost use Rattle.ips_actuate.specs.Running.{IsFaultOfRun};
-ghost use Rattle.ips_commit.specs.Pending.{HasNoOtherMark};
-ghost use Rattle.ips_commit.specs.Staging.{IsStaged};
+ghost use Rattle.ips_commit.specs.Answers.{IsToldOrMasked};
+ghost use Rattle.ips_commit.specs.Pending.{HasNoOtherMark, is_swept};
+ghost use Rattle.ips_commit.specs.Staging.{IsStaged, IsCleared};
 ghost use Rattle.ips_commit.specs.Recovering.{IsOpenedOver};
-ghost use Rattle.ips_run.specs.Ending.{HasPayloadFault, TellsAtMost, is_done, is_left, is_folder_fault, is_source_fault, is_spawn_fault};
+ghost use Rattle.ips_run.specs.Ending.{HasPayloadFault, TellsAtMost, is_done, is_left, is_failed, is_folder_fault, is_source_fault, is_spawn_fault};
 ghost use Rattle.ips_run.specs.Comes.{HasRun, IsCarriedTo};
-ghost use Rattle.ips_run.specs.Phases.{IsCarried, IsUnrun, uncommitted_as};
+ghost use Rattle.ips_run.specs.Phases.{IsCarried, IsUnrun, IsUnrunBefore, uncommitted_as};
 
 use crate::ending::Ending;
 use crate::preparing::Prepared;
 use ips_actuate::{ActFault, Words, run_all};
-use ips_commit::{CommitFault, commit};
+use ips_commit::{CommitFault, Ready, commit, discard};
 use ips_folder::Folder;
 use ips_kinds::Kind;
-use ips_outside::{Source, Spawner};
+use ips_outside::{Failed, Source, Spawner};
 
-// Runs the actuators before, commits what stands ready, and runs the actuators after.
+// Runs the actuators before, commits what stands ready, and runs the actuators after. Where one before isn't run to its end, what
+// stands ready is taken away.
 pub(crate) fn carry_out<T: Drop, F: Folder, P: Spawner>(
     prepared: Prepared<T>,
     folder: &mut F,
@@ -42,7 +47,8 @@ pub(crate) fn carry_out<T: Drop, F: Folder, P: Spawner>(
     ensures journal { IsTrue (F.outside.tells folder.old) → (steps : List Step) (a : Image) → IsStaged steps a (F.outside.state folder.old)
         → IsTrue (is_done result) → IsOpenedOver F.outside steps folder.old folder.new }
     ensures folder { HasCause (F.outside.faults folder.old) (F.outside.faults folder.new) (IsTrue (is_folder_fault result)) }
-    ensures spawner { HasCause (P.running.faults spawner.old) (P.running.faults spawner.new) (IsTrue (is_spawn_fault result)) }
+    ensures spawner { HasCause (P.running.faults spawner.old) (P.running.faults spawner.new)
+        (IsToldOrMasked (P.running.faults spawner.old) (P.running.faults spawner.new) (IsTrue (is_spawn_fault result)) (IsTrue (is_failed result))) }
     ensures changed { IsTrue (is_left result) → Rose (F.outside.changes folder.old) (F.outside.changes folder.new) }
     ensures payload { HasPayloadFault result }
     ensures tells { TellsAtMost prepared.told result }
@@ -58,7 +64,7 @@ pub(crate) fn carry_out<T: Drop, F: Folder, P: Spawner>(
     } = prepared;
     match run_all(spawner, &before) {
         Ok(()) => {}
-        Err(fault) => return unrun(fault, false, &mut before),
+        Err(fault) => return given_up(fault, &mut before, ready, folder),
     }
     match commit(ready, folder, kinds) {
         Ok(_) => {}
@@ -67,6 +73,30 @@ pub(crate) fn carry_out<T: Drop, F: Folder, P: Spawner>(
     match run_all(spawner, &after) {
         Ok(()) => Ending::Done(told),
         Err(fault) => unrun(fault, true, &mut after),
+    }
+}
+
+// How a run ends where an actuator before the commit wasn't run to its end: what stands ready is taken away.
+fn given_up<T: Drop, F: Folder>(
+    fault: ActFault,
+    before: &mut Vec<Words>,
+    ready: Ready,
+    folder: &mut F,
+) -> Ending<T>
+    requires fault { IsFaultOfRun before.old.items fault }
+    requires unmarked { IsTrue (F.outside.tells folder.old) → HasNoOtherMark (F.outside.state folder.old).held [] }
+    ensures unrun { IsUnrunBefore before.old.items fault result }
+    ensures any_moment { IsTrue (F.outside.tells folder.old) → ChangesOnly F.outside is_swept nowhere folder.old folder.new }
+    ensures owed { IsTrue (F.outside.tells folder.old) → IsSettled (F.outside.state folder.old) → (F.outside.state folder.old).held.look gate_name ≡ None → (a : Option Image)
+        → Throughout F.outside folder.old folder.new (FolderOwes journal_text (visible (F.outside.state folder.old).held) a false) }
+    ensures cleared { IsTrue (F.outside.tells folder.old) → IsFalse (is_failed result) → IsCleared (F.outside.state folder.new).held }
+    ensures folder { HasCause (F.outside.faults folder.old) (F.outside.faults folder.new) (IsTrue (is_folder_fault result)) }
+    ensures later { F.outside.changes folder.old ≤ F.outside.changes folder.new }
+    ensures same_kind { F.outside.tells folder.new ≡ F.outside.tells folder.old }
+{
+    match discard(ready, folder) {
+        Ok(()) => unrun(fault, false, before),
+        Err(Failed) => Ending::FolderFault { unfinished: false },
     }
 }
 

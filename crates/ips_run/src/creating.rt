@@ -11,11 +11,12 @@ ghost use Rattle.ips_text.specs.Ancestry.{covers};
 ghost use Rattle.ips_steps.specs.Private.{records_name, gate_name};
 ghost use Rattle.ips_steps.specs.declared.step.Sort.{Sort};
 ghost use Rattle.ips_kinds.specs.Tallies.{seen_by, taken};
+ghost use Rattle.ips_commit.specs.Answers.{IsToldOrMasked};
 ghost use Rattle.ips_history.specs.Directories.{creates, var_name, with_directories};
 ghost use Rattle.ips_history.specs.Transition.{IsNotYetSafe};
 ghost use Rattle.ips_history.specs.Run.{StaysShut};
 ghost use Rattle.ips_run.specs.declared.creating.DirectoryFault.TheVariants as fault;
-ghost use Rattle.ips_run.specs.Ending.{EndsAs, HasPayloadFault, TellsAsSaid, is_done, is_told, is_left, is_folder_fault, is_source_fault, is_spawn_fault};
+ghost use Rattle.ips_run.specs.Ending.{EndsAs, HasPayloadFault, TellsAsSaid, is_done, is_told, is_left, is_failed, is_folder_fault, is_source_fault, is_spawn_fault};
 ghost use Rattle.ips_run.specs.Comes.{Comes, HasRun};
 ghost use Rattle.ips_run.specs.Creating.{IsMissing, IsBlockedBy, SaysOfDirectories, HasMade, HasMadeAtLast, HasMadeInPart, IsSafeAtLast, AreMade, AreUnmade, IsCreated, ended_as};
 ghost use Rattle.ips_run.specs.Phases.{HasFailedInCommit, HasListed};
@@ -72,8 +73,10 @@ pub(crate) fn create<T: Drop, S: Source, F: Folder, P: Spawner, C: Operation<T>>
         (seen_by sorts finished kinds.old.items) (seen_by sorts finished kinds.new.items) folder.old folder.new }
     ensures later { F.outside.changes folder.old ≤ F.outside.changes folder.new }
     ensures folder { HasCause (F.outside.faults folder.old) (F.outside.faults folder.new) (IsTrue (is_folder_fault result)) }
-    ensures source { Reads S.outside source.old source.new (IsTrue (is_source_fault result)) }
-    ensures spawner { HasCause (P.running.faults spawner.old) (P.running.faults spawner.new) (IsTrue (is_spawn_fault result)) }
+    ensures source { Reads S.outside source.old source.new
+        (IsToldOrMasked (S.outside.faults source.old) (S.outside.faults source.new) (IsTrue (is_source_fault result)) (IsTrue (is_failed result))) }
+    ensures spawner { HasCause (P.running.faults spawner.old) (P.running.faults spawner.new)
+        (IsToldOrMasked (P.running.faults spawner.old) (P.running.faults spawner.new) (IsTrue (is_spawn_fault result)) (IsTrue (is_failed result))) }
     ensures payload { HasPayloadFault result }
     ensures says { TellsAsSaid (C.says operation.now) result }
     ensures same_kind { F.outside.tells folder.new ≡ F.outside.tells folder.old }

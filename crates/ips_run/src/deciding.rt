@@ -7,7 +7,7 @@ ghost use Rattle.ips_steps.specs.Private.{records_name, gate_name};
 ghost use Rattle.ips_history.specs.Directories.{shows, creates};
 ghost use Rattle.ips_run.specs.declared.operation.Decision.TheVariants as decision;
 ghost use Rattle.ips_run.specs.Planned.{CanBeListed, IsPlanned};
-ghost use Rattle.ips_run.specs.Ending.{EndsAs, TellsAsSaid, IsEarly, is_folder_fault, is_source_fault};
+ghost use Rattle.ips_run.specs.Ending.{EndsAs, TellsAsSaid, IsEarly, is_folder_fault, is_source_fault, is_withdrawn};
 ghost use Rattle.ips_run.specs.Comes.{IsUnready};
 
 use crate::ending::Ending;
@@ -38,6 +38,7 @@ pub(crate) fn decided<T: Drop, S: Source, F: Folder, C: Operation<T>>(
     ensures unready { IsTrue (F.outside.tells folder.old) → IfErr result (IsUnready (C.effect operation.now)
         (C.decides operation.now (S.outside.tells source.old) (S.outside.state source.old).held (F.outside.state folder.old).held)
         (S.outside.tells source.old) (S.outside.state source.old).held) }
+    ensures unstaged { IfErr result (λ x. IsFalse (is_withdrawn x)) }
     ensures unasked { IsTrue (shows (C.effect operation.now)) → IfErr result (λ x. IsFalse (is_source_fault x)) }
     ensures reads { Reads F.outside folder.old folder.new (EndsAs is_folder_fault result) }
     ensures source { Reads S.outside source.old source.new (EndsAs is_source_fault result) }
@@ -67,6 +68,7 @@ pub(crate) fn shown<T: Drop, S: Source, F: Folder, C: Operation<T>>(
     ensures unready { IsTrue (F.outside.tells folder.old) → IsUnready (C.effect operation.now)
         (C.decides operation.now (S.outside.tells source.old) (S.outside.state source.old).held (F.outside.state folder.old).held)
         (S.outside.tells source.old) (S.outside.state source.old).held result }
+    ensures unstaged { IsFalse (is_withdrawn result) }
     ensures unasked { IsFalse (is_source_fault result) }
     ensures reads { Reads F.outside folder.old folder.new (IsTrue (is_folder_fault result)) }
     ensures source { Reads S.outside source.old source.new (IsTrue (is_source_fault result)) }

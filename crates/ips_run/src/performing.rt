@@ -5,12 +5,13 @@ ghost use Rattle.ips_outside.specs.Outside.{HasCause, OneMore, Reads};
 ghost use Rattle.ips_steps.specs.Private.{gate_name};
 ghost use Rattle.ips_steps.specs.declared.step.Sort.{Sort};
 ghost use Rattle.ips_kinds.specs.Tallies.{seen_by, taken};
+ghost use Rattle.ips_commit.specs.Answers.{IsToldOrMasked};
 ghost use Rattle.ips_commit.specs.Pending.{IsBare};
 ghost use Rattle.ips_history.specs.Directories.{shows, creates, fixes, image_for};
 ghost use Rattle.ips_history.specs.Run.{IsRun};
 ghost use Rattle.ips_run.specs.Ending.{HasPayloadFault, TellsAsSaid, claim_of, is_done, is_left, is_failed, is_refused, is_folder_fault, is_source_fault, is_spawn_fault};
-ghost use Rattle.ips_run.specs.Comes.{Comes, HasRun};
-ghost use Rattle.ips_run.specs.Phases.{HasFailedInCommit, HasFailedInRecovery, HasListed, IsKeptOrSettled, IsUnbegun};
+ghost use Rattle.ips_run.specs.Comes.{Comes, HasRun, Leaves};
+ghost use Rattle.ips_run.specs.Phases.{HasFailedInCommit, HasFailedInRecovery, HasListed, IsKeptOrSettled, IsLeftReady, IsUnbegun};
 ghost use Rattle.ips_run.specs.Unopened.{NeverOpens};
 
 use crate::creating::create;
@@ -51,10 +52,13 @@ pub fn perform<T: Drop, S: Source, F: Folder, P: Spawner, C: Operation<T>>(
         (S.outside.tells source.old) (S.outside.state source.old).held (F.outside.state folder.old).held (F.outside.state folder.new).held
         (seen_by sorts finished kinds.old.items) (seen_by sorts finished kinds.new.items) (HasRun P.running spawner.old spawner.new) result }
 
-    // A fault is told exactly where the count of that object rose.
+    // A fault of the folder is told exactly where its count rose. So is one of the repository or the spawner, unless a call on the folder that
+    // came behind it failed too, as what was staged was to be taken away: then that is told.
     ensures folder { HasCause (F.outside.faults folder.old) (F.outside.faults folder.new) (IsTrue (is_folder_fault result)) }
-    ensures source { Reads S.outside source.old source.new (IsTrue (is_source_fault result)) }
-    ensures spawner { HasCause (P.running.faults spawner.old) (P.running.faults spawner.new) (IsTrue (is_spawn_fault result)) }
+    ensures source { Reads S.outside source.old source.new
+        (IsToldOrMasked (S.outside.faults source.old) (S.outside.faults source.new) (IsTrue (is_source_fault result)) (IsTrue (is_failed result) × IsFalse (shows (C.effect operation.now)))) }
+    ensures spawner { HasCause (P.running.faults spawner.old) (P.running.faults spawner.new)
+        (IsToldOrMasked (P.running.faults spawner.old) (P.running.faults spawner.new) (IsTrue (is_spawn_fault result)) (IsTrue (is_failed result) × IsFalse (shows (C.effect operation.now)))) }
 
     // What is told is that of a decision, whether or not anything is told of the image.
     ensures says { TellsAsSaid (C.says operation.now) result }
@@ -83,10 +87,16 @@ pub fn perform<T: Drop, S: Source, F: Folder, P: Spawner, C: Operation<T>>(
         → IsTrue (is_refused result) → NeverOpens F.outside (C.effect operation.now) folder.old folder.new }
 
     // Unchanged: no sign of a commit is left. The gate isn't touched, and no list of steps stands ready and safe, with nothing touched, unless
-    // the image is the one from before. Not said of an operation that makes an image, nor of a fix that finds something pending.
+    // the image is the one from before; or one was to be taken away, since an actuator before it wasn't run to its end. Not said of an operation
+    // that makes an image, nor of a fix that finds something pending.
     ensures unbegun { IsTrue (F.outside.tells folder.old) → IsFalse (creates (C.effect operation.now))
         → (IsTrue (fixes (C.effect operation.now)) → IsBare (F.outside.state folder.old).held)
-        → IsTrue (is_failed result) → IsUnbegun (F.outside.state folder.old) (F.outside.state folder.new) }
+        → IsTrue (is_failed result) → IsUnbegun (F.outside.state folder.old) (F.outside.state folder.new)
+        ⊎ IsLeftReady F.outside (C.decides operation.now (S.outside.tells source.old) (S.outside.state source.old).held (image_for (C.effect operation.now) (F.outside.state folder.old).held))
+        (seen_by sorts finished kinds.old.items) (seen_by sorts finished kinds.new.items) (HasRun P.running spawner.old spawner.new) folder.old folder.new }
+
+    // Refused, unless a call on the image failed: of a change that was staged nothing is left, and else no more than there was.
+    ensures left { IsTrue (F.outside.tells folder.old) → Leaves (C.effect operation.now) (F.outside.state folder.old).held (F.outside.state folder.new).held result }
 
     // The opening sync is the only call that may change something, where something is shown, and where an open gate is left as it
     // was; and nothing but that has happened to the image.

@@ -9,14 +9,16 @@ ghost use Rattle.ips_steps.specs.Private.{records_name, gate_name, visible};
 ghost use Rattle.ips_steps.specs.Owed.{FolderOwes};
 ghost use Rattle.ips_steps.specs.View.{step_of};
 ghost use Rattle.ips_journal.specs.Text.{journal_text};
+ghost use Rattle.ips_commit.specs.Answers.{IsToldOrMasked};
 ghost use Rattle.ips_commit.specs.Contents.{AreIntactContents};
 ghost use Rattle.ips_commit.specs.Staging.{CanStage, HasStaged};
 ghost use Rattle.ips_history.specs.Directories.{shows, creates};
+ghost use Rattle.ips_history.specs.declared.effect.Effect.{Effect};
 ghost use Rattle.ips_run.specs.declared.operation.Change.{Change};
 ghost use Rattle.ips_run.specs.declared.operation.Decision.TheVariants as decision;
 ghost use Rattle.ips_run.specs.Planned.{CanBeListed};
-ghost use Rattle.ips_run.specs.Ending.{EndsAs, TellsAsSaid, is_told, IsEarly, is_folder_fault, is_source_fault};
-ghost use Rattle.ips_run.specs.Comes.{IsUnready};
+ghost use Rattle.ips_run.specs.Ending.{EndsAs, TellsAsSaid, is_told, IsEarly, is_failed, is_folder_fault, is_source_fault};
+ghost use Rattle.ips_run.specs.Comes.{IsUnready, Leaves};
 ghost use Rattle.ips_run.specs.Phases.{IsReadied, IsUnbegun, IsUnstaged};
 
 use crate::deciding::decided;
@@ -60,9 +62,11 @@ pub(crate) fn prepare<T: Drop, S: Source, F: Folder, C: Operation<T>>(
     ensures unready { IsTrue (F.outside.tells folder.old) → IfErr result (IsUnready (C.effect operation.now)
         (C.decides operation.now (S.outside.tells source.old) (S.outside.state source.old).held (F.outside.state folder.old).held)
         (S.outside.tells source.old) (S.outside.state source.old).held) }
+    ensures left { IsTrue (F.outside.tells folder.old) → IfErr result (Leaves (C.effect operation.now) (F.outside.state folder.old).held (F.outside.state folder.new).held) }
     ensures unbegun { IsTrue (F.outside.tells folder.old) → OnErr result (IsUnbegun (F.outside.state folder.old) (F.outside.state folder.new)) }
     ensures later { F.outside.changes folder.old ≤ F.outside.changes folder.new }
-    ensures source { Reads S.outside source.old source.new (EndsAs is_source_fault result) }
+    ensures source { Reads S.outside source.old source.new
+        (IsToldOrMasked (S.outside.faults source.old) (S.outside.faults source.new) (EndsAs is_source_fault result) (EndsAs is_failed result)) }
     ensures cause { HasCause (F.outside.faults folder.old) (F.outside.faults folder.new) (EndsAs is_folder_fault result) }
     ensures same_kind { F.outside.tells folder.new ≡ F.outside.tells folder.old }
 {
@@ -108,9 +112,11 @@ fn ready_for<T: Drop, S: Source, F: Folder>(
     ensures early { IfErr result IsEarly }
     ensures silent { IfErr result (λ x. IsFalse (is_told x)) }
     ensures unstaged { IfErr result (IsUnstaged (S.outside.tells source.old) (S.outside.state source.old).held change.now) }
+    ensures left { IsTrue (F.outside.tells folder.old) → (effect : Effect) → IfErr result (Leaves effect (F.outside.state folder.old).held (F.outside.state folder.new).held) }
     ensures unbegun { IsTrue (F.outside.tells folder.old) → OnErr result (IsUnbegun (F.outside.state folder.old) (F.outside.state folder.new)) }
     ensures later { F.outside.changes folder.old ≤ F.outside.changes folder.new }
-    ensures source { Reads S.outside source.old source.new (EndsAs is_source_fault result) }
+    ensures source { Reads S.outside source.old source.new
+        (IsToldOrMasked (S.outside.faults source.old) (S.outside.faults source.new) (EndsAs is_source_fault result) (EndsAs is_failed result)) }
     ensures cause { HasCause (F.outside.faults folder.old) (F.outside.faults folder.new) (EndsAs is_folder_fault result) }
     ensures same_kind { F.outside.tells folder.new ≡ F.outside.tells folder.old }
 {

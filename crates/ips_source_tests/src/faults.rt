@@ -17,6 +17,7 @@ fn words(rt: &impl Abort, alloc: Global, fault: Option<&FailedCall<Global>>) -> 
 
 const FILES: &str = "dir faults
 dir faults/d
+file faults/f x
 link faults/l d
 link faults/loop loop";
 
@@ -49,6 +50,22 @@ fn tells_the_first_call_that_failed(rt: HostRuntime) {
     assert!(rt; source.look(&path(&rt, alloc, "f")) == Err(Failed));
     let told = words(&rt, alloc, source.first_fault());
     let wanted = "lstat faults/loop/f: Too many levels of symbolic links (os error 40)";
+    assert!(rt; told.as_str() == wanted, "{told}");
+
+    // of two files the one is told at which the look failed
+    let root = Text::new(alloc, "faults").expect(&rt, "memory");
+    let mut folder = HostFolder::new(rt.clone().expect(&rt, "memory"), root);
+    assert!(rt; folder.same(&path(&rt, alloc, "f"), &path(&rt, alloc, "none")) == Err(Failed));
+    let told = words(&rt, alloc, folder.first_fault());
+    let wanted = "lstat faults/none: No such file or directory (os error 2)";
+    assert!(rt; told.as_str() == wanted, "{told}");
+
+    // an image is a directory
+    let root = Text::new(alloc, "faults/f").expect(&rt, "memory");
+    let mut folder = HostFolder::new(rt.clone().expect(&rt, "memory"), root);
+    assert!(rt; folder.look(&path(&rt, alloc, "x")) == Err(Failed));
+    let told = words(&rt, alloc, folder.first_fault());
+    let wanted = "lstat faults/f/x: Not a directory (os error 20)";
     assert!(rt; told.as_str() == wanted, "{told}");
     fs::remove_dir_all(&rt, "faults")
         .ok()

@@ -305,3 +305,89 @@ fn removes_a_subtree_and_follows_no_link(rt: HostRuntime) {
         .ok()
         .expect(&rt, "no fault");
 }
+
+// What was seen or made is known, until something else is made or taken away there.
+const KNOWN: &str = "
+# nothing stood there, and then something does
+look n -> absent, 0 ``
+make_file n -> ok
+look n -> file 600 0, 0 ``
+look p/f -> absent, 0 ``
+make_dir p 755 -> ok
+make_file p/f -> ok
+look p/f -> file 600 0, 0 ``
+# in a directory that was just made nothing stands, until something is made
+make_dir d 755 -> ok
+look d/f -> absent, 0 ``
+remove d/f -> ok
+make_file d/f -> ok
+remove d/f -> ok
+look d/f -> absent, 0 ``
+make_link d/f g -> ok
+remove d/f -> ok
+make_hard d/f n -> ok
+look d/f -> file 600 0, 0 ``
+# a directory that is gone isn't known, nor what stood below it
+make_dir d/e 755 -> ok
+remove d -> ok
+remove d -> ok
+make_file d/f -> failed
+make_file d -> ok
+look d/f -> absent, 0 ``
+make_dir d/e 755 -> failed
+remove d -> ok
+make_dir d 755 -> ok
+make_file d/f -> ok
+# a file that was seen is known under its own path alone
+look d/f -> file 600 0, 0 ``
+remove d/f -> ok
+make_hard d/g d/f -> failed
+make_hard d/g d -> failed
+make_link d/f ../n -> ok
+make_hard d/g d/f -> failed
+set_mode d/f 644 -> failed
+look n -> file 600 0, 0 ``
+remove n -> ok
+look n -> absent, 0 ``
+";
+
+// A mode that was kept once is kept again in the same directory, while that has its own.
+const KEPT: &str = "
+make_dir a 755 -> ok
+make_dir b 755 -> ok
+make_dir c 777 -> ok
+make_dir e 777 -> ok
+look b -> dir 755, 0 ``
+look e -> dir 777, 0 ``
+make_file a/f -> ok
+make_file a/g -> ok
+set_mode a/f 644 -> ok
+set_mode a/g 644 -> ok
+set_mode a/f 4755 -> ok
+look a/f -> file 4755 0, 0 ``
+look a/g -> file 644 0, 0 ``
+make_dir a/b 755 -> ok
+set_mode a 2755 -> ok
+make_dir a/c 755 -> ok
+look a/c -> dir 755, 0 ``
+make_dir a/d 2755 -> ok
+make_dir a/e 755 -> ok
+look a/d -> dir 2755, 0 ``
+look a/e -> dir 755, 0 ``
+";
+
+#[test]
+fn knows_what_it_saw_and_made(rt: HostRuntime) {
+    let alloc = rt.alloc();
+    for (script, count) in [(KNOWN, 37), (KEPT, 21)] {
+        set_up(&rt, "known", "dir known").expect(&rt, "files");
+        let mut folder = HostFolder::new(
+            rt.clone().expect(&rt, "memory"),
+            Text::new(alloc, "known").expect(&rt, "memory"),
+        );
+        play(&rt, alloc, &mut folder, script, count);
+        fs::remove_dir_all(&rt, "known")
+            .ok()
+            .expect(&rt, "no fault");
+    }
+}

@@ -21,4 +21,6 @@ pub enum Which {
     AccountBytes,
     /// The number of steps that lay the changes of one request.
     Steps,
+    /// The number of names that one file gets by the steps of one request.
+    Names,
 }

@@ -21,6 +21,7 @@ use Rattle.ips_run.specs.declared.ending.Ending.TheVariants as ending
 use Rattle.ips_run.specs.Ending.{HasPayloadFault, TellsAsSaid, claim_of, is_done, is_failed, is_folder_fault, is_left, is_refused, is_source_fault, is_spawn_fault, is_unneeded}
 use Rattle.ips_run.specs.Comes.{Comes, IsBackTo, IsCarriedTo, IsUnopened}
 use Rattle.ips_run.specs.Comes as comes
+use Rattle.ips_run.proofs.Leaving.{comes_leaving}
 use Rattle.ips_operations.specs.told.Told.{IsToldAs, Manner, blames_folder, blames_source, blames_spawner, claimed, claims_done, claims_failed, claims_refused, claims_unfinished, manner_of, told_as}
 use Rattle.ips_operations.proofs.told.Alike.{manner_as, manner_told, claims_as, blames_folder_as, blames_source_as, blames_spawner_as}
 use Rattle.ips_operations.specs.telling.Finishing.{IsEarly, IsToldFor}
@@ -186,16 +187,19 @@ early_spawner ending.OutOfMemory now = absurd now
 module _ {effect : Effect} {decides : Decision Outcome → Type 0} {tells : Bool} {repository held left : Image} {old now : List Carrier} {Ran : List Run → Type 0} where
   -- The gate is closed, nothing is counted and nothing was run.
   pub early_comes : (x : Ending Outcome) → Comes effect decides tells repository held left old now Ran x → IsEarly (manner_as x) → (held.look gate_name ≡ None) × ((now ≡ old) × Ran [])
-  early_comes x (comes.Unopened is counted ran) early = absurd (unopened_late x is early)
-  early_comes x (comes.Unfinished none stands counted ran) early = absurd early
+  early_comes x (comes.Unopened is leaves counted ran) early = absurd (unopened_late x is early)
+  early_comes x (comes.Unfinished none stands kept counted ran) early = absurd early
   early_comes x (comes.Back fixes stopped is ran) early = absurd (back_late x held left old now is early)
   early_comes x (comes.NotDirectory creates shut first kept counted ran) early = (shut, (counted, ran))
-  early_comes x (comes.Unready decided is counted ran) early = (decided.0, (counted, ran))
-  early_comes x (comes.Carried c shows decided is intact carried) early = absurd (carried_late x (map step_of c.steps.items) c.before.items c.after.items c.told old now Ran carried early)
+  early_comes x (comes.Unready decided is leaves counted ran) early = (decided.0, (counted, ran))
+  early_comes x (comes.Carried c shows decided is intact leaves carried) early = absurd (carried_late x (map step_of c.steps.items) c.before.items c.after.items c.told old now Ran carried early)
 
   -- So want of memory may come in its place.
   pub starves : (x : Ending Outcome) → Comes effect decides tells repository held left old now Ran x → IsEarly (manner_as x) → Comes effect decides tells repository held left old now Ran ending.OutOfMemory
-  starves x is early = let known = early_comes x is early in comes.Unopened tt known.1.0 known.1.1
+  starves x is early =
+      let known = early_comes x is early in
+      let leaves = comes_leaving x is in
+      comes.Unopened tt (record { withdrawn = λ no. cc; no_more = λ refused unfailed. leaves.no_more (early_refuses x early) (early_unfailed x early) }) known.1.0 known.1.1
 
   -- What is told has come.
   pub comes_as : (x : Ending Outcome) (o : Outcome) → TellsAsSaid IsToldAs x → HasPayloadFault x → Comes effect decides tells repository held left old now Ran x → IsToldFor (told_as x) o → ComesAs (Comes effect decides tells repository held left old now Ran) o

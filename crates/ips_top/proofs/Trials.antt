@@ -62,12 +62,12 @@ module _ (effect : Effect) (decides : Decision Outcome → Type 0) (tells : Bool
   carried c decided other is = tt
 
   counted_by : (x : Ending Outcome) → Comes effect decides tells repository held left old now Ran x → Counted x
-  counted_by x (Unopened un same none) = unopened x un same
-  counted_by x (Unfinished unfixed there same none) = tt
+  counted_by x (Unopened un leaves same none) = unopened x un same
+  counted_by x (Unfinished unfixed there kept same none) = tt
   counted_by x (Back fixing stopped is none) = back x is
   counted_by x (NotDirectory creating shut way kept same none) = tt
-  counted_by x (Unready decide un same none) = unready x un same
-  counted_by x (Carried c changes decide decided intact is) = carried c decided x is
+  counted_by x (Unready decide un leaves same none) = unready x un same
+  counted_by x (Carried c changes decide decided intact leaves is) = carried c decided x is
 
   -- A change that is done, and tells its steps by their sorts, has finished so many.
   pub done_finished : ((d : Decision Outcome) → decides d → TellsItsSteps d) → (told : Outcome) (counts : Counts) (sorts : Sorts) (licenses : Vec Text Global) (n : ℕ) → told ≡ Done counts sorts licenses → n ≡ number_in sorts

@@ -201,12 +201,11 @@ fn a_run_that_fails_at_once_asks_for_nothing(rt: HostRuntime) {
     panic!(rt; "each call fails");
 }
 
-// What an update may tell in which a call fails, `part` where the report isn't told whole, and how the fixes behind it end.
-const TOLD: [&str; 8] = [
+// What an update may tell in which a call fails, `part` where the report isn't told whole, and how the fixes behind it end: what is refused leaves nothing
+// that a fix would clear.
+const TOLD: [&str; 6] = [
     r#""source fault\n" file 644 "abc" file 644 "abc" true version 1 false "nothing to do\n" "nothing to do\n""#,
-    r#""source fault\n" file 644 "abc" file 644 "abc" true version 1 false "recovered: leftovers cleared\n" "nothing to do\n""#,
     r#""folder fault: unchanged\n" file 644 "abc" file 644 "abc" true version 1 false "nothing to do\n" "nothing to do\n""#,
-    r#""folder fault: unchanged\n" file 644 "abc" file 644 "abc" true version 1 false "recovered: leftovers cleared\n" "nothing to do\n""#,
     r#""folder fault: unfinished\n" file 644 "" file 644 "" true version 2 true "recovered: new image\n" "nothing to do\n""#,
     r#""folder fault: unfinished\n" file 644 "" file 644 "" true version 2 true "recovered: leftovers cleared\n" "nothing to do\n""#,
     r#""folder fault: unfinished\n" file 644 "" file 644 "" true version 2 true "nothing to do\n" "nothing to do\n""#,
@@ -272,7 +271,7 @@ const MARKED: &str = r#"
 does | image-create -p test -> 0 done
 catalog | many 1 ->
 many | many@1 | 3000 ->
-with | -R i -s r install many | before 7667 -> 1 "folder fault: unfinished\n"
+with | -R i -s r install many | before 7688 -> 1 "folder fault: unfinished\n"
 laid -> 2300
 look | var/pkg/done.2 -> file 600 ""
 look | var/pkg/done.3 -> absent
@@ -285,7 +284,7 @@ begin ->
 does | image-create -p test -> 0 done
 catalog | many 1 ->
 many | many@1 | 3000 ->
-with | -R i -s r install many | after 9070 -> 1 "folder fault: unfinished\n"
+with | -R i -s r install many | after 9091 -> 1 "folder fault: unfinished\n"
 laid -> 3000
 look | var/pkg/done.3 -> file 600 ""
 does | fix -> 0 recovered: new image
@@ -297,7 +296,7 @@ const UNMARKED: &str = r#"
 does | image-create -p test -> 0 done
 catalog | many 1 ->
 many | many@1 | 3000 ->
-with | -R i -s r install many | gone 9070 -> 1 "folder fault: unfinished\n"
+with | -R i -s r install many | gone 9091 -> 1 "folder fault: unfinished\n"
 laid -> 3000
 look | var/pkg/done.2 -> file 600 ""
 look | var/pkg/done.3 -> absent
@@ -307,7 +306,7 @@ begin ->
 does | image-create -p test -> 0 done
 catalog | many 1 ->
 many | many@1 | 3000 ->
-with | -R i -s r install many | before 6063 -> 1 "folder fault: unfinished\n"
+with | -R i -s r install many | before 6084 -> 1 "folder fault: unfinished\n"
 laid -> 1500
 look | var/pkg/done.1 -> file 600 ""
 put | var/pkg/done.3 | ->

@@ -163,7 +163,7 @@ with | -R i -s r install p1 | spawner 1 -> 1 "spawn fault after\n"
 look | a -> file 644 "abc"
 with | -R i -s r uninstall p1 | spawner 1 -> 1 "spawn fault before\n"
 look | a -> file 644 "abc"
-does | fix -> 0 recovered: leftovers cleared
+does | fix -> 4 nothing to do
 status | 3 ->
 does | uninstall p1 -> 1 actuator failed before 3: /bin/svc disable svc:/b
 look | a -> file 644 "abc"
@@ -179,7 +179,7 @@ look | x -> absent
 with | -R i -s r install x | sink 1 -> 1 part ""
 look | x -> file 644 "abc"
 does | uninstall x -> 0 done
-with | -R i -s r install x | folder 60 -> 1 "folder fault: unfinished\n"
+with | -R i -s r install x | folder 81 -> 1 "folder fault: unfinished\n"
 # a gate that stands open, whatever stands there
 does | list -> 1 unfinished: run fix
 does | fix -> 0 recovered: new image

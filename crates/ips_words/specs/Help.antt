@@ -97,9 +97,13 @@ head_text = codes "usage: pkg -R <image> -s <repository> <command>\n       pkg -
 unfoldable pub foot_text : List ℕ
 foot_text = codes "exit status: 0 done, 1 refused, failed or damaged, 2 bad words, 4 nothing to do, 6 license needed, 7 another pkg at work, 99 out of memory\n"
 
+-- The lines of `mogrify`, which stands alone, without an image and a repository.
+unfoldable pub mogrify_text : List ℕ
+mogrify_text = codes "  mogrify -d <folder> <rules> <manifest>\n      print what the rules make of the manifest, both files of the folder; these words stand alone, without -R and -s\n"
+
 -- The lines of one command, or of all.
 abbrev pub body_text : Option Verb → List ℕ
-body_text None = flat_map command_text all_verbs
+body_text None = flat_map command_text all_verbs ++ mogrify_text
 body_text (Some v) = command_text v
 
 -- The help of one command, or of all.

@@ -1,6 +1,6 @@
 //! The help, from the table.
 
-ghost use Rattle.std.specs.Prelude.{◌≡◌, ◌++◌, IfOk, OnOk, string_bytes};
+ghost use Rattle.std.specs.Prelude.{◌≡◌, ◌++◌, None, IfOk, OnOk, string_bytes};
 ghost use Rattle.std.specs.List.{flat_map};
 ghost use Rattle.ips_words.specs.Help as page;
 
@@ -55,8 +55,26 @@ fn push_body(out: &mut String, command: Option<Verb>) -> Result<(), AllocError>
 {
     match command {
         Some(verb) => push_command(out, verb),
-        None => push_commands(out, &VERBS),
+        None => push_all(out),
     }
+}
+
+// Writes the lines of all commands.
+fn push_all(out: &mut String) -> Result<(), AllocError>
+    ensures { OnOk result (string_bytes out.new ≡ string_bytes out.old ++ page.body_text None) }
+{
+    push_commands(out, &VERBS)?;
+    push_mogrify(out)
+}
+
+// Writes the lines of `mogrify`.
+#[tactic(auto, unfolding(crate::specs::Help::mogrify_text))]
+fn push_mogrify(out: &mut String) -> Result<(), AllocError>
+    ensures { OnOk result (string_bytes out.new ≡ string_bytes out.old ++ page.mogrify_text) }
+{
+    out.push_str(
+        "  mogrify -d <folder> <rules> <manifest>\n      print what the rules make of the manifest, both files of the folder; these words stand alone, without -R and -s\n",
+    )
 }
 
 // Writes the lines of each command.

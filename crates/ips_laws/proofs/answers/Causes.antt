@@ -1,5 +1,5 @@
 -- What a run tells has its cause.
-use Rattle.std.proofs.Common.{ℕ, Bool, true, IsTrue, List, map, subst}
+use Rattle.std.proofs.Common.{inl, inr, ℕ, Bool, true, IsTrue, List, map, subst}
 use Rattle.ips_outside.specs.Image.{Image}
 use Rattle.ips_outside.specs.Outside.{Outside}
 use Rattle.ips_outside.specs.Running.{Run, Running}
@@ -31,7 +31,9 @@ module _ (steps : List Step) (before behind : List (List (List ℕ))) (told : Ou
   carried_too (ending.Done is) says = (says.0, record { counted = says.1.counted; ran = tt })
   carried_too (ending.ActuatorFailed after words status) says = record { index = says.index; stands = says.stands; failed = says.failed; counted = says.counted; ran = tt }
   carried_too (ending.SpawnFault after) says = record { index = says.index; within = says.within; counted = says.counted; ran = tt }
-  carried_too (ending.FolderFault unfinished) says = (says.0, record { laid = says.1.laid; few = says.1.few; counted = says.1.counted; ran = tt })
+  carried_too (ending.FolderFault unfinished) (inl (is, part)) = inl (is, record { laid = part.laid; few = part.few; counted = part.counted; ran = tt })
+  carried_too (ending.FolderFault unfinished) (inr (is, inl (words, status, failed))) = inr (is, inl (words, status, record { index = failed.index; stands = failed.stands; failed = failed.failed; counted = failed.counted; ran = tt }))
+  carried_too (ending.FolderFault unfinished) (inr (is, inr unrun)) = inr (is, inr (record { index = unrun.index; within = unrun.within; counted = unrun.counted; ran = tt }))
   carried_too ending.SourceFault says = absurd says
   carried_too ending.OutOfMemory says = absurd says
   carried_too (ending.Shown text) says = absurd says
@@ -45,13 +47,13 @@ module _ (steps : List Step) (before behind : List (List (List ℕ))) (told : Ou
 
 module _ (e : Effect) (decides : Decision Outcome → Type 0) (repository held left : Image) (old now : List Carrier) (Ran : List Run → Type 0) where
   comes_too : (x : Ending Outcome) → Comes e decides true repository held left old now Ran x → Comes e decides true repository held left old now (λ runs. Unit {0}) x
-  comes_too x (Unopened why same ran) = Unopened why same tt
-  comes_too x (Unfinished unfixed there same ran) = Unfinished unfixed there same tt
+  comes_too x (Unopened why leaves same ran) = Unopened why leaves same tt
+  comes_too x (Unfinished unfixed there kept same ran) = Unfinished unfixed there kept same tt
   comes_too x (Back fixing stopped says ran) = Back fixing stopped says tt
   comes_too x (NotDirectory {path = path} creating shut way kept same ran) = NotDirectory {path = path} creating shut way kept same tt
-  comes_too x (Unready decide says same ran) = Unready decide says same tt
-  comes_too x (Carried c changes decide decided intact says) =
-      Carried c changes decide decided intact (carried_too (map step_of c.steps.items) c.before.items c.after.items c.told old now Ran x says)
+  comes_too x (Unready decide says leaves same ran) = Unready decide says leaves same tt
+  comes_too x (Carried c changes decide decided intact leaves says) =
+      Carried c changes decide decided intact leaves (carried_too (map step_of c.steps.items) c.before.items c.after.items c.told old now Ran x says)
 
 -- ---- the cause of what is told
 

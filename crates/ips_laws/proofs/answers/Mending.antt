@@ -162,12 +162,12 @@ module _ (a : Repairing) (t repository held left : Image) (old now : List Carrie
 
   -- a change that was decided on is, and its payloads are intact
   carried : (x : Ending Outcome) → Claims (told_as x) → Comes effect.Fixes (Decides a t) true repository held left old now Ran x → (c : Change Outcome) × Decides a t (decision.Change c) × AreIntactContents repository c.publisher c.staged.items
-  carried x claims (Unopened why same ran) = absurd (not_unopened x claims why)
-  carried x claims (Unfinished unfixed there same ran) = absurd cc
+  carried x claims (Unopened why leaves same ran) = absurd (not_unopened x claims why)
+  carried x claims (Unfinished unfixed there kept same ran) = absurd cc
   carried x claims (Back fixing stopped says ran) = absurd (not_back x claims says)
   carried x claims (NotDirectory {path = path} creating shut way kept same ran) = absurd cc
-  carried x claims (Unready decide says same ran) = absurd (not_unready x claims says)
-  carried x claims (Carried c changes decide decided intact says) = (c, decided, intact refl)
+  carried x claims (Unready decide says leaves same ran) = absurd (not_unready x claims says)
+  carried x claims (Carried c changes decide decided intact leaves says) = (c, decided, intact refl)
 
 -- ---- the run
 

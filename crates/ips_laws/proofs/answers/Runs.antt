@@ -225,12 +225,12 @@ module _ (n : Effect) (decides : Decision Outcome → Type 0) (once : DecidesOnc
 
   module _ (left : Image) (old now : List Carrier) (Ran : List Run → Type 0) where
     fixed_comes : (x : Ending Outcome) → IsFixed (told_as x) → Comes n decides true repository held left old now Ran x → Comes n Fixes true repository held left old now Ran x
-    fixed_comes x fixed (Unopened why same ran) = Unopened why same ran
-    fixed_comes x fixed (Unfinished unfixed there same ran) = Unfinished unfixed there same ran
+    fixed_comes x fixed (Unopened why leaves same ran) = Unopened why leaves same ran
+    fixed_comes x fixed (Unfinished unfixed there kept same ran) = Unfinished unfixed there kept same ran
     fixed_comes x fixed (Back fixing stopped says ran) = Back fixing stopped says ran
     fixed_comes x fixed (NotDirectory {path = path} creating shut way kept same ran) = NotDirectory {path = path} creating shut way kept same ran
-    fixed_comes x fixed (Unready decide says same ran) = Unready decide (unready_fixed x fixed says) same ran
-    fixed_comes x fixed (Carried c changes decide decided intact says) = Carried c changes decide (decided, tt) intact says
+    fixed_comes x fixed (Unready decide says leaves same ran) = Unready decide (unready_fixed x fixed says) leaves same ran
+    fixed_comes x fixed (Carried c changes decide decided intact leaves says) = Carried c changes decide (decided, tt) intact leaves says
 
     says_unready : (x : Ending Outcome) → IsFixed (told_as x) → IsUnready n Fixes true repository x → Says (way_of x) (told_as x)
     says_unready (ending.Shown told) fixed says = says.1
@@ -297,12 +297,12 @@ module _ (n : Effect) (decides : Decision Outcome → Type 0) (once : DecidesOnc
     says_unopened (ending.Recovered forward) fixed is = absurd is
 
     says_of : (x : Ending Outcome) → IsFixed (told_as x) → Comes n Fixes true repository held left old now Ran x → Says (way_of x) (told_as x)
-    says_of x fixed (Unopened why same ran) = says_unopened x fixed why
-    says_of x fixed (Unfinished unfixed there same ran) = refl
+    says_of x fixed (Unopened why leaves same ran) = says_unopened x fixed why
+    says_of x fixed (Unfinished unfixed there kept same ran) = refl
     says_of x fixed (Back fixing stopped says ran) = says_back x fixed says
     says_of x fixed (NotDirectory {path = path} creating shut way kept same ran) = (path, way, refl)
-    says_of x fixed (Unready decide says same ran) = says_unready x fixed says
-    says_of x fixed (Carried c changes decide decided intact says) = says_carried x fixed c decided says
+    says_of x fixed (Unready decide says leaves same ran) = says_unready x fixed says
+    says_of x fixed (Carried c changes decide decided intact leaves says) = says_carried x fixed c decided says
 
   not_faulty : (x : Ending Outcome) → IsFixed (told_as x) → is_faulty x ≡ false
   not_faulty (ending.SpawnFault after) fixed = absurd fixed

@@ -4,12 +4,13 @@ use Rattle.std.specs.Prelude.{slice_get}
 use Rattle.std.specs.List.{AllByRecursion}
 use Rattle.std.specs.Option.{option_map}
 use Rattle.ips_outside.specs.Image.{Image}
-use Rattle.ips_text.specs.declared.limits.Which.TheVariants.{Steps}
+use Rattle.ips_text.specs.declared.limits.Which.TheVariants.{Names, Steps}
 use Rattle.ips_journal.specs.declared.staged.Staged.{Staged}
 use Rattle.ips_journal.specs.declared.staged.Staged.TheVariants.{Payload, Bytes, Standing}
 use Rattle.ips_steps.specs.Steps.{Step, Gone, Fresh, Mode, Put, Symlink, Hard}
 use Rattle.ips_emit.specs.Emitted.{FromFile, FromPayload, OwnBytes, Provenance, bytes_at, provenance_of, staged_bytes}
 use Rattle.ips_image_steps.specs.Sources.{IsNoCopy}
+use Rattle.ips_plan_limits.specs.Names.{most_names}
 use Rattle.ips_plan_limits.specs.Limits.{first_excess, large_at, large_of, least_large, lesser_large, own_count, which_at}
 use Rattle.ips_plan_limits.specs.declared.limits.Excess.{Excess}
 use Rattle.ips_laws.specs.plan_laws.Alike.{AreLikeSources, IsLikeSource}
@@ -31,7 +32,8 @@ all_from bytes t (x ∷ xs) = λ i. from_staged bytes t x i ∷ all_from bytes t
 
 -- what is beyond its limit, by the first file that is too large
 abbrev excess_by : List Step → Option (List ℕ × ℕ) → Option Excess
-excess_by steps large = cond (nat_lt 4000000 (length steps)) (Some (record { which = Steps; count = length steps })) (option_map (λ (f : List ℕ × ℕ). record { which = which_at f.0; count = f.1 }) large)
+excess_by steps large = cond (nat_lt 4000000 (length steps)) (Some (record { which = Steps; count = length steps }))
+    (cond (nat_lt 32000 (most_names steps)) (Some (record { which = Names; count = most_names steps })) (option_map (λ (f : List ℕ × ℕ). record { which = which_at f.0; count = f.1 }) large))
 
 -- A content isn't bytes of its own.
 abbrev pub IsTaken : Provenance → Type 0

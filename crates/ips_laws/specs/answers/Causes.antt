@@ -1,5 +1,5 @@
 -- That the cause of an outcome stands, with nothing carried out.
-use Rattle.std.specs.Prelude.{◌≡◌, ℕ, true, List, Some, IsTrue}
+use Rattle.std.specs.Prelude.{◌≡◌, ℕ, true, List, Some, IsTrue, IsFalse}
 use Rattle.ips_outside.specs.Image.{Image}
 use Rattle.ips_kinds.specs.Tallies.{Carrier}
 use Rattle.ips_history.specs.Directories.{image_for}
@@ -19,8 +19,10 @@ use Rattle.ips_operations.specs.creating.Decides as creating
 use Rattle.ips_operations.specs.fixing.Fixes.{Repairing, fixing_at}
 use Rattle.ips_operations.specs.fixing.Decides as fixing
 use Rattle.ips_top.specs.Generated.{IsTried}
+use Rattle.ips_operations.specs.told.Told.{claims_done, manner_of}
 use Rattle.ips_top.specs.Performed.{ComesAs}
 use Rattle.ips_top.specs.Runs.{IsAnswered}
+use Rattle.ips_laws.specs.answers.Same.{IsFixed}
 
 -- The outcome can come of an operation over what the repository holds and what the folder does: it tells an ending whose cause stands there, by what the operation decides,
 -- for some image that is left and some counts before and after, whichever actuators were run.
@@ -39,3 +41,10 @@ pub data CauseStands (c : Command) (moment : ℕ) (repository held : Image) (tol
   Fixing : (a : Repairing) → fixing_at c moment ≡ Some a → CanCome effect.Fixes (λ t. fixing.Decides a t) repository held told → CauseStands c moment repository held told
   Trying : (number : ℕ) → c.what ≡ what.Gen number → (before now : List Carrier) → IsTried number before now told → CauseStands c moment repository held told
   Answering : IsAnswered c.what told → CauseStands c moment repository held told
+
+-- Something hinders the command: the cause of an outcome stands that isn't told as done, and that is no failed call, want of memory, failed program or spent search.
+pub record IsHindered (c : Command) (moment : ℕ) (repository held : Image) : Type 0 where
+  pub told : Outcome
+  pub fixed : IsFixed told
+  pub undone : IsFalse (claims_done (manner_of told))
+  pub stands : CauseStands c moment repository held told

@@ -1,11 +1,12 @@
 //! Laws of answers, each the contract of a function that does nothing.
 
 ghost use Rattle.std.specs.Prelude.{ℕ, IsTrue};
+ghost use Rattle.ips_operations.specs.told.Told.{claims_done, manner_of};
 ghost use Rattle.ips_report.specs.declared.outcome.Outcome.{Outcome};
 ghost use Rattle.ips_words.specs.declared.command.Command.{Command};
 ghost use Rattle.ips_top.specs.Performed.{At};
 ghost use Rattle.ips_top.specs.Runs.{Does};
-ghost use Rattle.ips_laws.specs.answers.Causes.{CauseStands};
+ghost use Rattle.ips_laws.specs.answers.Causes.{CauseStands, IsHindered};
 ghost use Rattle.ips_laws.specs.answers.Same.{IsFixed, SayTheSame};
 
 use crate::next_laws::{causes_are_one, next_excludes_causes};
@@ -44,6 +45,14 @@ pub fn cause_is_answered<S: Source, F: Folder, P: Spawner>()
 pub fn answer_is_one<S: Source, F: Folder, P: Spawner>()
     ensures { (c : Command) (moment : ℕ) (old a b : At F S P) (told other : Outcome) → Does F.outside S.outside P.running c moment old a told → Does F.outside S.outside P.running c moment old b other
         → IsTrue (F.outside.tells old.folder) → IsTrue (S.outside.tells old.source) → IsFixed told → IsFixed other → SayTheSame told other }
+{
+    cause_is_answered::<S, F, P>();
+}
+
+/// The law of completeness: where nothing hinders a command, and no call, program, memory or search failed, it is told as done.
+pub fn unhindered_is_done<S: Source, F: Folder, P: Spawner>()
+    ensures { (c : Command) (moment : ℕ) (old new : At F S P) (told : Outcome) → Does F.outside S.outside P.running c moment old new told → IsTrue (F.outside.tells old.folder) → IsTrue (S.outside.tells old.source)
+        → (IsHindered c moment (S.outside.state old.source).held (F.outside.state old.folder).held → ⊥) → IsFixed told → IsTrue (claims_done (manner_of told)) }
 {
     cause_is_answered::<S, F, P>();
 }

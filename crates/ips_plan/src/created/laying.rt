@@ -108,8 +108,10 @@ fn within(emitted: Emitted) -> Result<Emitted, Or<CreateFault>>
     ensures within { IfOk result (λ e. limits.first_excess (map step_of e.steps.items) e.staged.items ≡ None) }
     ensures beyond { IfBad result (IsBeyond emitted) }
 {
-    match first_excess(&emitted.steps, &emitted.staged) {
-        Some(excess) => Err(Or::Bad(CreateFault::TooLarge(excess))),
-        None => Ok(emitted),
+    let alloc = *emitted.steps.allocator();
+    match first_excess(alloc, &emitted.steps, &emitted.staged) {
+        Ok(Some(excess)) => Err(Or::Bad(CreateFault::TooLarge(excess))),
+        Ok(None) => Ok(emitted),
+        Err(AllocError) => Err(Or::OutOfMemory),
     }
 }

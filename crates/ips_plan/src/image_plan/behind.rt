@@ -31,7 +31,7 @@ use ips_plan_limits::{Excess, first_excess};
 use ips_request_due::delivered::UnknownOwner;
 use ips_request_due::{KeptDue, request_due};
 use ips_text::{Or, RelPath, Text};
-use std::alloc::Global;
+use std::alloc::{AllocError, Global};
 
 /// The steps of a request, and the licenses that are to be shown.
 #[derive(Drop)]
@@ -133,8 +133,10 @@ fn within(emitted: Emitted, licenses: Vec<Text>) -> Result<Planned, Or<BehindFau
     ensures within { IfOk result (λ p. (p.emitted ≡ emitted) × (p.licenses.items ≡ licenses.items) × (limits.first_excess (map step_of emitted.steps.items) emitted.staged.items ≡ None)) }
     ensures beyond { IfBad result (IsBeyond emitted) }
 {
-    match first_excess(&emitted.steps, &emitted.staged) {
-        Some(excess) => Err(Or::Bad(BehindFault::TooLarge(excess))),
-        None => Ok(Planned { emitted, licenses }),
+    let alloc = *emitted.steps.allocator();
+    match first_excess(alloc, &emitted.steps, &emitted.staged) {
+        Ok(Some(excess)) => Err(Or::Bad(BehindFault::TooLarge(excess))),
+        Ok(None) => Ok(Planned { emitted, licenses }),
+        Err(AllocError) => Err(Or::OutOfMemory),
     }
 }

@@ -124,8 +124,10 @@ pub(crate) fn checked(emitted: Emitted) -> Result<Emitted, Or<RepairFault>>
     if !can_be_listed(&emitted) {
         return Err(Or::OutOfMemory);
     }
-    match first_excess(&emitted.steps, &emitted.staged) {
-        Some(excess) => Err(Or::Bad(RepairFault::TooLarge(excess))),
-        None => Ok(emitted),
+    let alloc = *emitted.steps.allocator();
+    match first_excess(alloc, &emitted.steps, &emitted.staged) {
+        Ok(Some(excess)) => Err(Or::Bad(RepairFault::TooLarge(excess))),
+        Ok(None) => Ok(emitted),
+        Err(AllocError) => Err(Or::OutOfMemory),
     }
 }

@@ -5,7 +5,7 @@ use Rattle.ips_outside.specs.State.{State}
 use Rattle.ips_outside.specs.Children.{path_bytes}
 use Rattle.ips_commit.specs.Pending.{HasNoOtherMark, IsSwept}
 use Rattle.ips_commit.proofs.Staged.{synced_swept, swept_now, cleared_by}
-use Rattle.ips_commit.proofs.Unready.{same_until}
+use Rattle.ips_commit.proofs.Unready.{same_until, no_more, if_starved}
 use Rattle.ips_commit.proofs.GateOpens.{on_err}
 use Rattle.ips_commit.proofs.staging.settle.Goals as goal
 
@@ -44,4 +44,7 @@ pub returns-in_default-sweep-clause-unready : goal.returns-in_default-sweep-clau
 returns-in_default-sweep-clause-unready g c = λ told.
     let o = g.F.Source.outside in
     same_until (o.state c.args.folder.now) (o.state c.marks.new.folder) (o.state c.sweep.new.folder) (ap (λ (s : State). s.held) (c.marks.ensures.reads.kept ∙ c.in-Ok.ensures.done told))
-    (c.in_default-sweep.ensures.unready (c.marks.ensures.reads.call.same_kind ∙ c.sync.ensures.call.same_kind ∙ told))
+    (no_more (o.state c.marks.new.folder) (o.state c.sweep.new.folder) (c.in_default-sweep.ensures.unready (c.marks.ensures.reads.call.same_kind ∙ c.sync.ensures.call.same_kind ∙ told)))
+
+pub returns-in_err-marks-clause-starved : goal.returns-in_err-marks-clause-starved
+returns-in_err-marks-clause-starved g c = λ told. if_starved _ _ (ap (λ (s : State). s.held) (c.marks.ensures.reads.kept ∙ c.in-Ok.ensures.done told))

@@ -1,4 +1,4 @@
-use Rattle.std.proofs.Common.{◌≡◌, inl, false, List, ℕ, None, ◌∙◌, ap}
+use Rattle.std.proofs.Common.{◌≡◌, inr, false, List, ℕ, None, ◌∙◌, ap}
 use Rattle.ips_text.specs.Ancestry.{covers}
 use Rattle.ips_outside.specs.Change.{with_entry_at}
 use Rattle.ips_outside.specs.State.{State, nowhere}
@@ -9,7 +9,7 @@ use Rattle.ips_commit.specs.Pending.{is_swept}
 use Rattle.ips_commit.proofs.OwnNames.{stage_swept, journal_swept, marks_swept}
 use Rattle.ips_commit.proofs.Swept.{wrote, wrote_then, swept_all}
 use Rattle.ips_commit.proofs.Staged.{stage_made, stage_agrees}
-use Rattle.ips_commit.proofs.Unready.{no_journal, not_gone, gone_by, staged_over, marks_over}
+use Rattle.ips_commit.proofs.Unready.{no_journal, failed_at, gone_by, staged_over, marks_over}
 use Rattle.ips_commit.proofs.GateOpens.{on_err}
 use Rattle.ips_commit.proofs.sweeping.sweep.Goals as goal
 
@@ -57,14 +57,14 @@ returns-clause-swept g c = λ told.
 pub returns-in_err-remove-clause-unready : goal.returns-in_err-remove-clause-unready
 returns-in_err-remove-clause-unready g c = λ told.
     let o = g.F.Source.outside in
-    on_err _ _ (not_gone c.args.names.now.journal.bytes c.args.names.now.journal_is (o.state c.args.folder.now) (o.state c.remove.new.self) (c.remove.ensures.only told))
+    on_err _ _ (failed_at c.args.names.now.journal.bytes c.args.names.now.journal_is (o.state c.args.folder.now) (o.state c.remove.new.self) (c.remove.ensures.only told))
 
 pub returns-in_err-remove-2-clause-unready : goal.returns-in_err-remove-2-clause-unready
 returns-in_err-remove-2-clause-unready g c = λ told.
     let o = g.F.Source.outside in
     let gone = gone_by c.args.names.now.journal.bytes c.args.names.now.journal_is (o.state c.args.folder.now) (o.state c.remove.new.self) (c.in_ok-remove.ensures.done told) in
     let run = stage_made o g.met.F.Source.sane c.args.names.now.stage.bytes c.args.names.now.stage_is c.remove.new.self c.remove-2.new.self _ c.remove-2.result (c.remove.ensures.call.same_kind ∙ told) c.remove-2.ensures in
-    on_err _ _ (inl (no_journal (o.state c.remove-2.new.self) (staged_over (o.state c.remove.new.self).held (o.state c.remove-2.new.self).held (stage_agrees o g.met.F.Source.sane c.remove.new.self c.remove-2.new.self run) gone)))
+    on_err _ _ (inr (no_journal (o.state c.remove-2.new.self) (staged_over (o.state c.remove.new.self).held (o.state c.remove-2.new.self).held (stage_agrees o g.met.F.Source.sane c.remove.new.self c.remove-2.new.self run) gone)))
 
 pub returns-in_err-remove_all-clause-unready : goal.returns-in_err-remove_all-clause-unready
 returns-in_err-remove_all-clause-unready g c = λ told.
@@ -73,5 +73,5 @@ returns-in_err-remove_all-clause-unready g c = λ told.
     let told_2 = c.remove-2.ensures.call.same_kind ∙ told_1 in
     let gone = gone_by c.args.names.now.journal.bytes c.args.names.now.journal_is (o.state c.args.folder.now) (o.state c.remove.new.self) (c.in_ok-remove.ensures.done told) in
     let run = stage_made o g.met.F.Source.sane c.args.names.now.stage.bytes c.args.names.now.stage_is c.remove.new.self c.remove-2.new.self _ c.remove-2.result told_1 c.remove-2.ensures in
-    on_err _ _ (inl (no_journal (o.state c.remove_all.new.folder) (marks_over (o.state c.remove-2.new.self).held (o.state c.remove_all.new.folder).held (c.remove_all.ensures.any_moment told_2).now.agrees
+    on_err _ _ (inr (no_journal (o.state c.remove_all.new.folder) (marks_over (o.state c.remove-2.new.self).held (o.state c.remove_all.new.folder).held (c.remove_all.ensures.any_moment told_2).now.agrees
     (staged_over (o.state c.remove.new.self).held (o.state c.remove-2.new.self).held (stage_agrees o g.met.F.Source.sane c.remove.new.self c.remove-2.new.self run) gone))))

@@ -1,7 +1,7 @@
 use Rattle.std.proofs.Common.{inr, option_map, refl, sym, subst}
 use Rattle.ips_state.specs.State.{recorded}
 use Rattle.ips_asked.specs.Requested.{kind_asked}
-use Rattle.ips_next.specs.Decided.{IsUndecided}
+use Rattle.ips_next.specs.Decided.{IsUndecided, MayCome}
 use Rattle.ips_problem.specs.Asked.{IsAsked}
 use Rattle.ips_problem.specs.Held.{posed_of}
 use Rattle.ips_next.proofs.Recorded.{over_asked}
@@ -21,10 +21,10 @@ returns-in-Err-Bad-clause-refused g c = λ told old asked_by posed.
       over = asked;
       is_over = inr refl;
       fault = f.2;
-    })))
+    }) (subst (MayCome (kind_asked c.args.what.now)) f.1 (rw c.in-Err-Bad.field-0-is at (c.in-Err-Bad.ensures.early (kind_asked c.args.what.now) (sym c.requires.kind))))))
 
 pub returns-in-Err-Bad-clause-early : goal.returns-in-Err-Bad-clause-early
-returns-in-Err-Bad-clause-early g c = rw c.in-Err-Bad.field-0-is (rw c.in-Err-Bad.field-0-is at (c.in-Err-Bad.ensures.early (kind_asked c.args.what.now)))
+returns-in-Err-Bad-clause-early g c = rw c.in-Err-Bad.field-0-is (rw c.in-Err-Bad.field-0-is at (c.in-Err-Bad.ensures.early (kind_asked c.args.what.now) (sym c.requires.kind)))
 
 pub returns-in-Ok-clause-stems : goal.returns-in-Ok-clause-stems
 returns-in-Ok-clause-stems g c = c.in-Ok.ensures.lawful c.requires.recordable

@@ -69,3 +69,6 @@ returns-in_err-push-clause-reads g c =
     reads_then g.S.Source.outside c.args.source.now c.loop-version.source c.read_version.new.source _ _ c.loop-version.invariant.calls c.read_version.ensures.reads
     (λ failed. absurd (no_fault c.read_version.result c.in-Ok.read (Bad fault.SourceFault) c.in-Ok.is failed))
     (λ failed. absurd (cc (left.1, left.2)))
+
+pub returns-in-Err-clause-asks : goal.returns-in-Err-clause-asks
+returns-in-Err-clause-asks g c = λ failed. c.read_version.ensures.asks (handed_on c.read_version.result _ c.in-Err.why (Bad fault.SourceFault) c.in-Err.is refl failed)

@@ -50,3 +50,9 @@ returns-in-Err-clause-reads g c =
     reads_as g.S.Source.outside c.args.source.now c.manifest_of.new.source _ _ c.manifest_of.ensures.reads
     (λ failed. handed_on _ c.manifest_of.result c.in-Err.why (Bad fault.SourceFault) refl c.in-Err.is failed)
     (λ failed. handed_on c.manifest_of.result _ c.in-Err.why (Bad fault.SourceFault) c.in-Err.is refl failed)
+
+pub returns-in-Ok-clause-asks : goal.returns-in-Ok-clause-asks
+returns-in-Ok-clause-asks g c = λ failed. absurd (bad_not c.judged_read.result _ fault.SourceFault c.judged_read.ensures.bad failed)
+
+pub returns-in-Err-clause-asks : goal.returns-in-Err-clause-asks
+returns-in-Err-clause-asks g c = λ failed. c.manifest_of.ensures.asks (handed_on c.manifest_of.result _ c.in-Err.why (Bad fault.SourceFault) c.in-Err.is refl failed)

@@ -1,4 +1,4 @@
-use Rattle.std.proofs.Common.{◌∙◌, Global, Vec, subst, sym}
+use Rattle.std.proofs.Common.{◌∙◌, Global, Vec, refl, subst, sym}
 use Rattle.std.specs.List.{AllZip}
 use Rattle.ips_request.specs.declared.read.Read.{Read}
 use Rattle.ips_request.specs.Manifests.{needed}
@@ -7,6 +7,9 @@ use Rattle.ips_request.proofs.Named.{bad_handed}
 use Rattle.ips_problem.specs.declared.rows.Row.{Row}
 use Rattle.ips_problem.specs.Gathered.{AreReadBehind, IsFaultAmong, IsReadOf}
 use Rattle.ips_problem.proofs.Offering.{newest_gone, row_known}
+use Rattle.ips_text.specs.declared.refusal.Or.TheVariants.{Bad}
+use Rattle.ips_outside.proofs.Reading.{handed_on}
+use Rattle.ips_request.specs.declared.fault.ProblemFault.TheVariants as fault
 use Rattle.ips_problem.proofs.gathering.row_of.Goals as goal
 
 pub returns-in-Ok-clause-row : goal.returns-in-Ok-clause-row
@@ -38,3 +41,6 @@ returns-clause-bad g c = λ told.
     let stem = c.args.stem.now in
     bad_handed (Vec Read Global) Row _ _ c.in-Err.why (c.in-Err.ensures.bad told)
     (λ why h r is. subst (λ vs. IsFaultAmong s.state.now.settings (case_in s held r) c.args.total.now stem vs why) (c.as_slice.ensures.value ∙ c.in_ok-versions.ensures (files_of (repo_of s) held) r) (h r is))
+
+pub returns-clause-asks : goal.returns-clause-asks
+returns-clause-asks g c = λ failed. c.read_all.ensures.asks (handed_on c.read_all.result _ c.in-Err.why (Bad fault.SourceFault) c.in-Err.is refl failed)

@@ -60,3 +60,6 @@ returns-clause-sound g c = λ over sound.
     let at = subst (λ (k : ℕ). slice_get (stems_of gathered.stems.keys) k ≡ Some c.in_ok-stem.stem) c.turn_of-turn.ensures c.in_ok-stem.ensures.there in
     more_gathered gathered c.in_ok-with_row.field-0 c.in_ok-stem.stem c.in-Ok.row (flat_map (λ o. stems_wanted (asked_at c.in-Ok.row.reads.items o)) c.in-Ok.row.candidates.items) at c.in_ok-stem.ensures.stem (c.in-Ok.ensures.sound over) more.rows
     (ap (λ (rs : List declared.Row). length rs) more.rows ∙ length_push gathered.rows.items c.in-Ok.row) more.tests more.stems sound
+
+pub returns-in-Err-clause-asks : goal.returns-in-Err-clause-asks
+returns-in-Err-clause-asks g c = λ failed. c.row_of.ensures.asks (handed_on c.row_of.result _ c.in-Err.why (Bad fault.SourceFault) c.in-Err.is refl failed)

@@ -69,3 +69,6 @@ returns-clause-reads g c =
 
 pub returns-then-is_whole-clause-recordable : goal.returns-then-is_whole-clause-recordable
 returns-then-is_whole-clause-recordable g c = λ over. c.in_ok-whole.ensures.recordable over (c.loop-turn.invariant.sound over)
+
+pub returns-in-Err-clause-asks : goal.returns-in-Err-clause-asks
+returns-in-Err-clause-asks g c = λ failed. c.next.ensures.asks (handed_on c.next.result _ c.in-Err.why (Bad fault.SourceFault) c.in-Err.is refl failed)

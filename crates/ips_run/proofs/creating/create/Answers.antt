@@ -1,6 +1,10 @@
 use Rattle.std.proofs.Common.{sym, ◌∙◌, ap}
 use Rattle.ips_outside.specs.State.{State}
+use Rattle.ips_outside.proofs.Reading.{reads_none}
+use Rattle.ips_steps.proofs.Lists.{clash}
+use Rattle.ips_commit.proofs.Masked.{none_masked, reads_with}
 use Rattle.ips_history.specs.Directories.{with_directories}
+use Rattle.ips_run.specs.Ending.{is_source_fault, is_spawn_fault}
 use Rattle.ips_run.proofs.Created.{created_unmade, created_made, unmade_finished, comes_unmade, comes_made, comes_at, made_safe, made_shut, made_records}
 use Rattle.ips_run.proofs.Opened.{failed_since}
 use Rattle.ips_run.proofs.Listed.{listed_since, listed_on, unmade_undone}
@@ -67,3 +71,9 @@ returns-in-Ok-clause-listed g c = λ told done.
 
 pub returns-in-Err-clause-listed : goal.returns-in-Err-clause-listed
 returns-in-Err-clause-listed g c = λ told done. absurd (unmade_undone g.F.Source.outside c.args.folder.now c.make_directories.new.folder c.in-Err.ending (c.in-Err.ensures.unmade told) done)
+
+pub returns-in-Err-clause-source : goal.returns-in-Err-clause-source
+returns-in-Err-clause-source g c = reads_with g.S.Source.outside _ _ _ _ (reads_none g.S.Source.outside c.args.source.now ⊥ (λ bad. bad)) (none_masked _ _ _ (λ is. clash (is_source_fault c.in-Err.ending) is c.in-Err.ensures.read))
+
+pub returns-in-Err-clause-spawner : goal.returns-in-Err-clause-spawner
+returns-in-Err-clause-spawner g c = none_masked _ _ _ (λ is. clash (is_spawn_fault c.in-Err.ending) is c.in-Err.ensures.unspawned)

@@ -1,19 +1,22 @@
-use Rattle.std.proofs.Common.{inl, inr, refl, sym, ◌∙◌, ap, subst, false}
+use Rattle.std.proofs.Common.{inl, inr, ⊎_elim, refl, sym, ◌∙◌, ap, subst, false}
 use Rattle.ips_outside.specs.State.{State}
 use Rattle.ips_outside.proofs.Faults.{one_before}
+use Rattle.ips_outside.proofs.Reading.{reads_none}
 use Rattle.ips_outside.specs.Image.{Image}
 use Rattle.ips_steps.specs.Private.{gate_name}
 use Rattle.ips_steps.proofs.Lists.{clash}
 use Rattle.ips_commit.specs.Pending.{IsBare, IsPending}
 use Rattle.ips_history.specs.Directories.{shows, creates, with_directories}
 use Rattle.ips_run.specs.declared.ending.Ending.TheVariants as ending
-use Rattle.ips_run.specs.Ending.{is_done}
+use Rattle.ips_commit.proofs.Masked.{told_own, told_alike, none_masked, reads_with}
+use Rattle.ips_run.specs.Ending.{is_done, is_source_fault, is_spawn_fault}
 use Rattle.ips_run.proofs.Opened.{failed_since, since_opened, no_fewer, synced_safe, as_settled, elapses_kept, opened, run_unopened, run_read, run_back, run_asked, run_created}
 use Rattle.ips_run.proofs.Nexts.{shown_of, changed_of, created_of, show_is, change_is, recover_is, create_is}
 use Rattle.ips_run.proofs.Performed.{fault_of, out_of_memory_of, unfinished_of, early_fault, early_out_of_memory, early_unfinished, left_fault, comes_unopened, comes_refused, comes_back, comes_shown, comes_asked, comes_created, image_same, image_with, next_as}
 use Rattle.ips_run.proofs.Listed.{listed_since, listed_on}
 use Rattle.ips_run.proofs.Never.{never_synced, never_asked, never_back, never_read, never_created}
-use Rattle.ips_run.proofs.Unbegun.{unbegun_read, unbegun_settled, never_recovers}
+use Rattle.ips_run.proofs.Unbegun.{unbegun_read, unbegun_settled, left_since, never_recovers}
+use Rattle.ips_run.proofs.Leaving.{leaves_same, leaves_some, comes_leaving}
 use Rattle.ips_run.proofs.performing.perform.Goals as goal
 
 pub returns-in_default-clause-run : goal.returns-in_default-clause-run
@@ -22,7 +25,7 @@ returns-in_default-clause-run g c = λ told.
 
 pub returns-in_default-clause-comes : goal.returns-in_default-clause-comes
 returns-in_default-clause-comes g c = λ told.
-    comes_unopened g.P.Spawner.running c.args.spawner.now (g.C.Operation.effect c.args.operation.now) (g.C.Operation.decides c.args.operation.now (g.S.Source.outside.tells c.args.source.now) (g.S.Source.outside.state c.args.source.now).held) _ _ _ _ _ (ending.FolderFault false) refl
+    comes_unopened g.P.Spawner.running c.args.spawner.now (g.C.Operation.effect c.args.operation.now) (g.C.Operation.decides c.args.operation.now (g.S.Source.outside.tells c.args.source.now) (g.S.Source.outside.state c.args.source.now).held) _ _ _ _ _ (ending.FolderFault false) refl (leaves_some _ _ _ _ refl refl)
 
 pub returns-in-Err-Bad-clause-run : goal.returns-in-Err-Bad-clause-run
 returns-in-Err-Bad-clause-run g c = λ told.
@@ -31,7 +34,7 @@ returns-in-Err-Bad-clause-run g c = λ told.
 
 pub returns-in-Err-Bad-clause-comes : goal.returns-in-Err-Bad-clause-comes
 returns-in-Err-Bad-clause-comes g c = λ told.
-    comes_unopened g.P.Spawner.running c.args.spawner.now (g.C.Operation.effect c.args.operation.now) (g.C.Operation.decides c.args.operation.now (g.S.Source.outside.tells c.args.source.now) (g.S.Source.outside.state c.args.source.now).held) _ _ _ _ _ (ending.FolderFault false) refl
+    comes_unopened g.P.Spawner.running c.args.spawner.now (g.C.Operation.effect c.args.operation.now) (g.C.Operation.decides c.args.operation.now (g.S.Source.outside.tells c.args.source.now) (g.S.Source.outside.state c.args.source.now).held) _ _ _ _ _ (ending.FolderFault false) refl (leaves_some _ _ _ _ refl refl)
 
 pub returns-in-Err-OutOfMemory-clause-run : goal.returns-in-Err-OutOfMemory-clause-run
 returns-in-Err-OutOfMemory-clause-run g c = λ told.
@@ -40,7 +43,7 @@ returns-in-Err-OutOfMemory-clause-run g c = λ told.
 
 pub returns-in-Err-OutOfMemory-clause-comes : goal.returns-in-Err-OutOfMemory-clause-comes
 returns-in-Err-OutOfMemory-clause-comes g c = λ told.
-    comes_unopened g.P.Spawner.running c.args.spawner.now (g.C.Operation.effect c.args.operation.now) (g.C.Operation.decides c.args.operation.now (g.S.Source.outside.tells c.args.source.now) (g.S.Source.outside.state c.args.source.now).held) _ _ _ _ _ ending.OutOfMemory tt
+    comes_unopened g.P.Spawner.running c.args.spawner.now (g.C.Operation.effect c.args.operation.now) (g.C.Operation.decides c.args.operation.now (g.S.Source.outside.tells c.args.source.now) (g.S.Source.outside.state c.args.source.now).held) _ _ _ _ _ ending.OutOfMemory tt (leaves_same _ _ _ _ refl (ap (λ (s : State). s.held) (c.pending.ensures.reads.kept ∙ c.in-Ok.ensures.done told)))
 
 pub returns-in-Refuse-clause-run : goal.returns-in-Refuse-clause-run
 returns-in-Refuse-clause-run g c = λ told.
@@ -49,7 +52,7 @@ returns-in-Refuse-clause-run g c = λ told.
 
 pub returns-in-Refuse-clause-comes : goal.returns-in-Refuse-clause-comes
 returns-in-Refuse-clause-comes g c = λ told.
-    comes_refused g.P.Spawner.running c.args.spawner.now (g.C.Operation.effect c.args.operation.now) (g.C.Operation.decides c.args.operation.now (g.S.Source.outside.tells c.args.source.now) (g.S.Source.outside.state c.args.source.now).held) _ _ _ _ (g.F.Source.outside.state c.sync.new.self).held _ (ap (λ (s : State). s.held) (c.in-Ok.ensures.done told)) c.in-Ok-pending.found (c.in-Ok-pending.ensures.found (c.sync.ensures.call.same_kind ∙ told)) (next_as (g.C.Operation.effect c.args.operation.now) c.effect.result c.in-Ok-pending.found _ c.phase_behind.result c.effect.ensures c.phase_behind.ensures c.in-Refuse.is)
+    comes_refused g.P.Spawner.running c.args.spawner.now (g.C.Operation.effect c.args.operation.now) (g.C.Operation.decides c.args.operation.now (g.S.Source.outside.tells c.args.source.now) (g.S.Source.outside.state c.args.source.now).held) _ _ _ _ (g.F.Source.outside.state c.sync.new.self).held _ (ap (λ (s : State). s.held) (c.in-Ok.ensures.done told)) c.in-Ok-pending.found (c.in-Ok-pending.ensures.found (c.sync.ensures.call.same_kind ∙ told)) (next_as (g.C.Operation.effect c.args.operation.now) c.effect.result c.in-Ok-pending.found _ c.phase_behind.result c.effect.ensures c.phase_behind.ensures c.in-Refuse.is) (ap (λ (s : State). s.held) (c.pending.ensures.reads.kept ∙ c.in-Ok.ensures.done told))
 
 pub recovered-requires-clause-safe : goal.recovered-requires-clause-safe
 recovered-requires-clause-safe g c = λ told.
@@ -139,7 +142,7 @@ returns-in-Show-clause-comes g c = λ told.
     let time = elapses_kept o sane c.args.folder.now c.sync.new.self at c.sync.ensures.call.time c.pending.ensures.reads.call.time c.pending.ensures.reads.kept in
     let is_synced = c.pending.ensures.reads.kept ∙ c.in-Ok.ensures.done told in
     let told_at = c.pending.ensures.reads.call.same_kind ∙ c.sync.ensures.call.same_kind ∙ told in
-    comes_shown g.P.Spawner.running c.args.spawner.now (g.C.Operation.effect c.args.operation.now) (g.C.Operation.decides c.args.operation.now (g.S.Source.outside.tells c.args.source.now) (g.S.Source.outside.state c.args.source.now).held) _ _ _ _ (g.F.Source.outside.state c.pending.new.folder).held _ ((ap (λ (s : State). s.held) c.pending.ensures.reads.kept) ∙ (ap (λ (s : State). s.held) (c.in-Ok.ensures.done told))) c.in-Ok-pending.found (subst (λ (t : Image). IsPending t c.in-Ok-pending.found) (sym (ap (λ (s : State). s.held) c.pending.ensures.reads.kept)) (c.in-Ok-pending.ensures.found (c.sync.ensures.call.same_kind ∙ told))) c.shown.result (next_as (g.C.Operation.effect c.args.operation.now) c.effect.result c.in-Ok-pending.found _ c.phase_behind.result c.effect.ensures c.phase_behind.ensures c.in-Show.is) (c.shown.ensures.unready told_at)
+    comes_shown g.P.Spawner.running c.args.spawner.now (g.C.Operation.effect c.args.operation.now) (g.C.Operation.decides c.args.operation.now (g.S.Source.outside.tells c.args.source.now) (g.S.Source.outside.state c.args.source.now).held) _ _ _ _ (g.F.Source.outside.state c.pending.new.folder).held _ ((ap (λ (s : State). s.held) c.pending.ensures.reads.kept) ∙ (ap (λ (s : State). s.held) (c.in-Ok.ensures.done told))) c.in-Ok-pending.found (subst (λ (t : Image). IsPending t c.in-Ok-pending.found) (sym (ap (λ (s : State). s.held) c.pending.ensures.reads.kept)) (c.in-Ok-pending.ensures.found (c.sync.ensures.call.same_kind ∙ told))) c.shown.result (next_as (g.C.Operation.effect c.args.operation.now) c.effect.result c.in-Ok-pending.found _ c.phase_behind.result c.effect.ensures c.phase_behind.ensures c.in-Show.is) (c.shown.ensures.unready told_at) (leaves_same _ _ _ c.shown.result c.shown.ensures.unstaged (ap (λ (s : State). s.held) c.shown.ensures.reads.kept))
 
 pub request-requires-clause-shut : goal.request-requires-clause-shut
 request-requires-clause-shut g c = λ told.
@@ -315,12 +318,12 @@ returns-in-Create-clause-untouched_kept g c = λ told there refused.
     absurd (there (ap (λ (s : State). s.held.look gate_name) (sym (c.in-Ok.ensures.done told)) ∙ (created_of (g.F.Source.outside.state c.sync.new.self).held (g.C.Operation.effect c.args.operation.now) c.in-Ok-pending.found (c.in-Ok-pending.ensures.found (c.sync.ensures.call.same_kind ∙ told)) (next_as (g.C.Operation.effect c.args.operation.now) c.effect.result c.in-Ok-pending.found _ c.phase_behind.result c.effect.ensures c.phase_behind.ensures c.in-Create.is)).1))
 
 pub returns-in_default-clause-unbegun : goal.returns-in_default-clause-unbegun
-returns-in_default-clause-unbegun g c = λ told making fixing failed. inl c.in_default.ensures.kept
+returns-in_default-clause-unbegun g c = λ told making fixing failed. inl (inl c.in_default.ensures.kept)
 
 pub returns-in-Err-Bad-clause-unbegun : goal.returns-in-Err-Bad-clause-unbegun
 returns-in-Err-Bad-clause-unbegun g c = λ told making fixing failed.
     let o = g.F.Source.outside in
-    unbegun_read (o.state c.args.folder.now) (o.state c.pending.new.folder) (c.pending.ensures.reads.kept ∙ c.in-Ok.ensures.done told)
+    inl (unbegun_read (o.state c.args.folder.now) (o.state c.pending.new.folder) (c.pending.ensures.reads.kept ∙ c.in-Ok.ensures.done told))
 
 pub returns-in-Recover-clause-unbegun : goal.returns-in-Recover-clause-unbegun
 returns-in-Recover-clause-unbegun g c = λ told making fixing failed.
@@ -331,13 +334,24 @@ returns-in-Recover-clause-unbegun g c = λ told making fixing failed.
 pub returns-in-Show-clause-unbegun : goal.returns-in-Show-clause-unbegun
 returns-in-Show-clause-unbegun g c = λ told making fixing failed.
     let o = g.F.Source.outside in
-    unbegun_read (o.state c.args.folder.now) (o.state c.shown.new.folder) (c.shown.ensures.reads.kept ∙ c.pending.ensures.reads.kept ∙ c.in-Ok.ensures.done told)
+    inl (unbegun_read (o.state c.args.folder.now) (o.state c.shown.new.folder) (c.shown.ensures.reads.kept ∙ c.pending.ensures.reads.kept ∙ c.in-Ok.ensures.done told))
 
 pub returns-in-Change-clause-unbegun : goal.returns-in-Change-clause-unbegun
 returns-in-Change-clause-unbegun g c = λ told making fixing failed.
     let o = g.F.Source.outside in
-    unbegun_settled (o.state c.args.folder.now) (o.state c.pending.new.folder) (o.state c.request.new.folder) (c.pending.ensures.reads.kept ∙ c.in-Ok.ensures.done told)
-    (c.request.ensures.unbegun (c.pending.ensures.reads.call.same_kind ∙ c.sync.ensures.call.same_kind ∙ told) failed)
+    let sane = g.met.F.Source.sane in
+    let n = g.C.Operation.effect c.args.operation.now in
+    let old = c.args.folder.now in
+    let at = c.pending.new.folder in
+    let time = elapses_kept o sane old c.sync.new.self at c.sync.ensures.call.time c.pending.ensures.reads.call.time c.pending.ensures.reads.kept in
+    let is_synced = c.pending.ensures.reads.kept ∙ c.in-Ok.ensures.done told in
+    let told_at = c.pending.ensures.reads.call.same_kind ∙ c.sync.ensures.call.same_kind ∙ told in
+    let other = (change_is n c.in-Ok-pending.found (next_as n c.effect.result c.in-Ok-pending.found _ c.phase_behind.result c.effect.ensures c.phase_behind.ensures c.in-Change.is)).1 in
+    let D = g.C.Operation.decides c.args.operation.now (g.S.Source.outside.tells c.args.source.now) (g.S.Source.outside.state c.args.source.now).held in
+    ⊎_elim (λ unbegun. inl (unbegun_settled (o.state old) (o.state at) (o.state c.request.new.folder) is_synced unbegun))
+    (λ left. inr (left_since o D _ _ _ old at c.request.new.folder (o.state at).held _ (ap (λ (s : State). s.held) is_synced ∙ sym (image_same n (o.state old).held other))
+    (since_opened o old c.sync.new.self at time.later c.sync.ensures.call.cause.later c.pending.ensures.reads.call.cause.later c.sync.ensures.one_made.later c.pending.ensures.reads.none_made) left))
+    (c.request.ensures.unbegun told_at (synced_safe (o.state old) (o.state at) is_synced) failed)
 
 pub returns-in-Create-clause-unbegun : goal.returns-in-Create-clause-unbegun
 returns-in-Create-clause-unbegun g c = λ told making fixing failed.
@@ -443,3 +457,77 @@ returns-in-Create-clause-listed g c = λ told done.
     listed_since o _ c.create.result _ _ old at c.create.new.folder (since_opened o old c.sync.new.self at time.later c.sync.ensures.call.cause.later c.pending.ensures.reads.call.cause.later c.sync.ensures.one_made.later c.pending.ensures.reads.none_made)
     (listed_on o D c.create.result _ _ at c.create.new.folder (with_directories (o.state at).held) _ (ap (λ (s : State). with_directories s.held) is_synced ∙ sym (image_with n (o.state old).held making))
     (c.create.ensures.listed told_at done))
+
+pub returns-in_default-clause-left : goal.returns-in_default-clause-left
+returns-in_default-clause-left g c = λ told. comes_leaving _ (returns-in_default-clause-comes g c told)
+
+pub returns-in-Err-Bad-clause-left : goal.returns-in-Err-Bad-clause-left
+returns-in-Err-Bad-clause-left g c = λ told. comes_leaving _ (returns-in-Err-Bad-clause-comes g c told)
+
+pub returns-in-Err-OutOfMemory-clause-left : goal.returns-in-Err-OutOfMemory-clause-left
+returns-in-Err-OutOfMemory-clause-left g c = λ told. comes_leaving _ (returns-in-Err-OutOfMemory-clause-comes g c told)
+
+pub returns-in-Refuse-clause-left : goal.returns-in-Refuse-clause-left
+returns-in-Refuse-clause-left g c = λ told. comes_leaving _ (returns-in-Refuse-clause-comes g c told)
+
+pub returns-in-Recover-clause-left : goal.returns-in-Recover-clause-left
+returns-in-Recover-clause-left g c = λ told. comes_leaving _ (returns-in-Recover-clause-comes g c told)
+
+pub returns-in-Show-clause-left : goal.returns-in-Show-clause-left
+returns-in-Show-clause-left g c = λ told. comes_leaving _ (returns-in-Show-clause-comes g c told)
+
+pub returns-in-Change-clause-left : goal.returns-in-Change-clause-left
+returns-in-Change-clause-left g c = λ told. comes_leaving _ (returns-in-Change-clause-comes g c told)
+
+pub returns-in-Create-clause-left : goal.returns-in-Create-clause-left
+returns-in-Create-clause-left g c = λ told. comes_leaving _ (returns-in-Create-clause-comes g c told)
+
+pub returns-in_default-clause-source : goal.returns-in_default-clause-source
+returns-in_default-clause-source g c = reads_with g.S.Source.outside _ _ _ _ (reads_none g.S.Source.outside c.args.source.now ⊥ (λ bad. bad)) (none_masked _ _ _ (λ is. cc))
+
+pub returns-in_default-clause-spawner : goal.returns-in_default-clause-spawner
+returns-in_default-clause-spawner g c = none_masked _ _ _ (λ is. cc)
+
+pub returns-in-Err-Bad-clause-source : goal.returns-in-Err-Bad-clause-source
+returns-in-Err-Bad-clause-source g c = reads_with g.S.Source.outside _ _ _ _ (reads_none g.S.Source.outside c.args.source.now ⊥ (λ bad. bad)) (none_masked _ _ _ (λ is. cc))
+
+pub returns-in-Err-Bad-clause-spawner : goal.returns-in-Err-Bad-clause-spawner
+returns-in-Err-Bad-clause-spawner g c = none_masked _ _ _ (λ is. cc)
+
+pub returns-in-Err-OutOfMemory-clause-source : goal.returns-in-Err-OutOfMemory-clause-source
+returns-in-Err-OutOfMemory-clause-source g c = reads_with g.S.Source.outside _ _ _ _ (reads_none g.S.Source.outside c.args.source.now ⊥ (λ bad. bad)) (none_masked _ _ _ (λ is. cc))
+
+pub returns-in-Err-OutOfMemory-clause-spawner : goal.returns-in-Err-OutOfMemory-clause-spawner
+returns-in-Err-OutOfMemory-clause-spawner g c = none_masked _ _ _ (λ is. cc)
+
+pub returns-in-Refuse-clause-source : goal.returns-in-Refuse-clause-source
+returns-in-Refuse-clause-source g c = reads_with g.S.Source.outside _ _ _ _ (reads_none g.S.Source.outside c.args.source.now ⊥ (λ bad. bad)) (none_masked _ _ _ (λ is. cc))
+
+pub returns-in-Refuse-clause-spawner : goal.returns-in-Refuse-clause-spawner
+returns-in-Refuse-clause-spawner g c = none_masked _ _ _ (λ is. cc)
+
+pub returns-in-Recover-clause-source : goal.returns-in-Recover-clause-source
+returns-in-Recover-clause-source g c = reads_with g.S.Source.outside _ _ _ _ (reads_none g.S.Source.outside c.args.source.now ⊥ (λ bad. bad)) (none_masked _ _ _ (λ is. clash (is_source_fault c.recovered.result) is c.recovered.ensures.read))
+
+pub returns-in-Recover-clause-spawner : goal.returns-in-Recover-clause-spawner
+returns-in-Recover-clause-spawner g c = none_masked _ _ _ (λ is. clash (is_spawn_fault c.recovered.result) is c.recovered.ensures.unspawned)
+
+pub returns-in-Show-clause-source : goal.returns-in-Show-clause-source
+returns-in-Show-clause-source g c = reads_with g.S.Source.outside _ _ _ _ c.shown.ensures.source (told_own _ _ _ _ c.shown.ensures.source.call.cause)
+
+pub returns-in-Show-clause-spawner : goal.returns-in-Show-clause-spawner
+returns-in-Show-clause-spawner g c = none_masked _ _ _ (λ is. clash (is_spawn_fault c.shown.result) is c.shown.ensures.early.unspawned)
+
+pub returns-in-Change-clause-source : goal.returns-in-Change-clause-source
+returns-in-Change-clause-source g c = reads_with g.S.Source.outside _ _ _ _ c.request.ensures.source
+    (told_alike _ _ _ _ _ _ c.request.ensures.source.call.cause (λ is. is) (λ is. is) (λ failed. (failed, (change_is (g.C.Operation.effect c.args.operation.now) c.in-Ok-pending.found (next_as (g.C.Operation.effect c.args.operation.now) c.effect.result c.in-Ok-pending.found _ c.phase_behind.result c.effect.ensures c.phase_behind.ensures c.in-Change.is)).0)))
+
+pub returns-in-Change-clause-spawner : goal.returns-in-Change-clause-spawner
+returns-in-Change-clause-spawner g c = told_alike _ _ _ _ _ _ c.request.ensures.spawner (λ is. is) (λ is. is) (λ failed. (failed, (change_is (g.C.Operation.effect c.args.operation.now) c.in-Ok-pending.found (next_as (g.C.Operation.effect c.args.operation.now) c.effect.result c.in-Ok-pending.found _ c.phase_behind.result c.effect.ensures c.phase_behind.ensures c.in-Change.is)).0))
+
+pub returns-in-Create-clause-source : goal.returns-in-Create-clause-source
+returns-in-Create-clause-source g c = reads_with g.S.Source.outside _ _ _ _ c.create.ensures.source
+    (told_alike _ _ _ _ _ _ c.create.ensures.source.call.cause (λ is. is) (λ is. is) (λ failed. (failed, (create_is (g.C.Operation.effect c.args.operation.now) c.in-Ok-pending.found (next_as (g.C.Operation.effect c.args.operation.now) c.effect.result c.in-Ok-pending.found _ c.phase_behind.result c.effect.ensures c.phase_behind.ensures c.in-Create.is)).1)))
+
+pub returns-in-Create-clause-spawner : goal.returns-in-Create-clause-spawner
+returns-in-Create-clause-spawner g c = told_alike _ _ _ _ _ _ c.create.ensures.spawner (λ is. is) (λ is. is) (λ failed. (failed, (create_is (g.C.Operation.effect c.args.operation.now) c.in-Ok-pending.found (next_as (g.C.Operation.effect c.args.operation.now) c.effect.result c.in-Ok-pending.found _ c.phase_behind.result c.effect.ensures c.phase_behind.ensures c.in-Create.is)).1))

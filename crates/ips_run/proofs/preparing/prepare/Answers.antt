@@ -1,6 +1,9 @@
-use Rattle.std.proofs.Common.{inl, sym, ◌∙◌, refl, subst}
+use Rattle.std.proofs.Common.{inl, sym, ◌∙◌, refl, ap, subst}
 use Rattle.ips_outside.specs.State.{State, IsSettled}
+use Rattle.ips_commit.proofs.Masked.{told_own, reads_with}
+use Rattle.ips_run.specs.Comes.{Leaves}
 use Rattle.ips_run.proofs.Opened.{stays_owed, owes_seen}
+use Rattle.ips_run.proofs.Leaving.{leaves_same, reads_on}
 use Rattle.ips_run.proofs.Carried.{owed_from}
 use Rattle.ips_run.proofs.Told.{unready_behind, readied}
 use Rattle.ips_run.proofs.Unbegun.{unbegun_since}
@@ -46,3 +49,22 @@ returns-in-Err-ready_for-clause-unbegun g c = λ told.
     let o = g.F.Source.outside in
     unbegun_since (o.state c.args.folder.now) (o.state c.decided.new.folder) (o.state c.ready_for.new.folder) c.decided.ensures.reads.kept
     (c.in-Err-ready_for.ensures.unbegun (c.decided.ensures.reads.call.same_kind ∙ told))
+
+pub returns-in-Err-clause-left : goal.returns-in-Err-clause-left
+returns-in-Err-clause-left g c = λ told.
+    leaves_same (g.C.Operation.effect c.args.operation.now) (g.F.Source.outside.state c.args.folder.now).held (g.F.Source.outside.state c.decided.new.folder).held c.in-Err.ending c.in-Err.ensures.unstaged (ap (λ (s : State). s.held) c.decided.ensures.reads.kept)
+
+pub returns-in-Err-ready_for-clause-left : goal.returns-in-Err-ready_for-clause-left
+returns-in-Err-ready_for-clause-left g c = λ told.
+    let n = g.C.Operation.effect c.args.operation.now in
+    subst (λ (s : State). Leaves n s.held (g.F.Source.outside.state c.ready_for.new.folder).held c.in-Err-ready_for.ending) c.decided.ensures.reads.kept
+    (c.in-Err-ready_for.ensures.left (c.decided.ensures.reads.call.same_kind ∙ told) n)
+
+pub returns-in-Err-clause-source : goal.returns-in-Err-clause-source
+returns-in-Err-clause-source g c = reads_with g.S.Source.outside _ _ _ _ c.in-Err.ensures.source (told_own _ _ _ _ c.in-Err.ensures.source.call.cause)
+
+pub returns-in-Err-ready_for-clause-source : goal.returns-in-Err-ready_for-clause-source
+returns-in-Err-ready_for-clause-source g c = reads_on g.S.Source.outside _ _ _ _ _ _ _ c.in-Ok.ensures.source c.in-Err-ready_for.ensures.source (λ is. is) (λ is. is) (λ is. is)
+
+pub returns-clause-source : goal.returns-clause-source
+returns-clause-source g c = reads_on g.S.Source.outside _ _ _ _ _ _ _ c.in-Ok.ensures.source c.in-Ok-ready_for.ensures.source (λ is. is) (λ is. is) (λ is. is)

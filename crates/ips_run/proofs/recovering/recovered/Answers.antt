@@ -1,8 +1,10 @@
 use Rattle.std.proofs.Common.{Bool, Err, ap, ◌∙◌}
 use Rattle.ips_text.specs.declared.refusal.Or.{Or}
 use Rattle.ips_text.specs.declared.refusal.Or.TheVariants.{Bad}
+use Rattle.ips_outside.specs.State.{State}
 use Rattle.ips_commit.specs.declared.fault.CommitFault.{CommitFault}
-use Rattle.ips_run.proofs.Recoveries.{back, back_fault, back_out_of_memory, told_back, told_on, kept_back, bad_of, says_of, out_of_memory_of}
+use Rattle.ips_commit.proofs.Unready.{starved_of}
+use Rattle.ips_run.proofs.Recoveries.{back, back_fault, back_out_of_memory, told_back, told_on, kept_back, bad_of, says_of}
 use Rattle.ips_run.proofs.recovering.recovered.Goals as goal
 
 pub returns-in-Ok-clause-back : goal.returns-in-Ok-clause-back
@@ -31,7 +33,7 @@ returns-in-Err-Bad-clause-back g c = λ told.
 pub returns-in-Err-OutOfMemory-clause-back : goal.returns-in-Err-OutOfMemory-clause-back
 returns-in-Err-OutOfMemory-clause-back g c = λ told.
     back_out_of_memory g.F.Source.outside _ _ c.args.folder.now c.recover.new.folder (λ b a due owes. c.recover.ensures.recovers.owed told b a due owes)
-    (out_of_memory_of Bool c.in-Err-OutOfMemory.field-0 c.in-Err-OutOfMemory.field-0-is _ c.in-Err-OutOfMemory.ensures.recovers.starved).0
+    (starved_of Bool c.in-Err-OutOfMemory.field-0 _ c.in-Err-OutOfMemory.field-0-is c.in-Err-OutOfMemory.ensures.recovers.starved).0
     (λ shut. c.recover.ensures.recovers.closed told shut)
 
 pub returns-in-Err-Bad-clause-told : goal.returns-in-Err-Bad-clause-told
@@ -50,4 +52,9 @@ returns-in-Err-Bad-clause-kept g c = λ told there refused.
 
 pub returns-in-Err-OutOfMemory-clause-kept : goal.returns-in-Err-OutOfMemory-clause-kept
 returns-in-Err-OutOfMemory-clause-kept g c = λ told there refused.
-    (out_of_memory_of Bool c.in-Err-OutOfMemory.field-0 c.in-Err-OutOfMemory.field-0-is _ c.in-Err-OutOfMemory.ensures.recovers.starved).0
+    (starved_of Bool c.in-Err-OutOfMemory.field-0 _ c.in-Err-OutOfMemory.field-0-is c.in-Err-OutOfMemory.ensures.recovers.starved).0
+
+pub returns-in-Err-OutOfMemory-clause-told : goal.returns-in-Err-OutOfMemory-clause-told
+returns-in-Err-OutOfMemory-clause-told g c = λ told.
+    let kept = starved_of Bool c.in-Err-OutOfMemory.field-0 _ c.in-Err-OutOfMemory.field-0-is c.in-Err-OutOfMemory.ensures.recovers.starved in
+    (ap (λ (s : State). s.held) kept.0, kept.2)

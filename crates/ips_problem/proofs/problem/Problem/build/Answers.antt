@@ -44,3 +44,9 @@ pub returns-in-Ok-clause-recordable : goal.returns-in-Ok-clause-recordable
 returns-in-Ok-clause-recordable g c =
     ok_then _ _ c.posed_by.result c.posed_by.ensures.recordable
     (λ p recordable lawful. recordable (over_lawful c.args.request.now (recorded c.args.state.now) _ c.in-Ok.subject c.in-Ok.ensures.subject lawful))
+
+pub returns-in-Ok-clause-asks : goal.returns-in-Ok-clause-asks
+returns-in-Ok-clause-asks g c = λ failed. sym (looks c.in-Ok.subject c.args.repo c.in-Ok.ensures.subject.offered) ∙ c.posed_by.ensures.asks failed
+
+pub returns-in-Err-clause-asks : goal.returns-in-Err-clause-asks
+returns-in-Err-clause-asks g c = λ failed. absurd (bad_other fault.SourceFault c.in-Err.why (bad_handed Subject Problem _ _ c.in-Err.why c.in-Err.ensures.bad (λ why h. h.1)) failed)

@@ -1,0 +1,5 @@
+pub mod Patterns
+pub mod Fitting
+pub mod Making
+pub mod Words
+pub mod Unread

@@ -1,0 +1,5 @@
+pub mod Trials
+pub mod Paths
+pub mod Longest
+pub mod Keys
+pub mod Going

@@ -1,0 +1,101 @@
+-- What steps ask of a file system.
+use Rattle.std.specs.Prelude.{ℕ, ◌+◌, ◌%◌, ◌≤◌, Bool, false, true, not, ◌||◌, ◌&&◌, ◌==◌, nat_lt, IsTrue, List, [], length, drop, Option, Some, None}
+use Rattle.std.specs.List.{All, list_any}
+use Rattle.ips_text.specs.Ancestry.{same_path, parent}
+use Rattle.ips_outside.specs.Children.{is_directory}
+use Rattle.ips_steps.specs.Steps.{Step, Gone, Fresh, Mode, Put, Symlink, Hard, at_parent}
+
+-- Of the texts of these things none is longer than this one. It is one of them, or empty.
+pub record IsLongest {A : Type 0} (text : A → List ℕ) (all : List A) (one : List ℕ) : Type 0 where
+  pub among : IsTrue (same_path one [] || list_any (λ x. same_path one (text x)) all)
+  pub longest : All (λ x. length (text x) ≤ length one) all
+
+-- what a symbolic link says; other steps say nothing
+abbrev pub target_of : Step → List ℕ
+target_of (Gone p) = []
+target_of (Fresh m p) = []
+target_of (Mode m p) = []
+target_of (Put n m p) = []
+target_of (Symlink p target) = target
+target_of (Hard p to) = []
+
+-- the name behind a directory's path; a path of one part is its own name
+abbrev pub name_behind : List ℕ → Option (List ℕ) → List ℕ
+name_behind p (Some dir) = drop (length dir + 1) p
+name_behind p None = p
+
+-- the last part of a path
+abbrev pub last_part : List ℕ → List ℕ
+last_part p = name_behind p (parent p)
+
+-- the step makes one more name of a file: it puts or hard-links one
+abbrev pub makes_name : Step → Bool
+makes_name (Gone p) = false
+makes_name (Fresh m p) = false
+makes_name (Mode m p) = false
+makes_name (Put n m p) = true
+makes_name (Symlink p target) = false
+makes_name (Hard p to) = true
+
+-- the step makes or takes away something directly in the directory
+abbrev pub works_in : List ℕ → Step → Bool
+works_in dir (Gone p) = is_directory dir (parent p)
+works_in dir (Fresh m p) = is_directory dir (parent p)
+works_in dir (Mode m p) = false
+works_in dir (Put n m p) = is_directory dir (parent p)
+works_in dir (Symlink p target) = is_directory dir (parent p)
+works_in dir (Hard p to) = is_directory dir (parent p)
+
+-- something may stand where the step takes it away: it is no mode, and its parent isn't made
+abbrev pub may_take : (List ℕ → Bool) → Step → Bool
+may_take made (Gone p) = not (at_parent made (parent p))
+may_take made (Fresh m p) = not (at_parent made (parent p))
+may_take made (Mode m p) = false
+may_take made (Put n m p) = not (at_parent made (parent p))
+may_take made (Symlink p target) = not (at_parent made (parent p))
+may_take made (Hard p to) = not (at_parent made (parent p))
+
+-- the step makes a directory at the path
+abbrev pub makes_dir : List ℕ → Step → Bool
+makes_dir q (Gone p) = false
+makes_dir q (Fresh m p) = same_path p q
+makes_dir q (Mode m p) = false
+makes_dir q (Put n m p) = false
+makes_dir q (Symlink p target) = false
+makes_dir q (Hard p to) = false
+
+-- who owns a directory of the mode may not read it
+abbrev pub is_unreadable : ℕ → Bool
+is_unreadable m = nat_lt (m % 512) 256
+
+-- The step gives this mode to a directory in which something is made or taken away, or makes one that can't be read, so that even an
+-- empty one couldn't be taken away again.
+abbrev pub gives_worked : (List ℕ → Bool) → ℕ → Step → Bool
+gives_worked worked m (Gone p) = false
+gives_worked worked m (Fresh k p) = (worked p || is_unreadable k) && (k == m)
+gives_worked worked m (Mode k p) = worked p && (k == m)
+gives_worked worked m (Put n k p) = false
+gives_worked worked m (Symlink p target) = false
+gives_worked worked m (Hard p to) = false
+
+-- the mode has a bit above 0777
+abbrev pub is_beyond : ℕ → Bool
+is_beyond m = nat_lt 511 m
+
+-- the step may give a directory this mode, which has a bit above 0777
+abbrev pub gives_dir : ℕ → Step → Bool
+gives_dir m (Gone p) = false
+gives_dir m (Fresh k p) = is_beyond k && (k == m)
+gives_dir m (Mode k p) = is_beyond k && (k == m)
+gives_dir m (Put n k p) = false
+gives_dir m (Symlink p target) = false
+gives_dir m (Hard p to) = false
+
+-- the step may give a file this mode, which has a bit above 0777
+abbrev pub gives_file : ℕ → Step → Bool
+gives_file m (Gone p) = false
+gives_file m (Fresh k p) = false
+gives_file m (Mode k p) = is_beyond k && (k == m)
+gives_file m (Put n k p) = is_beyond k && (k == m)
+gives_file m (Symlink p target) = false
+gives_file m (Hard p to) = false
