@@ -155,18 +155,18 @@ def read_log(log):
     return events
 
 
-def cut(disk, events, chance):
-    """Writes to the disk's file what a cut leaves of the writes since the last flush: each is there, lost, or torn in sectors of 512 bytes."""
+def cut(disk, events, chance, sector):
+    """Writes to the disk's file what a cut leaves of the writes since the last flush: each is there, lost, or torn in sectors of so many bytes."""
     how = chance.choice(("all", "none", "some", "torn"))
     with open(disk, "r+b") as it:
         for number, (place, data) in enumerate(events):
             if how == "none" or how in ("some", "torn") and chance.random() < 0.5:
                 continue
             if how == "torn":
-                for sector in range(0, len(data), 512):
+                for start in range(0, len(data), sector):
                     if chance.random() < 0.7:
-                        it.seek(place + sector)
-                        it.write(data[sector:sector + 512])
+                        it.seek(place + start)
+                        it.write(data[start:start + sector])
             else:
                 it.seek(place)
                 it.write(data)
