@@ -2,7 +2,7 @@
 use Rattle.std.proofs.Common.{◌≡◌, ℕ, Bool, true, false, not, ◌&&◌, List, refl, sym, ◌∙◌, ap, subst}
 use Rattle.std.specs.declared.cmp.Ordering.{Ordering}
 use Rattle.std.specs.declared.cmp.Ordering.TheVariants.{Less, Equal, Greater}
-use Rattle.std.specs.Ordering.{nat_cmp, is_lt, is_gt, ordering_reverse}
+use Rattle.std.specs.Ordering.{nat_cmp, is_lt, is_gt, ordering_reverse, ordering_then}
 use Rattle.std.specs.Cmp.Lexicographic.{slice_cmp, bytes_decides}
 use Rattle.std.specs.FinMap.{slice_cmp-IsAntisymmetric, nat_cmp-IsAntisymmetric}
 use Rattle.std.proofs.lemmas.Cmp.{nat_list_cmp_total, tied_itself}
@@ -85,3 +85,9 @@ ties_are a b = go (by_bytes b a) refl
     go Less e = rw (turned a b, e) (sym (before_other b a e))
     go Equal e = rw (turned a b, e) (sym (same_self b a (equal_is b a e)))
     go Greater e = rw (turned a b, e) (sym (after_other a b (turned a b ∙ ap ordering_reverse e)))
+
+-- two orders, one behind the other, tell no difference: neither does
+pub both_equal : (a b : Ordering) → ordering_then a b ≡ Equal → (a ≡ Equal) × (b ≡ Equal)
+both_equal Less b is = cc
+both_equal Equal b is = (refl, is)
+both_equal Greater b is = cc

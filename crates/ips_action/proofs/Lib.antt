@@ -14,3 +14,5 @@ pub mod Lines
 pub mod ReadBack
 pub mod Told
 pub mod OnLine
+pub mod Drafts
+pub mod Payloads

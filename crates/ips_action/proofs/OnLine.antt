@@ -9,6 +9,7 @@ use Rattle.ips_digest.specs.Name.{IsName, is_lower_digit, spelling}
 use Rattle.ips_text.proofs.Truths.{both_true}
 use Rattle.ips_text.proofs.Lists.{all_append}
 use Rattle.ips_line.specs.declared.words.Pair.{Pair}
+use Rattle.ips_line.specs.Line.{Said, Says}
 use Rattle.ips_line.specs.Canonical.{payload_text}
 use Rattle.ips_line.proofs.OnLine.{CanStand, CanPair, Plain_byte, can_nil, can_ahead, can_past, plain_blank, can_words, says_can}
 use Rattle.ips_action.specs.declared.kind.ActionKind.{ActionKind}
@@ -153,8 +154,12 @@ attrs_can : (attrs : List Attr) → AllByRecursion CanAttr attrs → AllByRecurs
 attrs_can [] h = tt
 attrs_can (attr ∷ attrs) h = all_append CanPair (pairs_of_one attr) (pairs_of attrs) (one_can attr.key attr.values h.0.key h.0.values) (attrs_can attrs h.1)
 
+-- the canonical line of an action whose attributes are those of a line, with any payload
+pub said_can : (said : Said) (text : List ℕ) (a : Fields) → Says said text → Gathers (map (held a.kind) said.pairs) a.attrs → AreAttrs a.attrs → IfName a.payload → CanStand text → CanStand (line_text a)
+said_can said text a says gathers ordered named c =
+    let pairs = all_held_can a.kind said.pairs (says_can said text says c) in
+    let attrs = recursion_from_All CanAttr a.attrs (attr_can a.attrs (map (held a.kind) said.pairs) ordered gathers pairs) in
+    can_words (kind_name a.kind) (payload_text (payload_word a.payload)) (pairs_of a.attrs) (name_can a.kind) (word_can a.payload named) (attrs_can a.attrs attrs)
+
 pub means_can : (text : List ℕ) (a : Fields) → Means text a → CanStand text → CanStand (line_text a)
-means_can text a m c =
-    let pairs = all_held_can a.kind m.0.pairs (says_can m.0 text m.1 c) in
-    let attrs = recursion_from_All CanAttr a.attrs (attr_can a.attrs (map (held a.kind) m.0.pairs) m.2.action.ordered m.2.attrs pairs) in
-    can_words (kind_name a.kind) (payload_text (payload_word a.payload)) (pairs_of a.attrs) (name_can a.kind) (word_can a.payload m.2.action.named) (attrs_can a.attrs attrs)
+means_can text a m c = said_can m.0 text a m.1 m.2.attrs m.2.action.ordered m.2.action.named c

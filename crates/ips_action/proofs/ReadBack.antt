@@ -33,7 +33,7 @@ use Rattle.ips_text.proofs.Lists.{all_append}
 
 -- ---- the words of a canonical line
 
-name_run : (kind : ActionKind) → IsRunOfBytes in_word (kind_name kind)
+pub name_run : (kind : ActionKind) → IsRunOfBytes in_word (kind_name kind)
 name_run Set = refl
 name_run Depend = refl
 name_run Dir = refl
@@ -47,7 +47,7 @@ name_run License = refl
 name_run Legacy = refl
 name_run Signature = refl
 
-word_runs : (payload : Option PayloadName) → IfName payload → IfPayload (payload_word payload)
+pub word_runs : (payload : Option PayloadName) → IfName payload → IfPayload (payload_word payload)
 word_runs None h = tt
 word_runs (Some name) h = name_runs name h
 

@@ -9,3 +9,4 @@ pub mod Held
 pub mod Judging
 pub mod Action
 pub mod Meaning
+pub mod Draft

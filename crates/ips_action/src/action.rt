@@ -1,9 +1,11 @@
 //! Actions.
 
-ghost use Rattle.std.specs.Prelude.{◌≡◌, ◌∷◌, [], ◌≤◌, List, ℕ, IfOk, IfSome, IfNone, Some, None, codes, length, slice_get};
+ghost use Rattle.std.specs.Prelude.{◌≡◌, ◌∷◌, [], ◌≤◌, List, ℕ, IfOk, IfSome, IfNone, IsSome, Some, None, codes, length, slice_get};
 ghost use Rattle.std.specs.Option.{option_map};
+ghost use Rattle.ips_digest.specs.Name.{IsName};
 ghost use Rattle.ips_action.specs.Attrs.{values_of};
 ghost use Rattle.ips_action.specs.Action.{IsAction, naming_key, preserve_values};
+ghost use Rattle.ips_action.specs.Draft.{with_payload};
 ghost use Rattle.ips_action.specs.Check.{IsOneOf, preserve_words};
 
 use crate::attrs::Attrs;
@@ -106,6 +108,20 @@ impl Action {
         }
     }
 
+    /// The same action with this payload in the place of its own.
+    pub fn with_payload(self, payload: PayloadName) -> Action
+        requires has { IsSome self.payload }
+        ensures { result ≡ with_payload payload self }
+    {
+        has_digest(payload);
+        let Action { kind, attrs, .. } = self;
+        Action {
+            kind,
+            payload: Some(payload),
+            attrs,
+        }
+    }
+
     /// The same action.
     pub fn copy(&self, alloc: Global) -> Result<Action, AllocError>
         ensures same { IfOk result (λ action. action ≡ self.now) }
@@ -144,3 +160,8 @@ fn preserve_named(word: &str) -> Preserve
         _ => Preserve::InstallOnly,
     }
 }
+
+// A payload's name has as many bytes as its digest.
+fn has_digest(name: PayloadName)
+    ensures { IsName name }
+{}

@@ -7,6 +7,7 @@
 mod action;
 mod attrs;
 mod check;
+mod drafting;
 mod fault;
 mod holding;
 mod judging;
@@ -21,6 +22,7 @@ mod values;
 pub use action::{Action, Preserve};
 pub use attrs::{Attr, AttrList, Attrs};
 pub use check::Check;
+pub use drafting::parse_draft;
 pub use fault::ActionFault;
 pub use judging::takes_payload;
 pub use key::Key;

@@ -44,7 +44,7 @@ pub fn parse_line(alloc: Global, line: &str) -> Result<Action, Or<ActionFault>>
 }
 
 // A fault of words, as one of an action.
-fn fault_of(fault: WordFault) -> ActionFault
+pub(crate) fn fault_of(fault: WordFault) -> ActionFault
     ensures { result ≡ word_fault fault }
 {
     match fault {
@@ -54,7 +54,7 @@ fn fault_of(fault: WordFault) -> ActionFault
 }
 
 // The action that the words of a line are, or their first fault.
-fn action_of(alloc: Global, words: Words<'_>) -> Result<Action, Or<ActionFault>>
+pub(crate) fn action_of(alloc: Global, words: Words<'_>) -> Result<Action, Or<ActionFault>>
     requires { AllByRecursion (λ (p : line_pair.Pair). IsRunOfBytes in_key p.key) words.pairs.items }
     ensures found { IfOk result (λ action. IsSaid (seen words.entry) action) }
     ensures first { IfBad result (λ fault. FaultOf (seen words.entry) fault) }

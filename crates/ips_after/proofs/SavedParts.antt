@@ -83,7 +83,7 @@ moved_parts (Some (Link g)) x may small bytes h = let one : Link g ≡ x = cc in
     target : IsTarget g
     target Empty none = let parts = and_parts _ _ may in let some = ltb-true 0 (length g) parts.0 in omega (arith, none)
     target TooLong long = let parts = and_parts _ _ (and_parts _ _ may).1 in let short = ltb-true (length g) 4096 parts.0 in omega (arith, long)
-    target Nul nul = clash (has_nul g) nul (not-true _ (and_parts _ _ (and_parts _ _ may).1).1)
+    target Nul nul = clash (has_nul g) nul.1 (not-true _ (and_parts _ _ (and_parts _ _ may).1).1)
 moved_parts (Some Other) x may small bytes h = cc
 moved_parts None x may small bytes h = cc
 

@@ -1,7 +1,7 @@
 -- What is looked at before a step is laid tells whether it can be laid.
-use Rattle.std.proofs.Common.{◌≡◌, ℕ, Bool, true, false, not, ◌&&◌, ◌||◌, [], ◌∷◌, Option, Some, None, is_some, is_none, Result, Ok, Err, IfOk, refl, sym, ◌∙◌, ap, subst}
-use Rattle.ips_text.specs.Ancestry.{same_path, covers}
-use Rattle.ips_outside.specs.Image.{Entry, Image, IsImage, is_dir, is_file, has_parent, dir_or_none}
+use Rattle.std.proofs.Common.{◌≡◌, ℕ, Bool, true, false, not, ◌&&◌, ◌||◌, [], ◌∷◌, Option, is_some, Result, Ok, Err, IfOk, refl, sym, ◌∙◌, ap, subst}
+use Rattle.ips_text.specs.Ancestry.{covers}
+use Rattle.ips_outside.specs.Image.{Image, IsImage, is_dir, is_file, has_parent, dir_or_none}
 use Rattle.ips_outside.specs.Change.{moded}
 use Rattle.ips_steps.specs.Steps.{Step, Gone, Fresh, Mode, Put, Symlink, Hard, path_of, stage_name, stage_path, feasible}
 use Rattle.ips_steps.specs.Journal.{step_allowed}
@@ -13,20 +13,14 @@ use Rattle.ips_steps.specs.declared.step.Sort.TheVariants as sort
 use Rattle.ips_steps.proofs.Numbered.{content_parent, content_covered}
 use Rattle.ips_apply.specs.Judging.{finds_source}
 use Rattle.ips_apply.proofs.Puts.{moded_is_file, moded_parent, put_apart}
-
-content_off : (n : ℕ) → same_path stage_name (stage_path n) ≡ false
-unfolding stage_name
-content_off n = refl
-
-file_stands : (e : Option Entry) → is_file e ≡ true → is_none e ≡ false
-file_stands (Some e) file = refl
-file_stands None file = cc
+use Rattle.ips_steps.proofs.ByName.{apart_names}
+use Rattle.ips_outside.proofs.Looks.{and_true, file_stands}
 
 -- the folder of a content that is a file is a directory
 stage_stands : (n : ℕ) (t : Image) → IsImage t → is_file (t.look (stage_path n)) ≡ true → has_parent t (stage_path n) ≡ true
 stage_stands n t formed file =
     ap (dir_or_none t) (content_parent n)
-    ∙ subst (λ (b : Bool). (b || is_dir (t.look stage_name)) ≡ true) (file_stands (t.look (stage_path n)) file) (formed.below_dirs stage_name (stage_path n) (content_covered n) (content_off n))
+    ∙ subst (λ (b : Bool). (b || is_dir (t.look stage_name)) ≡ true) (file_stands (t.look (stage_path n)) file) (formed.below_dirs stage_name (stage_path n) (content_covered n) (apart_names n))
 
 -- in a put's words
 put_asks : (file here up here' file' over : Bool) → over ≡ false → here' ≡ here → file' ≡ file → (file ≡ true → up ≡ true) → (up && ((here' && (not over && file')) && true)) ≡ (here && file)
@@ -36,10 +30,6 @@ put_asks false true true here' file' over off eh ef above = rw (off, eh, ef) ref
 put_asks false true false here' file' over off eh ef above = refl
 put_asks false false true here' file' over off eh ef above = rw eh refl
 put_asks false false false here' file' over off eh ef above = refl
-
-and_true : (b : Bool) → (b && true) ≡ b
-and_true true = refl
-and_true false = refl
 
 -- a step that takes more than away asks for a directory above it, and for the file of which it makes one more name
 pub asks : (s : Step) (t : Image) → IsImage t → step_allowed s ≡ true → (sort_of s ≡ sort.Gone → ⊥) → feasible (s ∷ []) t ≡ (has_parent t (path_of s) && finds_source t s)

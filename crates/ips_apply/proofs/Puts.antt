@@ -1,10 +1,10 @@
 -- What a put asks for, and what a mode leaves, as one that the content has already.
 use Rattle.std.proofs.Common.{◌≡◌, ℕ, Bool, true, false, cond, not, ◌==◌, List, [], ◌∷◌, Option, Some, None, refl, sym, ◌∙◌, ap, subst}
-use Rattle.std.proofs.lemmas.Bool.{and_parts, and_from, or_parts, or_right, not-true, not-false, eqb-true}
+use Rattle.std.proofs.lemmas.Bool.{and_parts, and_from, or_parts, not-true, not-false, eqb-true}
 use Rattle.ips_text.specs.Ancestry.{same_path, covers, parent}
 use Rattle.ips_outside.specs.Image.{Entry, Dir, File, Link, Other, Image, IsImage, is_dir, is_file, with_mode, has_parent, dir_or_none}
 use Rattle.ips_outside.specs.Change.{moded, names}
-use Rattle.ips_folder.specs.Calls.{CanMake, has_mode}
+use Rattle.ips_folder.specs.Calls.{CanMake}
 use Rattle.ips_steps.specs.Steps.{Put, stage_path, feasible}
 use Rattle.ips_steps.specs.Journal.{step_allowed}
 use Rattle.ips_text.proofs.Ancestry.{same_path-true}
@@ -57,10 +57,6 @@ same_mode m None file same = cc
 -- a file of that mode stays
 pub moded_alike : (m : ℕ) (p : List ℕ) (t : Image) → IsImage t → is_file (t.look p) ≡ true → has_other_mode m (t.look p) ≡ false → moded m p t ≡ t
 moded_alike m p t formed file same = moded_same m p t formed (same_mode m (t.look p) file same)
-
--- a file has a mode
-pub file_mode : (e : Option Entry) → is_file e ≡ true → has_mode e ≡ true
-file_mode e file = or_right (is_dir e) (is_file e) file
 
 -- ---- what a put asks for
 

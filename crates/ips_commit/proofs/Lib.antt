@@ -1,11 +1,6 @@
-pub mod OwnPaths
 pub mod OwnNames
 pub mod Leftovers
 pub mod Swept
-pub mod Written
-pub mod Copies
-pub mod Puts
-pub mod AllWritten
 pub mod GateOpens
 pub mod Lays
 pub mod CutOff
@@ -18,7 +13,6 @@ pub mod Stuck
 pub mod Rolls
 pub mod Committed
 pub mod Staged
-pub mod Tried
 pub mod Unready
 pub mod Masked
 pub mod Places

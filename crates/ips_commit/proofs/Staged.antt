@@ -1,8 +1,7 @@
 -- A list of steps staged behind a closed gate.
-use Rattle.std.proofs.Common.{◌≡◌, inl, inr, ⊎_elim, ℕ, ◌<◌, ◌≤◌, Bool, true, false, cond, ◌||◌, List, [], length, ◌++◌, Option, Some, None, Result, is_some, refl, sym, ◌∙◌, ap, subst, arith}
+use Rattle.std.proofs.Common.{◌≡◌, inl, inr, ⊎_elim, ℕ, ◌≤◌, Bool, true, false, cond, ◌||◌, List, [], length, ◌++◌, Option, Some, None, Result, refl, sym, ◌∙◌, ap, subst, arith}
 use Rattle.std.specs.Fmt.{decimal}
 use Rattle.std.proofs.lemmas.Bool.{or_parts, or_right, and_parts, not-true, cases_lt}
-use Rattle.std.proofs.lemmas.Option.{slice_get_cases}
 use Rattle.ips_text.specs.Ancestry.{covers, is_below, parent}
 use Rattle.ips_text.proofs.Ancestry.{uncovered}
 use Rattle.ips_outside.specs.Image.{Image, IsImage, Agrees, Dir, is_dir, file_bytes, has_parent, dir_or_none}
@@ -27,13 +26,13 @@ use Rattle.ips_steps.proofs.Owing.{folder_old}
 use Rattle.ips_journal.specs.Text.{journal_text}
 use Rattle.ips_journal.specs.declared.staged.Staged.{Staged}
 use Rattle.ips_commit.specs.Pending.{IsBehindGate, HasNoOtherMark, IsSwept, is_swept}
-use Rattle.ips_commit.specs.Contents.{StagedContents, AreStanding, AreSeen, AreAlone, HaveModes}
-use Rattle.ips_commit.specs.Staging.{CanStage, HasStaged, HoldsOnly, IsCleared, IsFilled}
+use Rattle.ips_contents.specs.Contents.{StagedContents, AreStanding, AreSeen, AreAlone, HaveModes, HoldsOnly}
+use Rattle.ips_commit.specs.Staging.{CanStage, HasStaged, IsCleared, IsFilled}
 use Rattle.ips_commit.proofs.OwnNames.{swept_private, gate_unswept, records_unswept, stage_swept, journal_swept, behind_front}
-use Rattle.ips_commit.proofs.Swept.{wrote}
+use Rattle.ips_contents.proofs.Wrote.{wrote}
 use Rattle.ips_commit.proofs.Owing.{nodes_of, unswept, swept_seen, swept_gone}
-use Rattle.ips_commit.proofs.AllWritten.{standing_kept, content_kept}
-use Rattle.ips_commit.proofs.Written.{own_modes}
+use Rattle.ips_contents.proofs.AllWritten.{standing_kept, content_kept, some_content}
+use Rattle.ips_contents.proofs.Written.{own_modes}
 
 -- a count that was counted up rose
 pub rose_of : (before now : ℕ) → risen before ≤ now → Rose before now
@@ -290,13 +289,6 @@ all_filled tells repository publisher steps staged t u v s cleared seen made fil
 }
 
 -- ---- the list stands ready
-
-pub some_content : (tells : Bool) (repository : Image) (publisher : List ℕ) (t : Image) (staged : List Staged) (contents : ℕ → Option (List ℕ)) → StagedContents tells repository publisher t staged contents
-    → (n : ℕ) → n < length staged → is_some (contents n) ≡ true
-some_content tells repository publisher t staged contents are n lt = elim (slice_get_cases staged n).1 [
-  | inl there ↦ let content = are n there.0 there.2 in ap is_some content.1
-  | inr past ↦ absurd (omega (arith, past.0))
-]
 
 -- What was filled is what the steps mean on the image before: laid by a name they leave what they say with these contents.
 pub has_staged : (tells : Bool) (repository : Image) (publisher : List ℕ) (steps : List Step) (staged : List Staged) (t : Image) (s : State) → IsImage t → IsImage s.held → IsJournal steps → CanStage steps staged t

@@ -1,5 +1,5 @@
 -- Taking away what is left behind a closed gate.
-use Rattle.std.proofs.Common.{◌≡◌, ◌⊎◌, inl, inr, ⊎_elim, ℕ, ◌+◌, ◌<◌, Bool, true, false, cond, ◌||◌, ◌&&◌, ◌==◌, List, [], ◌∷◌, ◌++◌, length, take, get_or, Option, None, Result, refl, sym, ◌∙◌, ap}
+use Rattle.std.proofs.Common.{◌≡◌, ◌⊎◌, inl, inr, ⊎_elim, ℕ, ◌+◌, ◌<◌, Bool, true, false, cond, ◌||◌, ◌&&◌, ◌==◌, List, [], ◌∷◌, ◌++◌, length, take, get_or, Option, None, refl, sym, ◌∙◌, ap}
 use Rattle.std.specs.List.{filter, list_all, list_any}
 use Rattle.std.specs.Cmp.Lexicographic.{pointwise}
 use Rattle.std.proofs.lemmas.Bool.{or_cases, false_from_ne_true}
@@ -11,25 +11,12 @@ use Rattle.ips_text.specs.Ancestry.{same_path, covers}
 use Rattle.ips_text.specs.Kept.{Kept}
 use Rattle.ips_outside.specs.Image.{Entry, Image}
 use Rattle.ips_outside.specs.Change.{with_entry_at}
-use Rattle.ips_outside.specs.State.{State, nowhere}
-use Rattle.ips_outside.specs.Outside.{Outside, IsOutside}
 use Rattle.ips_outside.specs.Children.{path_bytes}
-use Rattle.ips_folder.specs.Calls.{Writes, ChangesOnly}
-use Rattle.ips_folder.proofs.Runs.{keeps_then, keeps_wider, one_write}
 use Rattle.ips_steps.specs.Steps.{stage_name}
 use Rattle.ips_steps.specs.Private.{journal_name, mark_front, begins}
 use Rattle.ips_steps.proofs.Lists.{clash}
 use Rattle.ips_commit.specs.Pending.{IsSwept}
 use Rattle.ips_steps.proofs.PrivateNames.{begins_below}
-
--- ---- a write at a path, among those at which a run may write
-
-module _ {F : Type 0} (o : Outside F) (sane : IsOutside o) (free : List ℕ → Bool) (p : List ℕ) (off : (q : List ℕ) → free q ≡ false → covers p q ≡ false) where
-  pub wrote : (old new : F) (to : State) {T E : Type 0} (result : Result T E) → o.tells old ≡ true → Writes o (covers p) nowhere to old new result → ChangesOnly o free nowhere old new
-  wrote old new to result told w = keeps_wider o (covers p) nowhere free nowhere old new off (λ q n. n) (one_write o sane old new (covers p) nowhere to result told w)
-
-  pub wrote_then : (old mid new : F) (to : State) {T E : Type 0} (result : Result T E) → ChangesOnly o free nowhere old mid → o.tells mid ≡ true → Writes o (covers p) nowhere to mid new result → ChangesOnly o free nowhere old new
-  wrote_then old mid new to result run told w = keeps_then o free nowhere old mid new run (wrote mid new to result told w)
 
 -- ---- names of marks
 

@@ -14,8 +14,8 @@ use Rattle.ips_text.specs.declared.refusal.Or.{Or}
 use Rattle.ips_text.specs.declared.refusal.Or.TheVariants.{Bad, OutOfMemory}
 use Rattle.ips_commit.specs.Answers.{IfStarved}
 use Rattle.ips_commit.specs.Staging.{IsCleared, LeavesNothing, NothingReady, NoMoreReady}
-use Rattle.ips_commit.specs.declared.fault.StageFault.{StageFault}
-use Rattle.ips_commit.specs.declared.fault.StageFault.TheVariants as stage
+use Rattle.ips_contents.specs.declared.fault.StageFault.{StageFault}
+use Rattle.ips_contents.specs.declared.fault.StageFault.TheVariants as stage
 use Rattle.ips_commit.proofs.Staged.{journal_staged, journal_is_swept}
 
 -- nothing stands at the journal

@@ -16,7 +16,7 @@ IfStarved (Ok x) P = Unit {0}
 IfStarved (Err (Bad fault)) P = Unit {0}
 IfStarved (Err OutOfMemory) P = P
 
--- A failure, of which the count of an object went from one number to the other, is told as its own; or it is masked: another one, which came
--- behind it, is told in its place.
+-- A failure, of which the count of an object went from one number to the other, is told as its own; or it is masked: another one
+-- is told in its place.
 abbrev pub IsToldOrMasked : ℕ → ℕ → Type 0 → Type 0 → Type 0
 IsToldOrMasked before now own other = own ⊎ (other × Rose before now)

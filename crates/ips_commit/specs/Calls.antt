@@ -1,12 +1,11 @@
 -- What each call promises of a change: that it is staged, that it is committed, and that a stopped one is recovered.
 use Rattle.std.specs.Prelude.{◌≡◌, ◌≢◌, ◌⊎◌, ℕ, ◌<◌, ◌≤◌, Bool, false, IsTrue, IfOk, IfErr, OnOk, List, length, Option, Some, None, is_some, Result, Err}
 use Rattle.ips_text.specs.Reading.{IfBad}
-use Rattle.ips_text.specs.Ancestry.{covers}
 use Rattle.ips_text.specs.declared.refusal.Or.{Or}
 use Rattle.ips_text.specs.declared.refusal.Or.TheVariants.{Bad}
 use Rattle.ips_outside.specs.Image.{Image}
 use Rattle.ips_outside.specs.State.{nowhere}
-use Rattle.ips_outside.specs.Outside.{Outside, HasCause, Reads, Rose}
+use Rattle.ips_outside.specs.Outside.{Outside, HasCause, Rose}
 use Rattle.ips_folder.specs.Calls.{ChangesOnly, Throughout}
 use Rattle.ips_steps.specs.Steps.{Step, after}
 use Rattle.ips_steps.specs.Private.{gate_name, visible}
@@ -15,36 +14,15 @@ use Rattle.ips_steps.specs.Owed.{steps_left, IsOpen, FolderOwes}
 use Rattle.ips_kinds.specs.Tallies.{Carrier, all_counted}
 use Rattle.ips_journal.specs.Text.{journal_text}
 use Rattle.ips_journal.specs.Reading.{journal_of}
-use Rattle.ips_journal.specs.declared.staged.Staged.{Staged}
 use Rattle.ips_commit.specs.Answers.{IfStarved}
 use Rattle.ips_commit.specs.Pending.{HasCommitted, is_swept}
 use Rattle.ips_commit.specs.Due.{DueOnceOpen}
-use Rattle.ips_commit.specs.Contents.{AreIntactContents, SaysOfStage}
 use Rattle.ips_commit.specs.Staging.{IsStaged}
 use Rattle.ips_commit.specs.Recovering.{AreLaidTo, CanResume, CanRollForward, IfBadJournal, IsJournalled, IsOpenedOver, IsUnfinished, SaysOfRecovery}
-use Rattle.ips_commit.specs.declared.fault.StageFault.{StageFault}
-use Rattle.ips_commit.specs.declared.fault.StageFault.TheVariants as stage
+use Rattle.ips_contents.specs.declared.fault.StageFault.{StageFault}
+use Rattle.ips_contents.specs.declared.fault.StageFault.TheVariants as stage
 use Rattle.ips_commit.specs.declared.fault.CommitFault.{CommitFault}
 use Rattle.ips_commit.specs.declared.fault.CommitFault.TheVariants as fault
-
--- One content is written: nothing is changed but the path, what is below it and these modes, the source is only read, and a
--- fault of either is told just where a call on it failed.
-pub record WritesAt {S F : Type 0} (q : Outside S) (o : Outside F) (path : List ℕ) (loose : List ℕ → Bool) (source_old source_new : S) (old new : F) (result : Result (Unit {0}) (Or StageFault)) : Type 0 where
-  pub any_moment : IsTrue (o.tells old) → ChangesOnly o (covers path) loose old new
-  pub reads : Reads q source_old source_new (result ≡ Err (Bad stage.SourceFault))
-  pub cause : HasCause (o.faults old) (o.faults new) (result ≡ Err (Bad stage.FolderFault))
-  pub same_kind : o.tells new ≡ o.tells old
-  pub changes : o.changes old ≤ o.changes new
-
--- Contents are staged out of a source that is only read: once that is done each payload of the list is intact, a payload that is
--- refused is the first that isn't, a fault of the folder is told just where a call on it failed, and one of the source as is said.
-pub record Stages {S F T : Type 0} (q : Outside S) (o : Outside F) (publisher : List ℕ) (staged : List Staged) (is_sources : Type 0) (source_old source_new : S) (old new : F) (result : Result T (Or StageFault)) : Type 0 where
-  pub intact : IsTrue (q.tells source_old) → OnOk result (AreIntactContents (q.state source_old).held publisher staged)
-  pub refused : IfBad result (SaysOfStage (q.tells source_old) (q.state source_old).held publisher staged)
-  pub reads : Reads q source_old source_new is_sources
-  pub cause : HasCause (o.faults old) (o.faults new) (result ≡ Err (Bad stage.FolderFault))
-  pub same_kind : o.tells new ≡ o.tells old
-  pub changes : o.changes old ≤ o.changes new
 
 -- What was staged is committed: at every moment the image from before is owed, or the one that is meant, and the latter since
 -- the gate is safely open; once that is done the latter is seen, and else recovery goes on from there.

@@ -1,7 +1,6 @@
 pub mod Answers
 pub mod Pending
 pub mod Due
-pub mod Contents
 pub mod Staging
 pub mod Phases
 pub mod Recovering

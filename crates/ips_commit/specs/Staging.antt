@@ -1,10 +1,9 @@
 -- What can be staged, and what then stands ready.
-use Rattle.std.specs.Prelude.{◌≡◌, ◌≢◌, ◌⊎◌, ℕ, ◌<◌, Bool, false, IsTrue, List, length, Some, None, is_some}
-use Rattle.ips_text.specs.Ancestry.{is_below}
+use Rattle.std.specs.Prelude.{◌≡◌, ◌⊎◌, ℕ, ◌<◌, Bool, false, IsTrue, List, length, Some, None, is_some}
 use Rattle.ips_outside.specs.Image.{Image, Dir, is_dir, file_bytes}
 use Rattle.ips_outside.specs.Change.{with_entry_at}
 use Rattle.ips_outside.specs.State.{State, IsSettled}
-use Rattle.ips_steps.specs.Steps.{Step, Stage, stage_name, stage_path, stage_of, all_laid, possible, sound}
+use Rattle.ips_steps.specs.Steps.{Step, Stage, stage_name, stage_of, all_laid, possible, sound}
 use Rattle.ips_steps.specs.Private.{records_name, journal_name, gate_name, mark_front, begins, visible}
 use Rattle.ips_steps.specs.Owed.{IsReady}
 use Rattle.ips_journal.specs.Text.{journal_text}
@@ -13,9 +12,9 @@ use Rattle.ips_journal.specs.declared.staged.Staged.{Staged}
 use Rattle.ips_text.specs.declared.refusal.Or.{Or}
 use Rattle.ips_text.specs.declared.refusal.Or.TheVariants.{Bad, OutOfMemory}
 use Rattle.ips_commit.specs.Pending.{is_swept}
-use Rattle.ips_commit.specs.Contents.{StagedContents, AreStanding, AreAlone, HaveModes}
-use Rattle.ips_commit.specs.declared.fault.StageFault.{StageFault}
-use Rattle.ips_commit.specs.declared.fault.StageFault.TheVariants as stage
+use Rattle.ips_contents.specs.Contents.{StagedContents, AreStanding, AreAlone, HaveModes, HoldsOnly}
+use Rattle.ips_contents.specs.declared.fault.StageFault.{StageFault}
+use Rattle.ips_contents.specs.declared.fault.StageFault.TheVariants as stage
 
 -- What can be staged on an image: a sound list of steps, with one content for each `put`. It is possible whatever bytes these
 -- have. Contents that are taken from the image are files there. `var/pkg` stands, and the gate is closed.
@@ -41,10 +40,6 @@ NothingReady s = (steps : List Step) (a : Image) → IsStaged steps a s → ⊥
 -- nothing stands ready and safe, unless the image is the one from before
 abbrev pub NoMoreReady : State → State → Type 0
 NoMoreReady old new = NothingReady new ⊎ (new.held ≡ old.held)
-
--- nothing stands below the stage but the first so many contents
-abbrev pub HoldsOnly : ℕ → Image → Type 0
-HoldsOnly count t = (q : List ℕ) → IsTrue (is_below stage_name q) → t.look q ≢ None → (n : ℕ) × (n < count) × (q ≡ stage_path n)
 
 -- The list was staged with the contents that were to be staged. It means what is seen once it is laid with these on the
 -- image that was held before. Each content has the mode of the step that puts it. Nobody else may enter the stage.

@@ -10,8 +10,6 @@
 #![tactic(auto)]
 
 mod committing;
-mod contents;
-mod copying;
 mod discarding;
 mod fault;
 mod finding;
@@ -28,7 +26,7 @@ mod sweeping;
 
 pub use committing::commit;
 pub use discarding::discard;
-pub use fault::{CommitFault, StageFault};
+pub use fault::CommitFault;
 pub use finding::pending;
 pub use found::Pending;
 pub use ready::Ready;

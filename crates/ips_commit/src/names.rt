@@ -3,12 +3,12 @@
 ghost use Rattle.std.specs.Prelude.{◌≡◌, ◌≤◌, IfOk, length, take};
 ghost use Rattle.std.specs.List.{list_any};
 ghost use Rattle.ips_text.specs.Ancestry.{same_path};
-ghost use Rattle.ips_text.specs.Path.{IsPath};
-ghost use Rattle.ips_steps.specs.Steps.{stage_name, stage_path};
+ghost use Rattle.ips_steps.specs.Steps.{stage_name};
 ghost use Rattle.ips_steps.specs.Private.{records_name, journal_name, gate_name, mark_name};
 ghost use Rattle.ips_commit.specs.Pending.{mark_names};
 
-use ips_text::{Or, RelPath};
+use ips_contents::path_of;
+use ips_text::RelPath;
 use itoa::Buffer;
 use std::alloc::{AllocError, Global};
 
@@ -35,14 +35,6 @@ impl OwnNames {
             gate: path_of(alloc, b"var/pkg/gate")?,
         })
     }
-}
-
-/// The path of a content's file in the stage.
-pub(crate) fn content_path(alloc: Global, number: u64) -> Result<RelPath, AllocError>
-    ensures { IfOk result (λ path. path.bytes ≡ stage_path number) }
-{
-    let text = format!(in alloc; "var/pkg/stage/{number}")?;
-    path_of(alloc, text.as_bytes())
 }
 
 /// The path of a mark.
@@ -93,16 +85,4 @@ fn write_mark(number: u64, bytes: &mut [u8]) -> usize
     bytes[..13].copy_from_slice(b"var/pkg/done.");
     bytes[13..end].copy_from_slice(digits);
     end
-}
-
-// The path of bytes that are one.
-fn path_of(alloc: Global, bytes: &[u8]) -> Result<RelPath, AllocError>
-    requires { IsPath bytes.now }
-    ensures { IfOk result (λ path. path.bytes ≡ bytes.now) }
-{
-    match RelPath::parse(alloc, bytes) {
-        Ok(path) => Ok(path),
-        Err(Or::Bad(_)) => unreachable!(),
-        Err(Or::OutOfMemory) => Err(AllocError),
-    }
 }

@@ -112,7 +112,7 @@ spelled_once (Sha256 x) (Sha1 y) ha hb e =
     absurd (omega (arith, ap length e, encode_lower-length x, encode_lower-length y))
 
 -- a name is spelled in the digits of a name
-spelled_digits : (name : PayloadName) → IsName name → AreNameDigits (spelling name)
+pub spelled_digits : (name : PayloadName) → IsName name → AreNameDigits (spelling name)
 unfolding spelling
 spelled_digits (Sha1 bytes) h = record {
   count = inl (omega (arith, encode_lower-length bytes));

@@ -6,7 +6,9 @@ use Rattle.std.proofs.lemmas.Bool.{and_parts, or_parts, or_cases, or_left, or_ri
 use Rattle.ips_text.specs.Ancestry.{same_path, covers, is_below}
 use Rattle.ips_text.proofs.Ancestry.{covers-self, covers_trans, same_path-true}
 use Rattle.ips_outside.specs.Image.{Entry, Dir, File, Link, Other, Image, IsImage, is_dir, with_mode}
-use Rattle.ips_steps.specs.Private.{records_name}
+use Rattle.ips_steps.specs.Steps.{stage_name}
+use Rattle.ips_steps.specs.Private.{records_name, gate_name, is_private, journal_name, mark_front}
+use Rattle.ips_state.specs.Records.{history_path}
 use Rattle.ips_steps.proofs.Lists.{clash}
 use Rattle.ips_after.specs.After.{IsEmptied, change_after, image_after, is_support, is_taken, is_top, linked, mode_given, ranks, stated, unstated, was_equal}
 use Rattle.ips_after.specs.Change.{Kept, Laid, cleared, makes, replaces, with_given}
@@ -208,3 +210,8 @@ module _ (due : Due) (t : Image) (r : Request) (emptied : List ℕ → Bool) (go
       let kept = kept_own q (covers-self q) q_own no_support_here in
       rw (kept, not_cleared)
       (sym (any_mode (is_content r.holds content) (with_given (change_after r t emptied) (ranks r) t q (t.look q))) ∙ ap (is_file_of (is_content r.holds content)) (given_but (change_after r t emptied) (ranks r) t q (t.look q)) ∙ any_mode (is_content r.holds content) (t.look q) ∙ stands)
+
+-- the history is no name of the commit's own
+pub history_seen : is_private history_path ≡ false
+unfolding stage_name journal_name gate_name mark_front
+history_seen = refl

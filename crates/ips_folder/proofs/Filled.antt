@@ -23,7 +23,7 @@ more_none (Some (Link g)) = refl
 more_none (Some Other) = refl
 more_none None = refl
 
-file_mode : (e : Option Entry) → is_file e ≡ true → has_mode e ≡ true
+pub file_mode : (e : Option Entry) → is_file e ≡ true → has_mode e ≡ true
 file_mode (Some (Dir m f)) h = cc
 file_mode (Some (File m x)) h = refl
 file_mode (Some (Link g)) h = cc

@@ -201,12 +201,15 @@ pub fn make_hard<R: Files + Alloc>(
     }
 }
 
-/// Takes away what stands at the path, with all below it. No link is followed.
+/// Takes away what stands at the path, with all below it. No link is followed. Where nothing is known to stand, no call is made.
 pub fn remove<R: Files + Alloc>(
     rt: &R,
     root: &mut Root<R::File, R::A>,
     path: &RelPath,
 ) -> Result<(), Refused> {
+    if root.lacks(path) {
+        return Ok(());
+    }
     match find(rt, root, path) {
         Ok(true) => remove_found(rt, root, path),
         Ok(false) => Ok(()),
@@ -327,8 +330,8 @@ pub fn node_of<R: Files + Alloc>(
     }
 }
 
-/// Gives a directory or file just this mode, and answers what was found with it: that directory or file, or a file that was given it in
-/// the same place before.
+/// Gives a directory or file just this mode, and answers what was found with it: that directory or file, or one that was given it in the
+/// same place before.
 pub fn set_mode<R: Files + Alloc>(
     rt: &R,
     root: &mut Root<R::File, R::A>,
@@ -379,18 +382,19 @@ fn set_standing_mode<R: Files + Alloc>(
     match kind_at(rt, root, path) {
         Ok(Kind::Dir) => {
             root.forget_mode(path);
-            dir_given(rt, root.place(), mode)
+            set_mode_at(rt, root, Way::GivenDir, path, mode)
         }
-        Ok(Kind::File) => set_file_mode(rt, root, path, mode),
+        Ok(Kind::File) => set_mode_at(rt, root, Way::GivenFile, path, mode),
         Ok(Kind::Neither) => Err(Refused::Unfit),
         Err(e) => Err(e),
     }
 }
 
-// The file that stands at the place that was found.
-fn set_file_mode<R: Files + Alloc>(
+// The directory or file that stands at the place that was found.
+fn set_mode_at<R: Files + Alloc>(
     rt: &R,
     root: &mut Root<R::File, R::A>,
+    way: Way,
     path: &RelPath,
     mode: u16,
 ) -> Result<Metadata, Refused>
@@ -400,12 +404,12 @@ fn set_file_mode<R: Files + Alloc>(
         Ok(()) => {}
         Err(e) => return Err(e),
     }
-    if let Some(found) = root.modes.example(Way::GivenFile, path.bytes(), mode) {
+    if let Some(found) = root.modes.example(way, path.bytes(), mode) {
         return confirmed(or_no_memory(found.clone()), mode);
     }
     match found_with(rt, root.place(), mode) {
         Ok(found) => {
-            root.modes.keep(Way::GivenFile, path.bytes(), &found);
+            root.modes.keep(way, path.bytes(), &found);
             Ok(found)
         }
         Err(e) => Err(e),

@@ -18,6 +18,8 @@ pub enum Way {
     MadeDir,
     /// It is a file that was made with it.
     MadeFile,
+    /// It is a directory, which was given it.
+    GivenDir,
     /// It is a file, which was given it.
     GivenFile,
 }
@@ -91,7 +93,7 @@ impl<A: Allocator> Modes<A> {
         self.examples.clear();
     }
 
-    /// A directory is taken away, with all below it.
+    /// A directory is taken away, with all below it, or gets another mode.
     pub fn forget_at(&mut self, gone: &[u8]) {
         if covers(gone, self.dir.as_slice()) {
             self.forget();

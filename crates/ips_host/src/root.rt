@@ -16,9 +16,12 @@ use std::collections::{BTreeMap, BTreeSet};
 use std::fs::Files;
 use std::{mem, str};
 
-/// As many directories are known at once, and as many paths at which nothing stands. When one more comes the others are forgotten,
-/// and asked for again where they are needed, so that the memory of a long run doesn't grow with what it makes.
+/// As many directories are known at once. When one more comes the others are forgotten, and asked for again where they are needed, so
+/// that the memory of a long run doesn't grow with what it makes.
 const MOST_KNOWN: usize = 4_096;
+
+/// Likewise so many paths at which nothing stands.
+const MOST_ABSENT: usize = 16_384;
 
 /// A mode that nothing has: that of a directory isn't known.
 const NO_MODE: u16 = 0o10000;
@@ -68,7 +71,7 @@ struct Ways<A: Allocator + Clone> {
     // The path below the root at which a directory or a file was seen last, and what was seen. Nothing but `remove` ends one.
     seen_last: Vec<u8, A>,
     seen: Seen,
-    // Paths below the root at which nothing stood when it was looked at: at most `MOST_KNOWN`. What makes something there ends one.
+    // Paths below the root at which nothing stood when they were looked at: at most `MOST_ABSENT`. What makes something there ends one.
     absent: BTreeSet<Vec<u8, A>, A>,
     // The one that was found last. Whatever makes something ends it.
     absent_last: Vec<u8, A>,
@@ -127,6 +130,11 @@ impl<F: Drop, A: Allocator + Clone> Root<F, A> {
         self.modes.forget();
     }
 
+    /// Whether it is known that nothing stands at the path.
+    pub fn lacks(&self, path: &RelPath) -> bool {
+        is_absent(&self.ways, path.bytes())
+    }
+
     /// Something may be made at the path.
     fn forget_absent(&mut self, path: &RelPath) {
         self.ways.absent_last.clear();
@@ -157,7 +165,7 @@ impl<F: Drop, A: Allocator + Clone> Root<F, A> {
         if let Some(mode) = self.ways.known.get_mut(path.bytes()) {
             *mode = NO_MODE;
         }
-        self.modes.forget();
+        self.modes.forget_at(path.bytes());
     }
 }
 
@@ -249,6 +257,7 @@ pub fn look<R: Files + Alloc>(
     ensures { IfOk result IsSmall }
 {
     if is_absent(&root.ways, path.bytes()) {
+        keep_absent(rt, &mut root.ways, path);
         return Ok(Look::Absent);
     }
     if let Some(mode) = known_mode(&root.ways, path.bytes()) {
@@ -317,7 +326,15 @@ fn remember<A: Allocator + Clone>(ways: &mut Ways<A>, path: &RelPath, seen: Seen
 
 fn remember_absent<R: Alloc>(rt: &R, ways: &mut Ways<R::A>, path: &RelPath) {
     keep_path(&mut ways.absent_last, path.bytes());
-    if ways.absent.len() >= MOST_KNOWN {
+    keep_absent(rt, ways, path);
+}
+
+// Keeps the path as one at which nothing stands. It is known so too behind what is made above it.
+fn keep_absent<R: Alloc>(rt: &R, ways: &mut Ways<R::A>, path: &RelPath) {
+    if ways.absent.contains(path.bytes()) {
+        return;
+    }
+    if ways.absent.len() >= MOST_ABSENT {
         ways.absent.clear();
     }
     if let Ok(kept) = Vec::from_slice(rt.alloc(), path.bytes()) {

@@ -6,7 +6,7 @@ use Rattle.ips_text.proofs.Lists.{all_append}
 use Rattle.ips_outside.specs.Image.{Image, is_file}
 use Rattle.ips_journal.specs.declared.staged.Staged.{Staged}
 use Rattle.ips_journal.specs.declared.staged.Staged.TheVariants.{Bytes, Payload, Standing}
-use Rattle.ips_commit.specs.Contents.{AreStanding, IsStanding}
+use Rattle.ips_contents.specs.Contents.{AreStanding, IsStanding}
 use Rattle.ips_after.specs.Request.{Request}
 use Rattle.ips_change.specs.declared.change.Change.{Change as Told}
 use Rattle.ips_change.specs.declared.change.Change.TheVariants as told

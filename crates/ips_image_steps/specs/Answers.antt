@@ -10,7 +10,7 @@ use Rattle.ips_journal.specs.Reading.{puts_in}
 use Rattle.ips_after.specs.Request.{Request}
 use Rattle.ips_after.specs.Salvage.{Aside, IsAside, IsOwn, IsRoot, IsUnmovable}
 use Rattle.ips_change.specs.Told.{naming}
-use Rattle.ips_commit.specs.Contents.{AreSeen, AreStanding}
+use Rattle.ips_contents.specs.Contents.{AreSeen, AreStanding}
 use Rattle.ips_emit.specs.declared.emitting.Emitted.{Emitted}
 use Rattle.ips_emit.specs.Emitted.{provenance_of, staged_bytes}
 use Rattle.ips_image_steps.specs.plan_steps.Plan.{IsPlan}

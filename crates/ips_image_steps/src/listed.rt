@@ -2,7 +2,7 @@
 
 ghost use Rattle.std.specs.Prelude.{◌↔◌, IsTrue};
 ghost use Rattle.std.specs.List.{AllByRecursion};
-ghost use Rattle.ips_commit.specs.Contents.{IsSeen};
+ghost use Rattle.ips_contents.specs.Contents.{IsSeen};
 ghost use Rattle.ips_image_steps.specs.Answers.{CanBeListed};
 
 use ips_emit::{Emitted, count_puts, is_journal, is_private};

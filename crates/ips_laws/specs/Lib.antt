@@ -1,5 +1,6 @@
 pub mod Alike
 pub mod answers
+pub mod histories
 pub mod mogrify_laws
 pub mod next_laws
 pub mod plan_laws

@@ -7,7 +7,7 @@ use Rattle.ips_action.specs.Action.{Fields, IsAction, line_text}
 use Rattle.ips_action.specs.Meaning.{Means}
 use Rattle.ips_manifest.specs.declared.line.Line.{Line}
 use Rattle.ips_manifest.specs.Logical.{into_first, physical_lines, is_skipped, Logical, unreadable_at, continued, logical_lines}
-use Rattle.ips_manifest.specs.Manifest.{LineMeans, LinesMean, manifest_text, renumbered, StandsOnLine}
+use Rattle.ips_manifest.specs.Manifest.{LineMeans, LinesMean, line_at, manifest_text, renumbered, StandsOnLine}
 use Rattle.ips_manifest.proofs.Joins.{read_none}
 use Rattle.ips_manifest.proofs.Gone.{action_means}
 use Rattle.ips_manifest.proofs.Endings.{line_ends, line_kept}
@@ -49,7 +49,7 @@ text_means back number [] h = refl
 text_means back number (line ∷ lines) h =
     let text = line_text line.action in
     let first : LineMeans (single number line.action) (record { number = number; action = line.action } ∷ []) =
-    (refl, action_means (is_skipped text) (single number line.action) line.action (line_kept line.action) (back line.action h.0.action)) in
+    (refl, action_means Means line_at (is_skipped text) (single number line.action) line.action (line_kept line.action) (back line.action h.0.action)) in
     subst (λ (l : List Logical). LinesMean l (renumbered number (line ∷ lines))) (sym (split_logical number line lines h.0))
     (record { number = number; action = line.action } ∷ [], renumbered (number + 1) lines, first, text_means back (number + 1) lines h.1, refl)
 

@@ -1,5 +1,5 @@
 -- Manifests: which lines a text means, the first fault of a text that means none, and the canonical text.
-use Rattle.std.specs.Prelude.{◌≡◌, ℕ, ◌+◌, Bool, true, false, not, ◌&&◌, ◌==◌, ◌⊎◌, List, [], ◌∷◌, ◌++◌, Option, Some, None, codes}
+use Rattle.std.specs.Prelude.{◌≡◌, ℕ, ◌+◌, Bool, true, false, not, ◌&&◌, ◌==◌, List, [], ◌∷◌, ◌++◌, Option, codes}
 use Rattle.std.specs.List.{list_all, list_any, flat_map}
 use Rattle.std.specs.Str.{IsUtf8}
 use Rattle.ips_action.specs.declared.kind.ActionKind.{ActionKind}
@@ -9,25 +9,27 @@ use Rattle.ips_action.specs.Action.{Fields, IsAction, line_text}
 use Rattle.ips_action.specs.Meaning.{Means, IsFirstFault}
 use Rattle.ips_manifest.specs.declared.line.Line.{Line}
 use Rattle.ips_manifest.specs.declared.fault.LineFault.{LineFault}
-use Rattle.ips_manifest.specs.declared.fault.LineFault.TheVariants as fault
 use Rattle.ips_manifest.specs.declared.fault.ManifestFault.{ManifestFault}
-use Rattle.ips_manifest.specs.Logical.{Logical, lines_of, is_skipped}
+use Rattle.ips_manifest.specs.Logical.{Logical, lines_of}
+use Rattle.ips_manifest.specs.Text.{TextMeansBy, LineMeansBy, LinesMeanBy, IsActionFaultBy, IsFaultAtBy, IsFirstInBy}
 
 -- ---- what a text means
 
+-- an action and the number of its line, as a line of a manifest
+abbrev pub line_at : ℕ → Fields → Line
+line_at number action = record { number = number; action = action }
+
 -- the lines of the manifest that the text of a logical line gives: none where it is skipped, and else the action that it means, with its number
 abbrev pub TextMeans : Bool → Logical → List Line → Type 0
-TextMeans true line lines = lines ≡ []
-TextMeans false line lines = (action : Fields) × Means line.text action × (lines ≡ record { number = line.number; action = action } ∷ [])
+TextMeans skipped line lines = TextMeansBy Means line_at skipped line lines
 
 -- the logical line is UTF-8, and gives these lines of the manifest
 abbrev pub LineMeans : Logical → List Line → Type 0
-LineMeans line lines = (line.unreadable ≡ None) × TextMeans (is_skipped line.text) line lines
+LineMeans line lines = LineMeansBy Means line_at line lines
 
 -- each logical line gives its lines of the manifest, one after the other
 abbrev pub LinesMean : List Logical → List Line → Type 0
-LinesMean [] lines = lines ≡ []
-LinesMean (line ∷ others) lines = (first : List Line) × (rest : List Line) × LineMeans line first × LinesMean others rest × (lines ≡ first ++ rest)
+LinesMean logical lines = LinesMeanBy Means line_at logical lines
 
 -- the text is that of a manifest of these lines
 abbrev pub IsManifestOf : List ℕ → List Line → Type 0
@@ -37,13 +39,11 @@ IsManifestOf bytes lines = LinesMean (lines_of bytes) lines
 
 -- the text is no action, and this is its first fault
 abbrev pub IsActionFault : List ℕ → LineFault → Type 0
-IsActionFault text fault.NotText = ⊥
-IsActionFault text (fault.Action f) = IsFirstFault text f × ((action : Fields) → Means text action → ⊥)
+IsActionFault text f = IsActionFaultBy Means IsFirstFault text f
 
 -- the fault of a logical line: at its first physical line that isn't UTF-8, where there is one, and else at its own number
 abbrev pub IsFaultAt : Option ℕ → Logical → ManifestFault → Type 0
-IsFaultAt (Some number) line f = (f.line ≡ number) × (f.fault ≡ fault.NotText)
-IsFaultAt None line f = (is_skipped line.text ≡ false) × (f.line ≡ line.number) × IsActionFault line.text f.fault
+IsFaultAt unreadable line f = IsFaultAtBy Means IsFirstFault unreadable line f
 
 -- the logical line has this fault
 abbrev pub IsLineFault : Logical → ManifestFault → Type 0
@@ -51,8 +51,7 @@ IsLineFault line f = IsFaultAt line.unreadable line f
 
 -- the fault is that of the first logical line that has one
 abbrev pub IsFirstIn : List Logical → ManifestFault → Type 0
-IsFirstIn [] f = ⊥
-IsFirstIn (line ∷ others) f = IsLineFault line f ⊎ (((lines : List Line) × LineMeans line lines) × IsFirstIn others f)
+IsFirstIn logical f = IsFirstInBy Means line_at IsFirstFault logical f
 
 -- the text is no manifest, and this is its first fault
 abbrev pub IsFaultOf : List ℕ → ManifestFault → Type 0

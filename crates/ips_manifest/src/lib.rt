@@ -4,6 +4,7 @@
 //! line is told that isn't, with its fault. What is printed reads back.
 #![tactic(auto)]
 
+mod draft;
 mod fault;
 mod line;
 mod logical;
@@ -11,6 +12,7 @@ mod manifest;
 mod package;
 mod physical;
 
+pub use draft::{Draft, read_draft};
 pub use fault::{LineFault, ManifestFault};
 pub use line::Line;
 pub use logical::{Held, Remaining, is_skipped, next_logical};

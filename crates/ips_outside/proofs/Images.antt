@@ -36,7 +36,7 @@ placed_self false false f x e y is sc h here = h here
 pub placed_nodes : (p : List ℕ) (e : Option Entry) (t : Image) → HasNodes t → HasNodes (with_entry_at p e t)
 placed_nodes p e t h = record { self = λ a here. placed_self (same_path p a) (covers p a) (is_file e) (t.same a a) e (t.look a) refl (same_covers p a) (h.self a) here }
 
-moded_file : (n : Bool) (m : ℕ) (y : Option Entry) → is_file (cond n (with_mode m y) y) ≡ is_file y
+pub moded_file : (n : Bool) (m : ℕ) (y : Option Entry) → is_file (cond n (with_mode m y) y) ≡ is_file y
 moded_file true m y = is_file-mode m y
 moded_file false m y = refl
 

@@ -1,5 +1,5 @@
 -- What an answer of `look` tells.
-use Rattle.std.proofs.Common.{◌≡◌, ℕ, Bool, true, false, List, Option, Some, None, refl, sym, subst}
+use Rattle.std.proofs.Common.{◌≡◌, ℕ, Bool, true, false, ◌&&◌, List, Option, Some, None, is_some, is_none, refl, sym, subst}
 use Rattle.std.proofs.lemmas.Bool.{ltb-true}
 use Rattle.ips_outside.specs.Image.{Entry, Dir, File, Link, Other, Image, IsImage, has_small_mode, is_file, with_mode}
 use Rattle.ips_outside.specs.Outside.{look_of, IsSmall}
@@ -38,3 +38,16 @@ small_look None h = tt
 -- in a well-formed image a look's mode is small
 pub small_seen : (t : Image) (q : List ℕ) (found : Look) → IsImage t → found ≡ look_of (t.look q) → IsSmall found
 small_seen t q found formed is = subst IsSmall (sym is) (small_look (t.look q) (formed.modes q))
+
+-- a file is there
+pub file_stands : (e : Option Entry) → is_file e ≡ true → is_none e ≡ false
+file_stands (Some e) file = refl
+file_stands None file = cc
+
+pub and_true : (b : Bool) → (b && true) ≡ b
+and_true true = refl
+and_true false = refl
+
+pub none_or : {X : Type 0} (o : Option X) → (is_some o ≡ true → ⊥) → o ≡ None
+none_or (Some x) never = absurd (never refl)
+none_or None never = refl

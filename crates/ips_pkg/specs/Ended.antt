@@ -7,7 +7,7 @@ use Rattle.ips_kinds.specs.Tallies.{Carrier}
 use Rattle.ips_report.specs.Report.{report_text, status_number}
 use Rattle.ips_report.specs.declared.outcome.Outcome.{Outcome}
 use Rattle.ips_files.specs.Telling.{Tells}
-use Rattle.ips_top.specs.Performed.{At}
+use Rattle.ips_tell.specs.performing.Performed.{At}
 use Rattle.ips_top.specs.Runs.{Runs}
 
 -- The exit status is that of an outcome: it is what a run of the words at the moment tells, its report is written, and where that wasn't written whole the status is 1.

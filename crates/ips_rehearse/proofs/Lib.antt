@@ -2,4 +2,6 @@ pub mod Trials
 pub mod Paths
 pub mod Longest
 pub mod Keys
+pub mod Passing
+pub mod Busy
 pub mod Going

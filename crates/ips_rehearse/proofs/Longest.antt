@@ -1,5 +1,5 @@
 -- The longest of texts, and tests of steps, one step after the other.
-use Rattle.std.proofs.Common.{◌≡◌, ⊎_elim, ℕ, zero, suc, ◌+◌, ◌<◌, ◌≤◌, Bool, true, false, cond, ◌||◌, nat_lt, List, [], ◌∷◌, length, take, get_or, map, refl, sym, ◌∙◌, ap, subst, arith}
+use Rattle.std.proofs.Common.{◌≡◌, ⊎_elim, ℕ, zero, suc, ◌+◌, ◌<◌, ◌≤◌, Bool, true, false, cond, not, ◌||◌, ◌&&◌, nat_lt, List, [], ◌∷◌, length, take, get_or, map, refl, sym, ◌∙◌, ap, subst, arith}
 use Rattle.std.specs.List.{list_any}
 use Rattle.std.proofs.lemmas.Bool.{or_cases, or_left, or_right}
 use Rattle.std.proofs.lemmas.Bool.Decides.{nat_tests}
@@ -10,7 +10,7 @@ use Rattle.ips_text.proofs.Ancestry.{same_path-self}
 use Rattle.ips_steps.specs.Journal.{IsProper, AllProper}
 use Rattle.ips_steps.specs.View.{step_of}
 use Rattle.ips_steps.specs.declared.step.Step.{Step}
-use Rattle.ips_rehearse.specs.Asked.{IsLongest}
+use Rattle.ips_rehearse.specs.Asked.{IsLongest, gives_mode, works_first, works_in}
 
 shorter : (a b : ℕ) → nat_lt a b ≡ true → a ≤ b
 shorter a b is = grind (arith, nat_tests)
@@ -83,3 +83,38 @@ pub proper_at : (steps : List Step) (i : ℕ) (s : Step) → AllProper (map step
 proper_at [] i s proper lt is = absurd (omega (arith, lt))
 proper_at (x ∷ steps) zero s proper lt is = subst (λ (y : Step). IsProper (step_of y)) (sym is) proper.0
 proper_at (x ∷ steps) (suc i) s proper lt is = proper_at steps i s proper.1 (omega (arith, lt)) is
+
+-- ---- what is worked in before it is given a mode
+
+split_or : (w g r p x : Bool) → (w || (not g && (r || (not p && x)))) ≡ ((w || (not g && r)) || (not (g || p) && x))
+split_or true g r p x = refl
+split_or false true r p x = refl
+split_or false false true p x = refl
+split_or false false false p x = refl
+
+first_turn : (q : List ℕ) (steps : List Step) (i : ℕ) (s : Step) → i < length steps → s ≡ get_or steps i s
+    → works_first q (map step_of (take (i + 1) steps)) ≡ (works_first q (map step_of (take i steps)) || (not (list_any (λ x. gives_mode q (step_of x)) (take i steps)) && works_in q (step_of s)))
+first_turn q [] i s lt is = absurd (omega (arith, lt))
+first_turn q (x ∷ steps) zero s lt is = alone (works_in q (step_of x)) (gives_mode q (step_of x)) ∙ ap (λ (y : Step). works_in q (step_of y)) (sym is)
+  where
+    alone : (w g : Bool) → (w || (not g && false)) ≡ w
+    alone true g = refl
+    alone false true = refl
+    alone false false = refl
+first_turn q (x ∷ steps) (suc i) s lt is =
+    let more : suc i + 1 ≡ suc (i + 1) = omega arith in
+    ap (λ (n : ℕ). works_first q (map step_of (take n (x ∷ steps)))) more ∙ ap (λ (b : Bool). works_in q (step_of x) || (not (gives_mode q (step_of x)) && b)) (first_turn q steps i s (omega (arith, lt)) is)
+    ∙ split_or (works_in q (step_of x)) (gives_mode q (step_of x)) (works_first q (map step_of (take i steps))) (list_any (λ y. gives_mode q (step_of y)) (take i steps)) (works_in q (step_of s))
+
+pub first_more : (q : List ℕ) (steps : List Step) (i : ℕ) (s : Step) → i < length steps → s ≡ get_or steps i s → (old given mid now : Bool)
+    → given ≡ list_any (λ x. gives_mode q (step_of x)) (take i steps) → mid ≡ (works_first q (map step_of (take i steps)) || old) → now ≡ ((not given && works_in q (step_of s)) || mid)
+    → now ≡ (works_first q (map step_of (take (i + 1) steps)) || old)
+first_more q steps i s lt is old given mid now of so_far one =
+    one ∙ ap (λ (b : Bool). (not given && works_in q (step_of s)) || b) so_far ∙ ap (λ (b : Bool). (not b && works_in q (step_of s)) || (works_first q (map step_of (take i steps)) || old)) of
+    ∙ turned (not (list_any (λ x. gives_mode q (step_of x)) (take i steps)) && works_in q (step_of s)) (works_first q (map step_of (take i steps))) old ∙ ap (λ (b : Bool). b || old) (sym (first_turn q steps i s lt is))
+  where
+    turned : (a b c : Bool) → (a || (b || c)) ≡ ((b || a) || c)
+    turned true true c = refl
+    turned true false c = refl
+    turned false true c = refl
+    turned false false c = refl

@@ -1,4 +1,5 @@
 -- Paths of trials.
+use Rattle.ips_steps.specs.Private.{records_name}
 use Rattle.std.proofs.Common.{◌≡◌, ◌⊎◌, ⊎_elim, inl, inr, ℕ, ◌+◌, ◌≤◌, Bool, true, false, cond, ◌==◌, List, [], ◌∷◌, ◌++◌, length, length-append, drop, get_or, ◌<◌, IsUtf8, Option, Some, None, codes, refl, sym, ◌∙◌, ap, subst, arith}
 use Rattle.std.specs.List.{list_any}
 use Rattle.std.proofs.lemmas.Bool.{eqb-true, or_cases, or_left, or_right}
@@ -12,7 +13,7 @@ use Rattle.ips_text.specs.declared.path.PathFault.TheVariants.{Empty, Absolute, 
 use Rattle.ips_text.proofs.Fronts.{parts_at, ascii_path, ascii_text}
 use Rattle.ips_steps.specs.Steps.{stage_name, stage_path}
 use Rattle.ips_steps.proofs.Lists.{clash}
-use Rattle.ips_rehearse.specs.Tried.{try_name, dir_name, in_try}
+use Rattle.ips_rehearse.specs.Tried.{file_name, link_name, try_name, dir_name, in_try}
 
 -- ---- the names of trials
 
@@ -190,3 +191,17 @@ name_is p dir e h =
     let s = split p dir e in
     let at : drop (length dir + 1) p ≡ s.name = ap (drop (length dir + 1)) s.is ∙ drop-append-add dir (47 ∷ s.name) 1 in
     (subst IsPath (sym at) (back_path dir s.name (subst IsPath s.is h) s.alone), ap parent at ∙ s.alone)
+
+-- ---- names of trials
+
+pub link_is : codes "var/pkg/stage/try/link" ≡ link_name
+unfolding link_name
+link_is = refl
+
+pub file_is : codes "var/pkg/stage/try/file" ≡ file_name
+unfolding file_name
+file_is = refl
+
+pub at_records : (test : List ℕ → Bool) → test (codes "var/pkg") ≡ test records_name
+unfolding records_name
+at_records test = refl

@@ -1,7 +1,7 @@
 -- What steps ask of a file system.
-use Rattle.std.specs.Prelude.{ℕ, ◌+◌, ◌%◌, ◌≤◌, Bool, false, true, not, ◌||◌, ◌&&◌, ◌==◌, nat_lt, IsTrue, List, [], length, drop, Option, Some, None}
+use Rattle.std.specs.Prelude.{ℕ, ◌+◌, ◌/◌, ◌%◌, ◌≤◌, Bool, false, true, not, ◌||◌, ◌&&◌, ◌==◌, nat_lt, IsTrue, List, [], ◌∷◌, length, drop, Option, Some, None}
 use Rattle.std.specs.List.{All, list_any}
-use Rattle.ips_text.specs.Ancestry.{same_path, parent}
+use Rattle.ips_text.specs.Ancestry.{is_below, same_path, parent}
 use Rattle.ips_outside.specs.Children.{is_directory}
 use Rattle.ips_steps.specs.Steps.{Step, Gone, Fresh, Mode, Put, Symlink, Hard, at_parent}
 
@@ -46,6 +46,21 @@ works_in dir (Put n m p) = is_directory dir (parent p)
 works_in dir (Symlink p target) = is_directory dir (parent p)
 works_in dir (Hard p to) = is_directory dir (parent p)
 
+-- the step makes the directory, or sets its mode
+abbrev pub gives_mode : List ℕ → Step → Bool
+gives_mode q (Gone p) = false
+gives_mode q (Fresh m p) = same_path p q
+gives_mode q (Mode m p) = same_path p q
+gives_mode q (Put n m p) = false
+gives_mode q (Symlink p target) = false
+gives_mode q (Hard p to) = false
+
+-- A step works in the directory before any gives it a mode, so with the mode that stands. Behind the first that gives it one, whoever
+-- lays the steps again gives it that one first.
+abbrev pub works_first : List ℕ → List Step → Bool
+works_first q [] = false
+works_first q (s ∷ rest) = works_in q s || (not (gives_mode q s) && works_first q rest)
+
 -- something may stand where the step takes it away: it is no mode, and its parent isn't made
 abbrev pub may_take : (List ℕ → Bool) → Step → Bool
 may_take made (Gone p) = not (at_parent made (parent p))
@@ -68,15 +83,28 @@ makes_dir q (Hard p to) = false
 abbrev pub is_unreadable : ℕ → Bool
 is_unreadable m = nat_lt (m % 512) 256
 
--- The step gives this mode to a directory in which something is made or taken away, or makes one that can't be read, so that even an
--- empty one couldn't be taken away again.
-abbrev pub gives_worked : (List ℕ → Bool) → ℕ → Step → Bool
-gives_worked worked m (Gone p) = false
-gives_worked worked m (Fresh k p) = (worked p || is_unreadable k) && (k == m)
-gives_worked worked m (Mode k p) = worked p && (k == m)
-gives_worked worked m (Put n k p) = false
-gives_worked worked m (Symlink p target) = false
-gives_worked worked m (Hard p to) = false
+-- who owns a directory of the mode may not go through it
+abbrev pub is_closed : ℕ → Bool
+is_closed m = m / 64 % 2 == 0
+
+-- the step goes through the directory: to its path, and to the file of which a hard link is a name
+abbrev pub goes_through : List ℕ → Step → Bool
+goes_through q (Gone p) = is_below q p
+goes_through q (Fresh m p) = is_below q p
+goes_through q (Mode m p) = is_below q p
+goes_through q (Put n m p) = is_below q p
+goes_through q (Symlink p target) = is_below q p
+goes_through q (Hard p to) = is_below q p || is_below q to
+
+-- The step gives this mode to a directory in which something is made or taken away, or one that can't be gone through to one where a
+-- step goes through, or makes one that can't be read, so that even an empty one couldn't be taken away again.
+abbrev pub gives_worked : (List ℕ → Bool) → (List ℕ → Bool) → ℕ → Step → Bool
+gives_worked worked passed m (Gone p) = false
+gives_worked worked passed m (Fresh k p) = (worked p || (is_closed k && passed p) || is_unreadable k) && (k == m)
+gives_worked worked passed m (Mode k p) = (worked p || (is_closed k && passed p)) && (k == m)
+gives_worked worked passed m (Put n k p) = false
+gives_worked worked passed m (Symlink p target) = false
+gives_worked worked passed m (Hard p to) = false
 
 -- the mode has a bit above 0777
 abbrev pub is_beyond : ℕ → Bool

@@ -1,3 +1,5 @@
 pub mod Asked
 pub mod Plans
 pub mod Tried
+pub mod Going
+pub mod Rehearsed

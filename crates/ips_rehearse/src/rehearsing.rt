@@ -1,7 +1,7 @@
 //! All trials.
 
-ghost use Rattle.std.specs.Prelude.{◌≡◌, ◌⊎◌, ◌||◌, ◌<◌, ◌≤◌, ℕ, Bool, List, [], Some, None, IsTrue, IsFalse, IsErr, IfOk, OnOk, length, map};
-ghost use Rattle.std.specs.List.{list_any};
+ghost use Rattle.std.specs.Prelude.{◌≡◌, ◌⊎◌, ◌||◌, ◌<◌, ◌≤◌, ℕ, Bool, List, [], Some, None, IsTrue, IsErr, IfOk, OnOk, length, map};
+ghost use Rattle.std.specs.List.{All, list_any};
 ghost use Rattle.ips_text.specs.Ancestry.{covers, is_below, parent};
 ghost use Rattle.ips_text.specs.Path.{IsPath};
 ghost use Rattle.ips_outside.specs.Image.{Dir, is_dir, is_file};
@@ -11,11 +11,16 @@ ghost use Rattle.ips_steps.specs.Steps.{stage_name, stage_path};
 ghost use Rattle.ips_steps.specs.Journal.{AllProper};
 ghost use Rattle.ips_steps.specs.View.{step_of};
 ghost use Rattle.ips_rehearse.specs.Asked as asked;
-ghost use Rattle.ips_rehearse.specs.Plans.{is_worked, is_made};
-ghost use Rattle.ips_rehearse.specs.Tried.{try_name, in_modes, IsGone, IsEmptyDir, IsFailure, Calls};
+ghost use Rattle.ips_rehearse.specs.Plans.{is_made, is_passed, is_worked, is_worked_first};
+ghost use Rattle.ips_rehearse.specs.Tried.{try_name, in_modes, in_try, IsFileOf, IsGone, IsEmptyDir, IsFailure, IsLinkTo, Calls, Passed, Stood};
+ghost use Rattle.ips_rehearse.specs.Rehearsed.{HasNamed, HasTried, HasTriedModes, IsRehearsed};
+ghost use Rattle.ips_rehearse.specs.Going.{IsFound};
 
-use crate::asking::{Asked, gather, longest_name, longest_target, makes_name, modes_of};
+use crate::asking::{
+    Asked, add_above, gather, gather_first, longest_name, longest_target, makes_name, modes_of,
+};
 use crate::places::{go, go_in, room};
+use crate::sets::add;
 use crate::standing::{add_going, add_standing};
 use crate::trying::{try_dir, try_file, try_hard};
 use ips_folder::Folder;
@@ -70,6 +75,7 @@ pub fn rehearse<'a, F: Folder>(
     ensures gone { IsTrue (F.outside.tells folder.old) → OnOk result (IsGone try_name (F.outside.state folder.new).held) }
     ensures of { IfOk result (λ rehearsed. rehearsed ≡ map step_of steps.now) }
     ensures tried { OnOk result ((length steps.now ≡ 0) ⊎ (risen (F.outside.changes folder.old) ≤ F.outside.changes folder.new)) }
+    ensures rehearsed { IsTrue (F.outside.tells folder.old) → OnOk result ((length steps.now ≡ 0) ⊎ IsRehearsed F.outside steps.now contents folder.old folder.new) }
     ensures cause { HasCause (F.outside.faults folder.old) (F.outside.faults folder.new) (IsFailure result) }
     ensures same_kind { F.outside.tells folder.new ≡ F.outside.tells folder.old }
     ensures changes { F.outside.changes folder.old ≤ F.outside.changes folder.new }
@@ -107,6 +113,7 @@ fn try_steps<F: Folder>(
     ensures any_moment { IsTrue (F.outside.tells folder.old) → ChangesOnly F.outside (covers try_name) (covers try_name) folder.old folder.new }
     ensures gone { IsTrue (F.outside.tells folder.old) → OnOk result (IsGone try_name (F.outside.state folder.new).held) }
     ensures tried { OnOk result (risen (F.outside.changes folder.old) ≤ F.outside.changes folder.new) }
+    ensures seen { IsTrue (F.outside.tells folder.old) → OnOk result (IsRehearsed F.outside steps.now contents folder.old folder.new) }
     ensures calls { Calls F.outside folder.old folder.new (IsFailure result) }
 {
     let modes = ask(alloc, steps, folder, path)?;
@@ -132,18 +139,24 @@ fn ask<F: Folder>(
     requires proper { AllProper (map step_of steps.now) }
     requires room { 1023 ≤ path.old.room }
     ensures room { 1023 ≤ path.new.room }
-    ensures worked { IfOk result (λ a. (m : ℕ) → IsTrue (list_any (λ s. asked.gives_worked (is_worked steps.now) m (step_of s)) steps.now) → IsTrue (in_modes a.worked.has m)) }
-    ensures standing { IsTrue (F.outside.tells folder.old) → IfOk result (λ a. (q : List ℕ) (m : ℕ) (f : Bool) → IsTrue (is_worked steps.now q) → IsFalse (is_made steps.now q)
+    ensures worked { IfOk result (λ a. (m : ℕ) → IsTrue (list_any (λ s. asked.gives_worked (is_worked steps.now) (is_passed steps.now) m (step_of s)) steps.now) → IsTrue (in_modes a.worked.has m)) }
+    ensures standing { IsTrue (F.outside.tells folder.old) → IfOk result (λ a. (q : List ℕ) (m : ℕ) (f : Bool) → IsTrue (is_worked_first steps.now q)
         → (F.outside.state folder.old).held.look q ≡ Some (Dir m f) → IsTrue (in_modes a.worked.has m)) }
+    ensures going { IsTrue (F.outside.tells folder.old) → IfOk result (λ a. All (IsFound (F.outside.state folder.old).held (is_made steps.now) a.worked.has) steps.now) }
     ensures dirs { IfOk result (λ a. (m : ℕ) → in_modes a.dirs.has m ≡ list_any (λ s. asked.gives_dir m (step_of s)) steps.now) }
     ensures files { IfOk result (λ a. (m : ℕ) → in_modes a.files.has m ≡ list_any (λ s. asked.gives_file m (step_of s)) steps.now) }
     ensures reads { Reads F.outside folder.old folder.new (IsFailure result) }
 {
     let mut worked = BTreeSet::new(alloc);
     let mut made = BTreeSet::new(alloc);
-    gather(alloc, steps, &mut worked, &mut made)?;
-    let mut modes = modes_of(steps, &worked);
-    let Ok(()) = add_standing(folder, path, &worked, &made, &mut modes.worked) else {
+    let mut passed = BTreeSet::new(alloc);
+    let mut first = BTreeSet::new(alloc);
+    add(alloc, &mut worked, b"var/pkg")?;
+    add_above(alloc, b"var/pkg", &mut passed)?;
+    gather(alloc, steps, &mut worked, &mut passed, &mut made)?;
+    gather_first(alloc, steps, &mut first)?;
+    let mut modes = modes_of(steps, &worked, &passed);
+    let Ok(()) = add_standing(folder, path, &first, &mut modes.worked) else {
         return Err(Or::Bad(Failed));
     };
     add_going(alloc, folder, steps, &made, &mut modes.worked)?;
@@ -166,6 +179,8 @@ fn try_within<F: Folder>(
     requires first { IsTrue (F.outside.tells folder.old) → 0 < contents → IsTrue (is_file ((F.outside.state folder.old).held.look (stage_path 0))) }
     ensures path { 1023 ≤ path.new.room }
     ensures any_moment { IsTrue (F.outside.tells folder.old) → ChangesOnly F.outside (is_below try_name) (is_below try_name) folder.old folder.new }
+    ensures seen { IsTrue (F.outside.tells folder.old) → OnOk result (Passed F.outside folder.old folder.new × HasTried F.outside steps.now contents folder.old folder.new
+        × HasTriedModes F.outside folder.old folder.new modes.now.worked.has modes.now.dirs.has modes.now.files.has) }
     ensures calls { Calls F.outside folder.old folder.new (IsFailure result) }
 {
     let Ok(()) = try_name_of(folder, path, other, contents, makes_name(steps)) else {
@@ -195,6 +210,7 @@ fn try_name_of<F: Folder>(
     ensures empty { IsTrue (F.outside.tells folder.old) → OnOk result (IsEmptyDir try_name (F.outside.state folder.new).held) }
     ensures any_moment { IsTrue (F.outside.tells folder.old) → ChangesOnly F.outside (is_below try_name) (is_below try_name) folder.old folder.new }
     ensures tried { OnOk result (IsTrue is_asked → risen (risen (F.outside.changes folder.old)) ≤ F.outside.changes folder.new) }
+    ensures seen { IsTrue (F.outside.tells folder.old) → OnOk result (Passed F.outside folder.old folder.new × (IsTrue is_asked → HasNamed F.outside contents folder.old folder.new)) }
     ensures calls { Calls F.outside folder.old folder.new (IsErr result) }
 {
     if !is_asked {
@@ -219,6 +235,7 @@ fn try_target<F: Folder>(folder: &mut F, path: &mut RelPath, target: &[u8]) -> R
     ensures empty { IsTrue (F.outside.tells folder.old) → OnOk result (IsEmptyDir try_name (F.outside.state folder.new).held) }
     ensures any_moment { IsTrue (F.outside.tells folder.old) → ChangesOnly F.outside (is_below try_name) (is_below try_name) folder.old folder.new }
     ensures tried { OnOk result ((length target.now ≡ 0) ⊎ (risen (risen (F.outside.changes folder.old)) ≤ F.outside.changes folder.new)) }
+    ensures seen { IsTrue (F.outside.tells folder.old) → OnOk result (Passed F.outside folder.old folder.new × ((target.now ≡ []) ⊎ Stood F.outside folder.old folder.new (IsLinkTo target.now))) }
     ensures calls { Calls F.outside folder.old folder.new (IsErr result) }
 {
     if target.is_empty() {
@@ -243,6 +260,7 @@ fn try_name<F: Folder>(
     ensures empty { IsTrue (F.outside.tells folder.old) → OnOk result (IsEmptyDir try_name (F.outside.state folder.new).held) }
     ensures any_moment { IsTrue (F.outside.tells folder.old) → ChangesOnly F.outside (is_below try_name) (is_below try_name) folder.old folder.new }
     ensures tried { OnOk result ((length name.now ≡ 0) ⊎ (risen (risen (F.outside.changes folder.old)) ≤ F.outside.changes folder.new)) }
+    ensures seen { IsTrue (F.outside.tells folder.old) → OnOk result (Passed F.outside folder.old folder.new × ((name.now ≡ []) ⊎ Stood F.outside folder.old folder.new (λ t. IsTrue (is_file (t.look (in_try name.now)))))) }
     ensures calls { Calls F.outside folder.old folder.new (IsFailure result) }
 {
     if name.is_empty() {
@@ -268,6 +286,7 @@ fn try_modes<F: Folder>(
     requires empty { IsTrue (F.outside.tells folder.old) → IsEmptyDir try_name (F.outside.state folder.old).held }
     ensures path { 1023 ≤ path.new.room }
     ensures any_moment { IsTrue (F.outside.tells folder.old) → ChangesOnly F.outside (is_below try_name) (is_below try_name) folder.old folder.new }
+    ensures seen { IsTrue (F.outside.tells folder.old) → OnOk result (Passed F.outside folder.old folder.new × HasTriedModes F.outside folder.old folder.new modes.now.worked.has modes.now.dirs.has modes.now.files.has) }
     ensures calls { Calls F.outside folder.old folder.new (IsFailure result) }
 {
     for mode in 0..4096u16 {
@@ -303,6 +322,7 @@ fn try_file_mode<F: Folder>(
     ensures empty { IsTrue (F.outside.tells folder.old) → OnOk result (IsEmptyDir try_name (F.outside.state folder.new).held) }
     ensures any_moment { IsTrue (F.outside.tells folder.old) → ChangesOnly F.outside (is_below try_name) (is_below try_name) folder.old folder.new }
     ensures tried { OnOk result (IsTrue is_asked → risen (risen (F.outside.changes folder.old)) ≤ F.outside.changes folder.new) }
+    ensures seen { IsTrue (F.outside.tells folder.old) → OnOk result (Passed F.outside folder.old folder.new × (IsTrue is_asked → Stood F.outside folder.old folder.new (IsFileOf mode))) }
     ensures calls { Calls F.outside folder.old folder.new (IsErr result) }
 {
     if !is_asked {

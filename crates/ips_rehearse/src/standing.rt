@@ -1,64 +1,60 @@
 //! The modes of directories that stand, in which a step makes or takes away something.
 
-ghost use Rattle.std.specs.Prelude.{◌≡◌, ◌<◌, ◌≤◌, ℕ, Bool, List, IsTrue, IsFalse, IsErr, OnOk, Some};
-ghost use Rattle.std.specs.List.{All};
+ghost use Rattle.std.specs.Prelude.{◌≡◌, ◌<◌, ◌≤◌, ℕ, Bool, List, IsTrue, IsErr, OnOk, Some};
+ghost use Rattle.std.specs.List.{All, list_any};
 ghost use Rattle.ips_outside.specs.Children.{is_child};
 ghost use Rattle.ips_outside.specs.Image.{Dir, is_dir};
 ghost use Rattle.ips_outside.specs.Outside.{Reads};
 ghost use Rattle.ips_outside.specs.Tearing.{in_set};
-ghost use Rattle.ips_steps.specs.Steps.{path_of};
 ghost use Rattle.ips_steps.specs.View.{step_of};
 ghost use Rattle.ips_rehearse.specs.Asked as asked;
+ghost use Rattle.ips_rehearse.specs.Going.{IsFound, IsMet, is_under};
 ghost use Rattle.ips_rehearse.specs.Tried.{in_modes, IsFailure, KeepsModes};
+ghost use Rattle.ips_text.specs.Ancestry.{covers, same_path};
 
 use crate::modes::Modes;
 use crate::sets::has;
-use ips_folder::{Folder, ListFault};
+use ips_folder::{Folder, ListFault, Listing};
 use ips_outside::{Failed, Look, Source};
 use ips_steps::Step;
 use ips_text::{Or, RelPath, parent};
 use std::alloc::{AllocError, Global};
 use std::collections::BTreeSet;
 
-/// Adds the modes of those of these directories that stand, but for those that steps make.
+/// Adds the modes of those of these directories that stand.
 pub(crate) fn add_standing<F: Folder>(
     folder: &mut F,
     path: &mut RelPath,
-    worked: &BTreeSet<Vec<u8>>,
-    made: &BTreeSet<Vec<u8>>,
+    first: &BTreeSet<Vec<u8>>,
     modes: &mut Modes,
 ) -> Result<(), Failed>
     requires room { 1023 ≤ path.old.room }
     ensures room { 1023 ≤ path.new.room }
-    ensures found { IsTrue (F.outside.tells folder.old) → OnOk result ((q : List ℕ) (m : ℕ) (f : Bool) → IsTrue (in_set worked.now q) → IsFalse (in_set made.now q)
+    ensures found { IsTrue (F.outside.tells folder.old) → OnOk result ((q : List ℕ) (m : ℕ) (f : Bool) → IsTrue (in_set first.now q)
         → (F.outside.state folder.old).held.look q ≡ Some (Dir m f) → IsTrue (in_modes modes.new.has m)) }
     ensures kept { KeepsModes modes.old.has modes.new.has }
     ensures reads { Reads F.outside folder.old folder.new (IsErr result) }
 {
-    for dir in worked.iter() {
-        add_dir(folder, path, dir, made, modes)?;
+    for dir in first.iter() {
+        add_dir(folder, path, dir, modes)?;
     }
     Ok(())
 }
 
-// Adds the mode of the directory that stands at the path, if one does and no step makes it.
+// Adds the mode of the directory that stands at the path, if one does.
 fn add_dir<F: Folder>(
     folder: &mut F,
     path: &mut RelPath,
     dir: &[u8],
-    made: &BTreeSet<Vec<u8>>,
     modes: &mut Modes,
 ) -> Result<(), Failed>
     requires room { 1023 ≤ path.old.room }
     ensures room { 1023 ≤ path.new.room }
-    ensures found { IsTrue (F.outside.tells folder.old) → OnOk result ((m : ℕ) (f : Bool) → IsFalse (in_set made.now dir.now)
+    ensures found { IsTrue (F.outside.tells folder.old) → OnOk result ((m : ℕ) (f : Bool)
         → (F.outside.state folder.old).held.look dir.now ≡ Some (Dir m f) → IsTrue (in_modes modes.new.has m)) }
     ensures kept { KeepsModes modes.old.has modes.new.has }
     ensures reads { Reads F.outside folder.old folder.new (IsErr result) }
 {
-    if has(made, dir) {
-        return Ok(());
-    }
     let Ok(()) = path.set(dir) else {
         // nothing stands at what is no path
         return Ok(());
@@ -78,9 +74,7 @@ pub(crate) fn add_going<F: Folder>(
     made: &BTreeSet<Vec<u8>>,
     modes: &mut Modes,
 ) -> Result<(), Or<Failed>>
-    ensures found { IsTrue (F.outside.tells folder.old) → OnOk result (All (λ s. (m : ℕ) (f : Bool) (q : List ℕ) → IsTrue (asked.may_take (in_set made.now) (step_of s))
-        → (F.outside.state folder.old).held.look (path_of (step_of s)) ≡ Some (Dir m f) → IsTrue (is_child (F.outside.state folder.old).held (path_of (step_of s)) q)
-        → IsTrue (in_modes modes.new.has m)) steps.now) }
+    ensures found { IsTrue (F.outside.tells folder.old) → OnOk result (All (IsFound (F.outside.state folder.old).held (in_set made.now) modes.new.has) steps.now) }
     ensures kept { KeepsModes modes.old.has modes.new.has }
     ensures reads { Reads F.outside folder.old folder.new (IsFailure result) }
 {
@@ -114,6 +108,8 @@ fn walk<F: Folder>(
     modes: &mut Modes,
     left: &mut Vec<RelPath>,
 ) -> Result<(), Or<Failed>>
+    ensures found { IsTrue (F.outside.tells folder.old) → OnOk result ((d : List ℕ) (m : ℕ) (f : Bool) (q : List ℕ) → IsTrue (is_under left.old.items d)
+        → (F.outside.state folder.old).held.look d ≡ Some (Dir m f) → IsTrue (is_child (F.outside.state folder.old).held d q) → IsTrue (in_modes modes.new.has m)) }
     ensures kept { KeepsModes modes.old.has modes.new.has }
     ensures reads { Reads F.outside folder.old folder.new (IsFailure result) }
 {
@@ -123,7 +119,8 @@ fn walk<F: Folder>(
         };
         add_at(alloc, folder, &path, modes, left)?;
     }
-    Ok(())
+    // no tree has so many paths
+    Err(Or::OutOfMemory)
 }
 
 // The same for a path that may go.
@@ -134,8 +131,8 @@ fn add_at<F: Folder>(
     modes: &mut Modes,
     left: &mut Vec<RelPath>,
 ) -> Result<(), Or<Failed>>
-    ensures found { IsTrue (F.outside.tells folder.old) → OnOk result ((m : ℕ) (f : Bool) (q : List ℕ) → (F.outside.state folder.old).held.look path.now.bytes ≡ Some (Dir m f)
-        → IsTrue (is_child (F.outside.state folder.old).held path.now.bytes q) → IsTrue (in_modes modes.new.has m)) }
+    ensures found { IsTrue (F.outside.tells folder.old) → OnOk result ((d : List ℕ) → IsTrue (covers path.now.bytes d) → IsMet (F.outside.state folder.old).held modes.new.has left.new.items d) }
+    ensures left { OnOk result ((d : List ℕ) → IsTrue (is_under left.old.items d) → IsTrue (is_under left.new.items d)) }
     ensures kept { KeepsModes modes.old.has modes.new.has }
     ensures reads { Reads F.outside folder.old folder.new (IsFailure result) }
 {
@@ -148,7 +145,7 @@ fn add_at<F: Folder>(
     match folder.list(alloc, path) {
         Ok(listing) => {
             let children = listing.names.as_slice();
-            modes.add(mode, listing.foreign || !children.is_empty());
+            modes.add(mode, holds(&listing));
             Ok(push_all(alloc, children, left)?)
         }
         Err(ListFault::Failed) => Err(Or::Bad(Failed)),
@@ -156,10 +153,22 @@ fn add_at<F: Folder>(
     }
 }
 
+// Whether the directory that was listed holds something.
+fn holds(listing: &Listing) -> bool
+    ensures foreign { IsTrue listing.now.foreign → IsTrue result }
+    ensures children { (q : List ℕ) → IsTrue (list_any (λ p. same_path p q) listing.now.names) → IsTrue result }
+{
+    listing.foreign || !listing.names.as_slice().is_empty()
+}
+
 // Adds copies of the paths.
-fn push_all(alloc: Global, paths: &[RelPath], left: &mut Vec<RelPath>) -> Result<(), AllocError> {
+fn push_all(alloc: Global, paths: &[RelPath], left: &mut Vec<RelPath>) -> Result<(), AllocError>
+    ensures left { OnOk result ((d : List ℕ) → IsTrue (is_under left.old.items d) → IsTrue (is_under left.new.items d)) }
+    ensures paths { OnOk result ((d : List ℕ) → IsTrue (is_under paths.now d) → IsTrue (is_under left.new.items d)) }
+{
     for path in paths {
-        left.push(path.copy(alloc)?)?;
+        let copy = path.copy(alloc)?;
+        left.push(copy)?;
     }
     Ok(())
 }

@@ -1,12 +1,13 @@
 //! Single trials. Each makes something at a path and takes it away again.
 
-ghost use Rattle.std.specs.Prelude.{◌≡◌, ◌<◌, ◌≤◌, ◌||◌, IsTrue, IsErr, OnOk, List};
+ghost use Rattle.std.specs.Prelude.{◌≡◌, ◌<◌, ◌≤◌, ◌||◌, IsTrue, IsErr, OnOk, List, ℕ, [], Some, None};
 ghost use Rattle.ips_text.specs.Ancestry.{covers, is_below};
-ghost use Rattle.ips_outside.specs.Image.{is_dir, is_file};
+ghost use Rattle.ips_outside.specs.Image.{File, is_dir, is_file};
+ghost use Rattle.ips_outside.specs.Change.{joined, with_entry_at};
 ghost use Rattle.ips_outside.specs.State.{nowhere};
 ghost use Rattle.ips_outside.specs.Outside.{risen};
 ghost use Rattle.ips_folder.specs.Calls.{CanMake, ChangesOnly};
-ghost use Rattle.ips_rehearse.specs.Tried.{try_name, dir_name, IsGone, IsEmptyDir, IsFailure, Calls};
+ghost use Rattle.ips_rehearse.specs.Tried.{try_name, dir_name, inner_dir_name, inner_file_name, IsDirOf, IsGone, IsEmptyDir, IsFailure, Calls, Passed, Stood, WasWorked};
 
 use crate::places::go;
 use ips_folder::{Folder, ListFault};
@@ -25,6 +26,7 @@ pub(crate) fn try_hard<F: Folder>(
     ensures gone { IsTrue (F.outside.tells folder.old) → OnOk result (IsGone path.now.bytes (F.outside.state folder.new).held) }
     ensures any_moment { IsTrue (F.outside.tells folder.old) → ChangesOnly F.outside (covers path.now.bytes) (covers path.now.bytes) folder.old folder.new }
     ensures tried { OnOk result (risen (risen (F.outside.changes folder.old)) ≤ F.outside.changes folder.new) }
+    ensures seen { IsTrue (F.outside.tells folder.old) → OnOk result (Stood F.outside folder.old folder.new (λ t. t ≡ joined path.now.bytes to.now.bytes (F.outside.state folder.old).held)) }
     ensures calls { Calls F.outside folder.old folder.new (IsErr result) }
 {
     folder.make_hard(path, to)?;
@@ -38,6 +40,7 @@ pub(crate) fn try_file<F: Folder>(folder: &mut F, path: &RelPath, mode: u16) -> 
     ensures gone { IsTrue (F.outside.tells folder.old) → OnOk result (IsGone path.now.bytes (F.outside.state folder.new).held) }
     ensures any_moment { IsTrue (F.outside.tells folder.old) → ChangesOnly F.outside (covers path.now.bytes) (covers path.now.bytes) folder.old folder.new }
     ensures tried { OnOk result (risen (risen (F.outside.changes folder.old)) ≤ F.outside.changes folder.new) }
+    ensures seen { IsTrue (F.outside.tells folder.old) → OnOk result (Stood F.outside folder.old folder.new (λ t. t.look path.now.bytes ≡ Some (File mode []))) }
     ensures calls { Calls F.outside folder.old folder.new (IsErr result) }
 {
     folder.make_file(path)?;
@@ -65,6 +68,8 @@ pub(crate) fn try_dir<F: Folder>(
     ensures empty { IsTrue (F.outside.tells folder.old) → OnOk result (IsEmptyDir try_name (F.outside.state folder.new).held) }
     ensures any_moment { IsTrue (F.outside.tells folder.old) → ChangesOnly F.outside (is_below try_name) (is_below try_name) folder.old folder.new }
     ensures tried { OnOk result (IsTrue (is_asked || is_worked) → risen (risen (F.outside.changes folder.old)) ≤ F.outside.changes folder.new) }
+    ensures seen { IsTrue (F.outside.tells folder.old) → OnOk result (Passed F.outside folder.old folder.new
+        × (IsTrue (is_asked || is_worked) → Stood F.outside folder.old folder.new (IsDirOf mode)) × (IsTrue is_worked → WasWorked F.outside mode folder.old folder.new)) }
     ensures calls { Calls F.outside folder.old folder.new (IsFailure result) }
 {
     if !is_asked && !is_worked {
@@ -98,6 +103,8 @@ fn work<F: Folder>(
     ensures room { 1023 ≤ inner.new.room }
     ensures any_moment { IsTrue (F.outside.tells folder.old) → ChangesOnly F.outside (is_below dir_name) nowhere folder.old folder.new }
     ensures tried { OnOk result (IsTrue is_worked → risen (risen (F.outside.changes folder.old)) ≤ F.outside.changes folder.new) }
+    ensures seen { IsTrue (F.outside.tells folder.old) → (m : ℕ) → IsDirOf m (F.outside.state folder.old).held
+        → OnOk result (Passed F.outside folder.old folder.new × (IsTrue is_worked → WasWorked F.outside m folder.old folder.new)) }
     ensures calls { Calls F.outside folder.old folder.new (IsFailure result) }
 {
     if !is_worked {
@@ -127,6 +134,8 @@ fn clear<F: Folder>(
     ensures room { 1023 ≤ inner.new.room }
     ensures any_moment { IsTrue (F.outside.tells folder.old) → ChangesOnly F.outside (is_below dir_name) nowhere folder.old folder.new }
     ensures tried { OnOk result (risen (risen (F.outside.changes folder.old)) ≤ F.outside.changes folder.new) }
+    ensures seen { IsTrue (F.outside.tells folder.old) → OnOk result (Passed F.outside folder.old folder.new
+        × ((F.outside.state folder.new).held ≡ with_entry_at inner_dir_name None (with_entry_at inner_file_name None (F.outside.state folder.old).held))) }
     ensures calls { Calls F.outside folder.old folder.new (IsFailure result) }
 {
     match folder.list(alloc, dir) {

@@ -16,5 +16,5 @@ mod start;
 pub use fault::RepoFault;
 pub use ips_files::{FileFault, read_whole};
 pub use payload::Payload;
-pub use places::places_are_paths;
+pub use places::{catalog_place, manifest_place, payload_place, places_are_paths};
 pub use repository::Repo;

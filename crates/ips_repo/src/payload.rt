@@ -1,13 +1,14 @@
 //! Payloads, given piece by piece and judged by their digest.
 
-ghost use Rattle.std.specs.Prelude.{◌≡◌, ◌+◌, ◌<◌, ◌≤◌, ◌↔◌, [], false, IsTrue, IfOk, IfErr, IsOk, IsErr, OnErr, length, take};
+ghost use Rattle.std.specs.Prelude.{◌≡◌, ◌+◌, ◌<◌, ◌≤◌, ◌↔◌, [], false, IsTrue, IfOk, IfErr, IsOk, IsErr, OnErr, Ok, length, take};
 ghost use Rattle.ips_text.specs.Reading.{IfBad};
 ghost use Rattle.ips_text.specs.declared.refusal.Or.TheVariants.{Bad};
 ghost use Rattle.ips_outside.specs.Image.{Image};
 ghost use Rattle.ips_outside.specs.Outside.{Reads, readable, IsRead};
 ghost use Rattle.ips_repo.specs.Places as place;
-ghost use Rattle.ips_repo.specs.Answer.{Answers};
-ghost use Rattle.ips_repo.specs.Payload.{IsOpened, payload_opening, from_start, given, IsFrontOf, digest_by, IsDamage, IsOpenFault, fault_of_opening};
+ghost use Rattle.ips_files.specs.Files.{file_at};
+ghost use Rattle.ips_repo.specs.Answer.{Answers, IsMeantFault};
+ghost use Rattle.ips_repo.specs.Payload.{IsOpened, payload_in, payload_opening, from_start, given, IsFrontOf, digest_by, IsDamage, IsOpenFault, fault_of_opening};
 ghost use Rattle.ips_repo.specs.declared.fault.RepoFault.TheVariants as fault;
 
 use crate::fault::RepoFault;
@@ -66,9 +67,28 @@ impl Payload {
         let Some(place) = payload_place(alloc, publisher, name)? else {
             return Err(Or::Bad(RepoFault::PayloadMissing));
         };
+        match Payload::open_file(source, place, name) {
+            Ok(payload) => Ok(payload),
+            Err(fault) => Err(Or::Bad(fault)),
+        }
+    }
+
+    /// Looks for a payload of this name at the path, wherever that is. Nothing of it is read yet.
+    pub fn open_file<S: Source>(
+        source: &mut S,
+        place: RelPath,
+        name: &PayloadName,
+    ) -> Result<Payload, RepoFault>
+        ensures opened { IfOk result (IsOpened place.bytes name.now) }
+        ensures front { IsTrue (S.outside.tells source.old) → IfOk result (IsFrontOf (S.outside.state source.old).held) }
+        ensures found { IsTrue (S.outside.tells source.old) → IfOk result (λ payload. payload_in name.now place.bytes (file_at (S.outside.state source.old).held place.bytes) ≡ Ok payload) }
+        ensures meant { IsTrue (S.outside.tells source.old) → IfErr result (λ why. IsMeantFault why (payload_in name.now place.bytes (file_at (S.outside.state source.old).held place.bytes))) }
+        ensures faults { IfErr result IsOpenFault }
+        ensures reads { Reads S.outside source.old source.new (result ≡ Err fault.SourceFault) }
+    {
         let size = match size_of_file(source, &place, PAYLOAD_BYTES) {
             Ok(size) => size,
-            Err(fault) => return Err(Or::Bad(open_fault(fault))),
+            Err(fault) => return Err(open_fault(fault)),
         };
         Ok(Payload {
             name: *name,

@@ -33,7 +33,7 @@ pub(crate) fn mark_place(alloc: Global) -> Result<Option<RelPath>, AllocError>
 }
 
 /// Where the catalog of a publisher stands, where that is a path.
-pub(crate) fn catalog_place(alloc: Global, publisher: &str) -> Result<Option<RelPath>, AllocError>
+pub fn catalog_place(alloc: Global, publisher: &str) -> Result<Option<RelPath>, AllocError>
     ensures { IfOk result (IsPlace (place.catalog_place publisher.now)) }
 {
     let mut bytes = Vec::new(alloc);
@@ -44,7 +44,7 @@ pub(crate) fn catalog_place(alloc: Global, publisher: &str) -> Result<Option<Rel
 }
 
 /// Where the manifest of a version of a stem stands, where that is a path.
-pub(crate) fn manifest_place(
+pub fn manifest_place(
     alloc: Global,
     publisher: &str,
     stem: &str,
@@ -78,7 +78,7 @@ fn place_of_quoted(
 }
 
 /// Where the payload of this name stands, where that is a path.
-pub(crate) fn payload_place(
+pub fn payload_place(
     alloc: Global,
     publisher: &str,
     name: &PayloadName,

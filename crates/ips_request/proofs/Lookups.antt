@@ -24,6 +24,7 @@ use Rattle.ips_request.specs.declared.asking.Naming as declared
 use Rattle.ips_request.proofs.StemLists.{AreDistinct, same_stem, number_found}
 use Rattle.ips_text.proofs.Truths.{or_false, or_assoc}
 use Rattle.ips_text.proofs.Lists.{take_item}
+use Rattle.ips_outside.proofs.Looks.{and_true}
 
 -- ---- stems that are put in
 
@@ -124,10 +125,6 @@ none_alike stem v (f ∷ fs) h = elim (cases_Bool (bytes_eq stem f.stem)) [
       let none = false_from_ne_true (has stem (map (λ (f : Fmri). f.stem) fs)) (λ r. both_ways (has stem (map (λ (f : Fmri). f.stem) (f ∷ fs))) h (or_right (bytes_eq stem f.stem) (has stem (map (λ (f : Fmri). f.stem) fs)) r)) in
       (λ i. (not (e i) || admits f.version v) && none_alike stem v fs none i)
 ]
-
-and_true : (b : Bool) → (b && true) ≡ b
-and_true true = refl
-and_true false = refl
 
 -- of freezes of different stems, each of a stem admits a version where the first of it does
 pub freeze_admitted : (stem : List ℕ) (v : Parts) (fs : List Fmri) → AreDistinct (map (λ (f : Fmri). f.stem) fs)

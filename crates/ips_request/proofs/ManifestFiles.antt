@@ -48,7 +48,7 @@ unread_fault X total file name (repo.TooLarge which count) e is why u =
     subst (λ e. IfBad {X = X} (Err e) (IsFetchFault total file name)) (sym u) (too_large total count which file why.0 why.1)
 unread_fault X total file name repo.SourceFault e is why u = subst (λ e. IfBad {X = X} (Err e) (IsFetchFault total file name)) (sym u) tt
 
-no_missing : (name : List ℕ) (e : Or ProblemFault) → IsMissing name e → e ≡ Bad fault.SourceFault → ⊥
+pub no_missing : (name : List ℕ) (e : Or ProblemFault) → IsMissing name e → e ≡ Bad fault.SourceFault → ⊥
 no_missing name e h is = subst (IsMissing name) is h
 
 -- a call that failed is told as such, and nothing else is

@@ -9,8 +9,8 @@ use Rattle.ips_after.specs.Request.{Over}
 use Rattle.ips_due.specs.Apart.{LeavesSalvage}
 use Rattle.ips_due.specs.Due.{Due, DueFile, IsOverOf, MeansSame, account_at}
 use Rattle.ips_due.specs.Delivered.{Delivered, request_due}
-use Rattle.ips_request_due.specs.delivered.Delivering.{PackagesDeliver}
-use Rattle.ips_request_due.specs.withdrawn.Withdrawn.{IsDeliveredBy}
+use Rattle.ips_delivered.specs.delivered.Delivering.{PackagesDeliver}
+use Rattle.ips_delivered.specs.withdrawn.Withdrawn.{IsDeliveredBy}
 
 -- The files are due at the paths of account files, and their modes are permission bits.
 pub record AreAccountFiles (files : List DueFile) : Type 0 where

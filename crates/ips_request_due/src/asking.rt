@@ -10,15 +10,15 @@ ghost use Rattle.ips_due.specs.Delivered as due;
 ghost use Rattle.ips_due.specs.Delivered.{CanBeNamed, Delivered, delivered_records};
 ghost use Rattle.ips_due.specs.State.{renewed_by};
 ghost use Rattle.ips_due.specs.outstanding.Parts.{due_file, due_record};
-ghost use Rattle.ips_request_due.specs.delivered.Delivering.{HasUnknownOwner};
-ghost use Rattle.ips_request_due.specs.withdrawn.Withdrawn.{IsDeliveredBy};
+ghost use Rattle.ips_delivered.specs.delivered.Delivering.{HasUnknownOwner};
+ghost use Rattle.ips_delivered.specs.withdrawn.Withdrawn.{IsDeliveredBy};
 ghost use Rattle.ips_request_due.specs.RequestDue.{AreAccountFiles, IsRequestDue, LeavesAlone};
 
-use crate::delivered::{UnknownOwner, delivered, names_are_one};
 use crate::kept::KeptDue;
 use crate::state_due::places_mean_the_records;
-use crate::withdrawn::withdrawn;
 use ips_books::Books;
+use ips_delivered::delivered::{UnknownOwner, delivered, names_are_one};
+use ips_delivered::withdrawn::withdrawn;
 use ips_due::outstanding::{AccountFile, DueRecord};
 use ips_due::{
     due_is_told_by_paths, requests_hang_together, requests_have_proper_due, requests_leave_salvage,

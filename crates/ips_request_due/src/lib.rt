@@ -3,20 +3,16 @@
 //! In reading order: what is due, kept (`kept`), what a request makes due (`asking`), what an image is made with (`creating`), what a repair makes due
 //! (`repairing`), and which account files a request may ask for (`laws`).
 //!
-//! Below it, each with its own contracts: what a repair makes due (`repairs`), the records of a state (`state_due`), what packages deliver besides what is
-//! wanted (`delivered`), what goes (`withdrawn`), and the licenses that are newly delivered (`new_licenses`).
+//! Below it, each with its own contracts: what a repair makes due (`repairs`), and the records of a state (`state_due`).
 #![tactic(auto)]
 
 mod asking;
 mod creating;
-pub mod delivered;
 mod kept;
 mod laws;
-pub mod new_licenses;
 mod repairing;
 pub mod repairs;
 pub mod state_due;
-pub mod withdrawn;
 
 pub use asking::request_due;
 pub use creating::creation_due;

@@ -14,8 +14,8 @@ use Rattle.ips_steps.specs.Private.{gate_name}
 use Rattle.ips_steps.specs.View.{step_of}
 use Rattle.ips_steps.proofs.Lists.{clash}
 use Rattle.ips_kinds.specs.Tallies.{Carrier}
-use Rattle.ips_commit.specs.Contents.{AreIntactContents, IsIntact, IsPayloadFileFault, SaysOfStage}
-use Rattle.ips_commit.specs.declared.fault.StageFault.TheVariants as stage
+use Rattle.ips_contents.specs.Contents.{AreIntactContents, IsIntact, IsPayloadFileFault, SaysOfStage}
+use Rattle.ips_contents.specs.declared.fault.StageFault.TheVariants as stage
 use Rattle.ips_history.specs.Directories.{creates, fixes, var_name, is_dir_or_free, IsFirstObstacle}
 use Rattle.ips_history.specs.declared.effect.Effect.{Effect}
 use Rattle.ips_run.specs.declared.operation.Change.{Change}

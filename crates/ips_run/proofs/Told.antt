@@ -15,7 +15,7 @@ use Rattle.ips_actuate.specs.Running.{succeeded, Ends, IsFaultOfRun, IsSpawn}
 use Rattle.ips_actuate.specs.declared.running.ActFault.{ActFault}
 use Rattle.ips_actuate.specs.declared.running.ActFault.TheVariants as act_fault
 use Rattle.ips_commit.specs.Answers.{IsToldOrMasked}
-use Rattle.ips_commit.specs.Contents.{AreIntactContents}
+use Rattle.ips_contents.specs.Contents.{AreIntactContents}
 use Rattle.ips_commit.proofs.Masked.{told_own, told_other}
 use Rattle.ips_commit.specs.Staging.{HasStaged}
 use Rattle.ips_commit.specs.declared.fault.CommitFault.{CommitFault}
@@ -193,7 +193,7 @@ pub unrun_before : {T : Type 0} (list : List (List (List ℕ))) (why : ActFault)
 unrun_before list why x P (inl unrun) run fault = run unrun
 unrun_before list why x P (inr is) run fault = subst P (sym is) fault
 
--- the spawner's fault is told, or the folder's that came behind it
+-- the spawner's fault is told, or the folder's in its place
 pub before_cause : {T : Type 0} (list : List (List (List ℕ))) (why : ActFault) (x : Ending T) (a b : ℕ) → IsUnrunBefore list why x → HasCause a b (IsSpawn (Err why))
     → HasCause a b (IsToldOrMasked a b (is_spawn_fault x ≡ true) (is_failed x ≡ true))
 before_cause list why x a b is h = unrun_before list why x (λ e. HasCause a b (IsToldOrMasked a b (is_spawn_fault e ≡ true) (is_failed e ≡ true))) is

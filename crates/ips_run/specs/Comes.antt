@@ -11,11 +11,11 @@ use Rattle.ips_journal.specs.Bad.{IsBadLine}
 use Rattle.ips_journal.specs.Reading.{journal_of}
 use Rattle.ips_actuate.specs.Running.{succeeded}
 use Rattle.ips_commit.specs.Pending.{IsBare, IsPending}
-use Rattle.ips_commit.specs.Contents.{AreIntactContents, SaysOfStage}
+use Rattle.ips_contents.specs.Contents.{AreIntactContents, SaysOfStage}
 use Rattle.ips_commit.specs.Staging.{IsCleared}
 use Rattle.ips_commit.specs.Recovering.{CanRollForward, IsBadJournal}
 use Rattle.ips_commit.specs.declared.found.Pending.TheVariants as pending
-use Rattle.ips_commit.specs.declared.fault.StageFault.TheVariants as stage
+use Rattle.ips_contents.specs.declared.fault.StageFault.TheVariants as stage
 use Rattle.ips_history.specs.Directories.{shows, creates, fixes, image_for, CanHaveDirectories, IsFirstObstacle}
 use Rattle.ips_history.specs.declared.effect.Effect.{Effect}
 use Rattle.ips_run.specs.declared.operation.Change.{Change}

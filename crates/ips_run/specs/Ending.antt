@@ -1,6 +1,6 @@
 -- What the ending of a run claims of the image, and whose fault it is.
 use Rattle.std.specs.Prelude.{◌≡◌, Bool, true, false, not, IsTrue, IsFalse, Option, Some, None, Result, Ok, Err}
-use Rattle.ips_commit.specs.Contents.{IsPayloadFault}
+use Rattle.ips_contents.specs.Contents.{IsPayloadFault}
 use Rattle.ips_history.specs.Run.{Claim}
 use Rattle.ips_run.specs.declared.operation.Change.{Change}
 use Rattle.ips_run.specs.declared.operation.Decision.{Decision}

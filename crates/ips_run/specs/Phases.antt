@@ -13,12 +13,12 @@ use Rattle.ips_kinds.specs.Tallies.{Carrier, all_counted}
 use Rattle.ips_journal.specs.Text.{journal_text}
 use Rattle.ips_actuate.specs.declared.running.ActFault.{ActFault}
 use Rattle.ips_actuate.specs.declared.running.ActFault.TheVariants as act_fault
-use Rattle.ips_commit.specs.Contents.{AreIntactContents, SaysOfStage}
+use Rattle.ips_contents.specs.Contents.{AreIntactContents, SaysOfStage}
 use Rattle.ips_commit.specs.Pending.{is_swept}
 use Rattle.ips_commit.specs.Staging.{IsStaged, IsCleared, NoMoreReady}
 use Rattle.ips_commit.specs.Due.{DueOnceOpen}
 use Rattle.ips_commit.specs.Recovering.{IsJournalled, IsOpenedOver, CanResume, IsUnfinished}
-use Rattle.ips_commit.specs.declared.fault.StageFault.TheVariants as stage
+use Rattle.ips_contents.specs.declared.fault.StageFault.TheVariants as stage
 use Rattle.ips_commit.specs.declared.fault.CommitFault.{CommitFault}
 use Rattle.ips_commit.specs.declared.fault.CommitFault.TheVariants as commit_fault
 use Rattle.ips_commit.specs.declared.found.Pending.{Pending}

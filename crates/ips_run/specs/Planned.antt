@@ -5,7 +5,7 @@ use Rattle.ips_steps.specs.Steps.{Stage, all_laid}
 use Rattle.ips_steps.specs.Private.{visible}
 use Rattle.ips_steps.specs.Journal.{IsJournal}
 use Rattle.ips_steps.specs.View.{step_of}
-use Rattle.ips_commit.specs.Contents.{StagedContents, AreSeen}
+use Rattle.ips_contents.specs.Contents.{StagedContents, AreSeen}
 use Rattle.ips_commit.specs.Staging.{CanStage}
 use Rattle.ips_history.specs.Directories.{shows}
 use Rattle.ips_history.specs.declared.effect.Effect.{Effect}

@@ -52,8 +52,8 @@ pub fn perform<T: Drop, S: Source, F: Folder, P: Spawner, C: Operation<T>>(
         (S.outside.tells source.old) (S.outside.state source.old).held (F.outside.state folder.old).held (F.outside.state folder.new).held
         (seen_by sorts finished kinds.old.items) (seen_by sorts finished kinds.new.items) (HasRun P.running spawner.old spawner.new) result }
 
-    // A fault of the folder is told exactly where its count rose. So is one of the repository or the spawner, unless a call on the folder that
-    // came behind it failed too, as what was staged was to be taken away: then that is told.
+    // A fault of the folder is told exactly where its count rose. So is one of the repository or the spawner, unless a call on the folder
+    // failed too, as where what was staged was to be taken away: then that is told.
     ensures folder { HasCause (F.outside.faults folder.old) (F.outside.faults folder.new) (IsTrue (is_folder_fault result)) }
     ensures source { Reads S.outside source.old source.new
         (IsToldOrMasked (S.outside.faults source.old) (S.outside.faults source.new) (IsTrue (is_source_fault result)) (IsTrue (is_failed result) × IsFalse (shows (C.effect operation.now)))) }

@@ -10,17 +10,23 @@ use crate::chains::{Chains, entry};
 use ips_refute::{Nogood, Pair, Puzzle, Reason};
 use std::alloc::{AllocError, Global};
 
-/// A kept nogood that the choice has with the new pair. It is sought among those whose last pair is of the new pair's stem.
+// How many kept nogoods are looked at for a candidate, so that a step of the search costs no more than that however many it keeps.
+const MOST_LOOKED_AT: u32 = 256;
+
+/// A kept nogood that the choice has with the new pair. It is sought among the last ones whose last pair is of the new pair's stem.
 pub fn kept(learned: &Chains, nogoods: &[Nogood], chosen: &[Pair], more: Pair) -> Option<u32>
     ensures { IfSome result (λ n. HasKept nogoods.now chosen.now more n) }
 {
     let mut next = entry(&learned.heads, more.stem);
-    while next > 0 {
+    for _ in 0..MOST_LOOKED_AT {
+        if next == 0 {
+            return None;
+        }
         let number = next - 1;
         if ends_choice(nogoods, number, chosen, more) {
             return Some(number);
         }
-        next = entry(&learned.links, number).min(number);
+        next = entry(&learned.links, number);
     }
     None
 }

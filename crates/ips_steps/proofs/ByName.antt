@@ -1,7 +1,7 @@
 -- What is laid by a name is what the steps mean: away from the stage, steps that are laid with contents that have no further
 -- names leave what they say with these contents.
 use Rattle.std.proofs.Common.{◌≡◌, ◌⊎◌, inl, inr, ⊎_elim, ℕ, ◌+◌, ◌^◌, ◌<◌, ◌≤◌, Bool, true, false, cond, not, ◌&&◌, ◌||◌, ◌==◌, List, [], ◌∷◌, length, Option, Some, None, is_some, is_none, refl, sym, ◌∙◌, ap, subst, arith}
-use Rattle.std.proofs.lemmas.Bool.{and_parts, and_from, or_from, eqb-true, false_from_ne_true, not-true, not_from_false}
+use Rattle.std.proofs.lemmas.Bool.{and_parts, and_from, or_from, eqb-true, false_from_ne_true, not_from_false}
 use Rattle.ips_text.specs.Ancestry.{same_path, covers, is_below, parent}
 use Rattle.ips_outside.specs.Image.{Entry, Dir, File, Link, Other, Image, IsImage, Agrees, is_dir, is_file, file_bytes, with_mode, has_parent, dir_or_none}
 use Rattle.ips_outside.specs.Change.{with_entry_at, joined, moded, names}
@@ -10,14 +10,14 @@ use Rattle.ips_steps.specs.Steps.{Step, Gone, Fresh, Mode, Put, Symlink, Hard, S
 use Rattle.ips_steps.specs.Private.{is_private, visible}
 use Rattle.ips_steps.specs.Journal.{IsJournal, may_name, step_allowed, allowed, numbered}
 use Rattle.ips_text.proofs.Ancestry.{same_path-true, same_path-self, covers-self, uncovered, same_covers, parent_covers}
-use Rattle.ips_outside.proofs.Images.{HasNodes, joined_nodes, moded_nodes}
+use Rattle.ips_outside.proofs.Images.{HasNodes, joined_nodes, moded_file, moded_nodes}
 use Rattle.ips_outside.proofs.Moments.{agrees_less, agrees_self}
 use Rattle.ips_steps.proofs.Apart.{all_fewer, can_alike, step_alike}
 use Rattle.ips_steps.proofs.Laying.{laid_nodes}
 use Rattle.ips_steps.proofs.Linked.{feasible_from}
 use Rattle.ips_steps.proofs.Lists.{clash}
 use Rattle.ips_steps.proofs.Numbered.{contents_apart, content_parent, content_covered}
-use Rattle.ips_steps.proofs.PrivateNames.{all_clear, content_unnamed, file_bytes-mode, private_below, stage_private, stage_unnamed, visible_agrees}
+use Rattle.ips_steps.proofs.PrivateNames.{all_clear, content_unnamed, file_bytes-mode, private_below, seen_of, stage_private, stage_unnamed, visible_agrees}
 
 -- ---- what is in the stage
 
@@ -28,7 +28,7 @@ record IsStocked (stage : Stage) (from : ℕ) (c : Image) : Type 0 where
   alone : (n : ℕ) (q : List ℕ) → from ≤ n → n < 2 ^ 64 → c.same (stage_path n) q ≡ true → q ≡ stage_path n
   alone_back : (n : ℕ) (q : List ℕ) → from ≤ n → n < 2 ^ 64 → c.same q (stage_path n) ≡ true → q ≡ stage_path n
 
-bytes_file : (e : Option Entry) → is_some (file_bytes e) ≡ true → is_file e ≡ true
+pub bytes_file : (e : Option Entry) → is_some (file_bytes e) ≡ true → is_file e ≡ true
 bytes_file (Some (Dir m f)) is = cc
 bytes_file (Some (File m b)) is = refl
 bytes_file (Some (Link g)) is = cc
@@ -50,14 +50,6 @@ dir_mode true m (Some (Link g)) = refl
 dir_mode true m (Some Other) = refl
 dir_mode true m None = refl
 dir_mode false m e = refl
-
-file_mode : (b : Bool) (m : ℕ) (e : Option Entry) → is_file (cond b (with_mode m e) e) ≡ is_file e
-file_mode true m (Some (Dir o f)) = refl
-file_mode true m (Some (File o b)) = refl
-file_mode true m (Some (Link g)) = refl
-file_mode true m (Some Other) = refl
-file_mode true m None = refl
-file_mode false m e = refl
 
 bytes_mode : (b : Bool) (m : ℕ) (e : Option Entry) → file_bytes (cond b (with_mode m e) e) ≡ file_bytes e
 bytes_mode true m e = file_bytes-mode m e
@@ -111,7 +103,7 @@ placed_stocked stage from p e c may s = record {
 moded_stocked : (stage : Stage) (from m : ℕ) (p : List ℕ) (c : Image) → IsStocked stage from c → IsStocked stage from (moded m p c)
 moded_stocked stage from m p c s = record {
   bytes = λ n le. bytes_mode (names c p (stage_path n)) m (c.look (stage_path n)) ∙ s.bytes n le;
-  dir = λ n is. dir_mode (names c p stage_name) m (c.look stage_name) ∙ s.dir n (sym (file_mode (names c p (stage_path n)) m (c.look (stage_path n))) ∙ is);
+  dir = λ n is. dir_mode (names c p stage_name) m (c.look stage_name) ∙ s.dir n (sym (moded_file (names c p (stage_path n)) m (c.look (stage_path n))) ∙ is);
   alone = s.alone;
   alone_back = s.alone_back;
 }
@@ -156,9 +148,6 @@ in_stage q = covers stage_name q
 
 not_staged : (q : List ℕ) → is_private q ≡ false → in_stage q ≡ false
 not_staged q seen = false_from_ne_true _ (λ c. clash (is_private q) (stage_private q c) seen)
-
-off_stage : (p : List ℕ) → may_name p ≡ true → is_private p ≡ false
-off_stage p may = not-true _ (and_parts _ _ may).0
 
 -- a path that isn't in the stage is no content's
 no_content : (n : ℕ) (q : List ℕ) → in_stage q ≡ false → q ≡ stage_path n → ⊥
@@ -213,7 +202,7 @@ module _ (stage : Stage) (n m : ℕ) (p : List ℕ) (a c : Image) (lt : n < 2 ^ 
   }
 
   parent_agrees : (o : Option (List ℕ)) → parent p ≡ o → dir_or_none a o ≡ true → dir_or_none ready o ≡ true
-  parent_agrees (Some q) is dir = ap is_dir (ready_look q (not_staged q (false_from_ne_true _ (λ own. clash (is_private p) (private_below q p own (parent_covers p q is)) (off_stage p may))))) ∙ dir
+  parent_agrees (Some q) is dir = ap is_dir (ready_look q (not_staged q (false_from_ne_true _ (λ own. clash (is_private p) (private_below q p own (parent_covers p q is)) (seen_of p may))))) ∙ dir
   parent_agrees None is dir = refl
 
   put_feasible : has_parent a p ≡ true → feasible (Put n m p ∷ []) c ≡ true
@@ -272,7 +261,7 @@ by_name stage from (Hard p to ∷ rest) a c few may num po nodes s h =
     let cl = clear_of_stage (Hard p to) mays.0 in
     let later = by_name stage from rest (laid stage (Hard p to) a) (laid stage (Hard p to) c) (omega (arith, few)) mays.1 num cans.1
     (laid_nodes stage (Hard p to) c nodes)
-    (joined_stocked stage from p to c both.0 (λ n le lt is. no_content n to (not_staged to (off_stage to both.1)) is) s)
+    (joined_stocked stage from p to c both.0 (λ n le lt is. no_content n to (not_staged to (seen_of to both.1)) is) s)
     (step_alike in_stage stage (Hard p to) a c cl h) in
     (and_from _ _ (can_alike in_stage stage (Hard p to) a c cl h ∙ cans.0) later.0, later.1)
 by_name stage from (Put k m p ∷ rest) a c few may num po nodes s h =
@@ -289,7 +278,7 @@ by_name stage from (Put k m p ∷ rest) a c few may num po nodes s h =
     (put_stocked stage k m p a c lt mays.0 nodes at here.1 h) (put_agrees stage k m p a c lt mays.0 nodes at here.1 h) in
     (feasible_from (Put k m p) rest c (put_feasible stage k m p a c lt mays.0 nodes at here.1 h here.0) later.0, later.1)
 
-apart_names : (n : ℕ) → same_path stage_name (stage_path n) ≡ false
+pub apart_names : (n : ℕ) → same_path stage_name (stage_path n) ≡ false
 unfolding stage_name
 apart_names n = refl
 

@@ -146,7 +146,7 @@ journal_unnamed p may = unnamed journal_name p journal_parent (journal_private j
 gate_unnamed : (p : List ℕ) → may_name p ≡ true → covers p gate_name ≡ false
 gate_unnamed p may = unnamed gate_name p gate_parent (gate_private gate_name (covers-self gate_name)) may
 
-seen_of : (p : List ℕ) → may_name p ≡ true → is_private p ≡ false
+pub seen_of : (p : List ℕ) → may_name p ≡ true → is_private p ≡ false
 seen_of p may = not-true _ (and_parts (not (is_private p)) (not (covers p records_name)) may).0
 
 pub content_unnamed : (n : ℕ) (p : List ℕ) → may_name p ≡ true → covers p (stage_path n) ≡ false

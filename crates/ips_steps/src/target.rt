@@ -15,7 +15,7 @@ pub enum TargetFault {
     Empty,
     /// There are more than 4,095 bytes.
     TooLong,
-    /// One of them is NUL, which no system takes.
+    /// One of them is NUL, which no system takes, and they aren't too long.
     Nul,
 }
 

@@ -6,22 +6,22 @@ use Rattle.ips_outside.specs.Running.{Running}
 use Rattle.ips_history.specs.declared.effect.Effect.TheVariants as effect
 use Rattle.ips_report.specs.declared.outcome.Outcome.{Outcome}
 use Rattle.ips_report.specs.declared.outcome.Outcome.TheVariants as outcome
-use Rattle.ips_operations.specs.telling.Finishing.{IsToldFor}
+use Rattle.ips_tell.specs.telling.Finishing.{IsToldFor}
 use Rattle.ips_words.specs.Command.{IsUsage}
 use Rattle.ips_words.specs.declared.command.Command.{Command}
 use Rattle.ips_words.specs.declared.what.What.{What}
 use Rattle.ips_words.specs.declared.what.What.TheVariants as what
 use Rattle.ips_words.specs.declared.what.Usage.{Usage}
 use Rattle.ips_kinds.specs.Tallies.{Carrier}
-use Rattle.ips_operations.specs.showing.Asked.{asked_by}
+use Rattle.ips_showing.specs.Asked.{asked_by}
 use Rattle.ips_operations.specs.creating.Creations.{creating_at}
 use Rattle.ips_operations.specs.fixing.Fixes.{fixing_at}
-use Rattle.ips_top.specs.Generated.{IsTried}
-use Rattle.ips_top.specs.Generated as trial
+use Rattle.ips_trial.specs.Generated.{IsTried}
+use Rattle.ips_trial.specs.Generated as trial
 use Rattle.ips_operations.specs.changing.Commands.{CommandAt, changing_at, is_changing}
 use Rattle.ips_operations.specs.changing.Decides.{Decides, asked_of}
 use Rattle.ips_operations.specs.changing.Leads.{LeadsWhere}
-use Rattle.ips_top.specs.Performed.{At, IsPerformed}
+use Rattle.ips_tell.specs.performing.Performed.{At, IsPerformed}
 use Rattle.ips_top.specs.Runs.{Does, IsAnswered, Runs, is_answered, Changes, Misworded, Starved}
 
 module _ {F S P : Type 0} (o : Outside F) (q : Outside S) (r : Running P) (old new : At F S P) (told : Outcome) where

@@ -12,8 +12,8 @@ use Rattle.ips_words.specs.declared.command.Command.{Command}
 use Rattle.ips_words.specs.declared.what.What.{What}
 use Rattle.ips_words.specs.declared.what.What.TheVariants as what
 use Rattle.ips_words.specs.declared.what.Usage.{Usage}
-use Rattle.ips_operations.specs.showing.Asked.{Asked, asked_by}
-use Rattle.ips_operations.specs.showing.Shows as showing
+use Rattle.ips_showing.specs.Asked.{Asked, asked_by}
+use Rattle.ips_showing.specs.Shows as showing
 use Rattle.ips_operations.specs.changing.Commands.{is_changing}
 use Rattle.ips_operations.specs.changing.Decides.{Decides, asked_of}
 use Rattle.ips_operations.specs.changing.Leads.{LeadsWhere}
@@ -21,8 +21,8 @@ use Rattle.ips_operations.specs.creating.Creations.{Creation, creating_at}
 use Rattle.ips_operations.specs.creating.Decides as creating
 use Rattle.ips_operations.specs.fixing.Fixes.{Repairing, fixing_at}
 use Rattle.ips_operations.specs.fixing.Decides as fixing
-use Rattle.ips_top.specs.Generated.{IsTried}
-use Rattle.ips_top.specs.Performed.{At, IsPerformed}
+use Rattle.ips_trial.specs.Generated.{IsTried}
+use Rattle.ips_tell.specs.performing.Performed.{At, IsPerformed}
 
 -- The command goes by the image of the folder.
 abbrev pub goes_by_image : What → Bool

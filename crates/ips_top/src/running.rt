@@ -9,18 +9,18 @@ ghost use Rattle.ips_files.specs.Telling.{Tells};
 ghost use Rattle.ips_top.specs.Runs.{Does, HasNumber, Runs};
 
 use crate::answering::answered;
-use crate::performing::performed;
-use crate::summing::tried;
+use crate::trying::generated;
 use ips_asked::commands_are_formed;
 use ips_folder::Folder;
 use ips_kinds::Kind;
 use ips_operations::changing::Changing;
 use ips_operations::creating::Creating;
 use ips_operations::fixing::Fixing;
-use ips_operations::showing::Showing;
-use ips_operations::telling::finish;
 use ips_outside::{Sink, Source, Spawner};
 use ips_report::{Outcome, Status};
+use ips_showing::Showing;
+use ips_tell::performing::performed;
+use ips_tell::telling::finish;
 use ips_text::Or;
 use ips_words::{Command, Usage, What};
 use std::alloc::Global;
@@ -87,7 +87,7 @@ pub fn perform<S: Source, F: Folder, P: Spawner, O: Sink>(
         return performed(alloc, &fixing, repo, image, spawner, kinds, out);
     }
     match &command.what {
-        What::Gen { number } => finish(alloc, tried(alloc, *number, kinds), out),
+        What::Gen { number } => finish(alloc, generated(alloc, *number, kinds), out),
         what => finish(alloc, answered(alloc, what), out),
     }
 }

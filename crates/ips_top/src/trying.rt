@@ -1,126 +1,93 @@
-//! What each command comes to.
+//! The command `gen`.
 
-ghost use Rattle.std.specs.Prelude.{◌≡◌, Bool, IfSome, IsTrue};
-ghost use Rattle.ips_outside.specs.Image.{Image};
+ghost use Rattle.std.specs.Prelude.{◌≤◌, IsTrue};
 ghost use Rattle.ips_steps.specs.declared.step.Sort.{Sort};
 ghost use Rattle.ips_kinds.specs.Tallies.{seen_by, taken};
-ghost use Rattle.ips_report.specs.declared.outcome.Outcome.{Outcome as OutcomeMeant};
-ghost use Rattle.ips_run.specs.declared.operation.Decision.{Decision};
-ghost use Rattle.ips_operations.specs.told.Laying.{TellsItsSteps};
-ghost use Rattle.ips_top.specs.Carried.{AreFinished, number_in};
+ghost use Rattle.ips_trial.specs.Generated.{IsTried};
+ghost use Rattle.ips_asked.specs.Formed.{IsFormedCommand};
 
-use crate::worded::command_of;
-use crate::world::World;
-use ips_counts::Sorts;
 use ips_kinds::Kind;
 use ips_operations::changing::Changing;
 use ips_operations::creating::Creating;
-use ips_operations::showing::Showing;
 use ips_report::Outcome;
-use ips_run::{Ending, Operation, perform};
+use ips_showing::Showing;
+use ips_trial::{command_of, tried};
+use ips_words::Command;
 use std::alloc::Global;
 
-/// The moment of each command: the beginning of the year 2024.
+/// The moment of its commands: the beginning of the year 2024.
 const MOMENT: u64 = 1_704_067_200;
 
-/// A change that is done: how many packages it installs, and how many steps it has.
-#[derive(Clone, Copy, Drop)]
-pub(crate) struct Carried {
-    pub packages: u64,
-    pub steps: u64,
-}
-
-/// Makes an image; None where that isn't done.
-pub(crate) fn created(
-    alloc: Global,
-    world: &mut World,
-    kinds: &mut Vec<Box<dyn Kind>>,
-) -> Option<Carried>
+/// Makes a repository of so many packages and of `all`, which requires them; then makes an image, installs `all` and verifies it, in memory. Answers the summary, or that
+/// memory is wanted. Each sort of step has to have a kind that takes it.
+pub(crate) fn generated(alloc: Global, number: u64, kinds: &mut Vec<Box<dyn Kind>>) -> Outcome
+    requires some { 1 ≤ number }
+    requires few { number ≤ 2000 }
     requires takers { (s : Sort) → IsTrue (taken (seen_by sorts finished kinds.old.items) s) }
-    ensures { IfSome result (λ x. AreFinished x.steps (seen_by sorts finished kinds.old.items) (seen_by sorts finished kinds.new.items)) }
+    ensures { IsTried number (seen_by sorts finished kinds.old.items) (seen_by sorts finished kinds.new.items) result }
 {
-    let command = command_of(alloc, "-R image -s repository image-create -p gen")?;
-    match Creating::of(&command, MOMENT) {
-        Some(creating) => carry_out(alloc, &creating, world, kinds),
-        None => None,
-    }
+    let Some(making) = command_of(alloc, "-R image -s repository image-create -p gen") else {
+        return Outcome::OutOfMemory;
+    };
+    generated_by(alloc, number, &making, kinds)
 }
 
-/// Installs the package that requires all others; None where that isn't done.
-pub(crate) fn installed(
+// The same, where this command makes the image. (What is owned by one function alone is dropped on few ways.)
+fn generated_by(
     alloc: Global,
-    world: &mut World,
+    number: u64,
+    making: &Command,
     kinds: &mut Vec<Box<dyn Kind>>,
-) -> Option<Carried>
+) -> Outcome
+    requires making { IsFormedCommand making.now }
+    requires some { 1 ≤ number }
+    requires few { number ≤ 2000 }
     requires takers { (s : Sort) → IsTrue (taken (seen_by sorts finished kinds.old.items) s) }
-    ensures { IfSome result (λ x. AreFinished x.steps (seen_by sorts finished kinds.old.items) (seen_by sorts finished kinds.new.items)) }
+    ensures { IsTried number (seen_by sorts finished kinds.old.items) (seen_by sorts finished kinds.new.items) result }
 {
-    let command = command_of(alloc, "-R image -s repository install all")?;
-    match Changing::of(&command, MOMENT) {
-        Some(changing) => carry_out(alloc, &changing, world, kinds),
-        None => None,
-    }
+    let Some(installing) = command_of(alloc, "-R image -s repository install all") else {
+        return Outcome::OutOfMemory;
+    };
+    tried_by(alloc, number, making, &installing, kinds)
 }
 
-// Carries out a change that tells its steps; None where it isn't done.
-fn carry_out<C: Operation<Outcome>>(
+// The same, where this one installs the package that requires all others.
+fn tried_by(
     alloc: Global,
-    change: &C,
-    world: &mut World,
+    number: u64,
+    making: &Command,
+    installing: &Command,
     kinds: &mut Vec<Box<dyn Kind>>,
-) -> Option<Carried>
+) -> Outcome
+    requires making { IsFormedCommand making.now }
+    requires installing { IsFormedCommand installing.now }
+    requires some { 1 ≤ number }
+    requires few { number ≤ 2000 }
     requires takers { (s : Sort) → IsTrue (taken (seen_by sorts finished kinds.old.items) s) }
-    requires tells { (tells : Bool) (repository t : Image) (d : Decision OutcomeMeant) → C.decides change.now tells repository t d → TellsItsSteps d }
-    ensures { IfSome result (λ x. AreFinished x.steps (seen_by sorts finished kinds.old.items) (seen_by sorts finished kinds.new.items)) }
+    ensures { IsTried number (seen_by sorts finished kinds.old.items) (seen_by sorts finished kinds.new.items) result }
 {
-    match perform(
-        alloc,
-        change,
-        &mut world.repository,
-        &mut world.folder,
-        &mut world.spawner,
-        kinds,
-    ) {
-        Ending::Done(Outcome::Done { counts, steps, .. }) => Some(Carried {
-            packages: counts.installs,
-            steps: number_of(&steps),
-        }),
-        _ => None,
-    }
+    let Some(creating) = Creating::of(making, MOMENT) else {
+        return Outcome::OutOfMemory;
+    };
+    tried_over(alloc, number, &creating, installing, kinds)
 }
 
-// How many steps there are of all sorts together, as far as a number goes.
-fn number_of(steps: &Sorts) -> u64
-    ensures { result ≡ number_in steps.now }
-{
-    let laid = steps.gone as u128 + steps.fresh as u128 + steps.mode as u128;
-    let all = laid + steps.put as u128 + steps.link as u128 + steps.hard as u128;
-    if all < u64::MAX as u128 {
-        all as u64
-    } else {
-        u64::MAX
-    }
-}
-
-/// How much of the image isn't as its packages say; None where that isn't told.
-pub(crate) fn findings(
+// The same, where this operation makes the image.
+fn tried_over(
     alloc: Global,
-    world: &mut World,
+    number: u64,
+    creating: &Creating<'_>,
+    installing: &Command,
     kinds: &mut Vec<Box<dyn Kind>>,
-) -> Option<u64>
+) -> Outcome
+    requires installing { IsFormedCommand installing.now }
+    requires some { 1 ≤ number }
+    requires few { number ≤ 2000 }
     requires takers { (s : Sort) → IsTrue (taken (seen_by sorts finished kinds.old.items) s) }
-    ensures { IfSome result (λ _. seen_by sorts finished kinds.new.items ≡ seen_by sorts finished kinds.old.items) }
+    ensures { IsTried number (seen_by sorts finished kinds.old.items) (seen_by sorts finished kinds.new.items) result }
 {
-    match perform(
-        alloc,
-        &Showing::Verify,
-        &mut world.repository,
-        &mut world.folder,
-        &mut world.spawner,
-        kinds,
-    ) {
-        Ending::Shown(_) => Some(0),
-        Ending::Refused(Outcome::Damaged { findings }) => Some(findings.len() as u64),
-        _ => None,
-    }
+    let Some(changing) = Changing::of(installing, MOMENT) else {
+        return Outcome::OutOfMemory;
+    };
+    tried(alloc, number, creating, &changing, &Showing::Verify, kinds)
 }

@@ -1,41 +1,20 @@
 -- Parts that are printed, whether or not they are an action of the table: no two have one line.
-use Rattle.std.proofs.Common.{◌≡◌, Option, Some, None, refl, sym, ◌∙◌, ap}
+use Rattle.std.proofs.Common.{◌≡◌, sym, ◌∙◌, ap}
 use Rattle.std.specs.List.{AllByRecursion}
-use Rattle.ips_digest.specs.declared.name.PayloadName.{PayloadName}
-use Rattle.ips_line.specs.Line.{IsRunOfBytes, in_word, in_key}
-use Rattle.ips_line.specs.Canonical.{AreWords, IfPayload}
+use Rattle.ips_line.specs.Line.{IsRunOfBytes, in_key}
+use Rattle.ips_line.specs.Canonical.{AreWords}
 use Rattle.ips_line.proofs.Spelled.{one_line}
 use Rattle.ips_action.specs.declared.kind.ActionKind.{ActionKind}
-use Rattle.ips_action.specs.declared.kind.ActionKind.TheVariants.{Set, Depend, Dir, File, Link, Hardlink, User, Group, Driver, License, Legacy, Signature}
 use Rattle.ips_action.specs.Attrs.{Attr, AreAttrs, values_in}
 use Rattle.ips_action.specs.Kind.{kind_name}
 use Rattle.ips_action.specs.Action.{Fields, IfName, payload_word, pairs_of, line_text}
-use Rattle.ips_action.proofs.Spelled.{name_runs}
 use Rattle.ips_action.proofs.One.{one_kind, one_payload, one_list}
-use Rattle.ips_action.proofs.ReadBack.{keys_of, values_back}
+use Rattle.ips_action.proofs.ReadBack.{keys_of, name_run, values_back, word_runs}
 
 pub record ArePrinted (a : Fields) : Type 0 where
   pub ordered : AreAttrs a.attrs
   pub keys : AllByRecursion (λ (attr : Attr). IsRunOfBytes in_key attr.key) a.attrs
   pub named : IfName a.payload
-
-name_run : (kind : ActionKind) → IsRunOfBytes in_word (kind_name kind)
-name_run Set = refl
-name_run Depend = refl
-name_run Dir = refl
-name_run File = refl
-name_run Link = refl
-name_run Hardlink = refl
-name_run User = refl
-name_run Group = refl
-name_run Driver = refl
-name_run License = refl
-name_run Legacy = refl
-name_run Signature = refl
-
-word_runs : (payload : Option PayloadName) → IfName payload → IfPayload (payload_word payload)
-word_runs None h = tt
-word_runs (Some name) h = name_runs name h
 
 printed_words : (a : Fields) → ArePrinted a → AreWords (kind_name a.kind) (payload_word a.payload) (pairs_of a.attrs)
 printed_words a h = record { is_name = name_run a.kind; is_payload = word_runs a.payload h.named; are_keys = keys_of a.attrs h.keys }

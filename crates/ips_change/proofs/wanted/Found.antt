@@ -137,5 +137,5 @@ proper_at entries q w proper bytes is =
         target_of : (fault : TargetFault) → HasFault fault g → ⊥
         target_of Empty none = let some = h.some in omega arith
         target_of TooLong long = let short = h.short in omega arith
-        target_of Nul nul = clash (has_nul g) nul h.text
+        target_of Nul nul = clash (has_nul g) nul.1 h.text
     go (Hard x) h b = h

@@ -33,6 +33,7 @@ use Rattle.ips_due.specs.outstanding.Verdicts.{meant, named_paths, said_of}
 use Rattle.ips_due.proofs.Same.{alike}
 use Rattle.ips_due.proofs.outstanding.Gone.{one_path}
 use Rattle.ips_change.specs.wanted.Named.{is_payload_of}
+use Rattle.ips_outside.proofs.Looks.{none_or}
 
 pub listed_keys : (ks : List (Vec ℕ Global)) (q : List ℕ) → listed (map (λ k. k.items) ks) q ≡ list_any (λ k. is_same q k.items) ks
 listed_keys [] q = refl
@@ -132,10 +133,6 @@ said_each bytes due says (n ∷ named) (p ∷ paths) are =
     let one : meant bytes due n.verdict ≡ says p = cc in
     let rest : map (λ (x : Named). meant bytes due x.verdict) named ≡ map says paths = cc in
     (λ i. (said_meant bytes due n.verdict ∙ ap (λ (o : Option (Option Entry)). said_as o) one) i ∷ said_each bytes due says named paths rest i)
-
-none_or : {X : Type 0} (o : Option X) → (is_some o ≡ true → ⊥) → o ≡ None
-none_or (Some x) never = absurd (never refl)
-none_or None never = refl
 
 map_alike : {A B : Type 0} (f g : A → B) (xs : List A) → ((x : A) → f x ≡ g x) → map f xs ≡ map g xs
 map_alike f g [] same = refl

@@ -6,7 +6,7 @@ use Rattle.ips_steps.specs.Steps.{Stage, content_bytes}
 use Rattle.ips_journal.specs.declared.staged.Staged.{Staged}
 use Rattle.ips_journal.specs.declared.staged.Staged.TheVariants.{Bytes, Payload, Standing}
 use Rattle.ips_after.specs.Planned.{Staged as AreContents}
-use Rattle.ips_commit.specs.Contents.{IsContent, StagedContents}
+use Rattle.ips_contents.specs.Contents.{IsContent, StagedContents}
 use Rattle.ips_emit.specs.Emitted.{staged_bytes}
 use Rattle.ips_image_steps.specs.staged_plans.Payloads.{payload_bytes}
 

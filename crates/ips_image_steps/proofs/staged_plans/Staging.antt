@@ -5,7 +5,7 @@ use Rattle.ips_outside.specs.Image.{Image, IsImage}
 use Rattle.ips_steps.specs.Private.{gate_name, visible}
 use Rattle.ips_steps.specs.Steps.{Stage, Step, all_laid, possible}
 use Rattle.ips_steps.specs.View.{step_of}
-use Rattle.ips_commit.specs.Contents.{StagedContents}
+use Rattle.ips_contents.specs.Contents.{StagedContents}
 use Rattle.ips_commit.specs.Staging.{CanStage}
 use Rattle.ips_after.specs.Planned.{IsNameable}
 use Rattle.ips_after.specs.Planned.{Staged as AreContents}

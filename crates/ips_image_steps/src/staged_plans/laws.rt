@@ -7,7 +7,7 @@ ghost use Rattle.ips_steps.specs.Private.{gate_name, visible};
 ghost use Rattle.ips_steps.specs.View.{step_of};
 ghost use Rattle.ips_moment.specs.Moment.{IsMomentText};
 ghost use Rattle.ips_aside.specs.lost_and_found.Moments.{NamesMoment};
-ghost use Rattle.ips_commit.specs.Contents.{StagedContents};
+ghost use Rattle.ips_contents.specs.Contents.{StagedContents};
 ghost use Rattle.ips_commit.specs.Staging.{CanStage};
 ghost use Rattle.ips_after.specs.Planned.{IsNameable};
 ghost use Rattle.ips_after.specs.Request.{IsRequest, Request};

@@ -9,19 +9,19 @@ use Rattle.ips_history.specs.declared.effect.Effect.TheVariants as effect
 use Rattle.ips_report.specs.declared.outcome.Outcome.{Outcome}
 use Rattle.ips_report.specs.declared.outcome.Outcome.TheVariants as outcome
 use Rattle.ips_run.specs.declared.operation.Decision.{Decision}
-use Rattle.ips_operations.specs.told.Told.{told_as}
+use Rattle.ips_tell.specs.told.Told.{told_as}
 use Rattle.ips_words.specs.declared.command.Command.{Command}
 use Rattle.ips_words.specs.declared.what.What.{What}
 use Rattle.ips_words.specs.declared.what.What.TheVariants as what
-use Rattle.ips_operations.specs.showing.Asked.{Asked, asked_by}
-use Rattle.ips_operations.specs.showing.Shows as showing
+use Rattle.ips_showing.specs.Asked.{Asked, asked_by}
+use Rattle.ips_showing.specs.Shows as showing
 use Rattle.ips_operations.specs.changing.Commands.{is_changing}
 use Rattle.ips_operations.specs.changing.Decides.{Decides, asked_of}
 use Rattle.ips_operations.specs.creating.Creations.{Creation, creating_at, makes_image}
 use Rattle.ips_operations.specs.creating.Decides as creating
 use Rattle.ips_operations.specs.fixing.Fixes.{Repairing, fixing_at, repairs}
 use Rattle.ips_operations.specs.fixing.Decides as fixing
-use Rattle.ips_top.specs.Generated.{IsTried, Starved, Summed, summary_text}
+use Rattle.ips_trial.specs.Generated.{IsTried, Starved, Summed, summary_text}
 use Rattle.ips_top.specs.Runs.{IsAnswer, IsAnswered}
 use Rattle.ips_laws.specs.answers.Causes.{CanCome, CauseStands, Answering, Changing, Creating, Fixing, Showing, Trying}
 use Rattle.ips_laws.specs.answers.Decided.{DecidesOnce}

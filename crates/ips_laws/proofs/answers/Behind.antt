@@ -19,7 +19,7 @@ use Rattle.ips_due.specs.Asked.{request_between}
 use Rattle.ips_image_steps.specs.staged_plans.Payloads.{payload_bytes}
 use Rattle.ips_plan.specs.image_plan.Meaning.{StateMeans}
 use Rattle.ips_plan.specs.requested.Meant.{IsMeant}
-use Rattle.ips_plan.specs.repaired.Meant.{IsRepairedImage}
+use Rattle.ips_repair.specs.Meant.{IsRepairedImage}
 use Rattle.ips_words.specs.declared.command.Command.{Command}
 use Rattle.ips_next.specs.Next.{IsNext, given}
 use Rattle.ips_next.proofs.OneNext.{next_one}

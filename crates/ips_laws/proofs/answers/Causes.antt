@@ -15,12 +15,12 @@ use Rattle.ips_run.specs.declared.ending.Ending.{Ending}
 use Rattle.ips_run.specs.declared.ending.Ending.TheVariants as ending
 use Rattle.ips_run.specs.Comes.{Comes, HasRun, IsCarriedTo, Back, Carried, NotDirectory, Unfinished, Unopened, Unready}
 use Rattle.ips_words.specs.declared.command.Command.{Command}
-use Rattle.ips_operations.specs.showing.Shows as showing
+use Rattle.ips_showing.specs.Shows as showing
 use Rattle.ips_operations.specs.changing.Decides.{Decides, asked_of}
 use Rattle.ips_operations.specs.changing.Leads.{LeadsWhere}
 use Rattle.ips_operations.specs.creating.Decides as creating
 use Rattle.ips_operations.specs.fixing.Decides as fixing
-use Rattle.ips_top.specs.Performed.{At, IsPerformed}
+use Rattle.ips_tell.specs.performing.Performed.{At, IsPerformed}
 use Rattle.ips_top.specs.Runs.{Does, Answers, Changes, Creates, Fixes, Shows, Tries}
 use Rattle.ips_laws.specs.answers.Causes.{CanCome, CauseStands, Answering, Changing, Creating, Fixing, Showing, Trying}
 

@@ -18,8 +18,8 @@ use Rattle.ips_report.specs.declared.outcome.Outcome.{Outcome}
 use Rattle.ips_report.specs.declared.outcome.Outcome.TheVariants as outcome
 use Rattle.ips_run.specs.declared.operation.Change.{Change}
 use Rattle.ips_run.specs.declared.operation.Decision.TheVariants as decision
-use Rattle.ips_operations.specs.told.Laying.{IsChangeOfSteps, no_counts, sorts_among}
-use Rattle.ips_operations.specs.told.Naming.{AreNamed, IsNamed}
+use Rattle.ips_tell.specs.told.Laying.{IsChangeOfSteps, no_counts, sorts_among}
+use Rattle.ips_tell.specs.told.Naming.{AreNamed, IsNamed}
 use Rattle.ips_laws.specs.plan_laws.Alike as alike
 use Rattle.ips_laws.specs.answers.Decided.{DecideTheSame}
 use Rattle.ips_laws.specs.answers.Same.{SayTheSame}

@@ -33,9 +33,9 @@ use Rattle.ips_report.specs.declared.outcome.Outcome.TheVariants as outcome
 use Rattle.ips_run.specs.declared.operation.Decision.{Decision}
 use Rattle.ips_run.specs.declared.operation.Decision.TheVariants as decision
 use Rattle.ips_run.specs.declared.operation.DecideFault.{DecideFault}
-use Rattle.ips_operations.specs.refusals.Told.{Answer, as_refused, unread_told}
-use Rattle.ips_operations.specs.told.Laying.{sorts_among}
-use Rattle.ips_operations.specs.told.Naming.{AreNamed}
+use Rattle.ips_tell.specs.refusals.Told.{Answer, as_refused, unread_told}
+use Rattle.ips_tell.specs.told.Laying.{sorts_among}
+use Rattle.ips_tell.specs.told.Naming.{AreNamed}
 use Rattle.ips_operations.specs.changing.Refusals.{payload_told, unled_told, unplanned_told}
 use Rattle.ips_operations.specs.changing.Commands.{accepts}
 use Rattle.ips_operations.specs.changing.Decides.{Asked, Decides, IsPlannedTo, IsUnled, IsUnplanned, Led, given_for, Unread, Unled, Unplanned, Changed}

@@ -10,7 +10,7 @@ use Rattle.ips_digest.specs.Digest.{algorithm_of, digest_of}
 use Rattle.ips_digest.specs.Name.{IsName, spelling}
 use Rattle.ips_digest.specs.declared.name.PayloadName.{PayloadName}
 use Rattle.ips_journal.specs.declared.staged.Staged.TheVariants.{Payload}
-use Rattle.ips_commit.specs.Contents.{AreIntactContents}
+use Rattle.ips_contents.specs.Contents.{AreIntactContents}
 use Rattle.ips_state.specs.State.{recorded}
 use Rattle.ips_state.specs.declared.state.State.{State}
 use Rattle.ips_manifest.specs.declared.package.Package.{Package}
@@ -34,9 +34,9 @@ use Rattle.ips_image_steps.proofs.staged_plans.Seen.{said_seen}
 use Rattle.ips_plan.specs.image_plan.Meaning.{StateMeans}
 use Rattle.ips_emit.specs.Emitted.{staged_bytes}
 use Rattle.ips_emit.specs.declared.emitting.Emitted.{Emitted}
-use Rattle.ips_plan.specs.repaired.Meant.{IsRepairedImage}
+use Rattle.ips_repair.specs.Meant.{IsRepairedImage}
 use Rattle.ips_laws.proofs.plan_laws.Repaired.{repaired_image_one}
-use Rattle.ips_operations.specs.told.Naming.{AreNamed, IsNamed}
+use Rattle.ips_tell.specs.told.Naming.{AreNamed, IsNamed}
 use Rattle.ips_operations.specs.fixing.Fixes.{Repairing}
 use Rattle.ips_operations.specs.fixing.Decides.{IsRepairedBy}
 use Rattle.ips_laws.proofs.answers.Relaid.{relaid}

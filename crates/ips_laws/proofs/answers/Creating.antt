@@ -19,7 +19,7 @@ use Rattle.ips_report.specs.declared.outcome.Outcome.TheVariants as outcome
 use Rattle.ips_run.specs.declared.operation.Change.{Change}
 use Rattle.ips_run.specs.declared.operation.Decision.{Decision}
 use Rattle.ips_run.specs.declared.operation.Decision.TheVariants as decision
-use Rattle.ips_operations.specs.told.Laying.{IsChangeOfSteps}
+use Rattle.ips_tell.specs.told.Laying.{IsChangeOfSteps}
 use Rattle.ips_operations.specs.creating.Creations.{AreFoundedBy, Creation, IsBegun}
 use Rattle.ips_operations.specs.creating.Decides.{Decides, IsUnmade, Exists, Made, Unmade}
 use Rattle.ips_operations.specs.creating.Told.{unmade_told}

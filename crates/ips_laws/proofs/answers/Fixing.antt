@@ -21,16 +21,16 @@ use Rattle.ips_change.specs.wanted.Named.{is_payload_of}
 use Rattle.ips_plan.specs.image_plan.Meaning.{StateFails, StateMeans}
 use Rattle.ips_emit.specs.declared.emitting.Emitted.{Emitted}
 use Rattle.ips_plan_limits.specs.Limits.{first_excess}
-use Rattle.ips_plan.specs.repaired.Repairing.{AreRepairSteps, ComesOfRepairAt}
-use Rattle.ips_plan.specs.declared.repaired.fault.RepairFault.{RepairFault}
-use Rattle.ips_plan.specs.declared.repaired.fault.RepairFault.TheVariants as fault
+use Rattle.ips_repair.specs.Repairing.{AreRepairSteps, ComesOfRepairAt}
+use Rattle.ips_repair.specs.declared.fault.RepairFault.{RepairFault}
+use Rattle.ips_repair.specs.declared.fault.RepairFault.TheVariants as fault
 use Rattle.ips_report.specs.declared.outcome.Outcome.TheVariants as outcome
 use Rattle.ips_run.specs.declared.operation.Change.{Change}
 use Rattle.ips_run.specs.declared.operation.Decision.{Decision}
 use Rattle.ips_run.specs.declared.operation.Decision.TheVariants as decision
 use Rattle.ips_report.specs.declared.outcome.Outcome.{Outcome}
-use Rattle.ips_operations.specs.refusals.Told.{unmeant_told, unread_told}
-use Rattle.ips_operations.specs.told.Laying.{IsChangeOfSteps}
+use Rattle.ips_tell.specs.refusals.Told.{unmeant_told, unread_told}
+use Rattle.ips_tell.specs.told.Laying.{IsChangeOfSteps}
 use Rattle.ips_operations.specs.fixing.Fixes.{Repairing}
 use Rattle.ips_operations.specs.fixing.Decides.{Decides, IsDamaged, IsNewState, IsRepairedBy, IsSound, IsUnrepaired, Told, OldFormat, Repaired, Sound, Unmeant, Unread, Unrepaired}
 use Rattle.ips_operations.specs.fixing.Told.{unrepaired_told}

@@ -20,7 +20,7 @@ use Rattle.ips_history.specs.declared.effect.Effect.{Effect}
 use Rattle.ips_history.specs.declared.effect.Effect.TheVariants as effect
 use Rattle.ips_report.specs.declared.outcome.Outcome.{Outcome}
 use Rattle.ips_run.specs.declared.operation.Decision.{Decision}
-use Rattle.ips_operations.specs.told.Told.{claims_done, manner_of}
+use Rattle.ips_tell.specs.told.Told.{claims_done, manner_of}
 use Rattle.ips_words.specs.declared.command.Command.{Command}
 use Rattle.ips_operations.specs.changing.Decides as changing
 use Rattle.ips_operations.specs.changing.Leads.{Leads, LeadsWhere}
@@ -28,8 +28,8 @@ use Rattle.ips_operations.specs.creating.Creations.{Creation, creating_at, makes
 use Rattle.ips_operations.specs.creating.Decides as creating
 use Rattle.ips_operations.specs.fixing.Fixes.{Repairing, fixing_at, repairs}
 use Rattle.ips_operations.specs.fixing.Decides as fixing
-use Rattle.ips_top.specs.Generated.{IsTried, Starved, Summed}
-use Rattle.ips_top.specs.Performed.{At, IsPerformed}
+use Rattle.ips_trial.specs.Generated.{IsTried, Starved, Summed}
+use Rattle.ips_tell.specs.performing.Performed.{At, IsPerformed}
 use Rattle.ips_top.specs.Runs.{Does, Answers, Changes, Creates, Fixes, Shows, Tries}
 use Rattle.ips_laws.proofs.answers.Answers.{apart, group_of, of_changing, of_creating, of_fixing}
 use Rattle.ips_laws.proofs.answers.Mending.{Claims, not_answered}

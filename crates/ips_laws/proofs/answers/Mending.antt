@@ -15,7 +15,7 @@ use Rattle.ips_repo.specs.declared.fault.RepoFault.{RepoFault}
 use Rattle.ips_repo.specs.declared.fault.RepoFault.TheVariants as repo
 use Rattle.ips_kinds.specs.Tallies.{Carrier}
 use Rattle.ips_journal.specs.declared.staged.Staged.{Staged}
-use Rattle.ips_commit.specs.Contents.{AreIntactContents}
+use Rattle.ips_contents.specs.Contents.{AreIntactContents}
 use Rattle.ips_state.specs.State.{recorded}
 use Rattle.ips_state.specs.declared.state.State.{State}
 use Rattle.ips_load.specs.declared.fault.StateFault.{StateFault}
@@ -31,8 +31,8 @@ use Rattle.ips_change.specs.wanted.Named.{is_payload_of}
 use Rattle.ips_change.specs.wanted.Wanted.{want_of}
 use Rattle.ips_plan.specs.image_plan.Meaning.{StateMeans}
 use Rattle.ips_emit.specs.declared.emitting.Emitted.{Emitted}
-use Rattle.ips_plan.specs.declared.repaired.fault.RepairFault.{RepairFault}
-use Rattle.ips_plan.specs.declared.repaired.fault.RepairFault.TheVariants as repair
+use Rattle.ips_repair.specs.declared.fault.RepairFault.{RepairFault}
+use Rattle.ips_repair.specs.declared.fault.RepairFault.TheVariants as repair
 use Rattle.ips_history.specs.Transition.{Transition, Asked, Created, CreatedInPart, Kept}
 use Rattle.ips_history.specs.declared.effect.Effect.TheVariants as effect
 use Rattle.ips_report.specs.declared.outcome.Outcome.{Outcome}
@@ -43,9 +43,9 @@ use Rattle.ips_run.specs.declared.operation.Decision.TheVariants as decision
 use Rattle.ips_run.specs.declared.ending.Ending.{Ending}
 use Rattle.ips_run.specs.declared.ending.Ending.TheVariants as ending
 use Rattle.ips_run.specs.Comes.{Comes, HasRun, IsBackTo, IsUnopened, IsUnready, Back, Carried, NotDirectory, Unfinished, Unopened, Unready}
-use Rattle.ips_operations.specs.refusals.Told.{unmeant_told, unread_told}
-use Rattle.ips_operations.specs.told.Told.{claims_done, manner_of, payload_told, told_as}
-use Rattle.ips_operations.specs.told.Laying.{IsChangeOfSteps}
+use Rattle.ips_tell.specs.refusals.Told.{unmeant_told, unread_told}
+use Rattle.ips_tell.specs.told.Told.{claims_done, manner_of, payload_told, told_as}
+use Rattle.ips_tell.specs.told.Laying.{IsChangeOfSteps}
 use Rattle.ips_words.specs.declared.command.Command.{Command}
 use Rattle.ips_words.specs.declared.what.What.{What}
 use Rattle.ips_operations.specs.creating.Creations.{makes_image}
@@ -54,7 +54,7 @@ use Rattle.ips_operations.specs.fixing.Decides.{Decides, IsRepairedBy, RepairsIm
 use Rattle.ips_operations.specs.fixing.Told.{unrepaired_told}
 use Rattle.ips_laws.proofs.plan_laws.States.{meaning_same}
 use Rattle.ips_laws.proofs.plan_laws.Wants.{want_like}
-use Rattle.ips_top.specs.Performed.{At, IsPerformed}
+use Rattle.ips_tell.specs.performing.Performed.{At, IsPerformed}
 use Rattle.ips_top.specs.Runs.{Does, IsAnswered, Answers, Changes, Creates, Fixes, Shows, Tries}
 use Rattle.ips_laws.proofs.answers.Answers.{apart, of_changing, of_creating, of_fixing, of_shown, of_tried}
 use Rattle.ips_laws.proofs.answers.Cleaned.{Laws, none_found}

@@ -19,7 +19,7 @@ use Rattle.ips_steps.proofs.Lists.{clash}
 use Rattle.ips_kinds.specs.Tallies.{Carrier}
 use Rattle.ips_journal.specs.declared.staged.Staged.{Staged}
 use Rattle.ips_journal.specs.declared.staged.Staged.TheVariants.{Payload}
-use Rattle.ips_commit.specs.Contents.{IsFirstFault, IsIntact, IsPayloadFileFault}
+use Rattle.ips_contents.specs.Contents.{IsFirstFault, IsIntact, IsPayloadFileFault}
 use Rattle.ips_commit.specs.Recovering.{CanRollForward, IsBadJournal}
 use Rattle.ips_history.specs.Directories.{IsFirstObstacle, is_dir_or_free, var_name}
 use Rattle.ips_history.specs.declared.effect.Effect.{Effect}
@@ -34,7 +34,7 @@ use Rattle.ips_run.specs.declared.ending.Ending.TheVariants as ending
 use Rattle.ips_run.specs.Comes.{Comes, IsBackTo, IsCarriedTo, IsUnopened, IsUnready, Back, Carried, NotDirectory, Unfinished, Unopened, Unready}
 use Rattle.ips_run.specs.Exclusive.{AreAlike, DecidesAlike, Way, AtGate, Recovering, InTheWay, Showing, Refusing, Needless, Damaged, Carrying, Faulty, is_faulty, way_of}
 use Rattle.ips_run.proofs.Exclusive.{before_run, not_both, one_alone}
-use Rattle.ips_operations.specs.told.Told.{payload_told, told_as}
+use Rattle.ips_tell.specs.told.Told.{payload_told, told_as}
 use Rattle.ips_laws.specs.answers.Decided.{DecideTheSame, DecidesOnce, IsFixedDecision}
 use Rattle.ips_laws.specs.answers.Same.{IsFixed, SayTheSame}
 use Rattle.ips_laws.proofs.answers.Journals.{bad_once, forward_or_bad}

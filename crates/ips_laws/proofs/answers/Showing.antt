@@ -61,11 +61,11 @@ use Rattle.ips_report.specs.declared.outcome.Outcome.{Outcome}
 use Rattle.ips_report.specs.declared.outcome.Outcome.TheVariants as outcome
 use Rattle.ips_run.specs.declared.operation.Decision.{Decision}
 use Rattle.ips_run.specs.declared.operation.Decision.TheVariants as decision
-use Rattle.ips_operations.specs.refusals.Told.{unmeant_told, unread_told}
-use Rattle.ips_operations.specs.showing.Asked as asked
-use Rattle.ips_operations.specs.showing.Asked.{Asked}
-use Rattle.ips_operations.specs.showing.Shows as shows
-use Rattle.ips_operations.specs.showing.Shows.{AreCompared, AreFoundIn, AreUnmeant, HasIndex, IsNamed, IsNotNamed, IsPackageText, IsUnread, Loaded, Shows}
+use Rattle.ips_tell.specs.refusals.Told.{unmeant_told, unread_told}
+use Rattle.ips_showing.specs.Asked as asked
+use Rattle.ips_showing.specs.Asked.{Asked}
+use Rattle.ips_showing.specs.Shows as shows
+use Rattle.ips_showing.specs.Shows.{AreCompared, AreFoundIn, AreUnmeant, HasIndex, IsNamed, IsNotNamed, IsPackageText, IsUnread, Loaded, Shows}
 use Rattle.ips_laws.specs.plan_laws.Alike as alike
 use Rattle.ips_laws.specs.answers.Decided.{DecideTheSame, DecidesOnce}
 use Rattle.ips_laws.specs.answers.Same.{SayTheSame}

@@ -16,7 +16,7 @@ use Rattle.ips_run.specs.declared.operation.Decision.{Decision}
 use Rattle.ips_run.specs.declared.operation.Decision.TheVariants as decision
 use Rattle.ips_run.specs.declared.operation.DecideFault.{DecideFault}
 use Rattle.ips_laws.specs.recorded.Same.{IsOfRecord, IsSameFault}
-use Rattle.ips_operations.specs.refusals.Told.{Answer, as_refused, unmeant_told, unread_told}
+use Rattle.ips_tell.specs.refusals.Told.{Answer, as_refused, unmeant_told, unread_told}
 use Rattle.ips_laws.specs.plan_laws.Alike.{IsSameUnmeant}
 use Rattle.ips_laws.specs.answers.Decided.{DecideTheSame}
 use Rattle.ips_laws.specs.answers.Same.{SayTheSame}

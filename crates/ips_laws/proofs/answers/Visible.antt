@@ -18,6 +18,7 @@ use Rattle.ips_entries.proofs.HeldOnce.{held_once}
 use Rattle.ips_next.proofs.OneNext.{line_one}
 use Rattle.ips_operations.specs.fixing.Fixes.{Repairing, IsNoted}
 use Rattle.ips_operations.specs.fixing.Decides.{IsNewState}
+use Rattle.ips_due.proofs.Standing.{history_seen}
 
 -- ---- records have no private names
 
@@ -40,10 +41,6 @@ freeze_seen = refl
 mediators_seen : is_private mediators_path ≡ false
 unfolding stage_name journal_name gate_name mark_front
 mediators_seen = refl
-
-history_seen : is_private history_path ≡ false
-unfolding stage_name journal_name gate_name mark_front
-history_seen = refl
 
 index_seen : is_private index_path ≡ false
 unfolding stage_name journal_name gate_name mark_front

@@ -8,7 +8,7 @@ use Rattle.ips_state.specs.State.{recorded}
 use Rattle.ips_books.specs.Seen.{accounts as books_seen}
 use Rattle.ips_due.specs.Delivered.{Delivered}
 use Rattle.ips_books.specs.Accounts.{Accounts}
-use Rattle.ips_request_due.specs.delivered.Delivering.{HasUnknownOwner, PackagesDeliver, first_unknown}
+use Rattle.ips_delivered.specs.delivered.Delivering.{HasUnknownOwner, PackagesDeliver, first_unknown}
 use Rattle.ips_due.specs.outstanding.Parts.{due_file}
 use Rattle.ips_account_files.specs.Behind.{Files, IsTold, files_seen}
 use Rattle.ips_account_files.specs.declared.files.AccountFiles.{AccountFiles}

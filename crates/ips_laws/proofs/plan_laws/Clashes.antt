@@ -7,7 +7,7 @@ use Rattle.std.specs.Ordering.{nat_cmp, ordering_then}
 use Rattle.std.specs.declared.cmp.Ordering.TheVariants.{Equal}
 use Rattle.std.proofs.lemmas.Cmp.{nat_cmp_total}
 use Rattle.ips_text.proofs.Orders.{number_tie}
-use Rattle.ips_action.proofs.KeyOrder.{equal_is}
+use Rattle.ips_action.proofs.KeyOrder.{both_equal, equal_is}
 use Rattle.ips_conflict.specs.declared.placed.Placed.{Placed}
 use Rattle.ips_conflict.specs.Key.{sort_rank}
 use Rattle.ips_conflict.specs.Order.{place_cmp}
@@ -16,7 +16,7 @@ use Rattle.ips_conflict.specs.Clash.{Conflict, IsFirst, conflict_cmp, key_cmp, n
 use Rattle.ips_conflict.proofs.FirstOver.{key_total, same_rule}
 use Rattle.ips_conflict.proofs.FirstPair.{place_tie}
 use Rattle.ips_conflict.proofs.Ordered.{place_total}
-use Rattle.ips_laws.proofs.plan_laws.Ties.{both_equal, tie}
+use Rattle.ips_laws.proofs.plan_laws.Ties.{tie}
 
 pair_total : (placed : List Placed) → IsTotalOrder (pair_cmp placed)
 pair_total placed = then_total (on_total (λ (c : Conflict). c.first) (place_total placed)) (on_total (λ (c : Conflict). c.second) (options_total (place_total placed)))

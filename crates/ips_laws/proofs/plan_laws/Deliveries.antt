@@ -12,8 +12,8 @@ use Rattle.ips_metafiles.specs.declared.owner.OwnerRow.{OwnerRow}
 use Rattle.ips_metafiles.specs.Records.{IsDrivers, lines_text, owner_line, owners_text}
 use Rattle.ips_text.specs.Quote.{shown}
 use Rattle.ips_due.specs.Delivered.{Delivered}
-use Rattle.ips_request_due.specs.delivered.Delivering.{AreOwnerRows, IsOwnerRow, PackagesDeliver, group_name, legacies_of, licenses_of, owner_name, owning}
-use Rattle.ips_request_due.specs.withdrawn.Withdrawn.{IsDeliveredBy}
+use Rattle.ips_delivered.specs.delivered.Delivering.{AreOwnerRows, IsOwnerRow, PackagesDeliver, group_name, legacies_of, licenses_of, owner_name, owning}
+use Rattle.ips_delivered.specs.withdrawn.Withdrawn.{IsDeliveredBy}
 use Rattle.ips_state.specs.declared.state.State.{State}
 use Rattle.ips_state.specs.State.{recorded}
 use Rattle.ips_laws.proofs.Elements.{here_or_later}

@@ -8,16 +8,15 @@ use Rattle.std.specs.Ordering.{is_eq, ordering_then}
 use Rattle.std.proofs.lemmas.Cmp.{nat_list_cmp_total}
 use Rattle.std.proofs.lemmas.Map.Lookups.{btree_set_from_contains}
 use Rattle.ips_text.specs.Ancestry.{same_path}
-use Rattle.ips_action.proofs.KeyOrder.{equal_is}
+use Rattle.ips_action.proofs.KeyOrder.{both_equal, equal_is}
 use Rattle.ips_conflict.proofs.Kept.{tied}
 use Rattle.ips_conflict.specs.declared.placed.Placed.{Placed}
 use Rattle.ips_due.proofs.outstanding.Gone.{one_path}
-use Rattle.ips_request_due.specs.new_licenses.New.{AreNew, LicenseName, has_name, license_cmp, shown_license}
+use Rattle.ips_delivered.specs.new_licenses.New.{AreNew, LicenseName, has_name, license_cmp, shown_license}
 use Rattle.ips_state.specs.declared.state.State.{State}
 use Rattle.ips_state.specs.State.{recorded}
 use Rattle.ips_plan.specs.image_plan.Licenses.{AreDisplayed, AreNeeded, AreNewBetween}
 use Rattle.ips_laws.proofs.plan_laws.States.{admitted_same}
-use Rattle.ips_laws.proofs.plan_laws.Ties.{both_equal}
 
 name_total : IsTotalOrder license_cmp
 name_total = then_total (on_total (λ (n : LicenseName). n.0) nat_list_cmp_total) (on_total (λ (n : LicenseName). n.1) nat_list_cmp_total)

@@ -20,10 +20,10 @@ use Rattle.ips_emit.specs.declared.emitting.Emitted.{Emitted}
 use Rattle.ips_image_steps.specs.Answers.{HasSteps, IsHindered}
 use Rattle.ips_plan.specs.image_plan.Meaning.{StateMeans}
 use Rattle.ips_plan_limits.specs.Limits.{first_excess}
-use Rattle.ips_plan.specs.repaired.Meant.{IsRepairedImage}
-use Rattle.ips_plan.specs.repaired.Repairing.{AreRepairSteps, AreStepsToRepair, ComesOfRepair, ComesOfRepairAt, SaysHistory, repair_request}
-use Rattle.ips_plan.specs.declared.repaired.fault.RepairFault.{RepairFault}
-use Rattle.ips_plan.specs.declared.repaired.fault.RepairFault.TheVariants as fault
+use Rattle.ips_repair.specs.Meant.{IsRepairedImage}
+use Rattle.ips_repair.specs.Repairing.{AreRepairSteps, AreStepsToRepair, ComesOfRepair, ComesOfRepairAt, SaysHistory, repair_request}
+use Rattle.ips_repair.specs.declared.fault.RepairFault.{RepairFault}
+use Rattle.ips_repair.specs.declared.fault.RepairFault.TheVariants as fault
 use Rattle.ips_laws.specs.plan_laws.Alike.{AreLikeSteps, IsSameRepairFault}
 use Rattle.ips_laws.proofs.plan_laws.Dues.{over_alike}
 use Rattle.ips_next.proofs.OneNext.{moment_one}

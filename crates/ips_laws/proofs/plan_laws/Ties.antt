@@ -1,15 +1,9 @@
 -- What ties in orders.
-use Rattle.std.proofs.Common.{◌≡◌, ◌≢◌, refl, inl, inr}
+use Rattle.std.proofs.Common.{◌≡◌, ◌≢◌, inl, inr}
 use Rattle.std.specs.Cmp.{IsTotalOrder}
-use Rattle.std.specs.Ordering.{ordering_then}
 use Rattle.std.specs.declared.cmp.Ordering.{Ordering}
-use Rattle.std.specs.declared.cmp.Ordering.TheVariants.{Less, Equal, Greater}
+use Rattle.std.specs.declared.cmp.Ordering.TheVariants.{Equal, Greater}
 use Rattle.ips_conflict.proofs.Ordered.{le_cases, less_le}
-
-pub both_equal : (a b : Ordering) → ordering_then a b ≡ Equal → (a ≡ Equal) × (b ≡ Equal)
-both_equal Less b is = cc
-both_equal Equal b is = (refl, is)
-both_equal Greater b is = cc
 
 -- two of which neither comes behind the other tie
 pub tie : {K : Type 0} (R : K → K → Ordering) → IsTotalOrder R → (x y : K) → R x y ≢ Greater → R y x ≢ Greater → R x y ≡ Equal

@@ -30,8 +30,8 @@ use Rattle.ips_plan.specs.created.Made.{IsBlank, image_made, made_at, no_payload
 use Rattle.ips_laws.specs.record_laws.Recording.{AreWithin}
 use Rattle.ips_laws.proofs.record_laws.Contents.{records_found}
 use Rattle.ips_laws.proofs.record_laws.DuePaths.{IsPlaced, due_placed, holds_package, in_packages}
-use Rattle.ips_laws.proofs.record_laws.Own.{none_where}
 use Rattle.ips_laws.proofs.record_laws.Stand.{child_there, held_bytes, not_said}
+use Rattle.ips_outside.proofs.Looks.{none_or}
 
 -- ---- what stands where no mode is given
 
@@ -146,7 +146,7 @@ module _ (new : Recorded) (none : new.installed ≡ []) (t : Image) where
   -- ---- the folder of packages
 
   no_record_folder : record_at due.records packages_path ≡ None
-  no_record_folder = none_where (record_at due.records packages_path) (λ h. clash (covers packages_path packages_path) (covers-self packages_path) (record_placed packages_path h).up)
+  no_record_folder = none_or (record_at due.records packages_path) (λ h. clash (covers packages_path packages_path) (covers-self packages_path) (record_placed packages_path h).up)
 
   folder_laid : change packages_path ≡ Laid (Dir 493 false)
   folder_laid = as_said packages_path (Some (Some (Dir 493 false))) (rw no_record_folder refl)
@@ -185,7 +185,7 @@ module _ (new : Recorded) (none : new.installed ≡ []) (t : Image) where
 
   module _ (bare : new.index ≡ None) where
     no_record_index : record_at due.records index_path ≡ None
-    no_record_index = none_where (record_at due.records index_path) (λ h. clash (same_path index_path index_path) refl ((record_placed index_path h).apart bare))
+    no_record_index = none_or (record_at due.records index_path) (λ h. clash (same_path index_path index_path) refl ((record_placed index_path h).apart bare))
 
     said_index : says index_path ≡ said_gone (t.look index_path)
     said_index = rw no_record_index refl

@@ -23,8 +23,9 @@ use Rattle.ips_due.specs.Apart.{lost_path}
 use Rattle.ips_due.specs.Due.{IsOverOf, Own, holds_content, said_record}
 use Rattle.ips_request_due.specs.repairs.Repairing.{repair_due}
 use Rattle.ips_laws.proofs.record_laws.DuePaths.{IsInside, in_packages, index_is_inside, packages_are_inside}
-use Rattle.ips_laws.proofs.record_laws.Own.{Bare, absent, bytes_there, laid, none_where, stays, unmade}
+use Rattle.ips_laws.proofs.record_laws.Own.{Bare, absent, bytes_there, laid, stays, unmade}
 use Rattle.ips_laws.proofs.record_laws.Stand.{bytes_moded, child_there, dir_moded, foreign_moded, held_bytes}
+use Rattle.ips_outside.proofs.Looks.{none_or}
 
 -- ---- paths
 
@@ -131,7 +132,7 @@ module _ (bytes : List ℕ → List ℕ) (holds : List ℕ → List ℕ → Bool
 
       go : (b : Bool) → is_some (t.look q) ≡ b → is_child t packages_path q ≡ true
       go true there = and_from _ _ there (ap (is_directory packages_path) parts.1 ∙ same_path-self packages_path)
-      go false bare = clash (is_some (u.look q)) parts.0 (ap is_some (bare_there q (child_else q parts.1) (none_where (t.look q) (λ there. clash (is_some (t.look q)) there bare))))
+      go false bare = clash (is_some (u.look q)) parts.0 (ap is_some (bare_there q (child_else q parts.1) (none_or (t.look q) (λ there. clash (is_some (t.look q)) there bare))))
 
   packages_there : (first : Bool) (ps : List Installed) → HoldsPackages first t ps → HoldsPackages first u ps
   packages_there true ps h = record { names = stands_there installed_path installed_else _ h.names; each = manifests_there manifest_path manifest_else (λ p. []) ps h.each }

@@ -24,8 +24,8 @@ use Rattle.ips_packages.proofs.Records.{stem_is_word}
 use Rattle.ips_state.specs.Form.{IsPackage}
 use Rattle.ips_state.specs.State.{installed}
 use Rattle.ips_due.specs.Delivered.{AreNamedByBytes, Delivered, Legacy, License}
-use Rattle.ips_request_due.specs.delivered.Delivering.{PackagesDeliver, is_license, legacies_of, legacy_of, license_of, licenses_of}
-use Rattle.ips_request_due.specs.delivered.Named.{DeliverNamed}
+use Rattle.ips_delivered.specs.delivered.Delivering.{PackagesDeliver, is_license, legacies_of, legacy_of, license_of, licenses_of}
+use Rattle.ips_delivered.specs.delivered.Named.{DeliverNamed}
 
 -- the action of each line of a manifest that some text means stands on a line
 abbrev pub LinesStand : Type 0

@@ -19,10 +19,7 @@ use Rattle.ips_after.proofs.Names.{beside_out, depth_below}
 use Rattle.ips_after.proofs.Places.{below_off, root_rest}
 use Rattle.ips_after.proofs.Saved.{Near, Place, Under, comparable, free_names, goes_or_way, place_of, way_own}
 use Rattle.ips_due.specs.Apart.{lost_path}
-
-pub none_where : {A : Type 0} (o : Option A) → (is_some o ≡ true → ⊥) → o ≡ None
-none_where None off = refl
-none_where (Some x) off = absurd (off refl)
+use Rattle.ips_outside.proofs.Looks.{none_or}
 
 -- a mode makes nothing of nothing
 no_mode : (e : Option Entry) → with_mode 0 e ≡ None → e ≡ None
@@ -110,7 +107,7 @@ module _ (r : Request) (t : Image) (a : Aside) (good : IsRequest r) (formed : Is
   lost_way q deep (inr down) = covers_trans lost_path a.root q lost down
 
   unsaved : (q : List ℕ) → is_below records_name q ≡ true → covers lost_path q ≡ false → saved r t a q ≡ None
-  unsaved q deep off = none_where (saved r t a q) (λ s. elim (goes_or_way r t a good formed own is q s) [
+  unsaved q deep off = none_or (saved r t a q) (λ s. elim (goes_or_way r t a good formed own is q s) [
     | inl g ↦ clash (covers lost_path q) (lost_place q deep (place_of r t a good formed own is q g)) off
     | inr w ↦ clash (covers lost_path q) (lost_way q deep (or_cases (covers q a.root) (covers a.root q) (is.ways_only q w).2)) off
   ])
@@ -134,7 +131,7 @@ module _ (r : Request) (t : Image) (a : Aside) (good : IsRequest r) (formed : Is
       clash (is_dir_wanted (r.new.at q)) (wanted_up q over) (ap (λ (x : List ℕ). is_dir_wanted (r.new.at x)) (sym name) ∙ ap is_dir_wanted none)
 
   unsaved_up : (q : List ℕ) → covers q records_name ≡ true → saved r t a q ≡ None
-  unsaved_up q over = none_where (saved r t a q) (λ s. elim (goes_or_way r t a good formed own is q s) [
+  unsaved_up q over = none_or (saved r t a q) (λ s. elim (goes_or_way r t a good formed own is q s) [
     | inl g ↦ absurd (no_place_up q over (place_of r t a good formed own is q g))
     | inr w ↦ clash (covers q records_name) over (below_off q (way_own r t a good formed own is q w))
   ])
@@ -144,7 +141,7 @@ module _ (r : Request) (t : Image) (a : Aside) (good : IsRequest r) (formed : Is
   -- what account files and records lay is laid
   full_laid : (q : List ℕ) (e : Entry) → r.over.at q ≡ Some (Some e) → full q ≡ Laid e
   full_laid q e at =
-      let none = none_where (saved r t a q) (λ s. clash (listed r.over.keys q) (good.over_fits.keyed q (ap is_some at)) (own.apart q s)) in
+      let none = none_or (saved r t a q) (λ s. clash (listed r.over.keys q) (good.over_fits.keyed q (ap is_some at)) (own.apart q s)) in
       alike q none ∙ change_over r t a.emptied good formed gone q e at
 
   pub laid : (q : List ℕ) (e : Entry) → r.over.at q ≡ Some (Some e) → u.look q ≡ Some e

@@ -24,7 +24,7 @@ use Rattle.ips_due.specs.Due.{IsOverOf, is_own}
 use Rattle.ips_due.proofs.Lying.{own_of}
 use Rattle.ips_request_due.specs.repairs.Repairing.{repair_between, repair_due}
 use Rattle.ips_image_steps.specs.staged_plans.Payloads.{payload_bytes}
-use Rattle.ips_plan.specs.repaired.Meant.{IsRepairedImage}
+use Rattle.ips_repair.specs.Meant.{IsRepairedImage}
 use Rattle.ips_laws.proofs.record_laws.Own.{folder_stands, root_lost}
 use Rattle.ips_laws.proofs.record_laws.Mend.{mended_held}
 

@@ -31,7 +31,8 @@ use Rattle.ips_due.proofs.Fitting.{Account, Folder, Gone, Record, Said, Silent, 
 use Rattle.ips_due.proofs.StateDue.{at_record, renewed_is}
 use Rattle.ips_laws.proofs.record_laws.Contents.{records_found}
 use Rattle.ips_laws.proofs.record_laws.DuePaths.{IsInside, IsPlaced, account_not_above, account_outside, due_placed, gone_aside, holds_package, in_packages, index_is_inside, listed_front, package_goes, package_parent, packages_are_inside, records_inside}
-use Rattle.ips_laws.proofs.record_laws.Own.{Bare, Leaves_none, Renewed, Taken, absent, laid, none_where, stays, unmade, unmade_dir}
+use Rattle.ips_laws.proofs.record_laws.Own.{Bare, Leaves_none, Renewed, Taken, absent, laid, stays, unmade, unmade_dir}
+use Rattle.ips_outside.proofs.Looks.{none_or}
 
 -- ---- what stands
 
@@ -153,7 +154,7 @@ module _ (bytes : List ℕ → List ℕ) (holds : List ℕ → List ℕ → Bool
         (parts.0, or_parts (is_some (record_at due.records x)) _ parts.1)
 
     said_here : r.over.at q ≡ said_record bytes holds (Own b) (goes_with due q) (t.look q)
-    said_here = over.at q ∙ rw (none_where (account_at due.accounts q) (none_here (no_account_in q inside.deep)), at) refl
+    said_here = over.at q ∙ rw (none_or (account_at due.accounts q) (none_here (no_account_in q inside.deep)), at) refl
 
     laid_here : r.over.at q ≡ Some (Some (File 420 b)) → file_bytes (u.look q) ≡ Some b
     laid_here said = ap file_bytes (laid r t a good formed own aside lost q (File 420 b) said)
@@ -239,7 +240,7 @@ module _ (bytes : List ℕ → List ℕ) (holds : List ℕ → List ℕ → Bool
     renewed_laid : (old.format == 1) ≡ true → r.over.at packages_path ≡ Some (Some (Dir 493 false))
     renewed_laid first =
         let renewed : listed due.renewed packages_path ≡ true = means.renewed packages_path ∙ rw (first, second) refl in
-        over.at packages_path ∙ rw (none_where (account_at due.accounts packages_path) (none_here (no_account_in packages_path packages_are_inside.deep)), none_where (record_at due.records packages_path) (none_here no_record_folder), renewed) refl
+        over.at packages_path ∙ rw (none_or (account_at due.accounts packages_path) (none_here (no_account_in packages_path packages_are_inside.deep)), none_or (record_at due.records packages_path) (none_here no_record_folder), renewed) refl
 
     silent_folder : (old.format == 1) ≡ false → (x : List ℕ) → covers x packages_path ≡ true → r.over.at x ≡ None
     silent_folder was_second x up =
@@ -295,7 +296,7 @@ module _ (bytes : List ℕ → List ℕ) (holds : List ℕ → List ℕ → Bool
           let taken : listed (taken_away old new) q ≡ true = rw (was_second, second) (package_goes new.installed q off old.installed has) in
           let gone : listed due.gone q ≡ true = means.gone q ∙ listed_front (taken_away old new) (delivered_gone was is) q taken in
           let folders = or_parts (listed due.renewed q) (listed due.folders q) no_folder_here in
-          over.at q ∙ rw (none_where (account_at due.accounts q) (none_here (no_account_in q deep)), none_where (record_at due.records q) (none_here no_record_here), folders.0, folders.1, gone, there) refl
+          over.at q ∙ rw (none_or (account_at due.accounts q) (none_here (no_account_in q deep)), none_or (record_at due.records q) (none_here no_record_here), folders.0, folders.1, gone, there) refl
         where
           child_of : is_some (t.look q) ≡ true → is_child t packages_path q ≡ true
           child_of there = and_from _ _ there (ap (is_directory packages_path) right ∙ same_path-self packages_path)
@@ -306,7 +307,7 @@ module _ (bytes : List ℕ → List ℕ) (holds : List ℕ → List ℕ → Bool
       child_leaves first is _ said (Folder at) = clash (listed due.renewed q || listed due.folders q) at no_folder_here
       child_leaves first is _ said (Gone at) = Taken said
       child_leaves true is _ said Silent = Renewed packages_path (Dir 493 false) said above_it (renewed_laid is)
-      child_leaves false is _ said Silent = Bare said (none_where (t.look q) (λ there. let bad : None ≡ Some None = sym said ∙ goes_here is there in absurd cc))
+      child_leaves false is _ said Silent = Bare said (none_or (t.look q) (λ there. let bad : None ≡ Some None = sym said ∙ goes_here is there in absurd cc))
 
       none_below_child : (y : List ℕ) → is_below q y ≡ true → lays (r.over.at y) ≡ false
       none_below_child y up = none_laid y out

@@ -9,8 +9,8 @@ use Rattle.ips_meaning.specs.declared.fault.WantFault.TheVariants as want
 use Rattle.ips_plan.specs.declared.request_plan.fault.PlanFault.{PlanFault}
 use Rattle.ips_plan.specs.declared.request_plan.fault.PlanFault.TheVariants as fault
 use Rattle.ips_plan.specs.declared.request_plan.planning.Plan.{Plan}
-use Rattle.ips_plan.specs.declared.repaired.fault.RepairFault.{RepairFault}
-use Rattle.ips_plan.specs.declared.repaired.fault.RepairFault.TheVariants as repair
+use Rattle.ips_repair.specs.declared.fault.RepairFault.{RepairFault}
+use Rattle.ips_repair.specs.declared.fault.RepairFault.TheVariants as repair
 use Rattle.ips_plan.specs.declared.created.fault.CreateFault.{CreateFault}
 use Rattle.ips_plan.specs.declared.created.fault.CreateFault.TheVariants as create
 

@@ -10,7 +10,7 @@ use Rattle.ips_state.specs.Records.{RecordFile, records_of}
 use Rattle.ips_state.specs.State.{Recorded, recorded}
 use Rattle.ips_state.specs.declared.state.State.{State}
 use Rattle.ips_plan.specs.created.Made.{IsBlank, image_made}
-use Rattle.ips_plan.specs.repaired.Meant.{IsRepairedImage}
+use Rattle.ips_repair.specs.Meant.{IsRepairedImage}
 use Rattle.ips_plan.specs.requested.Meant.{IsMeant}
 
 -- No record of the state has more bytes than a record may have.

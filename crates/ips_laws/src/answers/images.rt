@@ -4,14 +4,14 @@ ghost use Rattle.std.specs.Prelude.{◌≡◌, ℕ, IsTrue};
 ghost use Rattle.ips_outside.specs.Image.{Image};
 ghost use Rattle.ips_steps.specs.Private.{visible};
 ghost use Rattle.ips_report.specs.declared.outcome.Outcome.{Outcome};
-ghost use Rattle.ips_operations.specs.told.Told.{claims_done, manner_of};
+ghost use Rattle.ips_tell.specs.told.Told.{claims_done, manner_of};
 ghost use Rattle.ips_words.specs.declared.command.Command.{Command};
 ghost use Rattle.ips_operations.specs.changing.Leads.{Leads};
 ghost use Rattle.ips_operations.specs.creating.Creations.{Creation};
 ghost use Rattle.ips_operations.specs.creating.Decides.{MakesImage};
 ghost use Rattle.ips_operations.specs.fixing.Fixes.{Repairing};
 ghost use Rattle.ips_operations.specs.fixing.Decides.{RepairsImage};
-ghost use Rattle.ips_top.specs.Performed.{At};
+ghost use Rattle.ips_tell.specs.performing.Performed.{At};
 ghost use Rattle.ips_top.specs.Runs.{Does};
 
 use crate::plan_laws::{image_after_is_one, repaired_image_is_one};

@@ -1,10 +1,10 @@
 //! Laws of answers, each the contract of a function that does nothing.
 
 ghost use Rattle.std.specs.Prelude.{ℕ, IsTrue};
-ghost use Rattle.ips_operations.specs.told.Told.{claims_done, manner_of};
+ghost use Rattle.ips_tell.specs.told.Told.{claims_done, manner_of};
 ghost use Rattle.ips_report.specs.declared.outcome.Outcome.{Outcome};
 ghost use Rattle.ips_words.specs.declared.command.Command.{Command};
-ghost use Rattle.ips_top.specs.Performed.{At};
+ghost use Rattle.ips_tell.specs.performing.Performed.{At};
 ghost use Rattle.ips_top.specs.Runs.{Does};
 ghost use Rattle.ips_laws.specs.answers.Causes.{CauseStands, IsHindered};
 ghost use Rattle.ips_laws.specs.answers.Same.{IsFixed, SayTheSame};

@@ -9,11 +9,11 @@ ghost use Rattle.ips_change.specs.wanted.Named.{is_payload_of};
 ghost use Rattle.ips_change.specs.wanted.Wanted.{want_of};
 ghost use Rattle.ips_plan.specs.image_plan.Meaning.{StateMeans};
 ghost use Rattle.ips_report.specs.declared.outcome.Outcome.{Outcome};
-ghost use Rattle.ips_operations.specs.told.Told.{claims_done, manner_of};
+ghost use Rattle.ips_tell.specs.told.Told.{claims_done, manner_of};
 ghost use Rattle.ips_words.specs.declared.command.Command.{Command};
 ghost use Rattle.ips_operations.specs.fixing.Decides.{Told};
 ghost use Rattle.ips_operations.specs.fixing.Fixes.{repairs};
-ghost use Rattle.ips_top.specs.Performed.{At};
+ghost use Rattle.ips_tell.specs.performing.Performed.{At};
 ghost use Rattle.ips_top.specs.Runs.{Does};
 
 use ips_change::wanted::names_are_digests;

@@ -9,10 +9,10 @@ ghost use Rattle.ips_state.specs.declared.state.State.{State};
 ghost use Rattle.ips_emit.specs.declared.emitting.Emitted as emitting;
 ghost use Rattle.ips_plan.specs.image_plan.Meaning.{StateMeans};
 ghost use Rattle.ips_plan_limits.specs.Limits.{first_excess};
-ghost use Rattle.ips_plan.specs.repaired.Meant.{IsRepairedImage};
-ghost use Rattle.ips_plan.specs.repaired.Repairing.{AreRepairSteps, ComesOfRepairAt};
-ghost use Rattle.ips_plan.specs.declared.repaired.fault.RepairFault as repair;
-ghost use Rattle.ips_plan.specs.declared.repaired.fault.RepairFault.TheVariants as fault;
+ghost use Rattle.ips_repair.specs.Meant.{IsRepairedImage};
+ghost use Rattle.ips_repair.specs.Repairing.{AreRepairSteps, ComesOfRepairAt};
+ghost use Rattle.ips_repair.specs.declared.fault.RepairFault as repair;
+ghost use Rattle.ips_repair.specs.declared.fault.RepairFault.TheVariants as fault;
 ghost use Rattle.ips_laws.specs.plan_laws.Alike.{AreLikeSteps, IsSameRepairFault};
 
 /// There is one repaired image: the image before, the records, the repository and the moment leave no choice.

@@ -29,8 +29,8 @@ use Rattle.ips_run.specs.declared.operation.DecideFault.{DecideFault}
 use Rattle.ips_run.specs.declared.operation.DecideFault.TheVariants as decide
 use Rattle.ips_run.specs.declared.operation.Decision.{Decision}
 use Rattle.ips_run.specs.declared.operation.Decision.TheVariants as decision
-use Rattle.ips_operations.specs.told.Told.{IsToldAs}
-use Rattle.ips_operations.specs.refusals.Told.{Answer, unread_told}
+use Rattle.ips_tell.specs.told.Told.{IsToldAs}
+use Rattle.ips_tell.specs.refusals.Told.{Answer, unread_told}
 use Rattle.ips_operations.specs.changing.Refusals.{unled_told, unplanned_told}
 use Rattle.ips_operations.specs.changing.Decides.{Asked, Decides, asked_of}
 use Rattle.ips_operations.specs.changing.Deciding.{IsDecisionOrFault, IsLoaded}

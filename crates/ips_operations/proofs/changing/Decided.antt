@@ -13,7 +13,7 @@ use Rattle.ips_steps.specs.Steps.{Stage, Step, all_laid}
 use Rattle.ips_steps.specs.Journal.{IsJournal}
 use Rattle.ips_steps.specs.Private.{records_name, visible}
 use Rattle.ips_steps.specs.View.{step_of}
-use Rattle.ips_commit.specs.Contents.{AreSeen, StagedContents}
+use Rattle.ips_contents.specs.Contents.{AreSeen, StagedContents}
 use Rattle.ips_commit.specs.Staging.{CanStage}
 use Rattle.ips_state.specs.Records.{image_path}
 use Rattle.ips_state.specs.State.{Recorded, recorded}
@@ -33,8 +33,8 @@ use Rattle.ips_plan.specs.declared.request_plan.planning.Plan.{Plan}
 use Rattle.ips_plan.specs.request_plan.Plans.{ComesOfPlan, given_of}
 use Rattle.ips_plan.specs.requested.Meant.{ComesAt, IsMeant, IsPlanAt}
 use Rattle.ips_report.specs.declared.outcome.Outcome.{Outcome}
-use Rattle.ips_operations.specs.refusals.Told.{Answer, unread_told}
-use Rattle.ips_operations.specs.told.Naming.{AreNamed}
+use Rattle.ips_tell.specs.refusals.Told.{Answer, unread_told}
+use Rattle.ips_tell.specs.told.Naming.{AreNamed}
 use Rattle.ips_operations.specs.changing.Refusals.{unled_told, unplanned_told}
 use Rattle.ips_run.specs.declared.operation.Change.{Change}
 use Rattle.ips_run.specs.declared.operation.Decision.{Decision}

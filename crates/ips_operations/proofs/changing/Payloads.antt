@@ -32,7 +32,7 @@ use Rattle.ips_plan.specs.request_plan.Plans as plans
 use Rattle.ips_plan.specs.request_plan.Plans.{ComesBetween, ComesOfPlan}
 use Rattle.ips_plan.specs.declared.request_plan.fault.PlanFault.{PlanFault}
 use Rattle.ips_plan.specs.declared.request_plan.fault.PlanFault.TheVariants as plan
-use Rattle.ips_operations.specs.refusals.Told.{as_refused}
+use Rattle.ips_tell.specs.refusals.Told.{as_refused}
 use Rattle.ips_operations.specs.changing.Refusals.{payload_told, unplanned_told}
 use Rattle.ips_report.specs.declared.outcome.Outcome.{Outcome}
 

@@ -12,9 +12,9 @@ use Rattle.ips_next.specs.declared.fault.NextFault.TheVariants as next
 use Rattle.ips_plan.specs.declared.request_plan.fault.PlanFault.{PlanFault}
 use Rattle.ips_plan.specs.declared.request_plan.fault.PlanFault.TheVariants as plan
 use Rattle.ips_report.specs.declared.outcome.Outcome.{Outcome}
-use Rattle.ips_operations.specs.refusals.Told.{Answer, unread_told}
+use Rattle.ips_tell.specs.refusals.Told.{Answer, unread_told}
 use Rattle.ips_run.specs.declared.operation.Decision.{Decision}
-use Rattle.ips_operations.specs.told.Laying.{TellsItsSteps}
+use Rattle.ips_tell.specs.told.Laying.{TellsItsSteps}
 use Rattle.ips_operations.specs.changing.Refusals.{unled_told, unplanned_told}
 use Rattle.ips_operations.specs.changing.Decides.{Asked, Decides, Unread, Unled, Unplanned, Changed}
 

@@ -14,7 +14,7 @@ use Rattle.ips_steps.specs.Private.{visible}
 use Rattle.ips_steps.specs.View.{step_of}
 use Rattle.ips_steps.specs.declared.step.Step as declared
 use Rattle.ips_journal.specs.declared.staged.Staged.{Staged}
-use Rattle.ips_commit.specs.Contents.{StagedContents}
+use Rattle.ips_contents.specs.Contents.{StagedContents}
 use Rattle.ips_commit.specs.Staging.{CanStage}
 use Rattle.ips_state.specs.Records.{image_path}
 use Rattle.ips_state.specs.State.{recorded}
@@ -24,13 +24,13 @@ use Rattle.ips_plan.specs.created.Creating.{AreCreationSteps, ComesOfCreation}
 use Rattle.ips_plan.specs.created.Made.{image_made}
 use Rattle.ips_plan.specs.declared.created.fault.CreateFault.{CreateFault}
 use Rattle.ips_report.specs.declared.outcome.Outcome.{Outcome}
-use Rattle.ips_operations.specs.refusals.Told.{Answer}
+use Rattle.ips_tell.specs.refusals.Told.{Answer}
 use Rattle.ips_run.specs.declared.operation.Change.{Change}
 use Rattle.ips_run.specs.declared.operation.Decision.{Decision}
 use Rattle.ips_run.specs.declared.operation.Decision.TheVariants as decision
 use Rattle.ips_run.specs.declared.operation.DecideFault.{DecideFault}
 use Rattle.ips_run.specs.Planned.{IsPlanned}
-use Rattle.ips_operations.specs.told.Laying.{IsChangeOfSteps}
+use Rattle.ips_tell.specs.told.Laying.{IsChangeOfSteps}
 use Rattle.ips_plan_limits.specs.Limits.{first_excess}
 use Rattle.ips_operations.specs.creating.Creations.{Creation, IsBegun}
 use Rattle.ips_operations.specs.creating.Decides.{Decides, Exists, IsUnmade, Made, Unmade, makes_of}

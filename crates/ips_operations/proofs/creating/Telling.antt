@@ -11,9 +11,9 @@ use Rattle.ips_plan.specs.declared.created.fault.CreateFault.{CreateFault}
 use Rattle.ips_plan.specs.declared.created.fault.CreateFault.TheVariants as create
 use Rattle.ips_report.specs.declared.outcome.Outcome.{Outcome}
 use Rattle.ips_report.specs.declared.outcome.Outcome.TheVariants.{Done}
-use Rattle.ips_operations.specs.refusals.Told.{Answer}
+use Rattle.ips_tell.specs.refusals.Told.{Answer}
 use Rattle.ips_run.specs.declared.operation.Decision.{Decision}
-use Rattle.ips_operations.specs.told.Laying.{TellsItsSteps, no_counts, sorts_among}
+use Rattle.ips_tell.specs.told.Laying.{TellsItsSteps, no_counts, sorts_among}
 use Rattle.ips_operations.specs.creating.Creations.{Creation}
 use Rattle.ips_operations.specs.creating.Decides.{Decides, Exists, Unmade, Made}
 use Rattle.ips_operations.specs.creating.Told.{unmade_told}

@@ -20,7 +20,7 @@ use Rattle.ips_steps.specs.Private.{records_name, visible}
 use Rattle.ips_steps.specs.View.{step_of}
 use Rattle.ips_steps.specs.declared.step.Step as declared
 use Rattle.ips_journal.specs.declared.staged.Staged.{Staged}
-use Rattle.ips_commit.specs.Contents.{StagedContents}
+use Rattle.ips_contents.specs.Contents.{StagedContents}
 use Rattle.ips_commit.specs.Staging.{CanStage}
 use Rattle.ips_history.specs.declared.effect.Effect.TheVariants as effects
 use Rattle.ips_state.specs.Records.{image_path}
@@ -39,20 +39,20 @@ use Rattle.ips_verify.specs.Verified.{finding_told}
 use Rattle.ips_meaning.specs.declared.fault.WantFault.{WantFault}
 use Rattle.ips_plan.specs.image_plan.Meaning.{StateFails, StateMeans}
 use Rattle.ips_emit.specs.declared.emitting.Emitted.{Emitted}
-use Rattle.ips_plan.specs.repaired.Meant.{IsRepairedImage}
-use Rattle.ips_plan.specs.repaired.Repairing.{AreRepairSteps, ComesOfRepairAt}
-use Rattle.ips_plan.specs.declared.repaired.fault.RepairFault.{RepairFault}
-use Rattle.ips_plan.specs.declared.repaired.fault.RepairFault.TheVariants as repair_fault
+use Rattle.ips_repair.specs.Meant.{IsRepairedImage}
+use Rattle.ips_repair.specs.Repairing.{AreRepairSteps, ComesOfRepairAt}
+use Rattle.ips_repair.specs.declared.fault.RepairFault.{RepairFault}
+use Rattle.ips_repair.specs.declared.fault.RepairFault.TheVariants as repair_fault
 use Rattle.ips_report.specs.declared.outcome.Outcome.{Outcome}
-use Rattle.ips_operations.specs.refusals.Told.{Answer, unmeant_told, unread_told}
+use Rattle.ips_tell.specs.refusals.Told.{Answer, unmeant_told, unread_told}
 use Rattle.ips_run.specs.declared.operation.Change.{Change}
 use Rattle.ips_run.specs.declared.operation.Decision.{Decision}
 use Rattle.ips_run.specs.declared.operation.Decision.TheVariants as decision
 use Rattle.ips_run.specs.declared.operation.DecideFault.{DecideFault}
 use Rattle.ips_run.specs.declared.operation.DecideFault.TheVariants as decide_fault
 use Rattle.ips_run.specs.Planned.{CanBeListed, IfChange, IsOfEffect, IsPlanned}
-use Rattle.ips_operations.specs.told.Told.{IsToldAs}
-use Rattle.ips_operations.specs.told.Laying.{IsChangeOfSteps}
+use Rattle.ips_tell.specs.told.Told.{IsToldAs}
+use Rattle.ips_tell.specs.told.Laying.{IsChangeOfSteps}
 use Rattle.ips_plan_limits.specs.Limits.{first_excess}
 use Rattle.ips_operations.specs.fixing.Fixes.{IsNoted, Repairing, repairs}
 use Rattle.ips_operations.specs.fixing.Told.{unrepaired_told}

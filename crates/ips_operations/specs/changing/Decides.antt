@@ -19,8 +19,8 @@ use Rattle.ips_plan.specs.declared.request_plan.fault.PlanFault.{PlanFault}
 use Rattle.ips_plan.specs.declared.request_plan.planning.Plan.{Plan}
 use Rattle.ips_plan.specs.requested.Meant.{ComesAt, IsPlanAt}
 use Rattle.ips_report.specs.declared.outcome.Outcome.{Outcome}
-use Rattle.ips_operations.specs.refusals.Told.{unread_told}
-use Rattle.ips_operations.specs.told.Naming.{AreNamed}
+use Rattle.ips_tell.specs.refusals.Told.{unread_told}
+use Rattle.ips_tell.specs.told.Naming.{AreNamed}
 use Rattle.ips_run.specs.declared.operation.Decision.{Decision}
 use Rattle.ips_run.specs.declared.operation.Decision.TheVariants as decision
 use Rattle.ips_operations.specs.changing.Commands.{accepts}

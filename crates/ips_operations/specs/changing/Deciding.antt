@@ -11,8 +11,8 @@ use Rattle.ips_state.specs.declared.state.State.{State}
 use Rattle.ips_load.specs.Held.{Holds}
 use Rattle.ips_run.specs.Planned.{CanBeListed, IfChange, IsOfEffect, IsPlanned}
 use Rattle.ips_run.specs.declared.operation.DecideFault.TheVariants.{FolderFault, SourceFault}
-use Rattle.ips_operations.specs.told.Told.{IsToldAs}
-use Rattle.ips_operations.specs.refusals.Told.{Answer}
+use Rattle.ips_tell.specs.told.Told.{IsToldAs}
+use Rattle.ips_tell.specs.refusals.Told.{Answer}
 use Rattle.ips_operations.specs.changing.Decides.{Decides, asked_of}
 use Rattle.ips_operations.specs.changing.Leads.{LeadsWhere}
 

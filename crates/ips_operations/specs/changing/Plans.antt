@@ -5,7 +5,7 @@ use Rattle.ips_report.specs.declared.outcome.Outcome.{Outcome}
 use Rattle.ips_report.specs.declared.outcome.Outcome.TheVariants.{Done}
 use Rattle.ips_plan.specs.declared.request_plan.planning.Plan.{Plan}
 use Rattle.ips_run.specs.declared.operation.Change.{Change}
-use Rattle.ips_operations.specs.told.Laying.{sorts_among}
+use Rattle.ips_tell.specs.told.Laying.{sorts_among}
 
 -- The change that the plan is, with payloads of this publisher: its steps with what is staged for them, the words of its actuator before and after, and
 -- what is told where it is done: how many packages it changes, its steps by their sorts, and its licenses.

@@ -14,7 +14,7 @@ use Rattle.ips_report.specs.declared.outcome.Outcome.{Outcome}
 use Rattle.ips_report.specs.declared.outcome.Outcome.TheVariants as outcome
 use Rattle.ips_run.specs.declared.operation.Decision.TheVariants.{Nothing}
 use Rattle.ips_run.specs.declared.operation.DecideFault.TheVariants.{FolderFault, SourceFault}
-use Rattle.ips_operations.specs.refusals.Told.{Answer, as_refused}
+use Rattle.ips_tell.specs.refusals.Told.{Answer, as_refused}
 
 -- Why a command leads to no new state, as it is refused; where nothing is to be done, that is what is decided.
 abbrev pub unled_told : Or NextFault → Answer

@@ -6,7 +6,7 @@ use Rattle.ips_plan.specs.declared.created.fault.CreateFault.{CreateFault}
 use Rattle.ips_plan.specs.declared.created.fault.CreateFault.TheVariants as fault
 use Rattle.ips_report.specs.declared.outcome.Outcome.TheVariants as outcome
 use Rattle.ips_run.specs.declared.operation.DecideFault.TheVariants.{FolderFault}
-use Rattle.ips_operations.specs.refusals.Told.{Answer, as_refused}
+use Rattle.ips_tell.specs.refusals.Told.{Answer, as_refused}
 
 -- The image can't be made at a path, or there are too many steps; where a call failed or memory ran out, nothing is decided.
 abbrev pub unmade_told : Or CreateFault → Answer

@@ -16,17 +16,17 @@ use Rattle.ips_change.specs.wanted.Wanted.{want_of}
 use Rattle.ips_change.specs.wanted.Named.{is_payload_of}
 use Rattle.ips_plan.specs.image_plan.Meaning.{StateFails, StateMeans}
 use Rattle.ips_emit.specs.declared.emitting.Emitted.{Emitted}
-use Rattle.ips_plan.specs.repaired.Meant.{IsRepairedImage}
-use Rattle.ips_plan.specs.repaired.Repairing.{AreRepairSteps, ComesOfRepairAt}
-use Rattle.ips_plan.specs.declared.repaired.fault.RepairFault.{RepairFault}
+use Rattle.ips_repair.specs.Meant.{IsRepairedImage}
+use Rattle.ips_repair.specs.Repairing.{AreRepairSteps, ComesOfRepairAt}
+use Rattle.ips_repair.specs.declared.fault.RepairFault.{RepairFault}
 use Rattle.ips_plan_limits.specs.Limits.{first_excess}
 use Rattle.ips_report.specs.declared.outcome.Outcome.{Outcome}
 use Rattle.ips_report.specs.declared.outcome.Outcome.TheVariants as outcome
-use Rattle.ips_operations.specs.refusals.Told.{unmeant_told, unread_told}
+use Rattle.ips_tell.specs.refusals.Told.{unmeant_told, unread_told}
 use Rattle.ips_run.specs.declared.operation.Change.{Change}
 use Rattle.ips_run.specs.declared.operation.Decision.{Decision}
 use Rattle.ips_run.specs.declared.operation.Decision.TheVariants as decision
-use Rattle.ips_operations.specs.told.Laying.{IsChangeOfSteps}
+use Rattle.ips_tell.specs.told.Laying.{IsChangeOfSteps}
 use Rattle.ips_operations.specs.fixing.Fixes.{Repairing, IsNoted}
 use Rattle.ips_operations.specs.fixing.Told.{unrepaired_told}
 

@@ -16,10 +16,10 @@ use Rattle.ips_after.specs.Findings.{findings}
 use Rattle.ips_change.specs.wanted.Named.{is_payload_of}
 use Rattle.ips_change.specs.wanted.Wanted.{want_of}
 use Rattle.ips_verify.specs.Verified.{finding_told}
-use Rattle.ips_operations.specs.refusals.Told.{Answer}
+use Rattle.ips_tell.specs.refusals.Told.{Answer}
 use Rattle.ips_run.specs.Planned.{CanBeListed, IfChange, IsOfEffect, IsPlanned}
 use Rattle.ips_run.specs.declared.operation.DecideFault.TheVariants as fault
-use Rattle.ips_operations.specs.told.Told.{IsToldAs}
+use Rattle.ips_tell.specs.told.Told.{IsToldAs}
 use Rattle.ips_operations.specs.fixing.Fixes.{Repairing}
 use Rattle.ips_operations.specs.fixing.Decides.{Decides, repairs_of}
 

@@ -5,8 +5,8 @@ ghost use Rattle.ips_text.specs.declared.refusal.Or.TheVariants.{Bad};
 ghost use Rattle.ips_next.specs.declared.fault.NextFault.TheVariants as next;
 ghost use Rattle.ips_plan.specs.declared.request_plan.fault.PlanFault.TheVariants as plan;
 ghost use Rattle.ips_run.specs.declared.operation.DecideFault.TheVariants as decide;
-ghost use Rattle.ips_operations.specs.told.Told.{IsToldAs, Refusing, manner_of};
-ghost use Rattle.ips_operations.specs.refusals.Told.{as_refused};
+ghost use Rattle.ips_tell.specs.told.Told.{IsToldAs, Refusing, manner_of};
+ghost use Rattle.ips_tell.specs.refusals.Told.{as_refused};
 ghost use Rattle.ips_operations.specs.changing.Refusals.{payload_told, unled_told, unplanned_told};
 
 use ips_digest::PayloadName;

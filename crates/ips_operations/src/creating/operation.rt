@@ -2,7 +2,7 @@
 
 ghost use Rattle.std.specs.Prelude.{◌≡◌};
 ghost use Rattle.ips_history.specs.declared.effect.Effect.TheVariants as effects;
-ghost use Rattle.ips_operations.specs.told.Told.{IsToldAs};
+ghost use Rattle.ips_tell.specs.told.Told.{IsToldAs};
 ghost use Rattle.ips_operations.specs.creating.Decides.{Decides, makes_of};
 
 use crate::creating::creation::Creating;

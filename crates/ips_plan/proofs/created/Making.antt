@@ -8,7 +8,7 @@ use Rattle.ips_steps.specs.Private.{gate_name, records_name, visible}
 use Rattle.ips_steps.specs.Steps.{Stage, all_laid}
 use Rattle.ips_steps.specs.View.{step_of}
 use Rattle.ips_steps.proofs.Lists.{clash}
-use Rattle.ips_commit.specs.Contents.{StagedContents}
+use Rattle.ips_contents.specs.Contents.{StagedContents}
 use Rattle.ips_commit.specs.Staging.{CanStage}
 use Rattle.ips_state.specs.declared.state.State.{State}
 use Rattle.ips_state.specs.State.{Recorded, installed, recorded}

@@ -26,8 +26,8 @@ use Rattle.ips_books.specs.Accounts.{Accounts}
 use Rattle.ips_due.specs.Due.{Content, Due, DueFile, IsDue, MeansSame, account_at, is_due, own_records, record_at}
 use Rattle.ips_due.specs.Delivered.{Delivered, Legacy, License, delivered_records, legacy_path, legacy_record, license_record, request_due}
 use Rattle.ips_due.proofs.StateDue.{all_append, at_record, own_all, renewed_is}
-use Rattle.ips_request_due.specs.delivered.Delivering.{PackagesDeliver, legacies_of, legacy_of}
-use Rattle.ips_request_due.proofs.delivered.OneList.{one_admitted}
+use Rattle.ips_delivered.specs.delivered.Delivering.{PackagesDeliver, legacies_of, legacy_of}
+use Rattle.ips_delivered.proofs.delivered.OneList.{one_admitted}
 
 -- ---- all other records stand elsewhere
 

@@ -12,7 +12,7 @@ use Rattle.ips_state.specs.declared.state.State.{State}
 use Rattle.ips_state.specs.State.{recorded}
 use Rattle.ips_books.specs.Seen.{accounts as books_seen}
 use Rattle.ips_after.specs.Request.{Over, Request}
-use Rattle.ips_commit.specs.Contents.{StagedContents}
+use Rattle.ips_contents.specs.Contents.{StagedContents}
 use Rattle.ips_commit.specs.Staging.{CanStage}
 use Rattle.ips_change.specs.wanted.Named.{is_payload_of}
 use Rattle.ips_change.specs.wanted.Wanted.{want_of}

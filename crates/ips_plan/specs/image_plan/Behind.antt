@@ -4,7 +4,7 @@ use Rattle.ips_outside.specs.Image.{Image}
 use Rattle.ips_books.specs.Accounts.{Accounts}
 use Rattle.ips_steps.specs.View.{step_of}
 use Rattle.ips_due.specs.Due.{Due, DueFile, IsDue}
-use Rattle.ips_request_due.specs.delivered.Delivering.{HasUnknownOwner}
+use Rattle.ips_delivered.specs.delivered.Delivering.{HasUnknownOwner}
 use Rattle.ips_emit.specs.declared.emitting.Emitted.{Emitted}
 use Rattle.ips_image_steps.specs.Answers.{CanBeListed}
 use Rattle.ips_plan_limits.specs.Limits.{first_excess}

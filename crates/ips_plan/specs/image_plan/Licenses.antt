@@ -1,7 +1,7 @@
 -- The licenses that a request from one state of an image to another newly delivers.
 use Rattle.std.specs.Prelude.{◌≡◌, ◌<◌, ℕ, Bool, false, List, [], length}
 use Rattle.ips_state.specs.declared.state.State.{State}
-use Rattle.ips_request_due.specs.new_licenses.New.{AreNewlyDelivered}
+use Rattle.ips_delivered.specs.new_licenses.New.{AreNewlyDelivered}
 
 -- By the settings of both states, the new packages newly deliver these licenses: some are to be shown, and some must be accepted.
 abbrev pub AreNewBetween : State → State → List (List ℕ) → List (List ℕ) → Type 0

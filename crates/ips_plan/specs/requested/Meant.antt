@@ -7,7 +7,7 @@ use Rattle.ips_steps.specs.Journal.{IsJournal}
 use Rattle.ips_steps.specs.Private.{gate_name, records_name, visible}
 use Rattle.ips_steps.specs.Steps.{Stage, all_laid}
 use Rattle.ips_steps.specs.View.{step_of}
-use Rattle.ips_commit.specs.Contents.{AreSeen, StagedContents}
+use Rattle.ips_contents.specs.Contents.{AreSeen, StagedContents}
 use Rattle.ips_commit.specs.Staging.{CanStage}
 use Rattle.ips_state.specs.State.{recorded}
 use Rattle.ips_state.specs.Lawful.{IsLawful}

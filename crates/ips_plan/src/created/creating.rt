@@ -8,7 +8,7 @@ ghost use Rattle.ips_outside.specs.Outside.{Reads};
 ghost use Rattle.ips_steps.specs.Private.{gate_name, records_name, visible};
 ghost use Rattle.ips_steps.specs.Steps.{Stage, all_laid};
 ghost use Rattle.ips_steps.specs.View.{step_of};
-ghost use Rattle.ips_commit.specs.Contents.{StagedContents};
+ghost use Rattle.ips_contents.specs.Contents.{StagedContents};
 ghost use Rattle.ips_commit.specs.Staging.{CanStage};
 ghost use Rattle.ips_state.specs.State.{recorded};
 ghost use Rattle.ips_state.specs.Lawful.{IsLawful};

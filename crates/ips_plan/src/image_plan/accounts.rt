@@ -7,7 +7,7 @@ ghost use Rattle.ips_plan.specs.image_plan.Accounts.{AreAccounts};
 
 use ips_action::{Action, ActionKind};
 use ips_conflict::Placed;
-use ips_request_due::delivered::admitted;
+use ips_delivered::delivered::admitted;
 use ips_state::State;
 use std::alloc::{AllocError, Global};
 

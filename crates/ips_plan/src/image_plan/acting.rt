@@ -6,7 +6,7 @@ ghost use Rattle.ips_plan.specs.image_plan.Acting.{AreActions, AreRuns, AreRunsO
 use ips_action::Action;
 use ips_actuate::{Words, words};
 use ips_conflict::Placed;
-use ips_request_due::delivered::admitted;
+use ips_delivered::delivered::admitted;
 use ips_state::State;
 use ips_text::Text;
 use std::alloc::{AllocError, Global};

@@ -6,7 +6,7 @@ ghost use Rattle.ips_state.specs.State.{recorded};
 ghost use Rattle.ips_state.specs.Lawful.{IsLawful};
 ghost use Rattle.ips_plan.specs.image_plan.Licenses.{AreDisplayed, AreNeeded};
 
-use ips_request_due::new_licenses::{NewLicenses, new_licenses};
+use ips_delivered::new_licenses::{NewLicenses, new_licenses};
 use ips_state::State;
 use ips_text::{Or, Text};
 use std::alloc::Global;

@@ -8,8 +8,7 @@ use Rattle.ips_text.proofs.Ancestry.{same_path-true}
 use Rattle.ips_outside.specs.Image.{Entry, Image}
 use Rattle.ips_records.specs.Lines.{lines_text}
 use Rattle.ips_records.proofs.Joined.{joined_path, pkg_name}
-use Rattle.ips_steps.specs.Steps.{stage_name}
-use Rattle.ips_steps.specs.Private.{records_name, journal_name, gate_name, is_private, mark_front}
+use Rattle.ips_steps.specs.Private.{records_name, is_private}
 use Rattle.ips_steps.proofs.Lists.{clash}
 use Rattle.ips_state.specs.Records.{history_path}
 use Rattle.ips_after.specs.Request.{Over}
@@ -17,14 +16,11 @@ use Rattle.ips_due.specs.Apart.{LeavesSalvage, lost_path}
 use Rattle.ips_due.specs.Due.{Due, HasProperDue, IsDue, IsOverOf, Own, is_due, is_own, record_at}
 use Rattle.ips_due.proofs.Fitting.{Account, Folder, Gone, Record, Said, Silent, said_is}
 use Rattle.ips_request_due.specs.repairs.Repairing.{repair_due}
+use Rattle.ips_due.proofs.Standing.{history_seen}
 
 pub own_history : is_own history_path ≡ true
 unfolding records_name
 own_history = refl
-
-history_seen : is_private history_path ≡ false
-unfolding stage_name journal_name gate_name mark_front
-history_seen = refl
 
 module _ (history : List (List ℕ)) where
   abbrev due : Due

@@ -2,7 +2,8 @@ use Rattle.std.proofs.Common.{sym, ◌∙◌}
 use Rattle.ips_outside.specs.Change.{names}
 use Rattle.ips_outside.specs.State.{nowhere}
 use Rattle.ips_folder.proofs.Runs.{one_write}
-use Rattle.ips_apply.proofs.Puts.{file_mode, moded_alike}
+use Rattle.ips_apply.proofs.Puts.{moded_alike}
+use Rattle.ips_folder.proofs.Filled.{file_mode}
 use Rattle.ips_apply.proofs.acting.give_mode.Goals as goal
 
 pub returns-then-not-other_mode-clause-done : goal.returns-then-not-other_mode-clause-done

@@ -6,8 +6,8 @@ use Rattle.ips_folder.specs.Calls.{IsSole}
 use Rattle.ips_folder.proofs.Runs.{keeps_then, one_sync}
 use Rattle.ips_steps.specs.Private.{gate_name}
 use Rattle.ips_folder.proofs.Filled.{sole_placed}
-use Rattle.ips_commit.proofs.Swept.{wrote, wrote_then}
-use Rattle.ips_commit.proofs.Written.{alone_filled}
+use Rattle.ips_contents.proofs.Wrote.{wrote, wrote_then}
+use Rattle.ips_contents.proofs.Written.{alone_filled}
 use Rattle.ips_commit.proofs.GateOpens.{on_err, not_begun, not_written, not_now, not_synced, never, opens, not_behind}
 use Rattle.ips_commit.proofs.gate.open.Goals as goal
 

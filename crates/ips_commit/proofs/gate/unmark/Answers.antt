@@ -8,7 +8,8 @@ use Rattle.ips_steps.specs.Private.{mark_front, begins, mark_name}
 use Rattle.ips_commit.specs.Pending.{mark_names}
 use Rattle.ips_commit.proofs.Marked.{mark_own}
 use Rattle.ips_commit.proofs.Numbered.{gone_numbered}
-use Rattle.ips_commit.proofs.Swept.{wrote_then, off_mark, removed_none}
+use Rattle.ips_commit.proofs.Swept.{off_mark, removed_none}
+use Rattle.ips_contents.proofs.Wrote.{wrote_then}
 use Rattle.ips_commit.proofs.gate.unmark.Goals as goal
 
 own_path : (p : List ℕ) (n : ℕ) → p ≡ mark_name n → begins mark_front p ≡ true

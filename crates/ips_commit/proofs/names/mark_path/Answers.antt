@@ -2,7 +2,7 @@ use Rattle.std.proofs.Common.{◌≡◌, List, ℕ, sym, ◌∙◌, subst, arith
 use Rattle.std.specs.Prelude.{IfOk}
 use Rattle.ips_text.specs.Path.{IsPath}
 use Rattle.ips_steps.specs.Private.{mark_front, mark_name}
-use Rattle.ips_commit.proofs.OwnPaths.{mark_is_path}
+use Rattle.ips_contents.proofs.OwnPaths.{mark_is_path}
 use Rattle.ips_commit.proofs.names.mark_path.Goals as goal
 
 pub path_of-requires : goal.path_of-requires

@@ -1,7 +1,7 @@
 use Rattle.std.proofs.Common.{sym, subst, arith}
 use Rattle.std.proofs.lemmas.Bool.{false≢true}
 use Rattle.ips_text.specs.Path.{IsPath}
-use Rattle.ips_commit.proofs.OwnPaths.{mark_is_path}
+use Rattle.ips_contents.proofs.OwnPaths.{mark_is_path}
 use Rattle.ips_commit.proofs.names.set_mark.Goals as goal
 
 pub unreachable-requires : goal.unreachable-requires

@@ -1,5 +1,5 @@
 use Rattle.std.proofs.Common.{◌+◌, ◌-◌, length, ◌∙◌}
-use Rattle.ips_commit.proofs.OwnPaths.{mark_written}
+use Rattle.ips_contents.proofs.OwnPaths.{mark_written}
 use Rattle.ips_commit.proofs.names.write_mark.Goals as goal
 
 pub returns-clause-written : goal.returns-clause-written

@@ -2,7 +2,7 @@ use Rattle.std.proofs.Common.{◌≡◌, ◌∙◌, ap, subst}
 use Rattle.ips_outside.specs.State.{State}
 use Rattle.ips_journal.specs.Reading.{journal_of}
 use Rattle.ips_commit.specs.Recovering.{IsPlaced, SaysOfText, SaysOfFinding}
-use Rattle.ips_commit.proofs.AllWritten.{as_bad}
+use Rattle.ips_contents.proofs.AllWritten.{as_bad}
 use Rattle.ips_commit.proofs.Places.{gate_as, says_found}
 use Rattle.ips_commit.proofs.Rolled.{found_open}
 use Rattle.ips_commit.proofs.placing.find_left.Goals as goal

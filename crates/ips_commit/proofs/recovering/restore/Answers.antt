@@ -14,7 +14,7 @@ use Rattle.ips_kinds.specs.Tallies.{seen_by}
 use Rattle.ips_commit.specs.declared.fault.CommitFault.TheVariants as fault
 use Rattle.ips_commit.specs.Pending.{AreMarkNames, HasCommitted, IsSwept, is_swept}
 use Rattle.ips_commit.specs.Recovering.{IsPlaced, IsJournalled, IsUnfinished, CanRollForward, SaysOfFinding, SaysOfRecovery, SaysOfLaying}
-use Rattle.ips_commit.proofs.AllWritten.{as_bad}
+use Rattle.ips_contents.proofs.AllWritten.{as_bad}
 use Rattle.ips_commit.proofs.Rolled.{still_owed, still_clean, swept_keeps, swept_owed, swept_done, found_open, found_shut, says_rolled, never_refused, says_only_read, if_starved, read_cause, never_begun, roll_cause, never_found, calm_cause, no_answer}
 use Rattle.ips_commit.proofs.recovering.restore.Goals as goal
 

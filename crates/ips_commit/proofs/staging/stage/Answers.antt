@@ -2,7 +2,7 @@ use Rattle.std.proofs.Common.{map, refl, inl, inr, ◌∙◌}
 use Rattle.ips_steps.specs.View.{step_of}
 use Rattle.ips_commit.specs.Pending.{is_swept}
 use Rattle.ips_commit.proofs.Staged.{rose_of, unbegun, staging_owed, staging_seen, has_staged}
-use Rattle.ips_commit.proofs.Written.{own_modes}
+use Rattle.ips_contents.proofs.Written.{own_modes}
 use Rattle.ips_commit.proofs.staging.stage.Goals as goal
 
 pub write_stage-requires-clause-counted : goal.write_stage-requires-clause-counted

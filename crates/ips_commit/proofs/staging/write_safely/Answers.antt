@@ -8,7 +8,7 @@ use Rattle.ips_folder.specs.Calls.{CanMake, IsSole}
 use Rattle.ips_folder.proofs.Runs.{keeps_then, one_sync}
 use Rattle.ips_steps.specs.Private.{journal_name}
 use Rattle.ips_folder.proofs.Filled.{sole_placed}
-use Rattle.ips_commit.proofs.Swept.{wrote}
+use Rattle.ips_contents.proofs.Wrote.{wrote}
 use Rattle.ips_commit.proofs.Unready.{journal_touched, touched_by, not_made}
 use Rattle.ips_commit.proofs.GateOpens.{on_err}
 use Rattle.ips_commit.proofs.staging.write_safely.Goals as goal

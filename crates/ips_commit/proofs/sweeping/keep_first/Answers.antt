@@ -10,7 +10,8 @@ use Rattle.ips_outside.proofs.Reading.{answered}
 use Rattle.ips_folder.specs.Calls.{ChangesOnly}
 use Rattle.ips_commit.specs.Pending.{is_other, mark_names}
 use Rattle.ips_commit.proofs.Numbered.{is_spare, other_bytes, spare_gone, spare_off, kept_stays, no_others}
-use Rattle.ips_commit.proofs.Swept.{wrote_then, removed_none}
+use Rattle.ips_commit.proofs.Swept.{removed_none}
+use Rattle.ips_contents.proofs.Wrote.{wrote_then}
 use Rattle.ips_commit.proofs.sweeping.keep_first.Goals as goal
 use Rattle.ips_commit.proofs.sweeping.keep_first.Goals.{then-not-is_among+in_ok-remove, else-not-is_among}
 

@@ -6,7 +6,8 @@ use Rattle.ips_text.specs.Kept.{Kept}
 use Rattle.ips_outside.specs.State.{State}
 use Rattle.ips_steps.specs.Private.{mark_front, begins}
 use Rattle.ips_outside.proofs.Reading.{answered}
-use Rattle.ips_commit.proofs.Swept.{wrote_then, off_mark, own_at, gone_more, all_bytes, removed_none}
+use Rattle.ips_commit.proofs.Swept.{off_mark, own_at, gone_more, all_bytes, removed_none}
+use Rattle.ips_contents.proofs.Wrote.{wrote_then}
 use Rattle.ips_commit.proofs.sweeping.remove_all.Goals as goal
 
 pub returns-in_err-remove-clause-any_moment : goal.returns-in_err-remove-clause-any_moment

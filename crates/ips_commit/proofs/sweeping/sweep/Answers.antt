@@ -7,7 +7,8 @@ use Rattle.ips_steps.specs.Private.{journal_name, mark_front, begins}
 use Rattle.ips_folder.proofs.Runs.{keeps_then, keeps_wider}
 use Rattle.ips_commit.specs.Pending.{is_swept}
 use Rattle.ips_commit.proofs.OwnNames.{stage_swept, journal_swept, marks_swept}
-use Rattle.ips_commit.proofs.Swept.{wrote, wrote_then, swept_all}
+use Rattle.ips_commit.proofs.Swept.{swept_all}
+use Rattle.ips_contents.proofs.Wrote.{wrote, wrote_then}
 use Rattle.ips_commit.proofs.Staged.{stage_made, stage_agrees}
 use Rattle.ips_commit.proofs.Unready.{no_journal, failed_at, gone_by, staged_over, marks_over}
 use Rattle.ips_commit.proofs.GateOpens.{on_err}

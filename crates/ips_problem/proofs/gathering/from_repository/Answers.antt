@@ -1,14 +1,14 @@
-use Rattle.std.proofs.Common.{◌≡◌, ℕ, Bool, List, true, false, IsTrue, ap, is_some, option_map, subst, sym}
+use Rattle.std.proofs.Common.{◌≡◌, Bool, true, false, IsTrue, ap, is_some, option_map, subst, sym}
 use Rattle.ips_request.proofs.Results.{ok_also, bad_also}
-use Rattle.ips_request.specs.Manifests.{IsFetched, IsFetchFault, IsMissing, IsThere, name_of}
+use Rattle.ips_request.specs.Manifests.{IsFetched, IsFetchFault, IsThere, name_of}
 use Rattle.ips_request.specs.Subject.{files_of}
 use Rattle.std.proofs.lemmas.Bool.{true≢false}
 use Rattle.ips_problem.specs.Asked.{tells_where}
 use Rattle.ips_text.specs.declared.refusal.Or.{Or}
-use Rattle.ips_text.specs.declared.refusal.Or.TheVariants.{Bad}
 use Rattle.ips_request.specs.declared.fault.ProblemFault.{ProblemFault}
 use Rattle.ips_request.specs.declared.fault.ProblemFault.TheVariants as fault
 use Rattle.ips_problem.proofs.gathering.from_repository.Goals as goal
+use Rattle.ips_request.proofs.ManifestFiles.{no_missing}
 
 -- a source that is looked at tells
 looked_told : (looked tells : Bool) → looked ≡ true → IsTrue (tells_where looked tells) → IsTrue tells
@@ -29,9 +29,5 @@ returns-in-Some-clause-bad g c = λ told.
     bad_also c.fetched.result _ _ (c.fetched.ensures.bad (looked_told _ _ (ap is_some c.in-Some.is) told))
     (λ why h. subst (λ o. IsFetchFault c.args.total.now (files_of o held c.args.stem.now c.args.version.now) (name_of (record { stem = c.args.stem.now; version = c.args.version.now })) why) is h)
 
--- a manifest that is missing is no call that failed
-missing_not : (name : List ℕ) (e : Or ProblemFault) → IsMissing name e → e ≡ Bad fault.SourceFault → ⊥
-missing_not name e missing is = subst (IsMissing name) is missing
-
 pub returns-in-None-clause-asks : goal.returns-in-None-clause-asks
-returns-in-None-clause-asks g c = λ failed. absurd (missing_not _ c.missing.result c.missing.ensures cc)
+returns-in-None-clause-asks g c = λ failed. absurd (no_missing _ c.missing.result c.missing.ensures cc)

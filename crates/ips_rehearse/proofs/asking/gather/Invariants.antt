@@ -8,5 +8,6 @@ use Rattle.ips_rehearse.proofs.asking.gather.Given as goal
 abbrev pub invariant-loop-step : goal.invariant-loop-step
 invariant-loop-step l = record {
   worked : (q : List ℕ) → in_set l.worked q ≡ (list_any (λ s. asked.works_in q (step_of s)) (take l.step-index l.steps) || in_set l.fn.worked q);
+  passed : (q : List ℕ) → in_set l.passed q ≡ (list_any (λ s. asked.goes_through q (step_of s)) (take l.step-index l.steps) || in_set l.fn.passed q);
   made : (q : List ℕ) → in_set l.made q ≡ (list_any (λ s. asked.makes_dir q (step_of s)) (take l.step-index l.steps) || in_set l.fn.made q);
 }

@@ -13,7 +13,7 @@ add_modes-requires c = proper_at c.args.steps.now c.loop-step.step-index c.step-
 
 pub loop-step-preserved : goal.loop-step-preserved
 loop-step-preserved c = record {
-  worked = λ m. any_next (λ s. asked.gives_worked (in_set c.args.worked.now) m (step_of s)) c.args.steps.now c.loop-step.step-index c.step-item.result c.loop-step-test.true c.step-item.is
+  worked = λ m. any_next (λ s. asked.gives_worked (in_set c.args.worked.now) (in_set c.args.passed.now) m (step_of s)) c.args.steps.now c.loop-step.step-index c.step-item.result c.loop-step-test.true c.step-item.is
       (in_modes c.loop-step.modes.worked.has m) (in_modes c.add_modes.new.modes.worked.has m) (c.loop-step.invariant.worked m) (c.add_modes.ensures.worked m);
   dirs = λ m. any_next (λ s. asked.gives_dir m (step_of s)) c.args.steps.now c.loop-step.step-index c.step-item.result c.loop-step-test.true c.step-item.is
       (in_modes c.loop-step.modes.dirs.has m) (in_modes c.add_modes.new.modes.dirs.has m) (c.loop-step.invariant.dirs m) (c.add_modes.ensures.dirs m);
@@ -23,7 +23,7 @@ loop-step-preserved c = record {
 
 pub returns-clause-worked : goal.returns-clause-worked
 returns-clause-worked c = λ m.
-    c.loop-step.invariant.worked m ∙ ap (list_any (λ s. asked.gives_worked (in_set c.args.worked.now) m (step_of s))) (take_all c.loop-step.step-index c.args.steps.now (omega (arith, c.loop-step-test.false)))
+    c.loop-step.invariant.worked m ∙ ap (list_any (λ s. asked.gives_worked (in_set c.args.worked.now) (in_set c.args.passed.now) m (step_of s))) (take_all c.loop-step.step-index c.args.steps.now (omega (arith, c.loop-step-test.false)))
 
 pub returns-clause-dirs : goal.returns-clause-dirs
 returns-clause-dirs c = λ m.

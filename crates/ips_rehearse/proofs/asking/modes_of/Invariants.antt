@@ -8,7 +8,7 @@ use Rattle.ips_rehearse.proofs.asking.modes_of.Given as goal
 
 abbrev pub invariant-loop-step : goal.invariant-loop-step
 invariant-loop-step l = record {
-  worked : (m : ℕ) → in_modes l.modes.worked.has m ≡ list_any (λ s. asked.gives_worked (in_set l.worked) m (step_of s)) (take l.step-index l.steps);
+  worked : (m : ℕ) → in_modes l.modes.worked.has m ≡ list_any (λ s. asked.gives_worked (in_set l.worked) (in_set l.passed) m (step_of s)) (take l.step-index l.steps);
   dirs : (m : ℕ) → in_modes l.modes.dirs.has m ≡ list_any (λ s. asked.gives_dir m (step_of s)) (take l.step-index l.steps);
   files : (m : ℕ) → in_modes l.modes.files.has m ≡ list_any (λ s. asked.gives_file m (step_of s)) (take l.step-index l.steps);
 }

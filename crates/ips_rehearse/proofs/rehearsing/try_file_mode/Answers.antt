@@ -1,9 +1,11 @@
-use Rattle.std.proofs.Common.{◌∙◌, ap}
+use Rattle.std.proofs.Common.{◌∙◌, ap, ◌≡◌, [], Some, IsTrue, sym}
+use Rattle.ips_outside.specs.Image.{File}
+use Rattle.ips_rehearse.proofs.Passing.{passed_by, stood_as}
 use Rattle.ips_text.specs.Ancestry.{covers, is_below, parent}
 use Rattle.ips_outside.proofs.Trees.{on_ok_to}
 use Rattle.ips_folder.proofs.Runs.{keeps_wider}
-use Rattle.ips_rehearse.specs.Tried.{try_name, IsEmptyDir}
-use Rattle.ips_rehearse.proofs.Paths.{plain_path, plain_parent}
+use Rattle.ips_rehearse.specs.Tried.{try_name, IsEmptyDir, IsFileOf, Passed, Stood}
+use Rattle.ips_rehearse.proofs.Paths.{plain_path, plain_parent, file_is}
 use Rattle.ips_rehearse.proofs.Trials.{off_child, can_make, empty_again}
 use Rattle.ips_rehearse.proofs.rehearsing.try_file_mode.Goals as goal
 
@@ -27,3 +29,16 @@ returns-clause-any_moment g c = λ told.
     let p = c.go.new.path.bytes in
     let off = off_child try_name p (ap parent c.go.ensures.there ∙ plain_parent) in
     keeps_wider g.F.Source.outside (covers p) (covers p) (is_below try_name) (is_below try_name) c.args.folder.now c.try_file.new.folder off off (c.try_file.ensures.any_moment told)
+
+pub returns-clause-seen : goal.returns-clause-seen
+returns-clause-seen g c = λ told.
+    let o = g.F.Source.outside in
+    let a = c.args.folder.now in
+    let b = c.try_file.new.folder in
+    let p = c.go.new.path.bytes in
+    on_ok_to c.try_file.result (Passed o a b × (IsTrue c.args.is_asked → Stood o a b (IsFileOf c.args.mode)))
+    (λ seen. (
+      passed_by o a b (λ t. t.look p ≡ Some (File c.args.mode [])) seen,
+      λ asked. stood_as o a b (λ t. t.look p ≡ Some (File c.args.mode [])) (IsFileOf c.args.mode) (λ t is. ap t.look (sym (c.go.ensures.there ∙ file_is)) ∙ is) seen,
+    ))
+    (c.try_file.ensures.seen told)

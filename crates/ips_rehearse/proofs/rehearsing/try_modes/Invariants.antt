@@ -1,7 +1,8 @@
 use Rattle.std.proofs.Common.{◌≡◌, ◌≤◌, IsTrue}
+use Rattle.ips_rehearse.proofs.Passing.{ModesBelow}
 use Rattle.ips_text.specs.Ancestry.{is_below}
 use Rattle.ips_folder.specs.Calls.{ChangesOnly}
-use Rattle.ips_rehearse.specs.Tried.{try_name, IsEmptyDir}
+use Rattle.ips_rehearse.specs.Tried.{try_name, IsEmptyDir, Passed}
 use Rattle.ips_rehearse.proofs.rehearsing.try_modes.Given as goal
 
 abbrev pub invariant-loop-mode : goal.invariant-loop-mode
@@ -13,4 +14,5 @@ invariant-loop-mode g l = record {
   changes : g.F.Source.outside.changes l.fn.folder ≤ g.F.Source.outside.changes l.folder;
   empty : IsTrue (g.F.Source.outside.tells l.fn.folder) → IsEmptyDir try_name (g.F.Source.outside.state l.folder).held;
   moments : IsTrue (g.F.Source.outside.tells l.fn.folder) → ChangesOnly g.F.Source.outside (is_below try_name) (is_below try_name) l.fn.folder l.folder;
+  seen : IsTrue (g.F.Source.outside.tells l.fn.folder) → Passed g.F.Source.outside l.fn.folder l.folder × ModesBelow g.F.Source.outside l.fn.folder l.folder l.modes.worked.has l.modes.dirs.has l.modes.files.has l.mode;
 }

@@ -1,12 +1,17 @@
-use Rattle.std.proofs.Common.{◌≡◌, false, codes, List, ℕ, Some, [], sym, ◌∙◌, ap}
+use Rattle.std.proofs.Common.{◌≡◌, false, codes, List, ℕ, Some, [], sym, ◌∙◌, ap, true, IsTrue, arith}
+use Rattle.ips_steps.specs.Steps.{stage_path}
+use Rattle.ips_outside.proofs.Placed.{look_placed}
+use Rattle.ips_outside.specs.Change.{joined}
+use Rattle.ips_rehearse.specs.Rehearsed.{HasNamed}
+use Rattle.ips_rehearse.proofs.Passing.{pass_call, pass_then, passed_by, stood_as, stood_within}
 use Rattle.ips_text.specs.Ancestry.{covers, is_below, parent}
 use Rattle.ips_outside.specs.Image.{File, is_file}
 use Rattle.ips_outside.specs.State.{State}
 use Rattle.ips_outside.proofs.Trees.{on_ok_to}
 use Rattle.ips_folder.proofs.Runs.{keeps_then, keeps_wider}
-use Rattle.ips_rehearse.specs.Tried.{try_name, IsEmptyDir}
-use Rattle.ips_rehearse.proofs.Paths.{link_path, first_path, plain_path, link_parent, plain_parent, link_apart, first_is}
-use Rattle.ips_rehearse.proofs.Trials.{wrote_in, off_child, can_make, can_make_beside, empty_again, empty_beside}
+use Rattle.ips_rehearse.specs.Tried.{try_name, IsEmptyDir, IsNamed, Passed}
+use Rattle.ips_rehearse.proofs.Paths.{link_path, first_path, plain_path, link_parent, plain_parent, link_apart, first_is, link_is}
+use Rattle.ips_rehearse.proofs.Trials.{wrote_in, off_child, can_make, can_make_beside, empty_again, empty_beside, on_ok}
 use Rattle.ips_rehearse.proofs.rehearsing.try_name_of.Goals as goal
 
 pub go-requires-clause-path : goal.go-requires-clause-path
@@ -101,3 +106,49 @@ returns-clause-empty g c = λ told.
     (c.try_hard-2.ensures.any_moment told_1).now.agrees (c.in_ok-try_hard.ensures.gone told_1) (ap (λ (s : State). s.held) done)
     (wrote_in o sane (covers r) (covers r) r (λ q off. off) c.try_hard-2.new.folder c.remove.new.self _ c.remove.result told_2 c.remove.ensures).now.agrees)
     (c.remove.ensures.done told_2)
+
+-- ---- the further name
+
+pub returns-then-contents-gt0-clause-seen : goal.returns-then-contents-gt0-clause-seen
+returns-then-contents-gt0-clause-seen g c = λ told.
+    let o = g.F.Source.outside in
+    let a = c.args.folder.now in
+    let b = c.try_hard.new.folder in
+    let t = (o.state a).held in
+    let p = c.go.new.path.bytes in
+    let r = c.go-then-contents-gt0.new.path.bytes in
+    let there : r ≡ stage_path 0 = c.go-then-contents-gt0.ensures.there ∙ first_is in
+    let stands : is_file (t.look r) ≡ true = ap (λ (x : List ℕ). is_file (t.look x)) there ∙ c.requires.first told c.if-contents-gt0.true in
+    on_ok_to c.try_hard.result (Passed o a b × (IsTrue c.args.is_asked → HasNamed o c.args.contents a b))
+    (λ seen. (
+      passed_by o a b (λ u. u ≡ joined p r t) seen,
+      λ asked. record {
+        to = r;
+        content = λ some. there;
+        named = stood_as o a b (λ u. u ≡ joined p r t) (IsNamed r) (λ u is. record { before = t; file = stands; named = is ∙ ap (λ (x : List ℕ). joined x r t) (c.go.ensures.there ∙ link_is) }) seen;
+      },
+    ))
+    (c.try_hard.ensures.seen told)
+
+pub returns-clause-seen : goal.returns-clause-seen
+returns-clause-seen g c = λ told.
+    let o = g.F.Source.outside in
+    let a = c.make_file.new.self in
+    let b = c.try_hard-2.new.folder in
+    let t = (o.state a).held in
+    let p = c.go.new.path.bytes in
+    let r = c.go-2.new.path.bytes in
+    let told_1 = c.make_file.ensures.call.same_kind ∙ told in
+    let before = pass_call o c.args.folder.now a _ c.make_file.ensures.call in
+    let behind = pass_call o b c.remove.new.self _ c.remove.ensures.call in
+    let seen = c.in_ok-try_hard.ensures.seen told_1 in
+    let stands : is_file (t.look r) ≡ true = ap (λ (s : State). is_file (s.held.look r)) (c.in_ok-make_file.ensures.done told) ∙ ap is_file (look_placed r (Some (File 384 [])) (o.state c.args.folder.now).held) in
+    on_ok _ (
+      pass_then o c.args.folder.now a c.remove.new.self before (pass_then o a b c.remove.new.self (passed_by o a b (λ u. u ≡ joined p r t) seen) behind),
+      λ asked. record {
+        to = r;
+        content = λ some. absurd (omega (arith, some, c.if-contents-gt0.false));
+        named = stood_within o c.args.folder.now a b c.remove.new.self (IsNamed r) before behind
+            (stood_as o a b (λ u. u ≡ joined p r t) (IsNamed r) (λ u is. record { before = t; file = stands; named = is ∙ ap (λ (x : List ℕ). joined x r t) (c.go.ensures.there ∙ link_is) }) seen);
+      },
+    ) c.remove.result

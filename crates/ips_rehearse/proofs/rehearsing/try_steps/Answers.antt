@@ -1,4 +1,9 @@
 use Rattle.std.proofs.Common.{◌≡◌, false, List, ℕ, sym, ◌∙◌, ap, subst}
+use Rattle.std.proofs.lemmas.List.Elements.{All-weaker}
+use Rattle.ips_rehearse.specs.Plans.{is_made}
+use Rattle.ips_rehearse.specs.Going.{IsFound}
+use Rattle.ips_rehearse.specs.Rehearsed.{HasTriedGoing}
+use Rattle.ips_rehearse.proofs.Passing.{modes_within, pass_call, pass_then, tried_within}
 use Rattle.ips_text.specs.Ancestry.{covers, is_below}
 use Rattle.ips_text.proofs.Ancestry.{covers-self}
 use Rattle.ips_outside.specs.Image.{is_dir, is_file, has_parent, dir_or_none}
@@ -101,3 +106,27 @@ returns-clause-gone g c = λ told.
 
 pub go-requires-2-clause-path : goal.go-requires-2-clause-path
 go-requires-2-clause-path g c = try_path
+
+pub returns-clause-seen : goal.returns-clause-seen
+returns-clause-seen g c = λ told.
+    let o = g.F.Source.outside in
+    let f0 = c.args.folder.now in
+    let f1 = c.ask.new.folder in
+    let f2 = c.make_dir.new.self in
+    let f3 = c.try_within.new.folder in
+    let f4 = c.remove.new.self in
+    let steps = c.args.steps.now in
+    let modes = c.in_ok-modes.modes in
+    let told_2 = c.make_dir.ensures.call.same_kind ∙ c.ask.ensures.reads.call.same_kind ∙ told in
+    let before = pass_then o f0 f1 f2 (pass_call o f0 f1 _ c.ask.ensures.reads.call) (pass_call o f1 f2 _ c.make_dir.ensures.call) in
+    let behind = pass_call o f3 f4 _ c.remove.ensures.call in
+    let seen = c.in_ok-try_within.ensures.seen told_2 in
+    let all = modes_within o f0 f2 f3 f4 modes.worked.has modes.dirs.has modes.files.has before behind seen.2 in
+    record {
+      tried = tried_within o steps c.args.contents f0 f2 f3 f4 before behind seen.1;
+      given = λ m gives. all.works m (c.in_ok-modes.ensures.worked m gives);
+      standing = λ q m f first there. all.works m (c.in_ok-modes.ensures.standing told q m f first there);
+      going = All-weaker (IsFound (o.state f0).held (is_made steps) modes.worked.has) (HasTriedGoing o (is_made steps) f0 f4) (λ s h m f d q may up there child. all.works m (h m f d q may up there child)) steps (c.in_ok-modes.ensures.going told);
+      dirs = λ m gives. all.makes m (c.in_ok-modes.ensures.dirs m ∙ gives);
+      files = λ m gives. all.sets m (c.in_ok-modes.ensures.files m ∙ gives);
+    }

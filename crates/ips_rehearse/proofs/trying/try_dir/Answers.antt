@@ -1,11 +1,15 @@
-use Rattle.std.proofs.Common.{◌≡◌, true, List, ℕ, false, refl, sym, ◌∙◌, ap, subst}
+use Rattle.std.proofs.Common.{◌≡◌, true, List, ℕ, false, refl, sym, ◌∙◌, ap, subst, ◌||◌, Some, IsTrue}
+use Rattle.ips_outside.proofs.Trees.{on_ok_to}
+use Rattle.ips_outside.proofs.Placed.{look_placed}
+use Rattle.ips_outside.specs.Change.{with_entry_at}
+use Rattle.ips_rehearse.proofs.Passing.{pass_call, pass_then, worked_within}
 use Rattle.std.proofs.lemmas.Bool.{or_left}
 use Rattle.ips_text.specs.Ancestry.{covers, is_below}
-use Rattle.ips_outside.specs.Image.{is_dir, is_file}
+use Rattle.ips_outside.specs.Image.{is_dir, is_file, Dir}
 use Rattle.ips_outside.specs.State.{State, nowhere}
 use Rattle.ips_folder.specs.Calls.{CanMake}
 use Rattle.ips_folder.proofs.Runs.{keeps_then, keeps_wider}
-use Rattle.ips_rehearse.specs.Tried.{try_name, dir_name, IsEmptyDir, IsGone}
+use Rattle.ips_rehearse.specs.Tried.{try_name, dir_name, IsEmptyDir, IsGone, IsDirOf, Passed, Stood, WasWorked}
 use Rattle.ips_rehearse.proofs.Paths.{dir_path, dir_parent, dir_is}
 use Rattle.ips_rehearse.proofs.Trials.{wrote_in, moded_in, dir_names, made_dir, is_gone, not_below_self, off_below, on_ok, off_child, can_make, empty_again}
 use Rattle.ips_rehearse.proofs.trying.try_dir.Goals as goal
@@ -120,3 +124,21 @@ go-requires-clause-path g c = dir_path
 
 pub work-answer-requires-clause-place : goal.work-answer-requires-clause-place
 work-answer-requires-clause-place g c = c.go.ensures.there ∙ dir_is
+
+pub returns-clause-seen : goal.returns-clause-seen
+returns-clause-seen g c = λ told.
+    let o = g.F.Source.outside in
+    let told_1 = c.make_dir.ensures.call.same_kind ∙ told in
+    let made : IsDirOf c.args.mode (o.state c.make_dir.new.self).held =
+    ap (λ (s : State). s.held.look dir_name) (c.in-Ok.ensures.done told) ∙ ap (λ (p : List ℕ). (with_entry_at p (Some (Dir c.args.mode false)) (o.state c.args.folder.now).held).look dir_name) (c.go.ensures.there ∙ dir_is)
+    ∙ look_placed dir_name (Some (Dir c.args.mode false)) (o.state c.args.folder.now).held in
+    let before = pass_call o c.args.folder.now c.make_dir.new.self _ c.make_dir.ensures.call in
+    let behind = pass_then o c.work-answer.new.folder c.set_mode.new.self c.remove.new.self (pass_call o c.work-answer.new.folder c.set_mode.new.self _ c.set_mode.ensures.call) (pass_call o c.set_mode.new.self c.remove.new.self _ c.remove.ensures.call) in
+    on_ok_to c.work-answer.result (Passed o c.args.folder.now c.remove.new.self × (IsTrue (c.args.is_asked || c.args.is_worked) → Stood o c.args.folder.now c.remove.new.self (IsDirOf c.args.mode)) × (IsTrue c.args.is_worked → WasWorked o c.args.mode c.args.folder.now c.remove.new.self))
+    (λ seen.
+    let on = pass_then o c.make_dir.new.self c.work-answer.new.folder c.remove.new.self seen.0 behind in (
+      pass_then o c.args.folder.now c.make_dir.new.self c.remove.new.self before on,
+      λ asked. record { at = c.make_dir.new.self; since = before; until = on; held = made },
+      λ works. worked_within o c.args.folder.now c.make_dir.new.self c.work-answer.new.folder c.remove.new.self c.args.mode before behind (seen.1 works),
+    ))
+    (c.work-answer.ensures.seen told_1 c.args.mode made)

@@ -1,11 +1,15 @@
-use Rattle.std.proofs.Common.{codes, false, refl, List, ℕ, Some, sym, ◌∙◌, ap, subst}
+use Rattle.std.proofs.Common.{codes, false, refl, List, ℕ, Some, sym, ◌∙◌, ap, subst, ◌≡◌, [], IsTrue}
+use Rattle.ips_steps.proofs.Lists.{clash}
+use Rattle.ips_outside.proofs.Trees.{on_ok_to}
+use Rattle.ips_rehearse.proofs.Busy.{inner_dir_is, inner_file_is, is_busy, is_idle, with_both, without_both}
+use Rattle.ips_rehearse.proofs.Passing.{pass_none, pass_call, pass_then}
 use Rattle.ips_text.specs.Ancestry.{is_below, parent}
-use Rattle.ips_outside.specs.Image.{Dir, is_dir}
+use Rattle.ips_outside.specs.Image.{Dir, is_dir, File}
 use Rattle.ips_outside.specs.Change.{with_entry_at}
 use Rattle.ips_outside.specs.State.{State, nowhere}
 use Rattle.ips_folder.specs.Calls.{CanMake}
 use Rattle.ips_folder.proofs.Runs.{begun, keeps_then}
-use Rattle.ips_rehearse.specs.Tried.{dir_name}
+use Rattle.ips_rehearse.specs.Tried.{dir_name, inner_dir_name, inner_file_name, IsBusy, IsIdle, Passed, WasWorked}
 use Rattle.ips_rehearse.proofs.Paths.{inner_dir_path, inner_file_path, inner_dir_parent, inner_file_parent, inner_apart}
 use Rattle.ips_rehearse.proofs.Trials.{wrote_in, off_child, can_make, can_make_beside, not_below_self}
 use Rattle.ips_rehearse.proofs.trying.work.Goals as goal
@@ -67,3 +71,35 @@ returns-clause-any_moment g c = λ told.
     (wrote_in o g.met.F.Source.sane (is_below dir_name) nowhere p (off_child dir_name p (ap parent c.go.ensures.there ∙ inner_dir_parent)) c.args.folder.now c.make_dir.new.self _ c.make_dir.result told c.make_dir.ensures)
     (wrote_in o g.met.F.Source.sane (is_below dir_name) nowhere r (off_child dir_name r (ap parent c.go-2.ensures.there ∙ inner_file_parent)) c.make_dir.new.self c.make_file.new.self _ c.make_file.result (c.make_dir.ensures.call.same_kind ∙ told) c.make_file.ensures))
     (c.clear.ensures.any_moment told_2)
+
+pub returns-then-not-is_worked-clause-seen : goal.returns-then-not-is_worked-clause-seen
+returns-then-not-is_worked-clause-seen g c = λ told m is. (pass_none g.F.Source.outside c.args.folder.now, λ asked. clash c.args.is_worked asked c.if-not-is_worked.true)
+
+pub returns-clause-seen : goal.returns-clause-seen
+returns-clause-seen g c = λ told m is.
+    let o = g.F.Source.outside in
+    let t = (o.state c.args.folder.now).held in
+    let told_1 = c.make_dir.ensures.call.same_kind ∙ told in
+    let told_2 = c.make_file.ensures.call.same_kind ∙ told_1 in
+    let first : (o.state c.make_dir.new.self).held ≡ with_entry_at inner_dir_name (Some (Dir 448 false)) t =
+    ap (λ (s : State). s.held) (c.in-Ok.ensures.done told) ∙ ap (λ (p : List ℕ). with_entry_at p (Some (Dir 448 false)) t) (c.go.ensures.there ∙ inner_dir_is) in
+    let both : (o.state c.make_file.new.self).held ≡ with_both t =
+    ap (λ (s : State). s.held) (c.in-Ok-make_file.ensures.done told_1) ∙ ap (λ (p : List ℕ). with_entry_at p (Some (File 384 [])) (o.state c.make_dir.new.self).held) (c.go-2.ensures.there ∙ inner_file_is)
+    ∙ ap (with_entry_at inner_file_name (Some (File 384 []))) first in
+    let before = pass_then o c.args.folder.now c.make_dir.new.self c.make_file.new.self (pass_call o c.args.folder.now c.make_dir.new.self _ c.make_dir.ensures.call) (pass_call o c.make_dir.new.self c.make_file.new.self _ c.make_file.ensures.call) in
+    on_ok_to c.clear.result (Passed o c.args.folder.now c.clear.new.folder × (IsTrue c.args.is_worked → WasWorked o m c.args.folder.now c.clear.new.folder))
+    (λ seen. (
+      pass_then o c.args.folder.now c.make_file.new.self c.clear.new.folder before seen.0,
+      λ asked. record {
+        at = c.make_file.new.self;
+        since = before;
+        busy = subst (IsBusy m) (sym both) (is_busy m t is);
+        then = record {
+          at = c.clear.new.folder;
+          since = seen.0;
+          until = pass_none o c.clear.new.folder;
+          held = subst (IsIdle m) (sym (seen.1 ∙ ap without_both both)) (is_idle m t is (c.requires.empty told));
+        };
+      },
+    ))
+    (c.clear.ensures.seen told_2)

@@ -6,8 +6,8 @@ use Rattle.ips_manifest.specs.declared.package.Package.{Package}
 use Rattle.ips_state.specs.State.{recorded}
 use Rattle.ips_due.specs.Delivered.{request_due}
 use Rattle.ips_due.specs.outstanding.Parts.{due_file}
-use Rattle.ips_request_due.specs.delivered.Delivering.{PackagesDeliver}
-use Rattle.ips_request_due.proofs.withdrawn.More.{package_stems}
+use Rattle.ips_delivered.specs.delivered.Delivering.{PackagesDeliver}
+use Rattle.ips_delivered.proofs.withdrawn.More.{package_stems}
 use Rattle.ips_request_due.proofs.Meaning.{by_bytes, turned}
 use Rattle.ips_request_due.proofs.asking.request_due.Goals as goal
 

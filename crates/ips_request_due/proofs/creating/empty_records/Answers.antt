@@ -1,4 +1,4 @@
-use Rattle.ips_request_due.proofs.delivered.Places.{drivers_place, owners_place}
+use Rattle.ips_delivered.proofs.delivered.Places.{drivers_place, owners_place}
 use Rattle.ips_request_due.proofs.creating.empty_records.Goals as goal
 
 pub empty_record-requires : goal.empty_record-requires

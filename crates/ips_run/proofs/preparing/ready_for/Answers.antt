@@ -1,6 +1,6 @@
 use Rattle.std.proofs.Common.{⊎_elim, false, refl, ◌∙◌, ap, subst}
 use Rattle.ips_text.specs.declared.refusal.Or.TheVariants.{Bad}
-use Rattle.ips_commit.specs.declared.fault.StageFault.{StageFault}
+use Rattle.ips_contents.specs.declared.fault.StageFault.{StageFault}
 use Rattle.ips_commit.specs.Staging.{LeavesNothing}
 use Rattle.ips_run.specs.declared.ending.Ending.TheVariants as ending
 use Rattle.ips_run.proofs.Leaving.{leaves_nothing, leaves_same, leaves_some}

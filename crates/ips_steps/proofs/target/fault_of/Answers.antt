@@ -10,4 +10,4 @@ pub returns-then-bytes-gt4095-clause-only : goal.returns-then-bytes-gt4095-claus
 returns-then-bytes-gt4095-clause-only c = λ p. absurd (p TooLong (omega arith))
 
 pub returns-then-contains-clause-only : goal.returns-then-contains-clause-only
-returns-then-contains-clause-only c = λ p. let nul : has_nul c.args.bytes.now ≡ true = search rules in absurd (p Nul nul)
+returns-then-contains-clause-only c = λ p. let nul : has_nul c.args.bytes.now ≡ true = search rules in absurd (p Nul (omega arith, nul))

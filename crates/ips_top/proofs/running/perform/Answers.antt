@@ -1,5 +1,5 @@
 use Rattle.std.proofs.Common.{refl, sym}
-use Rattle.ips_operations.specs.showing.Asked.{asked}
+use Rattle.ips_showing.specs.Asked.{asked}
 use Rattle.ips_top.specs.Runs as does
 use Rattle.ips_top.proofs.Commands.{changes_so, tried_told}
 use Rattle.ips_top.proofs.running.perform.Goals as goal
@@ -18,5 +18,5 @@ returns-in-Some-of-3-clause-does g c = does.Fixes _ (sym c.in-Some-of-3.ensures)
 
 pub returns-in-Gen-clause-does : goal.returns-in-Gen-clause-does
 returns-in-Gen-clause-does g c =
-    does.Tries c.in-Gen.number c.in-Gen.is (tried_told c.in-Gen.number _ _ c.tried.result c.finish.result.outcome c.tried.ensures c.finish.ensures.outcome)
+    does.Tries c.in-Gen.number c.in-Gen.is (tried_told c.in-Gen.number _ _ c.generated.result c.finish.result.outcome c.generated.ensures c.finish.ensures.outcome)
     (record { folder = refl; source = refl; spawner = refl })

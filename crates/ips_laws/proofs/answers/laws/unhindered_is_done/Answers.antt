@@ -1,5 +1,5 @@
 use Rattle.std.proofs.Common.{◌≡◌, Bool, true, false, IsTrue, IsFalse, refl}
-use Rattle.ips_operations.specs.told.Told.{claims_done, manner_of}
+use Rattle.ips_tell.specs.told.Told.{claims_done, manner_of}
 use Rattle.ips_laws.proofs.answers.laws.unhindered_is_done.Goals as goal
 
 -- what isn't false is true

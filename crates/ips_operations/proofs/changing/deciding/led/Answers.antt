@@ -5,7 +5,7 @@ use Rattle.ips_plan.specs.declared.request_plan.fault.PlanFault.TheVariants as p
 use Rattle.ips_report.specs.declared.outcome.Outcome.{Outcome}
 use Rattle.ips_run.specs.declared.operation.Change.{Change}
 use Rattle.ips_run.specs.declared.operation.DecideFault.TheVariants as decide
-use Rattle.ips_operations.specs.told.Told.{manner_of}
+use Rattle.ips_tell.specs.told.Told.{manner_of}
 use Rattle.ips_operations.specs.changing.Refusals.{unplanned_told}
 use Rattle.ips_plan.specs.declared.request_plan.planning.Plan.{Plan}
 use Rattle.ips_state.specs.State.{recorded}

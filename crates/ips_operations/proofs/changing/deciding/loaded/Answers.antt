@@ -3,7 +3,7 @@ use Rattle.ips_outside.proofs.Reading.{reads_as, reads_none}
 use Rattle.ips_load.specs.declared.fault.StateFault.TheVariants as state
 use Rattle.ips_state.specs.declared.state.State.{State}
 use Rattle.ips_run.specs.declared.operation.DecideFault.TheVariants as decide
-use Rattle.ips_operations.specs.refusals.Told.{unread_told}
+use Rattle.ips_tell.specs.refusals.Told.{unread_told}
 use Rattle.ips_operations.specs.changing.Decides.{asked_of}
 use Rattle.ips_operations.proofs.changing.Decided.{failed_told, told_failed, unread_by}
 use Rattle.ips_operations.proofs.changing.Calls.{decided_behind, loaded_behind, nothing_changed, unread_folder, unread_nothing, unread_source}

@@ -1,7 +1,7 @@
 use Rattle.std.proofs.Common.{ap, ◌∙◌, rules}
 use Rattle.std.specs.Prelude.{ℕ, List}
 use Rattle.ips_meaning.specs.declared.entry.Entry.{Entry}
-use Rattle.ips_operations.specs.refusals.Told.{unmeant_told}
+use Rattle.ips_tell.specs.refusals.Told.{unmeant_told}
 use Rattle.ips_operations.proofs.fixing.Decided.{told_by, unmeant_by}
 use Rattle.ips_operations.proofs.fixing.deciding.stated.Goals as goal
 

@@ -4,7 +4,7 @@ use Rattle.ips_outside.specs.Image.{Image}
 use Rattle.ips_steps.specs.Private.{visible}
 use Rattle.ips_steps.specs.Steps.{Stage, all_laid}
 use Rattle.ips_steps.specs.View.{step_of}
-use Rattle.ips_commit.specs.Contents.{StagedContents}
+use Rattle.ips_contents.specs.Contents.{StagedContents}
 use Rattle.ips_commit.specs.Staging.{CanStage}
 use Rattle.ips_state.specs.State.{recorded}
 use Rattle.ips_meaning.specs.declared.entry.Entry.{Entry}

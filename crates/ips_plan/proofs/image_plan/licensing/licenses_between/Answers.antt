@@ -3,7 +3,7 @@ use Rattle.std.proofs.lemmas.Result.{IfOk-weaker}
 use Rattle.std.specs.List.{AllByRecursion}
 use Rattle.ips_fmri.specs.Name.{IsStem}
 use Rattle.ips_manifest.specs.declared.package.Package.{Package}
-use Rattle.ips_request_due.proofs.withdrawn.More.{package_stems}
+use Rattle.ips_delivered.proofs.withdrawn.More.{package_stems}
 use Rattle.ips_plan.specs.image_plan.Licenses.{AreDisplayed, AreNeeded, AreNewBetween}
 use Rattle.ips_load.proofs.Answered.{bad_weaker}
 use Rattle.ips_plan.proofs.image_plan.Licenses.{newly_lent}

@@ -4,7 +4,7 @@ use Rattle.ips_steps.specs.Journal.{IsJournal}
 use Rattle.ips_steps.specs.Private.{visible}
 use Rattle.ips_steps.specs.Steps.{Stage, all_laid}
 use Rattle.ips_steps.specs.View.{step_of}
-use Rattle.ips_commit.specs.Contents.{AreSeen, StagedContents}
+use Rattle.ips_contents.specs.Contents.{AreSeen, StagedContents}
 use Rattle.ips_commit.specs.Staging.{CanStage}
 use Rattle.ips_plan.specs.request_plan.Plans.{ComesOfPlan, IsRequestPlan, given_of}
 use Rattle.ips_plan.proofs.request_plan.Calls.{plan_as}

@@ -1,0 +1,3 @@
+pub mod delivered
+pub mod new_licenses
+pub mod withdrawn

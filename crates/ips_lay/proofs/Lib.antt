@@ -1,0 +1,4 @@
+pub mod Copied
+pub mod Unlaid
+pub mod Intact
+pub mod Told

@@ -1,0 +1,2 @@
+pub mod displaced
+pub mod mended

@@ -1,0 +1,4 @@
+pub mod Putting
+pub mod Settling
+pub mod Two
+pub mod Ready

@@ -1,5 +1,0 @@
-use Rattle.ips_metafiles.proofs.Licenses.{bytes_are}
-use Rattle.ips_request_due.proofs.delivered.named.legacy_at.Goals as goal
-
-pub returns-clause-named : goal.returns-clause-named
-returns-clause-named c = (bytes_are c.args.pkg.now c.type_inv.pkg, c.requires)

@@ -1,7 +1,0 @@
-use Rattle.std.proofs.Common.{map, take}
-use Rattle.ips_request_due.specs.delivered.Named.{legacy_told}
-use Rattle.ips_request_due.specs.withdrawn.Sets.{HasJust}
-use Rattle.ips_request_due.proofs.withdrawn.staying.legacy_names.Given as goal
-
-abbrev pub invariant-loop-one : goal.invariant-loop-one
-invariant-loop-one l = HasJust l.names (map (λ g. g.pkg) (map legacy_told (take l.one-index l.legacy)))

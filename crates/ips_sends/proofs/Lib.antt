@@ -1,0 +1,4 @@
+pub mod Stops
+pub mod Beside
+pub mod Apart
+pub mod Free

@@ -1,0 +1,4 @@
+pub mod performing
+pub mod refusals
+pub mod telling
+pub mod told

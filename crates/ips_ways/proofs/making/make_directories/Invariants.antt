@@ -1,0 +1,19 @@
+use Rattle.std.proofs.Common.{◌≡◌, ◌≤◌, ℕ, List, None, IsTrue, IsFalse, take}
+use Rattle.ips_outside.specs.Children.{path_bytes}
+use Rattle.ips_outside.specs.State.{nowhere}
+use Rattle.ips_folder.specs.Calls.{ChangesOnly}
+use Rattle.ips_ways.specs.Ways.{HasBegun, any_missing, is_missing, with_dirs}
+use Rattle.ips_ways.proofs.making.make_directories.Given as goal
+
+abbrev pub invariant-loop-path : goal.invariant-loop-path
+invariant-loop-path g l = record {
+  kind : g.F.Source.outside.tells l.folder ≡ g.F.Source.outside.tells l.fn.folder;
+  faults : g.F.Source.outside.faults l.folder ≡ g.F.Source.outside.faults l.fn.folder;
+  changes : g.F.Source.outside.changes l.fn.folder ≤ g.F.Source.outside.changes l.folder;
+  begun : HasBegun (g.F.Source.outside.changes l.fn.folder) (g.F.Source.outside.changes l.folder) l.made;
+  kept : IsFalse l.made → g.F.Source.outside.state l.folder ≡ g.F.Source.outside.state l.fn.folder;
+  missing : IsTrue (g.F.Source.outside.tells l.fn.folder) → IsTrue l.made → IsTrue (any_missing (g.F.Source.outside.state l.fn.folder).held (path_bytes l.paths));
+  held : IsTrue (g.F.Source.outside.tells l.fn.folder) → (g.F.Source.outside.state l.folder).held ≡ with_dirs (path_bytes (take l.path-index l.paths)) (g.F.Source.outside.state l.fn.folder).held;
+  absent : IsTrue (g.F.Source.outside.tells l.fn.folder) → (q : List ℕ) → (g.F.Source.outside.state l.folder).held.look q ≡ None → (g.F.Source.outside.state l.fn.folder).held.look q ≡ None;
+  moments : IsTrue (g.F.Source.outside.tells l.fn.folder) → ChangesOnly g.F.Source.outside (is_missing (g.F.Source.outside.state l.fn.folder).held (path_bytes l.paths)) nowhere l.fn.folder l.folder;
+}
