@@ -16,7 +16,7 @@ mod tables;
 mod users;
 
 pub use editing::edit;
-pub use ips_books::{AccountFault, Book, Books, Unknown, resolve};
+pub use ips_books::{AccountFault, Book, Books, Unknown};
 pub use ips_passwd::Owners;
 pub use laws::{
     gone_groups_have_no_line, gone_users_are_no_members, gone_users_have_no_line,

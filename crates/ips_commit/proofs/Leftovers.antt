@@ -10,7 +10,7 @@ use Rattle.ips_outside.specs.Children.{is_directory, path_bytes, AreChildren}
 use Rattle.ips_steps.specs.Steps.{stage_name}
 use Rattle.ips_steps.specs.Private.{records_name, journal_name, gate_name, mark_front, begins}
 use Rattle.ips_steps.proofs.Lists.{clash}
-use Rattle.ips_steps.proofs.PrivateNames.{stage_private, journal_private, mark_private}
+use Rattle.ips_steps.proofs.PrivateNames.{gate_private, stage_private, journal_private, mark_private}
 use Rattle.ips_commit.specs.Pending.{IsBare, HasLeftover, AreMarkNames, is_swept}
 use Rattle.ips_commit.proofs.OwnNames.{private_cases, absent_below, mark_of, no_mark_without}
 
@@ -95,6 +95,10 @@ marks_own names marks is = ap (list_all (begins mark_front)) is ∙ own names
 -- what was swept is gone, and the gate was closed
 pub bare_of : (t : Image) → IsImage t → t.look gate_name ≡ None → ((q : List ℕ) → is_swept q ≡ true → t.look q ≡ None) → IsBare t
 bare_of t formed shut swept = λ q own. ⊎_elim (λ is. swept q is) (λ at. absent_below t formed gate_name q at shut) (private_cases q own)
+
+-- nothing stands at the gate where nothing stands at the updater's own names
+pub bare_shut : (t : Image) → IsBare t → t.look gate_name ≡ None
+bare_shut t bare = bare gate_name (gate_private gate_name (covers-self gate_name))
 
 swept_cases : (q : List ℕ) → is_swept q ≡ true → (covers stage_name q ≡ true) ⊎ ((covers journal_name q ≡ true) ⊎ (begins mark_front q ≡ true))
 swept_cases q is = ⊎_elim (λ a. inl a) (λ b. inr (or_cases (covers journal_name q) (begins mark_front q) b)) (or_cases (covers stage_name q) _ is)

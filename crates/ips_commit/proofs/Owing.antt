@@ -23,6 +23,7 @@ use Rattle.ips_journal.specs.Text.{journal_text}
 use Rattle.ips_journal.specs.Reading.{journal_of}
 use Rattle.ips_commit.specs.Pending.{IsBare, IsSwept, HasNoOtherMark, is_swept}
 use Rattle.ips_commit.specs.Phases.{Opens}
+use Rattle.ips_contents.proofs.Written.{own_modes}
 use Rattle.ips_commit.proofs.OwnNames.{swept_private, gate_unswept, unmarked_gate}
 use Rattle.ips_commit.proofs.Marked.{mark_own, same_marks}
 use Rattle.ips_commit.proofs.Leftovers.{bare_of}
@@ -90,6 +91,31 @@ owes_less b a t owes = weaken b (Some a) true t owes a refl
     weaken b x due t (Open {a = y} steps marks o) a is = let same : y ≡ a = cc in Open steps marks (subst (λ (z : Image). IsOpen journal_text steps marks z t) same o)
     weaken b x due t (New {a = y} gone seen) a is = let same : y ≡ a = cc in New gone (seen ∙ same)
 
+-- touched whole where a mode is touched
+abbrev touched_whole : State → State
+touched_whole s = record { held = s.held; whole = λ q. s.whole q || s.modes q; modes = nowhere }
+
+-- it leaves no less
+leaves_no_less : (s : State) (c : Image) → MayLeave s c → MayLeave (touched_whole s) c
+leaves_no_less s c may = record {
+  formed = may.formed;
+  agrees = record {
+    look = λ q f l. let parts = or_parts (s.whole q) (s.modes q) f in may.agrees.look q parts.0 parts.1;
+    but_mode = λ q f. may.agrees.but_mode q (or_parts (s.whole q) (s.modes q) f).0;
+    same = λ x y f g. may.agrees.same x y (or_parts (s.whole x) (s.modes x) f).0 (or_parts (s.whole y) (s.modes y) g).0;
+  };
+}
+
+-- what was owed is owed while what is swept is changed, or set in its mode
+left_owes : (b : Image) (a : Option Image) (due : Bool) (old s : State) → Owes journal_text b a due old.held → old.held.look gate_name ≡ None → IsSettled old → ChangedWithin is_swept is_swept old s → FolderOwes journal_text b a due s
+left_owes b a due old s owes shut clean w =
+    let more : FolderOwes journal_text b a due (touched_whole s) = owes_sweeping journal_text b a due is_swept old (touched_whole s) owes shut clean swept_private gate_unswept (record {
+      whole = λ q off safe. or_from (s.whole q) (s.modes q) (w.whole q off safe) (w.modes q off (clean.modes q));
+      modes = λ q l safe. refl;
+      agrees = own_modes is_swept old.held s.held w.agrees;
+    }) in
+    record { now = more.now; left = λ c may. more.left c (leaves_no_less s c may) }
+
 module _ {F : Type 0} (o : Outside F) (sane : IsOutside o) where
   pub nodes : (f : F) → o.tells f ≡ true → HasNodes (o.state f).held
   nodes f told = nodes_of (o.state f).held (sane.formed f told)
@@ -150,6 +176,12 @@ module _ {F : Type 0} (o : Outside F) (sane : IsOutside o) where
       → ChangesOnly o is_swept nowhere old new → Throughout o old new (FolderOwes journal_text b a due)
   sweeping_owed b a due old new owes shut clean run = weaker o old new (ChangedWithin is_swept nowhere (o.state old)) (FolderOwes journal_text b a due)
       (λ s w. owes_sweeping journal_text b a due is_swept (o.state old) s owes shut clean swept_private gate_unswept w) run.moments
+
+  -- the same where modes were set
+  pub left_owed : (b : Image) (a : Option Image) (due : Bool) (old new : F) → Owes journal_text b a due (o.state old).held → (o.state old).held.look gate_name ≡ None → IsSettled (o.state old)
+      → ChangesOnly o is_swept is_swept old new → Throughout o old new (FolderOwes journal_text b a due)
+  left_owed b a due old new owes shut clean run = weaker o old new (ChangedWithin is_swept is_swept (o.state old)) (FolderOwes journal_text b a due)
+      (λ s w. left_owes b a due (o.state old) s owes shut clean w) run.moments
 
   -- ---- the gate closed, and what is left swept
 

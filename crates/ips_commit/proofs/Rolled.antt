@@ -40,7 +40,8 @@ use Rattle.ips_commit.proofs.Going.{cannot_alike}
 use Rattle.ips_commit.proofs.Lays.{allowed_before}
 use Rattle.ips_commit.proofs.Marked.{absent_later, gate_marked, journal_marked}
 use Rattle.ips_commit.proofs.Numbered.{other_own, other_keeps, other_absent}
-use Rattle.ips_commit.proofs.Owing.{ready_text, sweeping_owed, cleared_of, owes_marks}
+use Rattle.ips_contents.proofs.Written.{own_modes}
+use Rattle.ips_commit.proofs.Owing.{ready_text, left_owed, cleared_of, owes_marks}
 use Rattle.ips_commit.proofs.Places.{same_steps, same_left, counts}
 
 -- ---- what a recovery that rolled forward answers
@@ -123,16 +124,16 @@ module _ {F : Type 0} (o : Outside F) (sane : IsOutside o) (old mid : F) (failur
   still_clean clean = subst IsSettled (sym reads.kept) clean
 
   -- or swept
-  module _ (new : F) (shut : (o.state old).held.look gate_name ≡ None) (run : ChangesOnly o is_swept nowhere mid new) where
-    pub swept_keeps : ChangesOnly o is_swept nowhere old new
-    swept_keeps = keeps_then o is_swept nowhere old mid new (one_read o sane is_swept nowhere old mid failure reads) run
+  module _ (new : F) (shut : (o.state old).held.look gate_name ≡ None) (run : ChangesOnly o is_swept is_swept mid new) where
+    pub swept_keeps : ChangesOnly o is_swept is_swept old new
+    swept_keeps = keeps_then o is_swept is_swept old mid new (one_read o sane is_swept is_swept old mid failure reads) run
 
     pub swept_owed : IsSettled (o.state old) → (b : Image) (a : Option Image) (due : Bool) → FolderOwes journal_text b a due (o.state old) → Throughout o old new (FolderOwes journal_text b a due)
-    swept_owed clean b a due owes = sweeping_owed o sane b a due old new owes.now shut clean swept_keeps
+    swept_owed clean b a due owes = left_owed o sane b a due old new owes.now shut clean swept_keeps
 
     pub swept_done : o.tells new ≡ true → (marks : List (List ℕ)) → HasNoOtherMark (o.state old).held marks → IsSwept marks (o.state mid).held (o.state new).held → IsSettled (o.state new) → HasCommitted (visible (o.state old).held) (o.state new)
     swept_done told marks others swept safe =
-        let both = cleared_of marks (o.state old).held (o.state new).held (sane.formed new told) shut others (subst (λ (s : State). IsSwept marks s.held (o.state new).held) reads.kept swept) swept_keeps.now.agrees in
+        let both = cleared_of marks (o.state old).held (o.state new).held (sane.formed new told) shut others (subst (λ (s : State). IsSwept marks s.held (o.state new).held) reads.kept swept) (own_modes is_swept (o.state old).held (o.state new).held swept_keeps.now.agrees) in
         record { seen = both.0; bare = both.1; safe = safe }
 
 -- ---- the gate, as it was found

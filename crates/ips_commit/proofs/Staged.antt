@@ -1,10 +1,10 @@
 -- A list of steps staged behind a closed gate.
-use Rattle.std.proofs.Common.{◌≡◌, inl, inr, ⊎_elim, ℕ, ◌≤◌, Bool, true, false, cond, ◌||◌, List, [], length, ◌++◌, Option, Some, None, Result, refl, sym, ◌∙◌, ap, subst, arith}
+use Rattle.std.proofs.Common.{◌≡◌, inl, inr, ⊎_elim, ℕ, ◌≤◌, Bool, true, false, cond, ◌||◌, List, [], length, ◌++◌, Option, Some, None, Result, refl, sym, ◌∙◌, ap, subst, arith, is_none}
 use Rattle.std.specs.Fmt.{decimal}
 use Rattle.std.proofs.lemmas.Bool.{or_parts, or_right, and_parts, not-true, cases_lt}
-use Rattle.ips_text.specs.Ancestry.{covers, is_below, parent}
+use Rattle.ips_text.specs.Ancestry.{covers, is_below, parent, same_path}
 use Rattle.ips_text.proofs.Ancestry.{uncovered}
-use Rattle.ips_outside.specs.Image.{Image, IsImage, Agrees, Dir, is_dir, file_bytes, has_parent, dir_or_none}
+use Rattle.ips_outside.specs.Image.{Image, IsImage, Agrees, Dir, is_dir, file_bytes, has_parent, dir_or_none, Entry}
 use Rattle.ips_outside.specs.Change.{with_entry_at}
 use Rattle.ips_outside.specs.State.{State, ChangedWithin, IsSettled, nowhere, settled}
 use Rattle.ips_outside.specs.Outside.{Outside, IsOutside, Elapses, Reads, Rose, risen}
@@ -21,13 +21,13 @@ use Rattle.ips_steps.proofs.Again.{again_but}
 use Rattle.ips_steps.proofs.ByName.{means_the_steps}
 use Rattle.ips_steps.proofs.Linked.{own_alike}
 use Rattle.ips_steps.proofs.Lists.{clash}
-use Rattle.ips_steps.proofs.PrivateNames.{all_clear, begins_below, begins_front, journal_private, visible_agrees, stage_parent, journal_parent}
+use Rattle.ips_steps.proofs.PrivateNames.{all_clear, begins_below, begins_front, journal_private, visible_agrees, stage_parent, journal_parent, gate_parent}
 use Rattle.ips_steps.proofs.Owing.{folder_old}
 use Rattle.ips_journal.specs.Text.{journal_text}
 use Rattle.ips_journal.specs.declared.staged.Staged.{Staged}
 use Rattle.ips_commit.specs.Pending.{IsBehindGate, HasNoOtherMark, IsSwept, is_swept}
 use Rattle.ips_contents.specs.Contents.{StagedContents, AreStanding, AreSeen, AreAlone, HaveModes, HoldsOnly}
-use Rattle.ips_commit.specs.Staging.{CanStage, HasStaged, IsCleared, IsFilled}
+use Rattle.ips_commit.specs.Staging.{CanStage, HasStaged, IsCleared, IsFilled, IsStaged}
 use Rattle.ips_commit.proofs.OwnNames.{swept_private, gate_unswept, records_unswept, stage_swept, journal_swept, behind_front}
 use Rattle.ips_contents.proofs.Wrote.{wrote}
 use Rattle.ips_commit.proofs.Owing.{nodes_of, unswept, swept_seen, swept_gone}
@@ -83,16 +83,16 @@ module _ {F : Type 0} (o : Outside F) (sane : IsOutside o) (old : F) where
       synced_read = goes_on o old mid read Behind synced reads.call.time (inr (subst (ChangedWithin is_swept is_swept (settled (o.state old))) (sym same_read) (within_self is_swept is_swept (settled (o.state old)))))
 
       -- and swept
-      pub synced_swept : (new : F) → ChangesOnly o is_swept nowhere read new → Throughout o old new Behind
-      synced_swept new run = joins o old read new Behind synced_read (weaker o read new (ChangedWithin is_swept nowhere (o.state read)) Behind (λ s w. inr (with_modes (settled (o.state old)) s (subst (λ (x : State). ChangedWithin is_swept nowhere x s) same_read w))) run.moments)
+      pub synced_swept : (new : F) → ChangesOnly o is_swept is_swept read new → Throughout o old new Behind
+      synced_swept new run = joins o old read new Behind synced_read (weaker o read new (ChangedWithin is_swept is_swept (o.state read)) Behind (λ s w. inr (subst (λ (x : State). ChangedWithin is_swept is_swept x s) same_read w)) run.moments)
 
-      pub swept_now : (new : F) → ChangesOnly o is_swept nowhere read new → ChangedWithin is_swept nowhere (settled (o.state old)) (o.state new)
-      swept_now new run = subst (λ (x : State). ChangedWithin is_swept nowhere x (o.state new)) same_read run.now
+      pub swept_now : (new : F) → ChangesOnly o is_swept is_swept read new → ChangedWithin is_swept is_swept (settled (o.state old)) (o.state new)
+      swept_now new run = subst (λ (x : State). ChangedWithin is_swept is_swept x (o.state new)) same_read run.now
 
   -- one more run
-  pub behind_then : (mid new : F) → Throughout o old mid Behind → ChangedWithin is_swept nowhere (settled (o.state old)) (o.state mid) → ChangesOnly o is_swept is_swept mid new → Throughout o old new Behind
-  behind_then mid new so_far here run = joins o old mid new Behind so_far
-      (weaker o mid new (ChangedWithin is_swept is_swept (o.state mid)) Behind (λ s w. inr (within_then is_swept is_swept (settled (o.state old)) (o.state mid) s (with_modes (settled (o.state old)) (o.state mid) here) w)) run.moments)
+  pub behind_then : (mid new : F) → Throughout o old mid Behind → ChangedWithin is_swept is_swept (settled (o.state old)) (o.state mid) → ChangesOnly o is_swept is_swept mid new → Throughout o old new Behind
+  behind_then mid new so_far here run =
+      joins o old mid new Behind so_far (weaker o mid new (ChangedWithin is_swept is_swept (o.state mid)) Behind (λ s w. inr (within_then is_swept is_swept (settled (o.state old)) (o.state mid) s here w)) run.moments)
 
   -- since nothing was touched only what is swept was changed
   pub clean_behind : IsSettled (o.state old) → (new : F) → ChangesOnly o is_swept nowhere old new → Throughout o old new Behind
@@ -345,3 +345,27 @@ has_staged tells repository publisher steps staged t s formed formed_now lists c
 
     alike : (feasible steps u ≡ feasible steps s.held) × Agrees (covers journal_name) nowhere (after steps s.held) (after steps u) × (visible (after steps u) ≡ visible (after steps s.held))
     alike = own_alike (covers journal_name) journal_private content_unlisted stage_unlisted steps s.held u lists.names apart
+
+-- ---- the gate can be made where a change stands ready
+
+above_journal : covers records_name journal_name ≡ true
+unfolding records_name journal_name
+above_journal = refl
+
+not_journal : same_path records_name journal_name ≡ false
+unfolding records_name journal_name
+not_journal = refl
+
+stands_above : (e : Option Entry) (text : List ℕ) (d : Bool) → (is_none e || d) ≡ true → file_bytes e ≡ Some text → d ≡ true
+stands_above None text d above there = cc
+stands_above (Some e) text d above there = above
+
+pub can_open : (steps : List Step) (a : Image) (s : State) → IsImage s.held → IsStaged steps a s → CanMake s.held gate_name
+can_open steps a s formed staged = record {
+  absent = staged.shut;
+  parent = ap (dir_or_none s.held) gate_parent
+      ∙ stands_above (s.held.look journal_name) _ (is_dir (s.held.look records_name)) (formed.below_dirs records_name journal_name above_journal not_journal) staged.ready.journal;
+}
+
+pub unmarked : (steps : List Step) (a : Image) (s : State) → IsStaged steps a s → HasNoOtherMark s.held []
+unmarked steps a s staged = λ q is others. staged.unmarked q is

@@ -1,5 +1,5 @@
 -- Taking away what is left behind a closed gate.
-use Rattle.std.proofs.Common.{◌≡◌, ◌⊎◌, inl, inr, ⊎_elim, ℕ, ◌+◌, ◌<◌, Bool, true, false, cond, ◌||◌, ◌&&◌, ◌==◌, List, [], ◌∷◌, ◌++◌, length, take, get_or, Option, None, refl, sym, ◌∙◌, ap}
+use Rattle.std.proofs.Common.{◌≡◌, ◌⊎◌, inl, inr, ⊎_elim, ℕ, ◌+◌, ◌<◌, Bool, true, false, cond, ◌||◌, ◌&&◌, ◌==◌, List, [], ◌∷◌, ◌++◌, length, take, get_or, Option, None, refl, sym, ◌∙◌, ap, subst}
 use Rattle.std.specs.List.{filter, list_all, list_any}
 use Rattle.std.specs.Cmp.Lexicographic.{pointwise}
 use Rattle.std.proofs.lemmas.Bool.{or_cases, false_from_ne_true}
@@ -9,13 +9,19 @@ use Rattle.std.proofs.lemmas.List.Folds.{list_all-map, list_any_more}
 use Rattle.std.proofs.lemmas.List.Sums.{AllPass-from_list_all}
 use Rattle.ips_text.specs.Ancestry.{same_path, covers}
 use Rattle.ips_text.specs.Kept.{Kept}
-use Rattle.ips_outside.specs.Image.{Entry, Image}
+use Rattle.ips_outside.specs.Image.{Entry, Image, Agrees}
 use Rattle.ips_outside.specs.Change.{with_entry_at}
+use Rattle.ips_outside.specs.State.{nowhere}
+use Rattle.ips_outside.specs.Outside.{Outside}
 use Rattle.ips_outside.specs.Children.{path_bytes}
 use Rattle.ips_steps.specs.Steps.{stage_name}
 use Rattle.ips_steps.specs.Private.{journal_name, mark_front, begins}
 use Rattle.ips_steps.proofs.Lists.{clash}
-use Rattle.ips_commit.specs.Pending.{IsSwept}
+use Rattle.ips_folder.proofs.Crashes.{alike_none}
+use Rattle.ips_rehearse.specs.Tried.{dir_name, Passed}
+use Rattle.ips_rehearse.specs.Opening.{LeavesOpen}
+use Rattle.ips_rehearse.proofs.Passing.{pass_then}
+use Rattle.ips_commit.specs.Pending.{IsSwept, WasOpened}
 use Rattle.ips_steps.proofs.PrivateNames.{begins_below}
 
 -- ---- names of marks
@@ -96,4 +102,23 @@ swept_all marks t a b c first second rest none = record {
   journal = λ q at. none q (ap (λ (v : Image). v.look q) second ∙ removed_none stage_name q a (ap (λ (v : Image). v.look q) first ∙ removed_gone journal_name q t at));
   marks = rest;
   nothing_new = λ q absent. none q (ap (λ (v : Image). v.look q) second ∙ removed_none stage_name q a (ap (λ (v : Image). v.look q) first ∙ removed_none journal_name q t absent));
+}
+
+-- ---- what was left, with the directory of a trial opened first
+
+pub swept_behind : (marks : List (List ℕ)) (loose : List ℕ → Bool) (t u v : Image) → Agrees nowhere loose t u → IsSwept marks u v → IsSwept marks t v
+swept_behind marks loose t u v h swept = record {
+  stage = swept.stage;
+  journal = swept.journal;
+  marks = swept.marks;
+  nothing_new = λ q none. swept.nothing_new q (alike_none (u.look q) (t.look q) (h.but_mode q refl) none);
+}
+
+-- it was open in a run behind one that changed nothing
+pub opened_behind : {F : Type 0} (o : Outside F) (old mid new : F) → Passed o old mid → (o.state mid).held ≡ (o.state old).held → WasOpened o mid new → WasOpened o old new
+opened_behind o old mid new passed same w = record {
+  at = w.at;
+  since = pass_then o old mid w.at passed w.since;
+  until = w.until;
+  held = subst (λ (t : Image). LeavesOpen dir_name t (o.state w.at).held) same w.held;
 }

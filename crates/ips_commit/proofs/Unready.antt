@@ -69,6 +69,14 @@ same_until old mid new same now = ⊎_elim (λ none. inl none) (λ kept. inr (ke
 pub no_more : (old new : State) → (new ≡ old) ⊎ NothingReady new → NoMoreReady old new
 no_more old new is = ⊎_elim (λ same. inr (ap (λ (s : State). s.held) same)) (λ now. inl now) is
 
+-- a mode is touched
+pub unready_by : (old new : State) → (new ≡ old) ⊎ ((q : List ℕ) × (new.modes q ≡ true)) → (new ≡ old) ⊎ NothingReady new
+unready_by old new is = ⊎_elim (λ same. inl same) (λ touched. inr (λ steps a staged. clash (new.modes touched.0) touched.1 (staged.safe.modes touched.0))) is
+
+-- one call after another
+pub unready_then : (old mid new : State) → (mid ≡ old) ⊎ NothingReady mid → (new ≡ mid) ⊎ NothingReady new → (new ≡ old) ⊎ NothingReady new
+unready_then old mid new first last = ⊎_elim (λ same. ⊎_elim (λ still. inl (same ∙ still)) (λ none. inr (subst NothingReady (sym same) none)) first) (λ none. inr none) last
+
 -- where nothing was ready, nothing is
 pub still_none : (old new : State) → NothingReady old → (new ≡ old) ⊎ NothingReady new → NothingReady new
 still_none old new none is = ⊎_elim (λ same. subst NothingReady (sym same) none) (λ now. now) is

@@ -4,7 +4,6 @@ use Rattle.ips_text.specs.Reading.{IfBad}
 use Rattle.ips_text.specs.declared.refusal.Or.{Or}
 use Rattle.ips_text.specs.declared.refusal.Or.TheVariants.{Bad}
 use Rattle.ips_outside.specs.Image.{Image}
-use Rattle.ips_outside.specs.State.{nowhere}
 use Rattle.ips_outside.specs.Outside.{Outside, HasCause, Rose}
 use Rattle.ips_folder.specs.Calls.{ChangesOnly, Throughout}
 use Rattle.ips_steps.specs.Steps.{Step, after}
@@ -15,7 +14,7 @@ use Rattle.ips_kinds.specs.Tallies.{Carrier, all_counted}
 use Rattle.ips_journal.specs.Text.{journal_text}
 use Rattle.ips_journal.specs.Reading.{journal_of}
 use Rattle.ips_commit.specs.Answers.{IfStarved}
-use Rattle.ips_commit.specs.Pending.{HasCommitted, is_swept}
+use Rattle.ips_commit.specs.Pending.{HasCommitted, WasOpened, is_swept}
 use Rattle.ips_commit.specs.Due.{DueOnceOpen}
 use Rattle.ips_commit.specs.Staging.{IsStaged}
 use Rattle.ips_commit.specs.Recovering.{AreLaidTo, CanResume, CanRollForward, IfBadJournal, IsJournalled, IsOpenedOver, IsUnfinished, SaysOfRecovery}
@@ -59,10 +58,12 @@ pub record Commits {F : Type 0} (o : Outside F) (old new : F) (before now : List
 -- What a run that was stopped left is brought to an end: at every moment what was owed is owed, behind an open gate the steps
 -- that the marks leave are laid, behind a closed one what is left is swept, and each refusal has its cause.
 pub record Recovers {F : Type 0} (o : Outside F) (old new : F) (before now : List Carrier) (result : Result Bool (Or CommitFault)) : Type 0 where
-  -- at every moment the folder owes what it owed; behind a closed gate only what is swept is changed
+  -- at every moment the folder owes what it owed; behind a closed gate only what is swept is changed, and the directory of a trial is open
+  -- before it is taken away
   pub owed : IsTrue (o.tells old) → (b : Image) (a : Option Image) (due : Bool) → FolderOwes journal_text b a due (o.state old)
       → Throughout o old new (FolderOwes journal_text b a due)
-  pub closed : IsTrue (o.tells old) → (o.state old).held.look gate_name ≡ None → ChangesOnly o is_swept nowhere old new
+  pub closed : IsTrue (o.tells old) → (o.state old).held.look gate_name ≡ None → ChangesOnly o is_swept is_swept old new
+  pub opened : IsTrue (o.tells old) → (o.state old).held.look gate_name ≡ None → OnOk result (WasOpened o old new)
   -- done: whether something stood at the gate; then the image that the steps mean is seen, and else the same as before
   pub forward : IsTrue (o.tells old) → IfOk result (λ forward. forward ≡ is_some ((o.state old).held.look gate_name))
   pub done : IsTrue (o.tells old) → (o.state old).held.look gate_name ≢ None

@@ -4,8 +4,11 @@ use Rattle.std.specs.List.{list_all, list_any}
 use Rattle.ips_text.specs.Ancestry.{same_path, covers}
 use Rattle.ips_outside.specs.Image.{Image}
 use Rattle.ips_outside.specs.State.{State, ChangedWithin, IsSettled, settled}
+use Rattle.ips_outside.specs.Outside.{Outside}
 use Rattle.ips_steps.specs.Steps.{stage_name}
 use Rattle.ips_steps.specs.Private.{journal_name, gate_name, mark_front, mark_name, begins, is_private, visible}
+use Rattle.ips_rehearse.specs.Tried.{dir_name, Stood}
+use Rattle.ips_rehearse.specs.Opening.{LeavesOpen}
 use Rattle.ips_commit.specs.declared.found.Pending.{Pending}
 use Rattle.ips_commit.specs.declared.found.Pending.TheVariants.{Nothing, Leftover, Open}
 
@@ -60,6 +63,10 @@ pub record IsSwept (names : List (List ℕ)) (t u : Image) : Type 0 where
   pub journal : (q : List ℕ) → IsTrue (covers journal_name q) → u.look q ≡ None
   pub marks : (q : List ℕ) → IsTrue (list_any (λ m. covers m q) names) → u.look q ≡ None
   pub nothing_new : (q : List ℕ) → t.look q ≡ None → u.look q ≡ None
+
+-- At a moment of these calls the directory in which modes are tried was open, where one stood before: it had mode 0700.
+abbrev pub WasOpened : {F : Type 0} → Outside F → F → F → Type 0
+WasOpened o old new = Stood o old new (LeavesOpen dir_name (o.state old).held)
 
 -- A change is done: this image is seen, nothing is left at the updater's own names, and nothing is touched.
 pub record HasCommitted (a : Image) (s : State) : Type 0 where

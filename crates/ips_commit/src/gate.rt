@@ -13,12 +13,12 @@ ghost use Rattle.ips_steps.specs.Steps.{Step};
 ghost use Rattle.ips_steps.specs.Private.{gate_name, mark_front, begins, is_private, visible};
 ghost use Rattle.ips_steps.specs.Owed.{AreMarks, IsReady, FolderOwes};
 ghost use Rattle.ips_journal.specs.Text.{journal_text};
-ghost use Rattle.ips_commit.specs.Pending.{is_swept, HasNoOtherMark, IsSwept, HasCommitted, mark_names};
+ghost use Rattle.ips_commit.specs.Pending.{is_swept, HasNoOtherMark, IsSwept, WasOpened, HasCommitted, mark_names};
 ghost use Rattle.ips_commit.specs.Due.{IsSafelyOpen};
 ghost use Rattle.ips_commit.specs.Phases.{Opens};
 
 use crate::names::{OwnNames, set_mark};
-use crate::sweeping::sweep;
+use crate::sweeping::{sweep, sweep_left};
 use ips_folder::Folder;
 use ips_outside::{Failed, Source};
 use ips_text::RelPath;
@@ -107,12 +107,8 @@ fn close<F: Folder>(folder: &mut F, names: &OwnNames) -> Result<(), Failed>
     Ok(())
 }
 
-/// Takes away what is left behind a closed gate, these marks too, and makes that safe.
-pub(crate) fn clear<F: Folder>(
-    folder: &mut F,
-    names: &OwnNames,
-    marks: &[RelPath],
-) -> Result<(), Failed>
+// Takes away what is left behind a closed gate, these marks too, and makes that safe.
+fn clear<F: Folder>(folder: &mut F, names: &OwnNames, marks: &[RelPath]) -> Result<(), Failed>
     requires own { IsTrue (list_all (begins mark_front) (path_bytes marks.now)) }
     ensures swept { IsTrue (F.outside.tells folder.old) → OnOk result (IsSwept (path_bytes marks.now) (F.outside.state folder.old).held (F.outside.state folder.new).held) }
     ensures safe { IsTrue (F.outside.tells folder.old) → OnOk result (IsSettled (F.outside.state folder.new)) }
@@ -123,6 +119,26 @@ pub(crate) fn clear<F: Folder>(
     ensures changed { risen (F.outside.changes folder.old) ≤ F.outside.changes folder.new }
 {
     sweep(folder, names, marks)?;
+    folder.sync()?;
+    Ok(())
+}
+
+/// The same of what a run that was stopped may have left: the directories of trials are opened first.
+pub(crate) fn clear_left<F: Folder>(
+    folder: &mut F,
+    names: &OwnNames,
+    marks: &[RelPath],
+) -> Result<(), Failed>
+    requires own { IsTrue (list_all (begins mark_front) (path_bytes marks.now)) }
+    ensures opened { IsTrue (F.outside.tells folder.old) → OnOk result (WasOpened F.outside folder.old folder.new) }
+    ensures swept { IsTrue (F.outside.tells folder.old) → OnOk result (IsSwept (path_bytes marks.now) (F.outside.state folder.old).held (F.outside.state folder.new).held) }
+    ensures safe { IsTrue (F.outside.tells folder.old) → OnOk result (IsSettled (F.outside.state folder.new)) }
+    ensures any_moment { IsTrue (F.outside.tells folder.old) → ChangesOnly F.outside is_swept is_swept folder.old folder.new }
+    ensures cause { HasCause (F.outside.faults folder.old) (F.outside.faults folder.new) (IsErr result) }
+    ensures same_kind { F.outside.tells folder.new ≡ F.outside.tells folder.old }
+    ensures changes { F.outside.changes folder.old ≤ F.outside.changes folder.new }
+{
+    sweep_left(folder, names, marks)?;
     folder.sync()?;
     Ok(())
 }

@@ -8,17 +8,19 @@ ghost use Rattle.ips_steps.specs.Private.{records_name, journal_name, gate_name,
 ghost use Rattle.ips_commit.specs.Pending.{mark_names};
 
 use ips_contents::path_of;
+use ips_rehearse::TrialDirs;
 use ips_text::RelPath;
 use itoa::Buffer;
 use std::alloc::{AllocError, Global};
 
-/// The folder of the image's records, and in it the stage, the journal and the gate.
+/// The folder of the image's records, and in it the stage, the journal and the gate; and the directories of trials in the stage.
 #[derive(Drop)]
 pub(crate) struct OwnNames {
     pub(crate) records: RelPath,
     pub(crate) stage: RelPath,
     pub(crate) journal: RelPath,
     pub(crate) gate: RelPath,
+    pub(crate) trials: TrialDirs,
     ghost records_is: { records.bytes ≡ records_name },
     ghost stage_is: { stage.bytes ≡ stage_name },
     ghost journal_is: { journal.bytes ≡ journal_name },
@@ -33,6 +35,7 @@ impl OwnNames {
             stage: path_of(alloc, b"var/pkg/stage")?,
             journal: path_of(alloc, b"var/pkg/journal")?,
             gate: path_of(alloc, b"var/pkg/gate")?,
+            trials: TrialDirs::new(alloc)?,
         })
     }
 }

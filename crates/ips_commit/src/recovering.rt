@@ -19,7 +19,7 @@ ghost use Rattle.ips_commit.specs.Recovering.{CanRollForward, IsJournalled, IsPl
 ghost use Rattle.ips_commit.specs.declared.fault.CommitFault.TheVariants as fault;
 
 use crate::fault::CommitFault;
-use crate::gate::clear;
+use crate::gate::clear_left;
 use crate::names::OwnNames;
 use crate::placing::{Left, find_left};
 use crate::ready::Ready;
@@ -35,7 +35,8 @@ use std::alloc::Global;
 /// Brings to an end what a run that was stopped left. Where something stands at the gate it lays the steps that the marks
 /// leave, each by the first kind that takes it, with a mark after each thousand, closes the gate and
 /// sweeps, and answers true. It reads the whole journal and lists the marks before its first change, and takes away each mark
-/// that isn't one of the first without a gap before it makes one. Where the gate is closed it only takes away what is left, and answers false. Each sort of step has
+/// that isn't one of the first without a gap before it makes one. Where the gate is closed it only takes away what is left, whatever mode a trial
+/// has left, and answers false. Each sort of step has
 /// to have a kind that takes it, and nothing may be touched, as behind a sync.
 pub fn recover<F: Folder>(
     alloc: Global,
@@ -91,7 +92,7 @@ fn restore<F: Folder>(
             Err(fault) => return Err(Or::Bad(fault)),
         }
     }
-    let Ok(()) = clear(folder, names, &marks) else {
+    let Ok(()) = clear_left(folder, names, &marks) else {
         return Err(Or::Bad(CommitFault::Unchanged));
     };
     Ok(false)

@@ -15,15 +15,15 @@ ghost use Rattle.ips_journal.specs.Text.{journal_text};
 ghost use Rattle.ips_journal.specs.Reading.{puts_in};
 ghost use Rattle.ips_journal.specs.Writing.{IsWritten, KeepsTouched};
 ghost use Rattle.ips_commit.specs.Answers.{IsBad, IfStarved, IsToldOrMasked};
-ghost use Rattle.ips_commit.specs.Pending.{HasNoOtherMark, IsBehindGate, is_swept};
+ghost use Rattle.ips_commit.specs.Pending.{HasNoOtherMark, IsBehindGate, WasOpened, is_swept};
 ghost use Rattle.ips_contents.specs.Contents.{AreStanding, AreSeen};
 ghost use Rattle.ips_commit.specs.Staging.{CanStage, HasStaged, IsCleared, IsFilled, LeavesNothing, NothingReady, NoMoreReady};
-ghost use Rattle.ips_contents.specs.Writing.{Stages};
+ghost use Rattle.ips_contents.specs.Writing.{Stages, WasRehearsed};
 ghost use Rattle.ips_contents.specs.declared.fault.StageFault.TheVariants as fault;
 
 use crate::names::OwnNames;
 use crate::ready::Ready;
-use crate::sweeping::{marks, sweep};
+use crate::sweeping::{marks, sweep_left};
 use ips_contents::{StageFault, new_buffer, write_tried};
 use ips_folder::Folder;
 use ips_journal::{JournalWriter, Staged};
@@ -63,6 +63,9 @@ pub fn stage<S: Source, F: Folder>(
     // Done: the list stands ready with its contents.
     ensures staged { IsTrue (F.outside.tells folder.old) → OnOk result
         (HasStaged (S.outside.tells source.old) (S.outside.state source.old).held publisher.now (map step_of steps.now) staged.now (F.outside.state folder.old).held (F.outside.state folder.new)) }
+
+    // And what the steps ask of the file system was tried in this folder.
+    ensures rehearsed { IsTrue (F.outside.tells folder.old) → OnOk result (WasRehearsed F.outside steps.now (length staged.now) (IsBehindGate (F.outside.state folder.old)) folder.old folder.new) }
 
     // Refused: no list stands ready and safe, unless the image is the one from before. What was staged is taken away, but where a
     // call on the folder failed.
@@ -122,6 +125,7 @@ fn write_stage<S: Source, F: Folder>(
     ensures within { IsTrue (F.outside.tells folder.old) → OnOk result (ChangedWithin is_swept is_swept (settled (F.outside.state folder.old)) (F.outside.state folder.new)) }
     ensures filled { IsTrue (F.outside.tells folder.old) → OnOk result
         (IsFilled (S.outside.tells source.old) (S.outside.state source.old).held publisher.now (map step_of steps.now) staged.now (F.outside.state folder.old).held (F.outside.state folder.new)) }
+    ensures rehearsed { IsTrue (F.outside.tells folder.old) → OnOk result (WasRehearsed F.outside steps.now (length staged.now) (IsBehindGate (F.outside.state folder.old)) folder.old folder.new) }
     ensures unready { IsTrue (F.outside.tells folder.old) → OnErr result (NoMoreReady (F.outside.state folder.old) (F.outside.state folder.new)) }
     ensures swept { IsTrue (F.outside.tells folder.old) → IfErr result (LeavesNothing (F.outside.state folder.old).held (F.outside.state folder.new).held) }
     ensures stages { Stages S.outside F.outside publisher.now staged.now
@@ -139,7 +143,7 @@ fn write_stage<S: Source, F: Folder>(
     ) else {
         return Ok(());
     };
-    match sweep(folder, names, &[]) {
+    match sweep_left(folder, names, &[]) {
         Ok(()) => Err(fault),
         Err(Failed) => Err(Or::Bad(StageFault::FolderFault)),
     }
@@ -148,7 +152,8 @@ fn write_stage<S: Source, F: Folder>(
 // Makes safe what was written before, and takes away what a run that was stopped left.
 fn settle<F: Folder>(alloc: Global, folder: &mut F, names: &OwnNames) -> Result<(), Or<Failed>>
     ensures any_moment { IsTrue (F.outside.tells folder.old) → Throughout F.outside folder.old folder.new (IsBehindGate (F.outside.state folder.old)) }
-    ensures within { IsTrue (F.outside.tells folder.old) → OnOk result (ChangedWithin is_swept nowhere (settled (F.outside.state folder.old)) (F.outside.state folder.new)) }
+    ensures within { IsTrue (F.outside.tells folder.old) → OnOk result (ChangedWithin is_swept is_swept (settled (F.outside.state folder.old)) (F.outside.state folder.new)) }
+    ensures opened { IsTrue (F.outside.tells folder.old) → OnOk result (WasOpened F.outside folder.old folder.new) }
     ensures cleared { IsTrue (F.outside.tells folder.old) → OnOk result (IsCleared (F.outside.state folder.new).held) }
     ensures unready { IsTrue (F.outside.tells folder.old) → OnErr result (NoMoreReady (F.outside.state folder.old) (F.outside.state folder.new)) }
     ensures starved { IsTrue (F.outside.tells folder.old) → IfStarved result ((F.outside.state folder.new).held ≡ (F.outside.state folder.old).held) }
@@ -161,7 +166,7 @@ fn settle<F: Folder>(alloc: Global, folder: &mut F, names: &OwnNames) -> Result<
         return Err(Or::Bad(Failed));
     };
     let marks = marks(alloc, folder, names)?;
-    let Ok(()) = sweep(folder, names, &marks) else {
+    let Ok(()) = sweep_left(folder, names, &marks) else {
         return Err(Or::Bad(Failed));
     };
     Ok(())
@@ -187,6 +192,8 @@ fn fill<S: Source, F: Folder>(
     requires seen { AreSeen staged.now }
     ensures filled { IsTrue (F.outside.tells folder.old) → OnOk result
         (IsFilled (S.outside.tells source.old) (S.outside.state source.old).held publisher.now (map step_of steps.now) staged.now (F.outside.state folder.old).held (F.outside.state folder.new)) }
+    ensures rehearsed { IsTrue (F.outside.tells folder.old) → OnOk result
+        (WasRehearsed F.outside steps.now (length staged.now) (ChangedWithin is_swept is_swept (F.outside.state folder.old)) folder.old folder.new) }
     ensures any_moment { IsTrue (F.outside.tells folder.old) → ChangesOnly F.outside is_swept is_swept folder.old folder.new }
     ensures unready { IsTrue (F.outside.tells folder.old) → OnErr result (NothingReady (F.outside.state folder.new)) }
     ensures unmarked { IsTrue (F.outside.tells folder.old) → HasNoOtherMark (F.outside.state folder.new).held [] }

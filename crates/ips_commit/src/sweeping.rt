@@ -9,13 +9,15 @@ ghost use Rattle.ips_outside.specs.Outside.{HasCause, Reads, risen};
 ghost use Rattle.ips_outside.specs.Children.{path_bytes};
 ghost use Rattle.ips_folder.specs.Calls.{ChangesOnly};
 ghost use Rattle.ips_steps.specs.Private.{mark_front, begins};
+ghost use Rattle.ips_rehearse.specs.Tried.{Passed};
 ghost use Rattle.ips_commit.specs.Answers.{IsBad};
-ghost use Rattle.ips_commit.specs.Pending.{is_swept, is_other, mark_names, AreMarkNames, HasNoOtherMark, IsSwept};
+ghost use Rattle.ips_commit.specs.Pending.{is_swept, is_other, mark_names, AreMarkNames, HasNoOtherMark, IsSwept, WasOpened};
 ghost use Rattle.ips_commit.specs.Staging.{NothingReady};
 
 use crate::names::{OwnNames, is_among};
 use ips_folder::{Folder, ListFault};
 use ips_outside::{Failed, Look, Source};
+use ips_rehearse::open_left;
 use ips_text::{Or, RelPath};
 use std::alloc::{AllocError, Global};
 
@@ -73,6 +75,27 @@ fn is_mark(path: &RelPath) -> bool
     path.bytes().starts_with(b"var/pkg/done.")
 }
 
+/// Takes away what a run that was stopped may have left, or a trial that failed: the journal, the stage and these marks. The directories of
+/// trials are opened first, since with some modes they can't be taken away.
+pub(crate) fn sweep_left<F: Folder>(
+    folder: &mut F,
+    names: &OwnNames,
+    marks: &[RelPath],
+) -> Result<(), Failed>
+    requires own { IsTrue (list_all (begins mark_front) (path_bytes marks.now)) }
+    ensures opened { IsTrue (F.outside.tells folder.old) → OnOk result (WasOpened F.outside folder.old folder.new) }
+    ensures swept { IsTrue (F.outside.tells folder.old) → OnOk result (IsSwept (path_bytes marks.now) (F.outside.state folder.old).held (F.outside.state folder.new).held) }
+    ensures unready { IsTrue (F.outside.tells folder.old) → OnErr result ((F.outside.state folder.new ≡ F.outside.state folder.old) ⊎ NothingReady (F.outside.state folder.new)) }
+    ensures any_moment { IsTrue (F.outside.tells folder.old) → ChangesOnly F.outside is_swept is_swept folder.old folder.new }
+    ensures cause { HasCause (F.outside.faults folder.old) (F.outside.faults folder.new) (IsErr result) }
+    ensures same_kind { F.outside.tells folder.new ≡ F.outside.tells folder.old }
+    ensures changes { F.outside.changes folder.old ≤ F.outside.changes folder.new }
+{
+    open_left(folder, &names.trials)?;
+    sweep(folder, names, marks)?;
+    Ok(())
+}
+
 /// Takes the journal, the stage and these marks away.
 pub(crate) fn sweep<F: Folder>(
     folder: &mut F,
@@ -83,6 +106,7 @@ pub(crate) fn sweep<F: Folder>(
     ensures swept { IsTrue (F.outside.tells folder.old) → OnOk result (IsSwept (path_bytes marks.now) (F.outside.state folder.old).held (F.outside.state folder.new).held) }
     ensures unready { IsTrue (F.outside.tells folder.old) → OnErr result ((F.outside.state folder.new ≡ F.outside.state folder.old) ⊎ NothingReady (F.outside.state folder.new)) }
     ensures any_moment { IsTrue (F.outside.tells folder.old) → ChangesOnly F.outside is_swept nowhere folder.old folder.new }
+    ensures passed { OnOk result (Passed F.outside folder.old folder.new) }
     ensures cause { HasCause (F.outside.faults folder.old) (F.outside.faults folder.new) (IsErr result) }
     ensures same_kind { F.outside.tells folder.new ≡ F.outside.tells folder.old }
     ensures changes { F.outside.changes folder.old ≤ F.outside.changes folder.new }
@@ -100,6 +124,7 @@ fn remove_all<F: Folder>(folder: &mut F, marks: &[RelPath]) -> Result<(), Failed
     ensures gone { IsTrue (F.outside.tells folder.old) → OnOk result ((q : List ℕ) → IsTrue (list_any (λ m. covers m q) (path_bytes marks.now)) → (F.outside.state folder.new).held.look q ≡ None) }
     ensures nothing_new { IsTrue (F.outside.tells folder.old) → OnOk result ((q : List ℕ) → (F.outside.state folder.old).held.look q ≡ None → (F.outside.state folder.new).held.look q ≡ None) }
     ensures any_moment { IsTrue (F.outside.tells folder.old) → ChangesOnly F.outside (begins mark_front) nowhere folder.old folder.new }
+    ensures passed { OnOk result (Passed F.outside folder.old folder.new) }
     ensures cause { HasCause (F.outside.faults folder.old) (F.outside.faults folder.new) (IsErr result) }
     ensures same_kind { F.outside.tells folder.new ≡ F.outside.tells folder.old }
     ensures changes { F.outside.changes folder.old ≤ F.outside.changes folder.new }

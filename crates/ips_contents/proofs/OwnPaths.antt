@@ -21,9 +21,6 @@ var = record { bytes = refl; some = omega arith; few = omega arith; no_dots = re
 stage : IsFileName (codes "stage")
 stage = record { bytes = refl; some = omega arith; few = omega arith; no_dots = refl }
 
-pub stage_is_path : IsPath (codes "var/pkg/stage")
-stage_is_path = joined_path (codes "var" ∷ codes "pkg" ∷ codes "stage" ∷ []) (var, (pkg_name, stage)) (omega arith)
-
 pub journal_path : IsPath (codes "var/pkg/journal")
 journal_path = joined_path (codes "var" ∷ codes "pkg" ∷ codes "journal" ∷ []) (var, (pkg_name, record { bytes = refl; some = omega arith; few = omega arith; no_dots = refl })) (omega arith)
 

@@ -5,17 +5,21 @@ use Rattle.std.specs.Fmt.{decimal, digits, digits_onto, digit_glyph}
 use Rattle.ips_text.specs.Ancestry.{covers, is_below}
 use Rattle.ips_text.proofs.Ancestry.{covers_trans}
 use Rattle.ips_outside.specs.Image.{Entry, Image, IsImage, Agrees, is_file, file_bytes}
+use Rattle.ips_outside.specs.State.{State}
 use Rattle.ips_outside.specs.Outside.{Outside}
-use Rattle.ips_folder.specs.Calls.{ChangesOnly}
-use Rattle.ips_folder.proofs.Runs.{keeps_then, keeps_wider}
+use Rattle.ips_folder.specs.Calls.{ChangesOnly, Throughout}
+use Rattle.ips_folder.proofs.Runs.{joins, keeps_then, keeps_wider, weaker}
 use Rattle.ips_steps.specs.Steps.{Step, stage_name, stage_path, stage_of}
+use Rattle.ips_steps.specs.declared.step.Step as program
 use Rattle.ips_steps.proofs.Lists.{clash}
 use Rattle.ips_journal.specs.declared.staged.Staged.{Staged}
 use Rattle.ips_rehearse.specs.Tried.{try_name, IsGone}
 use Rattle.ips_rehearse.proofs.Paths.{try_parent}
 use Rattle.ips_rehearse.proofs.Trials.{off_child}
 use Rattle.ips_contents.specs.Contents.{StagedContents, AreAlone, HaveModes, HoldsOnly}
+use Rattle.ips_contents.specs.Writing.{WasRehearsed}
 use Rattle.ips_contents.proofs.AllWritten.{some_content}
+use Rattle.ips_rehearse.proofs.Opens.{trials_staged}
 use Rattle.ips_steps.proofs.ByName.{bytes_file}
 
 -- ---- no content's name is that of the trials
@@ -60,13 +64,9 @@ stage_untried : covers try_name stage_name ≡ false
 unfolding try_name stage_name
 stage_untried = refl
 
-try_staged : covers stage_name try_name ≡ true
-unfolding try_name stage_name
-try_staged = refl
-
 -- what isn't in the stage is not at or below the trials
 try_in_stage : (q : List ℕ) → covers stage_name q ≡ false → covers try_name q ≡ false
-try_in_stage q off = false_from_ne_true _ (λ c. clash (covers stage_name q) (covers_trans stage_name try_name q try_staged c) off)
+try_in_stage q off = false_from_ne_true _ (λ c. clash (covers stage_name q) (covers_trans stage_name try_name q trials_staged c) off)
 
 -- the trials are below the stage
 try_below : (q : List ℕ) → covers try_name q ≡ true → is_below stage_name q ≡ true
@@ -127,3 +127,16 @@ module _ {F : Type 0} (o : Outside F) where
   pub tried_then : (old mid new : F) → ChangesOnly o (covers stage_name) (covers stage_name) old mid → ChangesOnly o (covers try_name) (covers try_name) mid new → ChangesOnly o (covers stage_name) (covers stage_name) old new
   tried_then old mid new first run = keeps_then o (covers stage_name) (covers stage_name) old mid new first
       (keeps_wider o (covers try_name) (covers try_name) (covers stage_name) (covers stage_name) mid new try_in_stage try_in_stage run)
+
+-- ---- what was tried in a run
+
+-- it was tried in a longer one
+pub rehearsed_within : {F : Type 0} (o : Outside F) (P Q : State → Type 0) (steps : List program.Step) (n : ℕ) (old mid late new : F) → Throughout o old mid Q → ((s : State) → P s → Q s) → Throughout o late new Q
+    → WasRehearsed o steps n P mid late → WasRehearsed o steps n Q old new
+rehearsed_within o P Q steps n old mid late new before more behind w = record {
+  from = w.from;
+  to = w.to;
+  since = joins o old mid w.from Q before (weaker o mid w.from P Q more w.since);
+  tried = w.tried;
+  until = joins o w.to late new Q (weaker o w.to late P Q more w.until) behind;
+}

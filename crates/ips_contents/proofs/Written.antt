@@ -1,5 +1,7 @@
 -- A file made and filled.
-use Rattle.std.proofs.Common.{◌≡◌, ℕ, Bool, true, false, List, [], ◌++◌, Option, Some, None, Result, refl, sym, ◌∙◌, ap, subst}
+use Rattle.std.proofs.Common.{◌≡◌, ℕ, ◌+◌, ◌≤◌, Bool, true, false, List, [], ◌++◌, length, take, Option, Some, None, Result, refl, sym, ◌∙◌, ap, subst, arith}
+use Rattle.std.proofs.lemmas.List.{length-append, length-take}
+use Rattle.std.proofs.Math.Nat.{min-le_left}
 use Rattle.std.proofs.lemmas.Bool.{or_from, false_from_ne_true}
 use Rattle.ips_text.specs.Ancestry.{same_path, covers}
 use Rattle.ips_text.proofs.Ancestry.{same_path-self, covers-self, uncovered}
@@ -11,6 +13,7 @@ use Rattle.ips_outside.proofs.Placed.{look_placed, placed_sole}
 use Rattle.ips_folder.specs.Calls.{Writes, ChangesOnly, has_mode}
 use Rattle.ips_folder.proofs.Runs.{keeps_wider, one_write}
 use Rattle.ips_steps.proofs.Lists.{clash}
+use Rattle.ips_repo.specs.Payload.{PayloadReading, with_piece}
 use Rattle.ips_contents.specs.Contents.{HoldsAlone}
 
 pub look_appended : (p more bytes : List ℕ) (m : ℕ) (t : Image) → t.look p ≡ Some (File m bytes) → (appended p more t).look p ≡ Some (File m (bytes ++ more))
@@ -25,6 +28,14 @@ alone_appended p bytes more t u alone made = subst (HoldsAlone p 384 (bytes ++ m
 -- a file that was made and then filled
 pub alone_filled : (p bytes : List ℕ) (t u v : Image) → u ≡ with_entry_at p (Some (File 384 [])) t → v ≡ appended p bytes u → HoldsAlone p 384 bytes v
 alone_filled p bytes t u v made filled = alone_appended p [] bytes u v (alone_placed p t u made) filled
+
+-- ---- a payload that is read
+
+-- no more is read than there is
+pub small_more : (old new : PayloadReading) (count : ℕ) (buf : List ℕ) → new ≡ with_piece count buf old → length old.bytes + count ≤ old.size → length new.bytes ≤ new.size
+small_more old new count buf is within =
+    let few : length (take count buf) ≤ count = subst (λ (n : ℕ). n ≤ count) (sym (length-take count buf)) (min-le_left count (length buf)) in
+    subst (λ (r : PayloadReading). length r.bytes ≤ r.size) (sym is) (omega (arith, length-append old.bytes (take count buf), few, within))
 
 -- ---- the mode of a file that has one name
 

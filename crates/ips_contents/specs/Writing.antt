@@ -1,12 +1,15 @@
 -- What a call that writes contents promises.
-use Rattle.std.specs.Prelude.{◌≡◌, ℕ, ◌≤◌, Bool, IsTrue, OnOk, List, Result, Err}
+use Rattle.std.specs.Prelude.{◌≡◌, ◌⊎◌, ℕ, ◌≤◌, Bool, IsTrue, OnOk, List, length, Result, Err}
 use Rattle.ips_text.specs.Reading.{IfBad}
 use Rattle.ips_text.specs.Ancestry.{covers}
 use Rattle.ips_text.specs.declared.refusal.Or.{Or}
 use Rattle.ips_text.specs.declared.refusal.Or.TheVariants.{Bad}
+use Rattle.ips_outside.specs.State.{State}
 use Rattle.ips_outside.specs.Outside.{Outside, HasCause, Reads}
-use Rattle.ips_folder.specs.Calls.{ChangesOnly}
+use Rattle.ips_folder.specs.Calls.{ChangesOnly, Throughout}
+use Rattle.ips_steps.specs.declared.step.Step.{Step}
 use Rattle.ips_journal.specs.declared.staged.Staged.{Staged}
+use Rattle.ips_rehearse.specs.Rehearsed.{IsRehearsed}
 use Rattle.ips_contents.specs.Contents.{AreIntactContents, SaysOfStage}
 use Rattle.ips_contents.specs.declared.fault.StageFault.{StageFault}
 use Rattle.ips_contents.specs.declared.fault.StageFault.TheVariants as stage
@@ -19,6 +22,15 @@ pub record WritesAt {S F : Type 0} (q : Outside S) (o : Outside F) (path : List 
   pub cause : HasCause (o.faults old) (o.faults new) (result ≡ Err (Bad stage.FolderFault))
   pub same_kind : o.tells new ≡ o.tells old
   pub changes : o.changes old ≤ o.changes new
+
+-- What these steps ask of a file system was tried in these calls, beside so many contents, between two moments; P was so at each moment before
+-- the first and behind the second. Where there is no step nothing is tried.
+pub record WasRehearsed {F : Type 0} (o : Outside F) (steps : List Step) (contents : ℕ) (P : State → Type 0) (old new : F) : Type 0 where
+  pub from : F
+  pub to : F
+  pub since : Throughout o old from P
+  pub tried : (length steps ≡ 0) ⊎ IsRehearsed o steps contents from to
+  pub until : Throughout o to new P
 
 -- Contents are staged out of a source that is only read: once that is done each payload of the list is intact, a payload that is
 -- refused is the first that isn't, a fault of the folder is told just where a call on it failed, and one of the source as is said.

@@ -5,7 +5,7 @@ ghost use Rattle.ips_text.specs.Ancestry.{covers, is_below};
 ghost use Rattle.ips_text.specs.Reading.{IfBad};
 ghost use Rattle.ips_text.specs.declared.refusal.Or.TheVariants.{Bad};
 ghost use Rattle.ips_outside.specs.Image.{is_dir, is_file, file_bytes};
-ghost use Rattle.ips_outside.specs.State.{nowhere};
+ghost use Rattle.ips_outside.specs.State.{ChangedWithin, nowhere};
 ghost use Rattle.ips_outside.specs.Outside.{HasCause, Reads};
 ghost use Rattle.ips_folder.specs.Calls.{CanMake, ChangesOnly};
 ghost use Rattle.ips_steps.specs.Steps.{stage_name, stage_of};
@@ -16,7 +16,7 @@ ghost use Rattle.ips_repo.specs.Files.{file_at};
 ghost use Rattle.ips_repo.specs.Places.{payload_place};
 ghost use Rattle.ips_repo.specs.Payload.{IsOpened, IsFrontOf};
 ghost use Rattle.ips_contents.specs.Contents.{IsContent, StagedContents, IsStanding, AreStanding, IsApart, AreSeen, IsIntact, IsIntactContent, IsPayload, SaysOfPayload, SaysOfContent, HoldsAlone, AreAlone, HaveModes, IsNextPut, mode_put, HoldsOnly};
-ghost use Rattle.ips_contents.specs.Writing.{Stages, WritesAt};
+ghost use Rattle.ips_contents.specs.Writing.{Stages, WasRehearsed, WritesAt};
 ghost use Rattle.ips_contents.specs.declared.fault.StageFault.TheVariants as fault;
 
 use crate::copying::copy;
@@ -52,6 +52,8 @@ pub fn write_tried<'a, S: Source, F: Folder>(
     requires seen { AreSeen staged.now }
     requires room { 0 < length buffer.old }
     ensures of { IfOk result (λ tried. tried ≡ map step_of steps.now) }
+    ensures rehearsed { IsTrue (F.outside.tells folder.old) → OnOk result
+        (WasRehearsed F.outside steps.now (length staged.now) (ChangedWithin (covers stage_name) (covers stage_name) (F.outside.state folder.old)) folder.old folder.new) }
     ensures written { IsTrue (F.outside.tells folder.old) → OnOk result
         (StagedContents (S.outside.tells source.old) (S.outside.state source.old).held publisher.now (F.outside.state folder.old).held staged.now (stage_of (F.outside.state folder.new).held)) }
     ensures modes { IsTrue (F.outside.tells folder.old) → OnOk result (HaveModes (map step_of steps.now) (F.outside.state folder.new).held) }

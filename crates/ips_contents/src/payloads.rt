@@ -17,7 +17,8 @@ use ips_repo::Payload;
 use ips_text::RelPath;
 
 /// Makes a file of the bytes of a payload that was opened, of which nothing was given yet, and judges them by their digest. The file
-/// has mode 0600. Where the digest is another, what was written stays.
+/// has mode 0600, and no more bytes than the payload's file had as it was opened, whether or not the source tells what it holds. Where the
+/// digest is another, what was written stays.
 pub fn write_payload<S: Source, F: Folder>(
     payload: Payload,
     source: &mut S,
@@ -34,6 +35,8 @@ pub fn write_payload<S: Source, F: Folder>(
         × (IsTrue (S.outside.tells source.old) → IsFrontOf (S.outside.state source.old).held payload → file_at (S.outside.state source.old).held payload.place ≡ Some bytes)) }
     ensures intact { IsTrue (S.outside.tells source.old) → IsFrontOf (S.outside.state source.old).held payload → OnOk result ((bytes : List ℕ)
         × (file_at (S.outside.state source.old).held payload.place ≡ Some bytes) × (digest_by payload.name bytes ≡ payload.name)) }
+    ensures small { IsTrue (F.outside.tells folder.old) → OnOk result ((bytes : List ℕ)
+        × HoldsAlone path.now.bytes 384 bytes (F.outside.state folder.new).held × (length bytes ≤ payload.size)) }
     ensures refused { IfErr result (SaysOfOpened (S.outside.tells source.old) (S.outside.state source.old).held payload) }
     ensures any_moment { IsTrue (F.outside.tells folder.old) → ChangesOnly F.outside (covers path.now.bytes) nowhere folder.old folder.new }
     ensures reads { Reads S.outside source.old source.new (result ≡ Err fault.SourceFault) }
@@ -62,12 +65,14 @@ fn copy_payload<S: Source, F: Folder>(
     buffer: &mut [u8],
 ) -> Result<(), StageFault>
     requires can { IsTrue (F.outside.tells folder.old) → HoldsAlone path.now.bytes 384 payload.old.bytes (F.outside.state folder.old).held }
+    requires small { length payload.old.bytes ≤ payload.old.size }
     requires room { 0 < length buffer.old }
     ensures copied { IsTrue (F.outside.tells folder.old) → OnOk result (HoldsAlone path.now.bytes 384 payload.new.bytes (F.outside.state folder.new).held) }
     ensures ended { OnOk result (IsTrue payload.new.ended) }
     ensures named { payload.new.name ≡ payload.old.name }
     ensures placed { payload.new.place ≡ payload.old.place }
     ensures sized { payload.new.size ≡ payload.old.size }
+    ensures small { length payload.new.bytes ≤ payload.new.size }
     ensures front { IsTrue (S.outside.tells source.old) → IsFrontOf (S.outside.state source.old).held payload.old → IsFrontOf (S.outside.state source.old).held payload.new }
     ensures faults { IfErr result (λ why. (why ≡ fault.SourceFault) ⊎ (why ≡ fault.FolderFault)) }
     ensures any_moment { IsTrue (F.outside.tells folder.old) → ChangesOnly F.outside (covers path.now.bytes) nowhere folder.old folder.new }

@@ -1,5 +1,5 @@
 -- What is answered of drafts and their contents.
-use Rattle.std.specs.Prelude.{◌≡◌, ℕ, ◌<◌, cond, List, [], ◌∷◌, length, Option, Some, None}
+use Rattle.std.specs.Prelude.{◌≡◌, ℕ, ◌<◌, cond, IsTrue, List, [], ◌∷◌, length, Option, Some, None, IsSome}
 use Rattle.std.specs.List.{AllByRecursion}
 use Rattle.std.specs.Option.{option_map}
 use Rattle.ips_text.specs.Kept.{Kept}
@@ -29,9 +29,11 @@ pub record IsFilling (proto : Image) (d : Draft) (f : Filled) : Type 0 where
   pub fills : Fills proto d f.line.action
   pub fits : Fits proto d
 
--- The line can stand on a line of a text, and the path is that of the draft's content.
+-- The line can stand on a line of a text, its action is of the draft's kind and has a payload where it has a content, and the path is that of the draft's content.
 pub record IsPlaced (d : Draft) (f : Filled) : Type 0 where
   pub stands : StandsOnLine f.line
+  pub kind : f.line.action.kind ≡ d.line.action.kind
+  pub named : IsTrue (has_content d.line.action.kind) → IsSome f.line.action.payload
   pub path : option_map (λ (p : Kept). p.bytes) f.path ≡ content_path d
 
 -- this is so of each draft and what was made of it, one after the other

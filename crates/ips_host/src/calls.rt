@@ -251,15 +251,16 @@ fn remove_looked_at<R: Files + Alloc>(
     }
 }
 
-// Takes away the directory that stands at the place that was found, with all below it.
+// Takes away the directory that stands at the place that was found, with all below it. What is known is gone through only where something is below it.
 fn remove_dir<R: Files + Alloc>(
     rt: &R,
     root: &mut Root<R::File, R::A>,
     path: &RelPath,
 ) -> Result<(), Refused> {
-    root.forget_at(path);
+    root.forget_dir(path);
     match or_refused(fs::remove_dir(rt, root.place())) {
         Err(Refused::System(libc::ENOTEMPTY | libc::EEXIST)) => {
+            root.forget_at(path);
             or_refused(fs::remove_dir_all(rt, root.place()))
         }
         answer => answer,

@@ -3,7 +3,8 @@
 //! Nothing is proved of what the host holds or takes. What is proved: each object counts its faults, fails exactly where
 //! that count rose, and tells of a first call that failed exactly where that count isn't 0.
 //!
-//! Beside the objects stand the lock on an image's folder (`lock`), and the words of the system behind a fault (`telling`).
+//! Beside the objects stand the lock on an image's folder (`lock`), the words of the system behind a fault (`telling`), and how far a run is, for who
+//! sits at a terminal (`progress`).
 #![tactic(auto)]
 
 mod calls;
@@ -14,6 +15,7 @@ mod lock;
 mod modes;
 mod opened;
 mod programs;
+mod progress;
 mod root;
 mod sink;
 mod source;

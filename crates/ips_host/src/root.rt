@@ -154,6 +154,13 @@ impl<F: Drop, A: Allocator + Clone> Root<F, A> {
         self.ways
             .known
             .retain(|dir, _| !covers(gone, dir.as_slice()));
+        self.forget_dir(path);
+    }
+
+    /// An empty directory is taken away, below which nothing is known.
+    pub fn forget_dir(&mut self, path: &RelPath) {
+        let gone = path.bytes();
+        let _ = self.ways.known.remove(gone);
         end_below(&mut self.ways.known_last, gone);
         end_below(&mut self.ways.seen_last, gone);
         self.modes.forget_at(gone);

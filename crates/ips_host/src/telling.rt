@@ -10,9 +10,11 @@ use crate::source::HostSource;
 use crate::spawner::HostSpawner;
 use ips_outside::{Sink, Source, Spawner};
 use std::alloc::{Alloc, Allocator};
+use std::env::Env;
 use std::fs::Files;
 use std::io::{Eprint, Print};
 use std::rt::Processes;
+use std::time::Clock;
 
 /// Of which objects a line was written.
 #[derive(Clone, Copy)]
@@ -24,7 +26,7 @@ pub struct Told {
 }
 
 /// Writes a line to standard error for each object that failed: `pkg: <call> <path>: <error>`, of its first call that did.
-pub fn tell_faults<E: Eprint, R: Files + Alloc + Processes + Print + Drop>(
+pub fn tell_faults<E: Eprint, R: Files + Alloc + Processes + Env + Clock + Print + Eprint + Drop>(
     errors: &E,
     image: &HostFolder<R>,
     repository: &HostSource<R>,

@@ -10,12 +10,12 @@ use Rattle.ips_folder.specs.Calls.{CanMake}
 use Rattle.ips_files.specs.Files.{file_at}
 use Rattle.ips_digest.specs.declared.name.PayloadName.{PayloadName}
 use Rattle.ips_repo.specs.Places.{payload_place}
-use Rattle.ips_repo.specs.Payload.{PayloadReading, IsFrontOf, HasIntact, payload_limit, digest_by, given}
+use Rattle.ips_repo.specs.Payload.{PayloadReading, IsFrontOf, HasIntact, payload_limit, digest_by, with_piece}
 use Rattle.ips_contents.specs.Contents.{HoldsAlone}
 use Rattle.ips_lay.specs.Laid.{HasLaid, IsNotThere}
 
--- no more is given than there is
-pub small_more : (old new : PayloadReading) (count : ℕ) (buf : List ℕ) → new ≡ given count buf old → length old.bytes + count ≤ old.size → length new.bytes ≤ new.size
+-- no more is read than there is
+pub small_more : (old new : PayloadReading) (count : ℕ) (buf : List ℕ) → new ≡ with_piece count buf old → length old.bytes + count ≤ old.size → length new.bytes ≤ new.size
 small_more old new count buf is within =
     let few : length (take count buf) ≤ count = subst (λ (n : ℕ). n ≤ count) (sym (length-take count buf)) (min-le_left count (length buf)) in
     subst (λ (r : PayloadReading). length r.bytes ≤ r.size) (sym is) (omega (arith, length-append old.bytes (take count buf), few, within))

@@ -2,3 +2,4 @@ pub mod Copied
 pub mod Unlaid
 pub mod Intact
 pub mod Told
+pub mod Recorded

@@ -1,5 +1,5 @@
 -- How the fault of one content is told of a list.
-use Rattle.std.proofs.Common.{◌≡◌, ℕ, List, Some, Result, Ok, Err, refl}
+use Rattle.std.proofs.Common.{◌≡◌, ℕ, ◌<◌, List, Some, Result, Ok, Err, refl}
 use Rattle.std.specs.Prelude.{slice_get}
 use Rattle.ips_text.specs.declared.refusal.Or.{Or}
 use Rattle.ips_text.specs.declared.refusal.Or.TheVariants.{Bad, OutOfMemory}
@@ -12,7 +12,7 @@ use Rattle.ips_lay.specs.declared.content.ContentFault.TheVariants as one
 use Rattle.ips_lay.specs.declared.content.LayFault.{LayFault}
 use Rattle.ips_lay.specs.declared.content.LayFault.TheVariants.{Missing, SourceFault, FolderFault}
 use Rattle.ips_lay.specs.Laid.{IsNotThere}
-use Rattle.ips_lay.specs.Lists.{SaysOfLay, fault_at}
+use Rattle.ips_lay.specs.Lists.{SaysOfLay, IsCounted, fault_at}
 
 abbrev pub OfOne : Or ContentFault → ContentFault → Type 0
 OfOne e f = (let r : Result (Unit {0}) (Or ContentFault) = Err e in r) ≡ Err (Bad f)
@@ -50,3 +50,9 @@ says_of_lay source contents n c at (Bad one.Missing) says = (c, at, says refl)
 says_of_lay source contents n c at (Bad one.SourceFault) says = tt
 says_of_lay source contents n c at (Bad one.FolderFault) says = tt
 says_of_lay source contents n c at OutOfMemory says = tt
+
+pub counted_at : (n count : ℕ) → n < count → (e : Or ContentFault) → IfBad {X = Unit {0}} (Err (fault_at n e)) (IsCounted count)
+counted_at n count lt (Bad one.Missing) = lt
+counted_at n count lt (Bad one.SourceFault) = tt
+counted_at n count lt (Bad one.FolderFault) = tt
+counted_at n count lt OutOfMemory = tt

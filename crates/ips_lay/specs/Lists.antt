@@ -38,6 +38,12 @@ SaysOfLay source contents (Missing at) = (c : Content) × (slice_get contents at
 SaysOfLay source contents SourceFault = Unit {0}
 SaysOfLay source contents FolderFault = Unit {0}
 
+-- the content that a fault tells of is one of so many
+abbrev pub IsCounted : ℕ → LayFault → Type 0
+IsCounted count (Missing at) = at < count
+IsCounted count SourceFault = Unit {0}
+IsCounted count FolderFault = Unit {0}
+
 -- a fault of the content with this number
 abbrev pub fault_at : ℕ → Or ContentFault → Or LayFault
 fault_at number (Bad one.Missing) = Bad (Missing number)

@@ -13,7 +13,7 @@ ghost use Rattle.ips_lay.specs.Lists as lists;
 ghost use Rattle.ips_lay.specs.declared.content.ContentFault.TheVariants as one;
 ghost use Rattle.ips_lay.specs.declared.content.Content as content;
 ghost use Rattle.ips_repo.specs.Places.{payload_place};
-ghost use Rattle.ips_lay.specs.Lists.{AreNames, ArePlaced, AreAllIntact, names_of, SaysOfLay};
+ghost use Rattle.ips_lay.specs.Lists.{AreNames, ArePlaced, AreAllIntact, names_of, SaysOfLay, IsCounted};
 ghost use Rattle.ips_lay.specs.declared.content.LayFault.TheVariants as fault;
 
 use crate::content::{Content, ContentFault, LayFault};
@@ -44,6 +44,7 @@ pub fn lay<S: Source, F: Folder>(
     ensures intact { IsTrue (F.outside.tells folder.old) → OnOk result (AreAllIntact publisher.now (F.outside.state folder.new).held (names_of contents.now)) }
     ensures beside { IsTrue (F.outside.tells folder.old) → LaysBeside F.outside publisher.now (names_of contents.now) folder.old folder.new }
     ensures missing { IsTrue (S.outside.tells source.old) → IfBad result (SaysOfLay (S.outside.state source.old).held contents.now) }
+    ensures counted { IfBad result (IsCounted (length contents.now)) }
     ensures reads { Reads S.outside source.old source.new (result ≡ Err (Bad fault.SourceFault)) }
     ensures cause { HasCause (F.outside.faults folder.old) (F.outside.faults folder.new) (result ≡ Err (Bad fault.FolderFault)) }
     ensures same_kind { F.outside.tells folder.new ≡ F.outside.tells folder.old }
@@ -73,6 +74,7 @@ fn lay_all<S: Source, F: Folder>(
     ensures intact { IsTrue (F.outside.tells folder.old) → OnOk result (AreAllIntact publisher.now (F.outside.state folder.new).held (names_of contents.now)) }
     ensures beside { IsTrue (F.outside.tells folder.old) → LaysBeside F.outside publisher.now (names_of contents.now) folder.old folder.new }
     ensures missing { IsTrue (S.outside.tells source.old) → IfBad result (SaysOfLay (S.outside.state source.old).held contents.now) }
+    ensures counted { IfBad result (IsCounted (length contents.now)) }
     ensures reads { Reads S.outside source.old source.new (result ≡ Err (Bad fault.SourceFault)) }
     ensures cause { HasCause (F.outside.faults folder.old) (F.outside.faults folder.new) (result ≡ Err (Bad fault.FolderFault)) }
     ensures same_kind { F.outside.tells folder.new ≡ F.outside.tells folder.old }

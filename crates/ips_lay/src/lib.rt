@@ -12,4 +12,4 @@ mod standing;
 
 pub use content::{Content, LayFault};
 pub use laying::lay;
-pub use records::make_records;
+pub use records::{make_records, make_safe};

@@ -83,7 +83,7 @@ none_before : (stem : List ℕ) (catalog : List Listed) → AllByRecursion (λ k
 none_before stem [] all = refl
 none_before stem (listed ∷ catalog) all = rw (above stem listed.stem all.0) (none_before stem catalog all.1)
 
-all_before : (stem : List ℕ) (first : List ℕ) (stems : List (List ℕ)) → stem_cmp stem first ≡ Less → AllByRecursion (λ k. stem_cmp first k ≡ Less) stems → AllByRecursion (λ k. stem_cmp stem k ≡ Less) stems
+pub all_before : (stem : List ℕ) (first : List ℕ) (stems : List (List ℕ)) → stem_cmp stem first ≡ Less → AllByRecursion (λ k. stem_cmp first k ≡ Less) stems → AllByRecursion (λ k. stem_cmp stem k ≡ Less) stems
 all_before stem first [] less all = tt
 all_before stem first (k ∷ stems) less all = (nat_list_cmp_total.trans stem first k less all.0, all_before stem first stems less all.1)
 

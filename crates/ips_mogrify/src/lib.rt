@@ -8,8 +8,6 @@ mod asked;
 mod files;
 mod judging;
 mod status;
-#[cfg(test)]
-mod tests;
 mod top;
 
 pub use judging::{Refusal, judged};

@@ -7,8 +7,6 @@
 mod editor;
 mod finder;
 mod pattern;
-#[cfg(test)]
-mod tests;
 
 pub use editor::Editor;
 pub use finder::Finder;

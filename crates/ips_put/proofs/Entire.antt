@@ -108,11 +108,11 @@ same_stem s r = by (bytes_eq s r) refl
     by true e = inl ((bytes_eq-Decides s r).0 e)
     by false e = inr (λ is. absurd (true≢false (sym ((bytes_eq-Decides s r).1 is) ∙ e)))
 
-same_ok : (r : Result (List Listed) RepoFault) (c d : List Listed) → r ≡ Ok c → r ≡ Ok d → c ≡ d
+pub same_ok : (r : Result (List Listed) RepoFault) (c d : List Listed) → r ≡ Ok c → r ≡ Ok d → c ≡ d
 same_ok r c d e f = cc
 
 -- a repository that is open is marked
-marked : (b : Bool) (r : Result (List Listed) RepoFault) (catalog : List Listed) → cond b r (Err fault.NoRepository) ≡ Ok catalog → b ≡ true
+pub marked : (b : Bool) (r : Result (List Listed) RepoFault) (catalog : List Listed) → cond b r (Err fault.NoRepository) ≡ Ok catalog → b ≡ true
 marked true r catalog e = refl
 marked false r catalog e = absurd (ok_not_err catalog fault.NoRepository (sym e))
 
@@ -156,7 +156,7 @@ module _ (t a : Image) (x : Attempt) (catalog : List Listed) (lines : List Line)
   mark_after : is_repository a ≡ true
   mark_after = ap is_mark_file (kept mark_place h.first_marked h.second_marked) ∙ marked (is_repository (visible t)) (catalog_in x.publisher (file_at (visible t) (catalog_of x))) catalog h.opened
 
-  open_after : opening x.publisher a ≡ Ok more
+  pub open_after : opening x.publisher a ≡ Ok more
   open_after =
       ap (λ (b : Bool). cond b (catalog_in x.publisher (file_at a (catalog_of x))) (Err fault.NoRepository)) mark_after
       ∙ ap (catalog_in x.publisher) (ap file_bytes (second_put t (manifest_of x) (catalog_of x) h.can staged a meant c second))

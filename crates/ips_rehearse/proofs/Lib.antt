@@ -3,5 +3,6 @@ pub mod Paths
 pub mod Longest
 pub mod Keys
 pub mod Passing
+pub mod Opens
 pub mod Busy
 pub mod Going

@@ -52,6 +52,7 @@ module _ {F : Type 0} (o : Outside F) where
     since = pass_then a b w.at before w.since;
     busy = w.busy;
     then = record { at = w.then.at; since = w.then.since; until = pass_then w.then.at c d w.then.until behind; held = w.then.held };
+    still = w.still;
   }
 
   pub named_within : (n : ℕ) (a b c d : F) → Passed o a b → Passed o c d → HasNamed o n b c → HasNamed o n a d

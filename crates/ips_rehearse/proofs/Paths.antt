@@ -17,6 +17,9 @@ use Rattle.ips_rehearse.specs.Tried.{file_name, link_name, try_name, dir_name, i
 
 -- ---- the names of trials
 
+pub stage_is_path : IsPath (codes "var/pkg/stage")
+stage_is_path = ascii_path (codes "var/pkg/stage") refl refl refl refl refl (omega arith) (omega arith) refl
+
 pub try_path : IsPath (codes "var/pkg/stage/try")
 try_path = ascii_path (codes "var/pkg/stage/try") refl refl refl refl refl (omega arith) (omega arith) refl
 

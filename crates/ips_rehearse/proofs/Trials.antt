@@ -36,7 +36,7 @@ off_below dir q off = rw off refl
 
 -- ---- which names share a mode
 
-dir_or_file : (e : Option Entry) → is_dir e ≡ true → is_file e ≡ true → ⊥
+pub dir_or_file : (e : Option Entry) → is_dir e ≡ true → is_file e ≡ true → ⊥
 dir_or_file (Some (Dir m x)) d f = cc
 dir_or_file (Some (File m b)) d f = cc
 dir_or_file (Some (Link g)) d f = cc

@@ -3,3 +3,4 @@ pub mod Plans
 pub mod Tried
 pub mod Going
 pub mod Rehearsed
+pub mod Opening

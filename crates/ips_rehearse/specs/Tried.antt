@@ -8,6 +8,7 @@ use Rattle.ips_outside.specs.Image.{Image, Dir, File, Link, is_dir, is_file}
 use Rattle.ips_outside.specs.Change.{joined}
 use Rattle.ips_outside.specs.State.{State}
 use Rattle.ips_outside.specs.Outside.{Outside, HasCause}
+use Rattle.ips_folder.specs.Calls.{Throughout}
 
 -- the directory in which calls are tried
 unfoldable pub try_name : List ℕ
@@ -115,3 +116,4 @@ pub record WasWorked {F : Type 0} (o : Outside F) (m : ℕ) (old new : F) : Type
   pub since : Passed o old at
   pub busy : IsBusy m (o.state at).held
   pub then : Stood o at new (IsIdle m)
+  pub still : Throughout o at then.at (λ s. IsDirOf m s.held)

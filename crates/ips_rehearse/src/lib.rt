@@ -5,15 +5,18 @@
 //! which a step makes or takes away something. Nothing but what is at or below that directory is changed.
 //!
 //! In reading order: what the steps ask for (`asking`), modes (`modes`) and sets of paths (`sets`), the modes of the directories that
-//! stand (`standing`), paths of trials (`places`), single trials (`trying`), and all of them (`rehearsing`).
+//! stand (`standing`), paths of trials (`places`), single trials (`trying`), all of them (`rehearsing`), and what
+//! one that was stopped may have left (`opening`).
 #![tactic(auto)]
 
 mod asking;
 mod modes;
+mod opening;
 mod places;
 mod rehearsing;
 mod sets;
 mod standing;
 mod trying;
 
+pub use opening::{TrialDirs, open_left};
 pub use rehearsing::{Rehearsed, rehearse};

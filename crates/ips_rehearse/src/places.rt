@@ -3,10 +3,17 @@
 ghost use Rattle.std.specs.Prelude.{◌≡◌, ◌≤◌, None, IfOk, OnOk};
 ghost use Rattle.ips_text.specs.Ancestry as ancestry;
 ghost use Rattle.ips_text.specs.Path.{IsPath};
-ghost use Rattle.ips_rehearse.specs.Tried.{in_try};
+ghost use Rattle.ips_rehearse.specs.Tried.{dir_name, in_try};
 
 use ips_text::RelPath;
 use std::alloc::{AllocError, Global};
+
+/// The path of the directory that gets the mode that is tried.
+pub(crate) fn tried_dir() -> &'static [u8]
+    ensures { result.now ≡ dir_name }
+{
+    b"var/pkg/stage/try/dir"
+}
 
 /// A path with room for each.
 pub(crate) fn room(alloc: Global) -> Result<RelPath, AllocError>
@@ -16,6 +23,16 @@ pub(crate) fn room(alloc: Global) -> Result<RelPath, AllocError>
         Ok(path) => Ok(path),
         Err(_) => Err(AllocError),
     }
+}
+
+/// A path of these bytes.
+pub(crate) fn path_at(alloc: Global, bytes: &[u8]) -> Result<RelPath, AllocError>
+    requires { IsPath bytes.now }
+    ensures { IfOk result (λ path. path.bytes ≡ bytes.now) }
+{
+    let mut path = room(alloc)?;
+    go(&mut path, bytes);
+    Ok(path)
 }
 
 /// Goes to a path.

@@ -9,7 +9,7 @@ ghost use Rattle.ips_outside.specs.Outside.{risen};
 ghost use Rattle.ips_folder.specs.Calls.{CanMake, ChangesOnly};
 ghost use Rattle.ips_rehearse.specs.Tried.{try_name, dir_name, inner_dir_name, inner_file_name, IsDirOf, IsGone, IsEmptyDir, IsFailure, Calls, Passed, Stood, WasWorked};
 
-use crate::places::go;
+use crate::places::{go, tried_dir};
 use ips_folder::{Folder, ListFault};
 use ips_outside::{Failed, Source};
 use ips_text::{Or, RelPath};
@@ -75,7 +75,7 @@ pub(crate) fn try_dir<F: Folder>(
     if !is_asked && !is_worked {
         return Ok(());
     }
-    go(path, b"var/pkg/stage/try/dir");
+    go(path, tried_dir());
     let Ok(()) = folder.make_dir(path, mode) else {
         return Err(Or::Bad(Failed));
     };

@@ -4,7 +4,7 @@ use Rattle.std.proofs.lemmas.Bool.{eqb-true}
 use Rattle.std.proofs.lemmas.List.{drop-take, take-take}
 use Rattle.ips_outside.specs.Image.{Image}
 use Rattle.ips_outside.specs.Outside.{readable, IsRead}
-use Rattle.ips_repo.specs.Payload.{PayloadReading, from_start, given, IsFrontOf}
+use Rattle.ips_repo.specs.Payload.{PayloadReading, from_start, with_piece, IsFrontOf}
 use Rattle.ips_files.proofs.Parts.{part_more, part_end}
 
 -- a file cut at a size, behind a place before it
@@ -29,7 +29,7 @@ front_long : (file bytes : List ℕ) (n : ℕ) → bytes ≡ take n file → n �
 front_long file bytes n is le = ap length is ∙ length-take-le n file le
 
 -- one more piece of the file
-pub front_more : (t : Image) (r : PayloadReading) (buffer : List ℕ) (count : ℕ) → 0 < length buffer → IsFrontOf t r → IsRead (take r.size (readable (t.look r.place))) (length r.bytes) buffer count → IsFrontOf t (given count buffer r)
+pub front_more : (t : Image) (r : PayloadReading) (buffer : List ℕ) (count : ℕ) → 0 < length buffer → IsFrontOf t r → IsRead (take r.size (readable (t.look r.place))) (length r.bytes) buffer count → IsFrontOf t (with_piece count buffer r)
 front_more t r buffer count room front read =
     let same : take r.size (readable (t.look r.place)) ≡ front.file = ap (λ (o : Option (List ℕ)). take r.size (unwrap_or o [])) front.stands ∙ take_all r.size front.file (omega (arith, front.sized)) in
     let mine = subst (λ (file : List ℕ). IsRead file (length r.bytes) buffer count) same read in

@@ -68,8 +68,8 @@ abbrev pub from_start : PayloadReading → PayloadReading
 from_start r = record r { bytes = []; ended = false }
 
 -- Behind one more piece, of so many bytes from the front of the buffer.
-abbrev pub given : ℕ → List ℕ → PayloadReading → PayloadReading
-given count buffer r = record r { bytes = r.bytes ++ take count buffer; ended = count == 0 }
+abbrev pub with_piece : ℕ → List ℕ → PayloadReading → PayloadReading
+with_piece count buffer r = record r { bytes = r.bytes ++ take count buffer; ended = count == 0 }
 
 -- A file of the size that was seen stands at the place, its first bytes are those given so far, and once the end was told
 -- they are all of it.

@@ -15,6 +15,7 @@ mod start;
 
 pub use fault::RepoFault;
 pub use ips_files::{FileFault, read_whole};
+pub use mark::check_mark;
 pub use payload::Payload;
 pub use places::{catalog_place, manifest_place, payload_place, places_are_paths};
 pub use repository::Repo;

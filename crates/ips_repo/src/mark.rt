@@ -88,7 +88,7 @@ fn advanced(matched: Option<usize>, byte: u8) -> Option<usize>
 }
 
 /// Whether the folder is a repository of format 4: it is answered with `NoRepository` where it isn't.
-pub(crate) fn check_mark<S: Source>(alloc: Global, source: &mut S) -> Result<(), Or<RepoFault>>
+pub fn check_mark<S: Source>(alloc: Global, source: &mut S) -> Result<(), Or<RepoFault>>
     ensures marked { IsTrue (S.outside.tells source.old) → Answers (λ done. done) result (marking (S.outside.state source.old).held) }
     ensures faults { IfBad result IsMarkFault }
     ensures reads { Reads S.outside source.old source.new (result ≡ Err (Bad fault.SourceFault)) }

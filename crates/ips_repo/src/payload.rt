@@ -8,7 +8,7 @@ ghost use Rattle.ips_outside.specs.Outside.{Reads, readable, IsRead};
 ghost use Rattle.ips_repo.specs.Places as place;
 ghost use Rattle.ips_files.specs.Files.{file_at};
 ghost use Rattle.ips_repo.specs.Answer.{Answers, IsMeantFault};
-ghost use Rattle.ips_repo.specs.Payload.{IsOpened, payload_in, payload_opening, from_start, given, IsFrontOf, digest_by, IsDamage, IsOpenFault, fault_of_opening};
+ghost use Rattle.ips_repo.specs.Payload.{IsOpened, payload_in, payload_opening, from_start, with_piece, IsFrontOf, digest_by, IsDamage, IsOpenFault, fault_of_opening};
 ghost use Rattle.ips_repo.specs.declared.fault.RepoFault.TheVariants as fault;
 
 use crate::fault::RepoFault;
@@ -131,7 +131,7 @@ impl Payload {
         requires room { 0 < length buf.old }
         ensures fits { IfOk result (λ count. count ≤ length buf.old) }
         ensures within { IfOk result (λ count. length self.old.bytes + count ≤ self.old.size) }
-        ensures given { IfOk result (λ count. self.new ≡ given count buf.new self.old) }
+        ensures given { IfOk result (λ count. self.new ≡ with_piece count buf.new self.old) }
         ensures as_before { OnErr result (self.new ≡ self.old) }
         ensures found { IsTrue (S.outside.tells source.old) → IfOk result
             (IsRead (take self.old.size (readable ((S.outside.state source.old).held.look self.old.place))) (length self.old.bytes) buf.new) }

@@ -10,8 +10,6 @@ mod operating;
 mod reading;
 mod selecting;
 mod terms;
-#[cfg(test)]
-mod tests;
 mod words;
 
 pub use file::read_rules;

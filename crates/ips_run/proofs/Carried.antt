@@ -1,21 +1,19 @@
 -- A request, phase by phase: what is owed, and what is due.
-use Rattle.std.proofs.Common.{◌≡◌, inl, inr, ⊎_elim, ℕ, Bool, true, false, List, [], Option, Some, None, is_none, ◌||◌, refl, sym, ◌∙◌, ap, subst}
-use Rattle.ips_text.specs.Ancestry.{covers, same_path}
-use Rattle.ips_outside.specs.Image.{Entry, Image, IsImage, is_dir, file_bytes, dir_or_none}
+use Rattle.std.proofs.Common.{◌≡◌, inl, inr, ⊎_elim, ℕ, true, false, List, Option, Some, None, refl, sym, ◌∙◌, ap, subst}
+use Rattle.ips_outside.specs.Image.{Image}
 use Rattle.ips_outside.specs.State.{State, IsSettled, nowhere}
 use Rattle.ips_outside.specs.Outside.{Outside, IsOutside, Elapses}
-use Rattle.ips_folder.specs.Calls.{CanMake, ChangesOnly, Throughout}
+use Rattle.ips_folder.specs.Calls.{ChangesOnly, Throughout}
 use Rattle.ips_folder.proofs.Runs.{joins}
 use Rattle.ips_steps.specs.Steps.{Step}
-use Rattle.ips_steps.specs.Private.{records_name, journal_name, gate_name, visible}
+use Rattle.ips_steps.specs.Private.{gate_name, visible}
 use Rattle.ips_steps.specs.Owed.{FolderOwes}
 use Rattle.ips_steps.proofs.Lists.{clash}
-use Rattle.ips_steps.proofs.PrivateNames.{gate_parent}
 use Rattle.ips_kinds.specs.Tallies.{Carrier}
 use Rattle.ips_journal.specs.Text.{journal_text}
 use Rattle.ips_actuate.specs.declared.running.ActFault.{ActFault}
 use Rattle.ips_commit.specs.Due.{IsSafelyOpen, DueOnceOpen}
-use Rattle.ips_commit.specs.Pending.{HasCommitted, HasNoOtherMark, is_swept}
+use Rattle.ips_commit.specs.Pending.{HasCommitted, is_swept}
 use Rattle.ips_commit.specs.Staging.{IsStaged, IsCleared}
 use Rattle.ips_commit.specs.declared.fault.CommitFault.{CommitFault}
 use Rattle.ips_commit.specs.declared.fault.CommitFault.TheVariants as commit_fault
@@ -26,30 +24,6 @@ use Rattle.ips_run.specs.declared.ending.Ending.TheVariants as ending
 use Rattle.ips_run.specs.Ending.{is_done, is_failed, is_out_of_memory, IsEarly}
 use Rattle.ips_run.specs.Phases.{IsSafelyShut, StaysSafelyShut, uncommitted_as, IsUnrun, IsUnrunBefore, Failed, Spawn, IsResumable, IsCarried, IsAsked}
 use Rattle.ips_run.proofs.Opened.{always_safely_shut, owes_seen, always_shut, never_open, stays_owed, withdrawn}
-
--- ---- the gate can be made where a change stands ready
-
-above_journal : covers records_name journal_name ≡ true
-unfolding records_name journal_name
-above_journal = refl
-
-not_journal : same_path records_name journal_name ≡ false
-unfolding records_name journal_name
-not_journal = refl
-
-stands_above : (e : Option Entry) (text : List ℕ) (d : Bool) → (is_none e || d) ≡ true → file_bytes e ≡ Some text → d ≡ true
-stands_above None text d above there = cc
-stands_above (Some e) text d above there = above
-
-pub can_open : (steps : List Step) (a : Image) (s : State) → IsImage s.held → IsStaged steps a s → CanMake s.held gate_name
-can_open steps a s formed staged = record {
-  absent = staged.shut;
-  parent = ap (dir_or_none s.held) gate_parent
-      ∙ stands_above (s.held.look journal_name) _ (is_dir (s.held.look records_name)) (formed.below_dirs records_name journal_name above_journal not_journal) staged.ready.journal;
-}
-
-pub unmarked : (steps : List Step) (a : Image) (s : State) → IsStaged steps a s → HasNoOtherMark s.held []
-unmarked steps a s staged = λ q is others. staged.unmarked q is
 
 -- ---- what is due
 

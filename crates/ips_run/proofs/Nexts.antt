@@ -1,10 +1,8 @@
 -- What comes behind the look at the gate, by what was found there.
 use Rattle.std.proofs.Common.{◌≡◌, ◌≢◌, inl, inr, true, false, IsTrue, IsFalse, None, refl}
-use Rattle.ips_text.proofs.Ancestry.{covers-self}
 use Rattle.ips_outside.specs.Image.{Image}
 use Rattle.ips_steps.specs.Private.{gate_name}
-use Rattle.ips_steps.proofs.PrivateNames.{gate_private}
-use Rattle.ips_commit.specs.Pending.{IsBare, IsPending}
+use Rattle.ips_commit.specs.Pending.{IsPending}
 use Rattle.ips_commit.specs.declared.found.Pending.{Pending}
 use Rattle.ips_commit.specs.declared.found.Pending.TheVariants as pending
 use Rattle.ips_history.specs.Directories.{shows, creates, fixes}
@@ -12,10 +10,8 @@ use Rattle.ips_history.specs.declared.effect.Effect.{Effect}
 use Rattle.ips_history.specs.declared.effect.Effect.TheVariants as effect
 use Rattle.ips_run.specs.declared.next.Next.TheVariants as next
 use Rattle.ips_run.specs.Comes.{IsStopped, IsToDecide}
+use Rattle.ips_commit.proofs.Leftovers.{bare_shut}
 use Rattle.ips_run.specs.Phases.{next_of}
-
-bare_shut : (t : Image) → IsBare t → t.look gate_name ≡ None
-bare_shut t bare = bare gate_name (gate_private gate_name (covers-self gate_name))
 
 pub refused_of : (t : Image) (n : Effect) (p : Pending) → IsPending t p → next_of n p ≡ next.Refuse → IsFalse (fixes n) × (t.look gate_name ≢ None)
 refused_of t effect.Shows pending.Nothing found is = cc

@@ -4,7 +4,7 @@ use Rattle.ips_text.specs.declared.refusal.Or.{Or}
 use Rattle.ips_text.specs.declared.refusal.Or.TheVariants.{Bad}
 use Rattle.ips_text.specs.Reading.{IfBad}
 use Rattle.ips_outside.specs.Image.{Entry, Image}
-use Rattle.ips_outside.specs.State.{State, ChangedWithin, nowhere}
+use Rattle.ips_outside.specs.State.{State, ChangedWithin}
 use Rattle.ips_outside.specs.Outside.{Outside}
 use Rattle.ips_folder.specs.Calls.{ChangesOnly}
 use Rattle.ips_folder.proofs.Runs.{weaker}
@@ -23,6 +23,7 @@ use Rattle.ips_commit.specs.Pending.{HasCommitted, is_swept}
 use Rattle.ips_commit.specs.Recovering.{SaysOfRecovery, IfBadJournal, IsJournalled, CanRollForward, IsUnfinished}
 use Rattle.ips_commit.specs.declared.fault.CommitFault.{CommitFault}
 use Rattle.ips_commit.specs.declared.fault.CommitFault.TheVariants.{Unchanged, Unfinished, BadJournal}
+use Rattle.ips_contents.proofs.Written.{own_modes}
 use Rattle.ips_commit.proofs.Owing.{swept_seen}
 use Rattle.ips_commit.proofs.OwnNames.{gate_unswept}
 use Rattle.ips_history.specs.Due.{HasEnded}
@@ -36,8 +37,8 @@ use Rattle.ips_run.specs.Phases.{uncommitted_as, IsBack}
 use Rattle.ips_run.proofs.Carried.{ended}
 
 -- what is swept leaves a closed gate closed
-swept_shut : (old s : State) → old.held.look gate_name ≡ None → ChangedWithin is_swept nowhere old s → s.held.look gate_name ≡ None
-swept_shut old s shut within = within.agrees.look gate_name gate_unswept refl ∙ shut
+swept_shut : (old s : State) → old.held.look gate_name ≡ None → ChangedWithin is_swept is_swept old s → s.held.look gate_name ≡ None
+swept_shut old s shut within = within.agrees.look gate_name gate_unswept gate_unswept ∙ shut
 
 module _ {F : Type 0} (o : Outside F) (before now : List Carrier) (old new : F) (still : StillOwes o old new) where
   abbrev t : Image
@@ -104,18 +105,18 @@ module _ {F : Type 0} (o : Outside F) (before now : List Carrier) (old new : F) 
   owed_some b a due (New gone seen) there = absurd (there gone)
 
   pub back_fault : {T : Type 0} (why : CommitFault) (x : Ending T) → x ≡ uncommitted_as why → SaysOfRecovery (o.state old) (o.state new) before now why
-      → (t.look gate_name ≡ None → ChangesOnly o is_swept nowhere old new)
+      → (t.look gate_name ≡ None → ChangesOnly o is_swept is_swept old new)
       → ((steps : List Step) (count : ℕ) (a : Image) → IsOpen journal_text steps count a t → (line : ℕ) → why ≡ BadJournal line → ⊥)
       → (why ≡ Unfinished → (steps : List Step) (count : ℕ) → IsJournalled t steps count → IsUnfinished t (o.state new) steps count before now)
       → IsBack o x before now old new
   back_fault {T = T} why x is says closed meant stopped = subst (λ (r : Ending T). IsBack o r before now old new) (sym is) (go why says meant stopped)
     where
       seen : (t.look gate_name ≢ None → o.state new ≡ o.state old) → (e : Option Entry) → t.look gate_name ≡ e → visible (o.state new).held ≡ visible t
-      seen kept None shut = swept_seen t (o.state new).held (closed shut).now.agrees
+      seen kept None shut = swept_seen t (o.state new).held (own_modes is_swept t (o.state new).held (closed shut).now.agrees)
       seen kept (Some e) there = ap (λ (s : State). visible s.held) (kept (λ none. cc))
 
       shut_still : t.look gate_name ≡ None → StaysShut o old new
-      shut_still shut = weaker o old new (ChangedWithin is_swept nowhere (o.state old)) (λ s. s.held.look gate_name ≡ None) (λ s within. swept_shut (o.state old) s shut within) (closed shut).moments
+      shut_still shut = weaker o old new (ChangedWithin is_swept is_swept (o.state old)) (λ s. s.held.look gate_name ≡ None) (λ s within. swept_shut (o.state old) s shut within) (closed shut).moments
 
       go : (why : CommitFault) → SaysOfRecovery (o.state old) (o.state new) before now why → ((steps : List Step) (count : ℕ) (a : Image) → IsOpen journal_text steps count a t → (line : ℕ) → why ≡ BadJournal line → ⊥)
           → (why ≡ Unfinished → (steps : List Step) (count : ℕ) → IsJournalled t steps count → IsUnfinished t (o.state new) steps count before now)
@@ -154,14 +155,14 @@ module _ {F : Type 0} (o : Outside F) (before now : List Carrier) (old new : F) 
         resumes = λ is. cc;
       }
 
-  pub back_out_of_memory : {T : Type 0} → o.state new ≡ o.state old → (t.look gate_name ≡ None → ChangesOnly o is_swept nowhere old new) → IsBack {T = T} o ending.OutOfMemory before now old new
+  pub back_out_of_memory : {T : Type 0} → o.state new ≡ o.state old → (t.look gate_name ≡ None → ChangesOnly o is_swept is_swept old new) → IsBack {T = T} o ending.OutOfMemory before now old new
   back_out_of_memory kept closed = record {
     still = still;
     undone = refl;
     needed = refl;
     recovered = tt;
     unseen = λ is. ap (λ (s : State). visible s.held) kept;
-    unopened = λ is shut. weaker o old new (ChangedWithin is_swept nowhere (o.state old)) (λ s. s.held.look gate_name ≡ None) (λ s within. swept_shut (o.state old) s shut within) (closed shut).moments;
+    unopened = λ is shut. weaker o old new (ChangedWithin is_swept is_swept (o.state old)) (λ s. s.held.look gate_name ≡ None) (λ s within. swept_shut (o.state old) s shut within) (closed shut).moments;
     readable = λ is. cc;
     out_of_memory = λ is. kept;
     resumes = λ is. cc;

@@ -1,9 +1,9 @@
 -- The places of a repository's files stand apart.
-use Rattle.std.proofs.Common.{◌≡◌, ℕ, Bool, true, false, ◌&&◌, eqb, List, [], ◌∷◌, ◌++◌, take, refl, sym, ap, subst, ◌∙◌, append_assoc}
+use Rattle.std.proofs.Common.{◌≡◌, ℕ, Bool, true, false, cond, ◌&&◌, eqb, List, [], ◌∷◌, ◌++◌, take, Option, Some, None, refl, sym, ap, subst, ◌∙◌, append_assoc}
 use Rattle.std.specs.Prelude.{codes}
 use Rattle.std.specs.List.{AllByRecursion}
-use Rattle.std.proofs.lemmas.Bool.{and_parts, eqb-true}
-use Rattle.ips_text.specs.Ancestry.{covers}
+use Rattle.std.proofs.lemmas.Bool.{and_parts, eqb-true, eq-eqb}
+use Rattle.ips_text.specs.Ancestry.{covers, parent, behind}
 use Rattle.ips_steps.proofs.Lists.{clash}
 use Rattle.ips_text.specs.Quote.{quoted}
 use Rattle.ips_digest.specs.Name.{spelling}
@@ -82,3 +82,18 @@ catalog_apart publisher other m hp ho h =
     let first = covers_split publisher other (codes "file/" ++ (take 2 (spelling m) ++ (47 ∷ spelling m))) (codes "catalog/catalog.base.C") hp ho
     (covers_as (payload_place publisher m) (catalog_place other) (payload_parts publisher m) (catalog_place other) (payload_form publisher m) refl h) in
     no first.1
+
+-- ---- what stands above
+
+pub covers_on : (d x : List ℕ) → covers d (d ++ 47 ∷ x) ≡ true
+covers_on [] x = refl
+covers_on (b ∷ d) x = let same : eqb b b ≡ true = eq-eqb b b refl in rw same (covers_on d x)
+
+plain : (x : List ℕ) → NoSlash x → parent x ≡ None
+plain [] h = refl
+plain (b ∷ x) h = ap (behind b) (plain x h.1) ∙ ap (λ (t : Bool). let o : Option (List ℕ) = cond t (Some []) None in o) h.0
+
+-- the directory of a path whose last part this is
+pub parent_joined : (d x : List ℕ) → NoSlash x → parent (d ++ 47 ∷ x) ≡ Some d
+parent_joined [] x h = ap (behind 47) (plain x h)
+parent_joined (a ∷ d) x h = ap (behind a) (parent_joined d x h)

@@ -28,6 +28,43 @@ PathTest = List ℕ → Bool
 none_is : (o : Option (List ℕ)) (bytes : List ℕ) → o ≡ None → o ≡ Some bytes → ⊥
 none_is o bytes e f = let same = sym e ∙ f in cc
 
+-- ---- images in which the same files stand
+
+module _ (t c : Image) (same : (q : List ℕ) → file_at c q ≡ file_at t q) where
+  file_alike : (q : List ℕ) → file_at (visible c) q ≡ file_at (visible t) q
+  file_alike q = go (is_private q)
+    where
+      go : (b : Bool) → file_bytes (cond b None (c.look q)) ≡ file_bytes (cond b None (t.look q))
+      go true = refl
+      go false = same q
+
+  pub opening_alike : (publisher : List ℕ) → opening publisher (visible c) ≡ opening publisher (visible t)
+  opening_alike publisher =
+      ap (λ (f : Option (List ℕ)). cond (is_mark_file f) (catalog_in publisher (file_at (visible c) (catalog_place publisher))) (Err fault.NoRepository)) (file_alike mark_place)
+      ∙ ap (λ (f : Option (List ℕ)). cond (is_mark_file (file_at (visible t) mark_place)) (catalog_in publisher f) (Err fault.NoRepository)) (file_alike (catalog_place publisher))
+
+  whole_alike : (x : Attempt) → IsWhole (visible t) x → IsWhole (visible c) x
+  whole_alike x is = record {
+    listed = (is.listed.0, opening_alike x.publisher ∙ is.listed.1, is.listed.2);
+    text = is.text;
+    stands = file_alike (manifest_place x.publisher x.stem x.version) ∙ is.stands;
+    lines = is.lines;
+    means = is.means;
+    has = is.has;
+    intact = λ name has.
+        let i = is.intact name has in
+        (i.0, record { stands = file_alike (payload_place x.publisher name) ∙ i.1.stands; within = i.1.within; named = i.1.named });
+  }
+
+  pub kept_alike : (xs : List Attempt) → AreWholeOrOut xs (visible t) → AreWholeOrOut xs (visible c)
+  kept_alike xs are = record {
+    mark = λ x has. ap is_mark_file (file_alike mark_place) ∙ are.mark x has;
+    each = λ x has listed. let y = are.each x has (listed.0, sym (opening_alike x.publisher) ∙ listed.1, listed.2) in (y.0, y.1, y.2, whole_alike y.0 y.3);
+    answered = λ x has is. whole_alike x (are.answered x has is);
+  }
+
+-- ---- free paths
+
 -- what is seen at a path that isn't free
 module _ (free : PathTest) (t c : Image) (agrees : Agrees free free t c) where
   seen_same : (q : List ℕ) → free q ≡ false → (visible c).look q ≡ (visible t).look q
@@ -37,7 +74,7 @@ module _ (free : PathTest) (t c : Image) (agrees : Agrees free free t c) where
   file_same q not_free = ap file_bytes (seen_same q not_free)
 
   module _ (beside : IsBeside t free) where
-    opening_same : (publisher : List ℕ) → IsPublisher publisher → opening publisher (visible c) ≡ opening publisher (visible t)
+    pub opening_same : (publisher : List ℕ) → IsPublisher publisher → opening publisher (visible c) ≡ opening publisher (visible t)
     opening_same publisher is =
         ap (λ (f : Option (List ℕ)). cond (is_mark_file f) (catalog_in publisher (file_at (visible c) (catalog_place publisher))) (Err fault.NoRepository)) (file_same mark_place beside.mark)
         ∙ ap (λ (f : Option (List ℕ)). cond (is_mark_file (file_at (visible t) mark_place)) (catalog_in publisher f) (Err fault.NoRepository)) (file_same (catalog_place publisher) (beside.catalogs publisher is))
@@ -87,8 +124,8 @@ neither a b e f = rw (e, f) refl
 
 -- each moment
 pub moments_keep : (text : List Step → List ℕ) (xs : List Attempt) (free : PathTest) (old s : State) → IsSettled old → old.held.look gate_name ≡ None → IsBeside old.held free
-    → IsImage s.held → ChangedWithin free free old s → AreWholeOrOut xs (visible old.held) → Keeps text (AreWholeOrOut xs) s
-moments_keep text xs free old s clean shut beside formed within are =
+    → ChangedWithin free free old s → AreWholeOrOut xs (visible old.held) → Keeps text (AreWholeOrOut xs) s
+moments_keep text xs free old s clean shut beside within are =
     let not_free = beside.own gate_name (gate_private gate_name (covers-self gate_name)) in
     let here : (c : Image) → Agrees free free old.held c → ShowsSomeAtEnd text (AreWholeOrOut xs) c = λ c agrees.
     (visible c, Shut (agrees.look gate_name not_free not_free ∙ shut) refl, kept_beside free old.held c agrees beside xs are) in

@@ -1,17 +1,18 @@
 -- What is kept through stops.
-use Rattle.std.proofs.Common.{◌≡◌, ℕ, Bool, true, false, ◌||◌, List, ◌++◌, Option, Some, None, refl, sym, ap, subst, ◌∙◌}
+use Rattle.std.proofs.Common.{◌≡◌, ℕ, Bool, true, false, ◌||◌, List, [], ◌++◌, Option, Some, None, refl, sym, ap, subst, ◌∙◌, inl}
 use Rattle.ips_outside.specs.Image.{Image, IsImage, Agrees}
 use Rattle.ips_outside.specs.State.{State, MayLeave, IsSettled, ChangedWithin, nowhere, settled, untouched}
 use Rattle.ips_outside.specs.Outside.{Outside, IsOutside}
 use Rattle.ips_outside.proofs.Moments.{agrees_on, agrees_less, within_crash}
 use Rattle.ips_folder.specs.Calls.{Throughout}
+use Rattle.ips_folder.proofs.Runs.{started, joins}
 use Rattle.ips_steps.specs.Steps.{Step}
 use Rattle.ips_steps.specs.Private.{gate_name, visible}
 use Rattle.ips_steps.specs.Owed.{Owes, Old, Open, New, FolderOwes, IsPrivate}
 use Rattle.ips_steps.proofs.Lists.{clash}
 use Rattle.ips_steps.proofs.Owing.{folder_old}
 use Rattle.ips_sends.specs.Keeps.{ShowsAtEnd, Shut, Forward, ShowsSomeAtEnd, Keeps}
-use Rattle.ips_sends.specs.Sends.{IsSend, HasSettled, Sends, First, Stopped, Finished, Crash}
+use Rattle.ips_sends.specs.Sends.{IsSend, HasSettled, Sends, First, Early, Stopped, Finished, Crash}
 
 module _ (text : List Step → List ℕ) where
   -- what a crash leaves of what a crash left
@@ -56,9 +57,42 @@ module _ (text : List Step → List ℕ) where
   module _ {F A : Type 0} (o : Outside F) (Holds : List A → Image → Type 0) where
     pub kept : (xs : List A) (s : State) → Sends text o Holds xs s → Keeps text (Holds xs) s
     kept xs s (First held clean shut holds) = settled_keeps (Holds xs) held clean shut holds
+    kept xs s (Early begun ended old new is so_far was) = (is.before xs (kept xs (o.state old) so_far)).each s was
     kept xs s (Stopped {xs = before} begun ended old new is so_far was) = (is.still before (kept before (o.state old) so_far)).each s was
     kept xs s (Finished {xs = before} begun ended old new is so_far) = is.at_end before (kept before (o.state old) so_far)
     kept xs s (Crash {s = held} left so_far may) = crashed (Holds xs) held left (kept xs held so_far) may
 
     pub found : (xs : List A) (old at : F) → Sends text o Holds xs (o.state old) → HasSettled text o Holds old at → Holds xs (visible (o.state at).held)
     found xs old at so_far is = seen (Holds xs) (o.state at) (is.kept xs (kept xs (o.state old) so_far)) is.shut
+
+    -- ---- runs
+
+    -- what is said is kept throughout
+    abbrev pub KeepsAll : F → F → Type 0
+    KeepsAll old new = (xs : List A) → Keeps text (Holds xs) (o.state old) → Throughout o old new (Keeps text (Holds xs))
+
+    module _ (sane : IsOutside o) where
+      kept_here : (old new : F) → KeepsAll old new → (xs : List A) → Keeps text (Holds xs) (o.state old) → Keeps text (Holds xs) (o.state new)
+      kept_here old new all xs was = let run = all xs was in run.each (o.state new) (sane.counts_now new (o.clock old) run.later)
+
+      -- a run that begins no attempt
+      pub nothing_begun : (old new : F) → KeepsAll old new → IsSend text o Holds [] [] old new
+      nothing_begun old new all = record {
+        at = new;
+        before = all;
+        from = new;
+        first = inl refl;
+        still = λ xs was. started o new (Keeps text (Holds xs)) (sane.only_now new) (kept_here old new all xs was);
+        at_end = kept_here old new all;
+      }
+
+      -- a run behind calls that keep what is said
+      pub behind : (begun ended : List A) (old mid new : F) → KeepsAll old mid → IsSend text o Holds begun ended mid new → IsSend text o Holds begun ended old new
+      behind begun ended old mid new all is = record {
+        at = is.at;
+        before = λ xs was. joins o old mid is.at (Keeps text (Holds xs)) (all xs was) (is.before xs (kept_here old mid all xs was));
+        from = is.from;
+        first = is.first;
+        still = λ xs was. is.still xs (kept_here old mid all xs was);
+        at_end = λ xs was. is.at_end xs (kept_here old mid all xs was);
+      }

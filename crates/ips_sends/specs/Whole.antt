@@ -5,8 +5,8 @@ use Rattle.std.specs.Option.{option_to_list}
 use Rattle.ips_outside.specs.Image.{Image}
 use Rattle.ips_steps.specs.Private.{is_private}
 use Rattle.ips_digest.specs.declared.name.PayloadName.{PayloadName}
-use Rattle.ips_fmri.specs.Name.{IsPublisher}
-use Rattle.ips_fmri.specs.Version.{Parts}
+use Rattle.ips_fmri.specs.Name.{IsPublisher, IsStem}
+use Rattle.ips_fmri.specs.Version.{Parts, IsVersion}
 use Rattle.ips_action.specs.declared.kind.ActionKind.{ActionKind}
 use Rattle.ips_action.specs.declared.kind.ActionKind.TheVariants as kind
 use Rattle.ips_action.specs.Action.{Fields}
@@ -24,7 +24,9 @@ pub record Attempt : Type 0 where
   pub publisher : List ℕ
   pub is_publisher : IsPublisher publisher
   pub stem : List ℕ
+  pub is_stem : IsStem false stem
   pub version : Parts
+  pub is_version : IsVersion version
   pub actions : List Fields
   pub answered : Bool
 

@@ -174,7 +174,7 @@ does | install hello -> 1 old format: run update-format
 does | avoid x -> 1 old format: run update-format
 does | fix -> 1 old format: run update-format
 # but by one command, of which a stop leaves the steps
-with | -R i -s r update-format | after 83 -> 1 "folder fault: unfinished\n"
+with | -R i -s r update-format | after 84 -> 1 "folder fault: unfinished\n"
 look | var/pkg/journal -> file 600 "journal 1\nput 0 0644 var/pkg/history\nput 1 0644 var/pkg/image\ngone var/pkg/installed\ngone var/pkg/manifests\nfresh 0755 var/pkg/packages\nput 2 0644 var/pkg/packages/hello\nend 6\n"
 does | update-format -> 1 unfinished: run fix
 does | fix -> 0 recovered: new image

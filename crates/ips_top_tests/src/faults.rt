@@ -271,7 +271,7 @@ const MARKED: &str = r#"
 does | image-create -p test -> 0 done
 catalog | many 1 ->
 many | many@1 | 3000 ->
-with | -R i -s r install many | before 7688 -> 1 "folder fault: unfinished\n"
+with | -R i -s r install many | before 7689 -> 1 "folder fault: unfinished\n"
 laid -> 2300
 look | var/pkg/done.2 -> file 600 ""
 look | var/pkg/done.3 -> absent
@@ -284,7 +284,7 @@ begin ->
 does | image-create -p test -> 0 done
 catalog | many 1 ->
 many | many@1 | 3000 ->
-with | -R i -s r install many | after 9091 -> 1 "folder fault: unfinished\n"
+with | -R i -s r install many | after 9092 -> 1 "folder fault: unfinished\n"
 laid -> 3000
 look | var/pkg/done.3 -> file 600 ""
 does | fix -> 0 recovered: new image
@@ -296,7 +296,7 @@ const UNMARKED: &str = r#"
 does | image-create -p test -> 0 done
 catalog | many 1 ->
 many | many@1 | 3000 ->
-with | -R i -s r install many | gone 9091 -> 1 "folder fault: unfinished\n"
+with | -R i -s r install many | gone 9092 -> 1 "folder fault: unfinished\n"
 laid -> 3000
 look | var/pkg/done.2 -> file 600 ""
 look | var/pkg/done.3 -> absent
@@ -306,7 +306,7 @@ begin ->
 does | image-create -p test -> 0 done
 catalog | many 1 ->
 many | many@1 | 3000 ->
-with | -R i -s r install many | before 6084 -> 1 "folder fault: unfinished\n"
+with | -R i -s r install many | before 6085 -> 1 "folder fault: unfinished\n"
 laid -> 1500
 look | var/pkg/done.1 -> file 600 ""
 put | var/pkg/done.3 | ->

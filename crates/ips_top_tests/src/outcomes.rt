@@ -179,7 +179,7 @@ look | x -> absent
 with | -R i -s r install x | sink 1 -> 1 part ""
 look | x -> file 644 "abc"
 does | uninstall x -> 0 done
-with | -R i -s r install x | folder 81 -> 1 "folder fault: unfinished\n"
+with | -R i -s r install x | folder 82 -> 1 "folder fault: unfinished\n"
 # a gate that stands open, whatever stands there
 does | list -> 1 unfinished: run fix
 does | fix -> 0 recovered: new image

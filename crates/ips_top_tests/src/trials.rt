@@ -178,7 +178,7 @@ fn stands(rt: &impl Abort, alloc: Global, tree: &Tree, path: &str) -> bool {
 // What the stopped installation leaves, where two marks stand.
 fn stopped(rt: &impl Abort, alloc: Global, repo: &mut SureSource, tree: Tree) -> Tree {
     let stop = Stop {
-        call: 16990,
+        call: 16991,
         choice: Choice::Before,
     };
     let mut image = folder_of(rt, alloc, tree, Some(stop));

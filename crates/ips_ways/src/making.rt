@@ -5,7 +5,7 @@ ghost use Rattle.ips_text.specs.Ancestry.{covers};
 ghost use Rattle.ips_outside.specs.Children.{path_bytes};
 ghost use Rattle.ips_outside.specs.Image.{has_parent};
 ghost use Rattle.ips_outside.specs.State.{nowhere};
-ghost use Rattle.ips_outside.specs.Outside.{HasCause, Reads};
+ghost use Rattle.ips_outside.specs.Outside.{Elapses, HasCause, Reads};
 ghost use Rattle.ips_folder.specs.Calls.{ChangesOnly};
 ghost use Rattle.ips_ways.specs.Ways.{CanHave, HasBegun, any_missing, has_begun, is_dir_or_free, is_missing, with_dir, with_dirs};
 
@@ -30,6 +30,7 @@ pub fn make_directories<F: Folder>(folder: &mut F, paths: &[RelPath]) -> Result<
     requires { IsTrue (F.outside.tells folder.old) → CanHave (F.outside.state folder.old).held (path_bytes paths.now) }
     ensures done { IsTrue (F.outside.tells folder.old) → OnOk result ((F.outside.state folder.new).held ≡ with_dirs (path_bytes paths.now) (F.outside.state folder.old).held) }
     ensures kept { IsFalse (has_begun result) → F.outside.state folder.new ≡ F.outside.state folder.old }
+    ensures still { IsFalse (has_begun result) → Elapses F.outside folder.old folder.new }
     ensures missing { IsTrue (F.outside.tells folder.old) → IsTrue (has_begun result) → IsTrue (any_missing (F.outside.state folder.old).held (path_bytes paths.now)) }
     ensures any_moment { IsTrue (F.outside.tells folder.old) → ChangesOnly F.outside (is_missing (F.outside.state folder.old).held (path_bytes paths.now)) nowhere folder.old folder.new }
     ensures begun { HasBegun (F.outside.changes folder.old) (F.outside.changes folder.new) (has_begun result) }
@@ -56,6 +57,7 @@ fn make_missing<F: Folder>(folder: &mut F, path: &RelPath) -> Result<bool, Unmad
     requires { IsTrue (F.outside.tells folder.old) → IsTrue (is_dir_or_free ((F.outside.state folder.old).held.look path.now.bytes) && has_parent (F.outside.state folder.old).held path.now.bytes) }
     ensures done { IsTrue (F.outside.tells folder.old) → OnOk result ((F.outside.state folder.new).held ≡ with_dir path.now.bytes (F.outside.state folder.old).held) }
     ensures kept { IsFalse (has_begun result) → F.outside.state folder.new ≡ F.outside.state folder.old }
+    ensures still { IsFalse (has_begun result) → Elapses F.outside folder.old folder.new }
     ensures missing { IsTrue (F.outside.tells folder.old) → IsTrue (has_begun result) → IsTrue (is_none ((F.outside.state folder.old).held.look path.now.bytes)) }
     ensures any_moment { IsTrue (F.outside.tells folder.old)
         → ChangesOnly F.outside (λ q. is_none ((F.outside.state folder.old).held.look path.now.bytes) && covers path.now.bytes q) nowhere folder.old folder.new }

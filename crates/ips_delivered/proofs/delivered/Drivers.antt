@@ -7,7 +7,7 @@ use Rattle.ips_action.specs.declared.kind.ActionKind.TheVariants as kind
 use Rattle.ips_action.specs.Action.{Fields}
 use Rattle.ips_conflict.specs.declared.placed.Placed.{Placed}
 use Rattle.ips_metafiles.specs.Records.{IsDriverLine, IsDrivers}
-use Rattle.ips_delivered.specs.delivered.Known.{is_driver}
+use Rattle.ips_delivered.specs.delivered.Kept.{is_driver}
 
 -- The actions of a list.
 abbrev pub actions_of : List Placed → List Fields

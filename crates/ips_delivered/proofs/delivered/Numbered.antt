@@ -1,22 +1,18 @@
--- Where no owner is unknown, all have numbers.
-use Rattle.std.proofs.Common.{◌≡◌, Bool, true, false, cond, ℕ, List, [], ◌∷◌, Option, Some, None, refl, sym, ap, subst, ◌∙◌}
-use Rattle.std.specs.Prelude.{IfSome, option_map, Result, Ok, Err}
+-- Where no owner is unknown, all have numbers; and what files say of owners is told by the numbers that they give.
+use Rattle.std.proofs.Common.{◌≡◌, Bool, true, false, cond, ℕ, List, [], ◌∷◌, Option, Some, None, refl, sym, ap, ◌∙◌}
+use Rattle.std.specs.Prelude.{option_map, Result, Ok, Err}
 use Rattle.std.specs.Ordering.{nat_cmp, is_gt}
-use Rattle.std.specs.BTreeMap.{BTreeMap, get_by_text}
 use Rattle.std.specs.Cmp.Lexicographic.{slice_cmp}
 use Rattle.std.specs.List.{AllByRecursion}
-use Rattle.std.specs.declared.alloc.Global.{Global}
-use Rattle.std.specs.declared.string.String.{String}
+use Rattle.std.proofs.lemmas.List.Elements.{All-weaker}
 use Rattle.std.proofs.lemmas.Option.{none-some}
-use Rattle.ips_action.specs.Attrs.{is_same}
 use Rattle.ips_books.specs.declared.fault.Unknown.{Unknown}
 use Rattle.ips_books.specs.declared.fault.Unknown.TheVariants as unknown
 use Rattle.ips_books.specs.Accounts.{Accounts, resolved}
 use Rattle.ips_conflict.specs.declared.placed.Placed.{Placed}
 use Rattle.ips_conflict.specs.Alike.{has_mode}
-use Rattle.ips_delivered.specs.declared.delivered.known.Resolved.{Resolved}
-use Rattle.ips_delivered.specs.delivered.Delivering.{first_unknown, group_name, least_unknown, lesser_unknown, missing_name, owned_path, owner_name, unknown_of}
-use Rattle.ips_delivered.specs.delivered.Known.{AreKnown, AreNumbersOf}
+use Rattle.ips_metafiles.specs.declared.owner.OwnerRow.{OwnerRow}
+use Rattle.ips_delivered.specs.delivered.Delivering.{AreOwnerRows, IsOwnerRow, first_unknown, group_name, least_unknown, lesser_unknown, missing_name, owned_path, owner_name, unknown_of}
 
 abbrev Missed : Type 0
 Missed = Option (List ℕ × List ℕ)
@@ -56,10 +52,26 @@ has_numbers books p mode none = go (resolved books (owner_name p) (group_name p)
     go (Err unknown.Owner) is none = absurd (none-some (owned_path p, owner_name p) (sym none))
     go (Err unknown.Group) is none = absurd (none-some (owned_path p, group_name p) (sym none))
 
--- one more is known
-pub known_more : (books : Accounts) (old new : BTreeMap (String Global) Resolved) (key : List ℕ) (n : Resolved) → AreKnown books old → AreNumbersOf books n → ((q : List ℕ) → get_by_text new q ≡ cond (is_same key q) (Some n) (get_by_text old q)) → AreKnown books new
-known_more books old new key n so_far one put q = subst (λ (o : Option Resolved). IfSome o (AreNumbersOf books)) (sym (put q)) (go (is_same key q))
-  where
-    go : (t : Bool) → IfSome (cond t (Some n) (get_by_text old q)) (AreNumbersOf books)
-    go true = one
-    go false = so_far q
+-- Files that give the same numbers.
+abbrev pub GiveSame : Accounts → Accounts → Type 0
+GiveSame a b = (owner group : List ℕ) → resolved a owner group ≡ resolved b owner group
+
+same_unknown : (a b : Accounts) (p : Placed) → GiveSame a b → unknown_of a p ≡ unknown_of b p
+same_unknown a b p same = ap (λ (r : Result (ℕ × ℕ) Unknown). cond (has_mode p.action) (option_map (λ (name : List ℕ). (owned_path p, name)) (missing_name r p)) None) (same (owner_name p) (group_name p))
+
+same_least : (a b : Accounts) (found : Missed) (xs : List Placed) → GiveSame a b → least_unknown a found xs ≡ least_unknown b found xs
+same_least a b found [] same = refl
+same_least a b found (x ∷ xs) same =
+    same_least a b (lesser_unknown found (unknown_of a x)) xs same ∙ ap (λ (m : Missed). least_unknown b (lesser_unknown found m) xs) (same_unknown a b x same)
+
+-- by them the same owner is unknown
+pub same_first : (a b : Accounts) (admitted : List Placed) → GiveSame a b → first_unknown a admitted ≡ first_unknown b admitted
+same_first a b admitted same = same_least a b None admitted same
+
+-- and the same rows tell the owners
+pub same_rows : (a b : Accounts) (admitted : List Placed) (rows : List OwnerRow) → GiveSame a b → AreOwnerRows a admitted rows → AreOwnerRows b admitted rows
+same_rows a b admitted rows same are = record {
+  in_order = are.in_order;
+  each = All-weaker (IsOwnerRow a admitted) (IsOwnerRow b admitted) (λ row is. record { action = is.action; owning = is.owning; owner = is.owner; group = is.group; numbers = sym (same row.owner row.group) ∙ is.numbers }) rows are.each;
+  whole = are.whole;
+}

@@ -16,7 +16,7 @@ use Rattle.ips_conflict.specs.declared.placed.Placed.{Placed}
 use Rattle.ips_conflict.specs.Alike.{has_mode, takes_place}
 use Rattle.ips_conflict.proofs.Kept.{found_insert}
 use Rattle.ips_delivered.specs.delivered.Delivering.{owned_path, owning, owns, owns_first}
-use Rattle.ips_delivered.specs.delivered.Known.{PathOwners, owner_at, owner_of_two, owner_with}
+use Rattle.ips_delivered.specs.delivered.Kept.{PathOwners, owner_at, owner_of_two, owner_with}
 
 -- ---- what is found
 

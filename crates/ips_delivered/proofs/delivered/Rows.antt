@@ -17,7 +17,7 @@ use Rattle.ips_conflict.specs.declared.placed.Placed.{Placed}
 use Rattle.ips_conflict.proofs.Kept.{found_at}
 use Rattle.ips_metafiles.specs.declared.owner.OwnerRow.{OwnerRow}
 use Rattle.ips_delivered.specs.delivered.Delivering.{AreOwnerRows, IsOwnerRow, owning}
-use Rattle.ips_delivered.specs.delivered.Known.{AreOwners, PathOwners, owner_at}
+use Rattle.ips_delivered.specs.delivered.Kept.{AreOwners, PathOwners, owner_at}
 use Rattle.ips_delivered.proofs.delivered.Owning.{HasOwnPath}
 
 -- what the map lends

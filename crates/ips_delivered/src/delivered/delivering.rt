@@ -11,9 +11,9 @@ ghost use Rattle.ips_due.specs.Delivered.{CanBeNamed, Delivered, delivered_recor
 ghost use Rattle.ips_due.specs.outstanding.Parts.{due_record};
 ghost use Rattle.ips_delivered.specs.delivered.Delivering as spec;
 ghost use Rattle.ips_delivered.specs.delivered.Delivering.{AreDelivered, HasUnknownOwner, PackagesDeliver};
-ghost use Rattle.ips_delivered.specs.delivered.Known as known;
+ghost use Rattle.ips_delivered.specs.delivered.Kept as kept;
 ghost use Rattle.ips_delivered.specs.delivered.Named.{names_told, records_with};
-ghost use Rattle.ips_delivered.specs.delivered.Known.{ActionsDeliver, missing_told};
+ghost use Rattle.ips_delivered.specs.delivered.Kept.{ActionsDeliver, missing_told};
 ghost use Rattle.ips_text.specs.Path.{IsPath};
 
 use crate::delivered::admitting::admitted;
@@ -28,9 +28,9 @@ use ips_due::outstanding::{Content, DueRecord};
 use ips_filter::Settings;
 use ips_manifest::Package;
 use ips_metafiles::{OwnerRow, drivers, owners};
+use ips_passwd::Owners;
 use ips_text::{Or, Text};
 use std::alloc::{AllocError, Global};
-use std::collections::BTreeMap;
 
 /// The records of what packages deliver where these are the settings and the account files: owners, drivers, licenses and legacy
 /// packages. Where the account files aren't read they are empty, and just the names that need no line are known.
@@ -60,11 +60,24 @@ fn of_actions<'a>(
     ensures records { IfOk result (λ records. ActionsDeliver (accounts books.now) admitted.now (map due_record records.items)) }
     ensures unknown { IfBad result (λ fault. spec.first_unknown (accounts books.now) admitted.now ≡ Some (fault.path.bytes, fault.name)) }
 {
-    let mut known = BTreeMap::new(alloc);
-    if let Some(missing) = first_unknown(alloc, books, &mut known, admitted)? {
+    let accounts = Owners::new(alloc, books)?;
+    of_owned(alloc, admitted, &accounts)
+}
+
+// The same, where users and groups are found by name.
+fn of_owned<'a>(
+    alloc: Global,
+    admitted: &[Placed<'a>],
+    accounts: &Owners,
+) -> Result<Vec<DueRecord>, Or<UnknownOwner>>
+    requires stems { AllByRecursion (λ p. IsStem false p.stem) admitted.now }
+    ensures records { IfOk result (λ records. ActionsDeliver accounts.now admitted.now (map due_record records.items)) }
+    ensures unknown { IfBad result (λ fault. spec.first_unknown accounts.now admitted.now ≡ Some (fault.path.bytes, fault.name)) }
+{
+    if let Some(missing) = first_unknown(accounts, admitted) {
         return Err(Or::Bad(unknown_owner(alloc, missing)?));
     }
-    let rows = owner_rows(alloc, books, &mut known, admitted)?;
+    let rows = owner_rows(alloc, accounts, admitted)?;
     Ok(records(alloc, admitted, &rows)?)
 }
 
@@ -148,7 +161,7 @@ fn drivers_record(alloc: Global, admitted: &[Placed<'_>]) -> Result<DueRecord, A
 
 // The driver actions.
 fn driver_actions(alloc: Global, admitted: &[Placed<'_>]) -> Result<Vec<Action>, AllocError>
-    ensures { IfOk result (λ actions. actions.items ≡ map (λ p. p.action) (filter (λ p. known.is_driver p.action.kind) admitted.now)) }
+    ensures { IfOk result (λ actions. actions.items ≡ map (λ p. p.action) (filter (λ p. kept.is_driver p.action.kind) admitted.now)) }
 {
     let mut actions = Vec::new(alloc);
     for item in admitted {
@@ -159,7 +172,7 @@ fn driver_actions(alloc: Global, admitted: &[Placed<'_>]) -> Result<Vec<Action>,
 
 // Adds an action, if it is a driver.
 fn add_driver(alloc: Global, item: &Placed<'_>, actions: &mut Vec<Action>) -> Result<(), AllocError>
-    ensures { OnOk result (actions.new.items ≡ actions.old.items ++ (if known.is_driver item.now.action.kind then item.now.action ∷ [] else [])) }
+    ensures { OnOk result (actions.new.items ≡ actions.old.items ++ (if kept.is_driver item.now.action.kind then item.now.action ∷ [] else [])) }
 {
     if is_driver(item.kind()) {
         actions.push(item.action().copy(alloc)?)?;
@@ -169,7 +182,7 @@ fn add_driver(alloc: Global, item: &Placed<'_>, actions: &mut Vec<Action>) -> Re
 
 // Whether the kind is that of a driver.
 fn is_driver(kind: ActionKind) -> bool
-    ensures { result ≡ known.is_driver kind }
+    ensures { result ≡ kept.is_driver kind }
 {
     matches!(kind, ActionKind::Driver)
 }

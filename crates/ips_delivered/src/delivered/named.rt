@@ -13,7 +13,7 @@ ghost use Rattle.ips_delivered.specs.delivered.Delivering.{legacies_of, legacy_o
 ghost use Rattle.ips_delivered.specs.delivered.Named.{DeliverNamed, NamesLegacy, NamesLicense, legacy_told, license_told, names_told};
 
 use crate::delivered::admitting::admitted;
-use crate::delivered::known::value;
+use crate::delivered::attribute::value;
 use ips_action::{Action, ActionKind};
 use ips_conflict::Placed;
 use ips_digest::PayloadName;

@@ -2,17 +2,16 @@
 
 ghost use Rattle.std.specs.Prelude.{◌≡◌, ◌&&◌, not, ℕ, List, true, None, Ok, IfOk, IfSome, OnOk};
 ghost use Rattle.ips_books.specs.Accounts.{resolved};
-ghost use Rattle.ips_books.specs.Seen.{accounts};
 ghost use Rattle.ips_conflict.specs.Alike as alike;
 ghost use Rattle.ips_text.specs.Path.{IsPath};
 ghost use Rattle.ips_delivered.specs.delivered.Delivering.{AreOwnerRows, first_unknown, group_name, owner_name, owns};
-ghost use Rattle.ips_delivered.specs.delivered.Known.{AreKnown, AreOwners, owner_at, owner_with};
+ghost use Rattle.ips_delivered.specs.delivered.Kept.{AreOwners, owner_at, owner_with};
 
-use crate::delivered::known::{Resolved, numbers, value};
+use crate::delivered::attribute::value;
 use crate::delivered::unknown::owned_path;
-use ips_books::Books;
 use ips_conflict::Placed;
 use ips_metafiles::OwnerRow;
+use ips_passwd::Owners;
 use ips_text::{Or, RelPath, Text};
 use std::alloc::{AllocError, Global};
 use std::collections::BTreeMap;
@@ -20,18 +19,16 @@ use std::collections::BTreeMap;
 /// The owners of the paths of directories and files, in the order of the paths' bytes, each path once.
 pub fn owner_rows<'a>(
     alloc: Global,
-    books: &Books,
-    known: &mut BTreeMap<String, Resolved<'a>>,
+    accounts: &Owners,
     admitted: &[Placed<'a>],
 ) -> Result<Vec<OwnerRow>, AllocError>
-    requires known { AreKnown (accounts books.now) known.old }
-    requires none { first_unknown (accounts books.now) admitted.now ≡ None }
-    ensures { IfOk result (λ rows. AreOwnerRows (accounts books.now) admitted.now rows.items) }
+    requires none { first_unknown accounts.now admitted.now ≡ None }
+    ensures { IfOk result (λ rows. AreOwnerRows accounts.now admitted.now rows.items) }
 {
     let owners = owners(alloc, admitted)?;
     let mut rows = Vec::with_capacity(alloc, owners.len())?;
     for (path, item) in owners.iter() {
-        rows.push(row(alloc, books, known, path, item)?)?;
+        rows.push(row(alloc, accounts, path, item)?)?;
     }
     Ok(rows)
 }
@@ -39,23 +36,20 @@ pub fn owner_rows<'a>(
 // The row of a path at which an action names an owner.
 fn row<'a>(
     alloc: Global,
-    books: &Books,
-    known: &mut BTreeMap<String, Resolved<'a>>,
+    accounts: &Owners,
     path: &[u8],
     item: &Placed<'a>,
 ) -> Result<OwnerRow, AllocError>
-    requires known { AreKnown (accounts books.now) known.old }
     requires path { IsPath path.now }
-    requires numbers { (n : ℕ × ℕ) × (resolved (accounts books.now) (owner_name item.now) (group_name item.now) ≡ Ok n) }
+    requires numbers { (n : ℕ × ℕ) × (resolved accounts.now (owner_name item.now) (group_name item.now) ≡ Ok n) }
     ensures path { IfOk result (λ row. row.path.bytes ≡ path.now) }
     ensures owner { IfOk result (λ row. row.owner ≡ owner_name item.now) }
     ensures group { IfOk result (λ row. row.group ≡ group_name item.now) }
-    ensures numbers { IfOk result (λ row. resolved (accounts books.now) row.owner row.group ≡ Ok (row.uid, row.gid)) }
-    ensures known { OnOk result (AreKnown (accounts books.now) known.new) }
+    ensures numbers { IfOk result (λ row. resolved accounts.now row.owner row.group ≡ Ok (row.uid, row.gid)) }
 {
     let owner = value(item.action(), "owner");
     let group = value(item.action(), "group");
-    match numbers(alloc, books, known, owner, group)? {
+    match accounts.resolve(owner, group) {
         Ok((uid, gid)) => Ok(OwnerRow {
             path: parsed(alloc, path)?,
             owner: Text::new(alloc, owner)?,

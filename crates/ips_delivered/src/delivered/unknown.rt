@@ -1,21 +1,19 @@
 //! Which owner is unknown.
 
-ghost use Rattle.std.specs.Prelude.{◌≡◌, true, false, IfOk, IfSome, IfNone, OnOk, option_map};
+ghost use Rattle.std.specs.Prelude.{◌≡◌, true, false, IfSome, IfNone, option_map};
 ghost use Rattle.ips_books.specs.Accounts.{resolved};
-ghost use Rattle.ips_books.specs.Seen.{accounts};
 ghost use Rattle.ips_conflict.specs.Alike.{has_mode};
 ghost use Rattle.ips_text.specs.Path.{IsPath};
 ghost use Rattle.ips_delivered.specs.delivered.Delivering as spec;
 ghost use Rattle.ips_delivered.specs.delivered.Delivering.{group_name, lesser_unknown, missing_name, owned_path, owner_name};
-ghost use Rattle.ips_delivered.specs.delivered.Known.{AreKnown, missing_told};
+ghost use Rattle.ips_delivered.specs.delivered.Kept.{missing_told};
 
-use crate::delivered::known::{Resolved, numbers, value};
+use crate::delivered::attribute::value;
 use ips_action::ActionKind;
-use ips_books::{Books, Unknown};
+use ips_books::Unknown;
 use ips_conflict::Placed;
+use ips_passwd::Owners;
 use ips_text::{RelPath, Text};
-use std::alloc::{AllocError, Global};
-use std::collections::BTreeMap;
 
 /// The owner or the group of a path, whose name no one has.
 #[derive(Drop)]
@@ -34,63 +32,41 @@ pub struct Missing<'a> {
 }
 
 /// The unknown name at the least path, where one is unknown; of several there the first.
-pub fn first_unknown<'a>(
-    alloc: Global,
-    books: &Books,
-    known: &mut BTreeMap<String, Resolved<'a>>,
-    admitted: &[Placed<'a>],
-) -> Result<Option<Missing<'a>>, AllocError>
-    requires { AreKnown (accounts books.now) known.old }
-    ensures found { IfOk result (λ found. option_map missing_told found ≡ spec.first_unknown (accounts books.now) admitted.now) }
-    ensures proper { IfOk result (λ found. IfSome found (λ m. IsPath m.path.now)) }
-    ensures known { OnOk result (AreKnown (accounts books.now) known.new) }
+pub fn first_unknown<'a>(accounts: &Owners, admitted: &[Placed<'a>]) -> Option<Missing<'a>>
+    ensures found { option_map missing_told result ≡ spec.first_unknown accounts.now admitted.now }
+    ensures proper { IfSome result (λ m. IsPath m.path.now) }
 {
     let mut least = None;
     for item in admitted {
-        let found = unknown_of(alloc, books, known, item)?;
-        least = lesser(least, found);
+        least = lesser(least, unknown_of(accounts, item));
     }
-    Ok(least)
+    least
 }
 
 // The path of a directory or file, with the unknown name of its owner or group, where one is unknown.
-fn unknown_of<'a>(
-    alloc: Global,
-    books: &Books,
-    known: &mut BTreeMap<String, Resolved<'a>>,
-    item: &Placed<'a>,
-) -> Result<Option<Missing<'a>>, AllocError>
-    requires { AreKnown (accounts books.now) known.old }
-    ensures found { IfOk result (λ found. option_map missing_told found ≡ spec.unknown_of (accounts books.now) item.now) }
-    ensures proper { IfOk result (λ found. IfSome found (λ m. IsPath m.path.now)) }
-    ensures known { OnOk result (AreKnown (accounts books.now) known.new) }
+fn unknown_of<'a>(accounts: &Owners, item: &Placed<'a>) -> Option<Missing<'a>>
+    ensures found { option_map missing_told result ≡ spec.unknown_of accounts.now item.now }
+    ensures proper { IfSome result (λ m. IsPath m.path.now) }
 {
     let Some(path) = owned_path(item) else {
-        return Ok(None);
+        return None;
     };
-    match missing_name(alloc, books, known, item)? {
-        Some(name) => Ok(Some(Missing { path, name })),
-        None => Ok(None),
+    match missing_name(accounts, item) {
+        Some(name) => Some(Missing { path, name }),
+        None => None,
     }
 }
 
 // The unknown name of an owner or a group.
-fn missing_name<'a>(
-    alloc: Global,
-    books: &Books,
-    known: &mut BTreeMap<String, Resolved<'a>>,
-    item: &Placed<'a>,
-) -> Result<Option<&'a str>, AllocError>
-    requires { AreKnown (accounts books.now) known.old }
-    ensures found { IfOk result (λ found. option_map (λ name. name.now) found ≡ missing_name (resolved (accounts books.now) (owner_name item.now) (group_name item.now)) item.now) }
-    ensures known { OnOk result (AreKnown (accounts books.now) known.new) }
+fn missing_name<'a>(accounts: &Owners, item: &Placed<'a>) -> Option<&'a str>
+    ensures { option_map (λ name. name.now) result ≡ missing_name (resolved accounts.now (owner_name item.now) (group_name item.now)) item.now }
 {
     let owner = value(item.action(), "owner");
     let group = value(item.action(), "group");
-    match numbers(alloc, books, known, owner, group)? {
-        Ok(_) => Ok(None),
-        Err(Unknown::Owner) => Ok(Some(owner)),
-        Err(Unknown::Group) => Ok(Some(group)),
+    match accounts.resolve(owner, group) {
+        Ok(_) => None,
+        Err(Unknown::Owner) => Some(owner),
+        Err(Unknown::Group) => Some(group),
     }
 }
 

@@ -1,6 +1,5 @@
 use Rattle.std.proofs.Common.{Bool, Err, refl, arith}
 use Rattle.ips_text.specs.declared.refusal.Or.TheVariants.{OutOfMemory}
-use Rattle.ips_outside.specs.State.{nowhere}
 use Rattle.ips_outside.proofs.Faults.{no_cause}
 use Rattle.ips_folder.proofs.Runs.{started, begun}
 use Rattle.ips_steps.specs.Owed.{FolderOwes}
@@ -16,7 +15,8 @@ returns-in_default g c =
     let now_alone = g.met.F.Source.sane.only_now old in record {
       recovers = record {
         owed = λ told b a due owes. started o old (FolderOwes journal_text b a due) now_alone owes;
-        closed = λ told shut. begun o is_swept nowhere old now_alone;
+        closed = λ told shut. begun o is_swept is_swept old now_alone;
+        opened = λ told shut. tt;
         forward = λ told. tt;
         done = λ told gate. tt;
         cleared = λ told shut. tt;

@@ -1,7 +1,7 @@
-use Rattle.std.proofs.Common.{◌≡◌, ◌≢◌, inl, Bool, true, false, Ok, Err, List, None, refl, sym, ◌∙◌, subst, arith}
+use Rattle.std.proofs.Common.{◌≡◌, ◌≢◌, inl, Bool, true, false, Ok, Err, List, None, refl, sym, ◌∙◌, ap, subst, arith}
 use Rattle.ips_text.specs.Kept.{Kept}
 use Rattle.ips_text.specs.declared.refusal.Or.TheVariants.{Bad}
-use Rattle.ips_outside.specs.State.{State, nowhere}
+use Rattle.ips_outside.specs.State.{State}
 use Rattle.ips_folder.proofs.Runs.{joins, one_read}
 use Rattle.ips_outside.proofs.Faults.{cause_behind, rose_since}
 use Rattle.ips_outside.proofs.Reading.{answered}
@@ -15,6 +15,8 @@ use Rattle.ips_commit.specs.declared.fault.CommitFault.TheVariants as fault
 use Rattle.ips_commit.specs.Pending.{AreMarkNames, HasCommitted, IsSwept, is_swept}
 use Rattle.ips_commit.specs.Recovering.{IsPlaced, IsJournalled, IsUnfinished, CanRollForward, SaysOfFinding, SaysOfRecovery, SaysOfLaying}
 use Rattle.ips_contents.proofs.AllWritten.{as_bad}
+use Rattle.ips_rehearse.proofs.Passing.{pass_call}
+use Rattle.ips_commit.proofs.Swept.{opened_behind}
 use Rattle.ips_commit.proofs.Rolled.{still_owed, still_clean, swept_keeps, swept_owed, swept_done, found_open, found_shut, says_rolled, never_refused, says_only_read, if_starved, read_cause, never_begun, roll_cause, never_found, calm_cause, no_answer}
 use Rattle.ips_commit.proofs.recovering.restore.Goals as goal
 
@@ -27,7 +29,8 @@ returns-in-Err-clause-recovers g c =
     let mid = c.find_left.new.folder in
     let reads = c.find_left.ensures.reads in record {
       owed = λ told b a due owes. still_owed o sane old mid _ reads b a due owes;
-      closed = λ told shut. one_read o sane is_swept nowhere old mid _ reads;
+      closed = λ told shut. one_read o sane is_swept is_swept old mid _ reads;
+      opened = λ told shut. tt;
       forward = λ told. tt;
       done = λ told gate. tt;
       cleared = λ told shut. tt;
@@ -55,12 +58,13 @@ returns-in_default-clause-recovers g c =
     let sane = g.met.F.Source.sane in
     let old = c.args.folder.now in
     let mid = c.find_left.new.folder in
-    let new = c.clear.new.folder in
+    let new = c.clear_left.new.folder in
     let reads = c.find_left.ensures.reads in record {
       owed = λ told b a due owes.
           swept_owed o sane old mid _ reads new (found_shut c.in-Ok.left.is_open (o.state old).held (c.in-Ok.ensures.gate told) c.if-is_open.false)
-          (c.clear.ensures.any_moment (reads.call.same_kind ∙ told)) (c.requires.safe told) b a due owes;
-      closed = λ told shut. swept_keeps o sane old mid _ reads new shut (c.clear.ensures.any_moment (reads.call.same_kind ∙ told));
+          (c.clear_left.ensures.any_moment (reads.call.same_kind ∙ told)) (c.requires.safe told) b a due owes;
+      closed = λ told shut. swept_keeps o sane old mid _ reads new shut (c.clear_left.ensures.any_moment (reads.call.same_kind ∙ told));
+      opened = λ told shut. tt;
       forward = λ told. tt;
       done = λ told gate. tt;
       cleared = λ told shut. tt;
@@ -70,8 +74,8 @@ returns-in_default-clause-recovers g c =
       read_first = λ told none gate. absurd (gate (found_shut c.in-Ok.left.is_open (o.state old).held (c.in-Ok.ensures.gate told) c.if-is_open.false));
       cause = cause_behind (o.faults old) (o.faults mid) (o.faults new) _ _ _ reads.call.cause (λ failed. let bad = sym c.in-Ok.is ∙ failed in cc)
           c.in_default.ensures.cause (λ failed. inl refl) (λ is. refl);
-      same_kind = c.clear.ensures.same_kind ∙ reads.call.same_kind;
-      changes = omega (arith, reads.none_made, c.clear.ensures.changes);
+      same_kind = c.clear_left.ensures.same_kind ∙ reads.call.same_kind;
+      changes = omega (arith, reads.none_made, c.clear_left.ensures.changes);
       changed = λ is. cc;
       untouched = λ told gate. absurd (gate (found_shut c.in-Ok.left.is_open (o.state old).held (c.in-Ok.ensures.gate told) c.if-is_open.false));
       unlaid = λ is. refl;
@@ -86,28 +90,29 @@ returns-clause-recovers g c =
     let sane = g.met.F.Source.sane in
     let old = c.args.folder.now in
     let mid = c.find_left.new.folder in
-    let new = c.clear.new.folder in
+    let new = c.clear_left.new.folder in
     let reads = c.find_left.ensures.reads in record {
       owed = λ told b a due owes.
           swept_owed o sane old mid _ reads new (found_shut c.in-Ok.left.is_open (o.state old).held (c.in-Ok.ensures.gate told) c.if-is_open.false)
-          (c.clear.ensures.any_moment (reads.call.same_kind ∙ told)) (c.requires.safe told) b a due owes;
-      closed = λ told shut. swept_keeps o sane old mid _ reads new shut (c.clear.ensures.any_moment (reads.call.same_kind ∙ told));
+          (c.clear_left.ensures.any_moment (reads.call.same_kind ∙ told)) (c.requires.safe told) b a due owes;
+      closed = λ told shut. swept_keeps o sane old mid _ reads new shut (c.clear_left.ensures.any_moment (reads.call.same_kind ∙ told));
+      opened = λ told shut. opened_behind o old mid new (pass_call o old mid _ reads.call) (ap (λ (s : State). s.held) reads.kept) (c.in-Ok-clear_left.ensures.opened (reads.call.same_kind ∙ told));
       forward = λ told. sym c.if-is_open.false ∙ c.in-Ok.ensures.gate told;
       done = λ told gate. absurd (gate (found_shut c.in-Ok.left.is_open (o.state old).held (c.in-Ok.ensures.gate told) c.if-is_open.false));
       cleared = λ told shut.
           let told_1 = reads.call.same_kind ∙ told in
-          swept_done o sane old mid _ reads new shut (c.clear.ensures.any_moment told_1) (c.clear.ensures.same_kind ∙ told_1)
+          swept_done o sane old mid _ reads new shut (c.clear_left.ensures.any_moment told_1) (c.clear_left.ensures.same_kind ∙ told_1)
           (path_bytes c.in-Ok.left.marks.items) (c.in-Ok.ensures.marks told).others
-          (subst (λ (l : List Kept). IsSwept (path_bytes l) (o.state mid).held (o.state new).held) c.deref-2.ensures.value (c.in-Ok-clear.ensures.swept told_1)) (c.in-Ok-clear.ensures.safe told_1);
+          (subst (λ (l : List Kept). IsSwept (path_bytes l) (o.state mid).held (o.state new).held) c.deref-2.ensures.value (c.in-Ok-clear_left.ensures.swept told_1)) (c.in-Ok-clear_left.ensures.safe told_1);
       meant = λ told steps count a is_open.
           absurd (is_open.gate (found_shut c.in-Ok.left.is_open (o.state old).held (c.in-Ok.ensures.gate told) c.if-is_open.false));
       refused = λ told. tt;
       starved = tt;
       read_first = λ told none gate. absurd (gate (found_shut c.in-Ok.left.is_open (o.state old).held (c.in-Ok.ensures.gate told) c.if-is_open.false));
       cause = calm_cause (o.faults old) (o.faults mid) (o.faults new) _ _ _ reads.call.cause (λ failed. let bad = sym c.in-Ok.is ∙ failed in cc)
-          c.clear.ensures.cause (answered c.clear.result _ c.in-Ok-clear.is) (no_answer (Ok false) false refl);
-      same_kind = c.clear.ensures.same_kind ∙ reads.call.same_kind;
-      changes = omega (arith, reads.none_made, c.clear.ensures.changes);
+          c.clear_left.ensures.cause (answered c.clear_left.result _ c.in-Ok-clear_left.is) (no_answer (Ok false) false refl);
+      same_kind = c.clear_left.ensures.same_kind ∙ reads.call.same_kind;
+      changes = omega (arith, reads.none_made, c.clear_left.ensures.changes);
       changed = λ is. cc;
       untouched = λ told gate is. cc;
       unlaid = λ is. refl;
@@ -151,6 +156,7 @@ returns-in-Ok-roll_forward-clause-recovers g c =
           joins o old mid new (FolderOwes journal_text b a due) (still_owed o sane old mid _ reads b a due owes)
           (c.roll_forward.ensures.owed (reads.call.same_kind ∙ told) b a due (subst (FolderOwes journal_text b a due) (sym kept) owes));
       closed = λ told shut. absurd (found_open c.in-Ok.left.is_open (o.state old).held (c.in-Ok.ensures.gate told) c.if-is_open.true shut);
+      opened = λ told shut. absurd (found_open c.in-Ok.left.is_open (o.state old).held (c.in-Ok.ensures.gate told) c.if-is_open.true shut);
       forward = λ told. sym c.if-is_open.true ∙ c.in-Ok.ensures.gate told;
       done = λ told gate.
           let all = c.in-Ok-roll_forward.ensures.done (reads.call.same_kind ∙ told) in (
@@ -194,6 +200,7 @@ returns-in-Err-roll_forward-clause-recovers g c =
           joins o old mid new (FolderOwes journal_text b a due) (still_owed o sane old mid _ reads b a due owes)
           (c.roll_forward.ensures.owed (reads.call.same_kind ∙ told) b a due (subst (FolderOwes journal_text b a due) (sym kept) owes));
       closed = λ told shut. absurd (found_open c.in-Ok.left.is_open (o.state old).held (c.in-Ok.ensures.gate told) c.if-is_open.true shut);
+      opened = λ told shut. absurd (found_open c.in-Ok.left.is_open (o.state old).held (c.in-Ok.ensures.gate told) c.if-is_open.true shut);
       forward = λ told. tt;
       done = λ told gate. tt;
       cleared = λ told shut. tt;

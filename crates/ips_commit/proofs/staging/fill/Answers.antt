@@ -1,14 +1,18 @@
-use Rattle.std.proofs.Common.{List, Some, map, refl, ap, subst, ◌∙◌, sym}
+use Rattle.std.proofs.Common.{List, Some, length, map, refl, ap, subst, ◌∙◌, sym}
 use Rattle.ips_text.specs.Ancestry.{covers}
-use Rattle.ips_outside.specs.State.{State}
+use Rattle.ips_outside.specs.State.{State, ChangedWithin, nowhere}
+use Rattle.ips_outside.proofs.Moments.{within_then, within_wider}
 use Rattle.ips_folder.specs.Calls.{ChangesOnly}
-use Rattle.ips_folder.proofs.Runs.{keeps_then}
+use Rattle.ips_folder.proofs.Runs.{keeps_then, weaker}
 use Rattle.ips_steps.specs.Journal.{IsJournal}
 use Rattle.ips_steps.specs.Steps.{Step, stage_name}
 use Rattle.ips_steps.specs.Private.{journal_name}
 use Rattle.ips_steps.specs.View.{step_of}
 use Rattle.ips_journal.specs.Text.{journal_text}
 use Rattle.ips_commit.proofs.Staged.{can_make_stage, can_make_journal, made_dir, made_entry, made_empty, standing_staged, stage_made, stage_agrees, stage_kept, journal_kept, all_filled, stage_unmarked, journal_unmarked}
+use Rattle.ips_contents.proofs.Tried.{rehearsed_within}
+use Rattle.ips_commit.specs.Pending.{is_swept}
+use Rattle.ips_commit.proofs.OwnNames.{journal_swept, stage_swept}
 use Rattle.ips_commit.proofs.Unready.{unlisted}
 use Rattle.ips_commit.proofs.GateOpens.{on_err}
 use Rattle.ips_commit.proofs.staging.fill.Goals as goal
@@ -112,6 +116,25 @@ returns-in-Ok-write_journal-clause-filled g c = λ told.
     (c.write_journal.ensures.any_moment told_2).now.agrees (c.in_ok-tried.ensures.written told_1) (c.in_ok-tried.ensures.modes told_1) (c.in_ok-tried.ensures.alone told_1)
     (c.in_ok-tried.ensures.stands told_1 ∙ made_entry c.args.names.now.stage.bytes (o.state c.args.folder.now).held (o.state c.make_dir.new.self).held c.args.names.now.stage_is (ap (λ (s : State). s.held) (c.in-Ok.ensures.done told)))
     (c.in_ok-tried.ensures.only told_1) (c.in-Ok-write_journal.ensures.written told_2 ∙ ap (λ (l : List Step). Some (journal_text l)) c.in_ok-tried.ensures.of) (c.in-Ok-write_journal.ensures.safe told_2)
+
+pub returns-in-Ok-write_journal-clause-rehearsed : goal.returns-in-Ok-write_journal-clause-rehearsed
+returns-in-Ok-write_journal-clause-rehearsed g c = λ told.
+    let o = g.F.Source.outside in
+    let sane = g.met.F.Source.sane in
+    let old = c.args.folder.now in
+    let mid = c.make_dir.new.self in
+    let late = c.write_tried.new.folder in
+    let told_1 = c.make_dir.ensures.call.same_kind ∙ told in
+    let told_2 = c.write_tried.ensures.stages.same_kind ∙ told_1 in
+    let made : ChangesOnly o (covers stage_name) (covers stage_name) old mid = stage_made o sane c.args.names.now.stage.bytes c.args.names.now.stage_is old mid _ c.make_dir.result told c.make_dir.ensures in
+    let run : ChangesOnly o (covers stage_name) (covers stage_name) old late = keeps_then o (covers stage_name) (covers stage_name) old mid late made (c.write_tried.ensures.any_moment told_1) in
+    rehearsed_within o (ChangedWithin (covers stage_name) (covers stage_name) (o.state mid)) (ChangedWithin is_swept is_swept (o.state old)) c.args.steps.now (length c.args.staged.now) old mid late c.write_journal.new.folder
+    (stage_kept o sane old mid made).moments
+    (λ s w. within_then is_swept is_swept (o.state old) (o.state mid) s (stage_kept o sane old mid made).now (within_wider (covers stage_name) (covers stage_name) is_swept is_swept (o.state mid) s stage_swept stage_swept w))
+    (weaker o late c.write_journal.new.folder (ChangedWithin (covers journal_name) nowhere (o.state late)) (ChangedWithin is_swept is_swept (o.state old))
+    (λ s w. within_then is_swept is_swept (o.state old) (o.state late) s (stage_kept o sane old late run).now (within_wider (covers journal_name) nowhere is_swept is_swept (o.state late) s journal_swept (λ q off. refl) w))
+    (c.write_journal.ensures.any_moment told_2).moments)
+    (c.in_ok-tried.ensures.rehearsed told_1)
 
 pub returns-in_default-clause-unready : goal.returns-in_default-clause-unready
 returns-in_default-clause-unready g c = λ told.

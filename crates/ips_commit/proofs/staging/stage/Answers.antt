@@ -36,6 +36,9 @@ returns-in-Ok-write_stage-clause-staged g c = λ told.
     (g.met.F.Source.sane.formed c.write_stage.new.folder (c.write_stage.ensures.stages.same_kind ∙ told)) c.requires.lists (c.requires.can told)
     (own_modes is_swept _ _ (c.in-Ok-write_stage.ensures.within told).agrees) (c.in-Ok-write_stage.ensures.filled told)
 
+pub returns-in-Ok-write_stage-clause-rehearsed : goal.returns-in-Ok-write_stage-clause-rehearsed
+returns-in-Ok-write_stage-clause-rehearsed g c = λ told. c.in-Ok-write_stage.ensures.rehearsed told
+
 pub returns-in_default-clause-begun : goal.returns-in_default-clause-begun
 returns-in_default-clause-begun g c = inr (refl, refl)
 

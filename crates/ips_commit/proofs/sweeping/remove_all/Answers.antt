@@ -1,14 +1,27 @@
-use Rattle.std.proofs.Common.{◌∙◌, ap, arith}
+use Rattle.std.proofs.Common.{refl, ◌∙◌, ap, arith}
 use Rattle.std.specs.List.{list_any}
 use Rattle.std.proofs.lemmas.List.{take_all}
 use Rattle.ips_text.specs.Ancestry.{covers}
 use Rattle.ips_text.specs.Kept.{Kept}
-use Rattle.ips_outside.specs.State.{State}
+use Rattle.ips_outside.specs.State.{State, nowhere}
+use Rattle.ips_folder.proofs.Runs.{begun}
 use Rattle.ips_steps.specs.Private.{mark_front, begins}
 use Rattle.ips_outside.proofs.Reading.{answered}
+use Rattle.ips_rehearse.proofs.Passing.{pass_call, pass_none, pass_then}
 use Rattle.ips_commit.proofs.Swept.{off_mark, own_at, gone_more, all_bytes, removed_none}
 use Rattle.ips_contents.proofs.Wrote.{wrote_then}
 use Rattle.ips_commit.proofs.sweeping.remove_all.Goals as goal
+
+pub loop-mark-init : goal.loop-mark-init
+loop-mark-init g c = record {
+  kind = refl;
+  faults = refl;
+  changes = omega arith;
+  gone = λ told q is. cc;
+  nothing_new = λ told q none. none;
+  moments = λ told. begun g.F.Source.outside (begins mark_front) nowhere c.args.folder.now (g.met.F.Source.sane.only_now c.args.folder.now);
+  passed = pass_none g.F.Source.outside c.args.folder.now;
+}
 
 pub returns-in_err-remove-clause-any_moment : goal.returns-in_err-remove-clause-any_moment
 returns-in_err-remove-clause-any_moment g c = λ told.
@@ -31,6 +44,7 @@ loop-mark-preserved g c =
           ∙ removed_none p q (g.F.Source.outside.state c.loop-mark.folder).held (c.loop-mark.invariant.nothing_new told q none);
       moments = λ told. wrote_then g.F.Source.outside g.met.F.Source.sane (begins mark_front) p (off_mark p own) c.args.folder.now c.loop-mark.folder c.remove.new.self _ c.remove.result
           (c.loop-mark.invariant.moments told) (c.loop-mark.invariant.kind ∙ told) c.remove.ensures;
+      passed = pass_then g.F.Source.outside c.args.folder.now c.loop-mark.folder c.remove.new.self c.loop-mark.invariant.passed (pass_call g.F.Source.outside c.loop-mark.folder c.remove.new.self _ c.remove.ensures.call);
     }
 
 pub returns-clause-gone : goal.returns-clause-gone

@@ -5,6 +5,7 @@ use Rattle.ips_outside.specs.State.{State, nowhere}
 use Rattle.ips_steps.specs.Steps.{stage_name}
 use Rattle.ips_steps.specs.Private.{journal_name, mark_front, begins}
 use Rattle.ips_folder.proofs.Runs.{keeps_then, keeps_wider}
+use Rattle.ips_rehearse.proofs.Passing.{pass_call, pass_then}
 use Rattle.ips_commit.specs.Pending.{is_swept}
 use Rattle.ips_commit.proofs.OwnNames.{stage_swept, journal_swept, marks_swept}
 use Rattle.ips_commit.proofs.Swept.{swept_all}
@@ -76,3 +77,9 @@ returns-in_err-remove_all-clause-unready g c = λ told.
     let run = stage_made o g.met.F.Source.sane c.args.names.now.stage.bytes c.args.names.now.stage_is c.remove.new.self c.remove-2.new.self _ c.remove-2.result told_1 c.remove-2.ensures in
     on_err _ _ (inr (no_journal (o.state c.remove_all.new.folder) (marks_over (o.state c.remove-2.new.self).held (o.state c.remove_all.new.folder).held (c.remove_all.ensures.any_moment told_2).now.agrees
     (staged_over (o.state c.remove.new.self).held (o.state c.remove-2.new.self).held (stage_agrees o g.met.F.Source.sane c.remove.new.self c.remove-2.new.self run) gone))))
+
+pub returns-clause-passed : goal.returns-clause-passed
+returns-clause-passed g c =
+    let o = g.F.Source.outside in
+    pass_then o c.args.folder.now c.remove.new.self c.remove_all.new.folder (pass_call o c.args.folder.now c.remove.new.self _ c.remove.ensures.call)
+    (pass_then o c.remove.new.self c.remove-2.new.self c.remove_all.new.folder (pass_call o c.remove.new.self c.remove-2.new.self _ c.remove-2.ensures.call) c.in_ok-remove_all.ensures.passed)

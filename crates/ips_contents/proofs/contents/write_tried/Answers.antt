@@ -1,5 +1,9 @@
 use Rattle.std.proofs.Common.{length, map, sym, ◌∙◌, ap}
+use Rattle.ips_text.specs.Ancestry.{covers}
 use Rattle.ips_outside.specs.Image.{is_dir}
+use Rattle.ips_outside.specs.State.{ChangedWithin}
+use Rattle.ips_folder.proofs.Runs.{started}
+use Rattle.ips_steps.specs.Steps.{stage_name}
 use Rattle.ips_steps.specs.View.{step_of}
 use Rattle.ips_contents.proofs.Tried.{untried, first_there, same_stage, contents_tried, modes_tried, alone_tried, only_tried, tried_then}
 use Rattle.ips_contents.proofs.contents.write_tried.Goals as goal
@@ -69,3 +73,16 @@ pub returns-in-Err-OutOfMemory-clause-any_moment : goal.returns-in-Err-OutOfMemo
 returns-in-Err-OutOfMemory-clause-any_moment g c = λ told.
     tried_then g.F.Source.outside c.args.folder.now c.write_contents.new.folder c.rehearse.new.folder (c.write_contents.ensures.any_moment told)
     (c.rehearse.ensures.any_moment (c.write_contents.ensures.stages.same_kind ∙ told))
+
+pub returns-in-Ok-clause-rehearsed : goal.returns-in-Ok-clause-rehearsed
+returns-in-Ok-clause-rehearsed g c = λ told.
+    let o = g.F.Source.outside in
+    let told_1 = c.write_contents.ensures.stages.same_kind ∙ told in
+    let run = tried_then o c.args.folder.now c.write_contents.new.folder c.rehearse.new.folder (c.write_contents.ensures.any_moment told) (c.rehearse.ensures.any_moment told_1) in
+    record {
+      from = c.write_contents.new.folder;
+      to = c.rehearse.new.folder;
+      since = (c.write_contents.ensures.any_moment told).moments;
+      tried = c.in-Ok.ensures.rehearsed told_1;
+      until = started o c.rehearse.new.folder (ChangedWithin (covers stage_name) (covers stage_name) (o.state c.args.folder.now)) (g.met.F.Source.sane.only_now c.rehearse.new.folder) run.now;
+    }

@@ -6,7 +6,7 @@ use Rattle.ips_repo.specs.Payload.{PayloadReading, IsFrontOf}
 use Rattle.ips_outside.proofs.Reading.{answered, reads_then}
 use Rattle.ips_contents.specs.Contents.{HoldsAlone}
 use Rattle.ips_contents.proofs.Wrote.{wrote_then}
-use Rattle.ips_contents.proofs.Written.{alone_appended}
+use Rattle.ips_contents.proofs.Written.{alone_appended, small_more}
 use Rattle.ips_contents.proofs.payloads.copy_payload.Goals as goal
 
 pub loop-count-preserved : goal.loop-count-preserved
@@ -29,6 +29,7 @@ loop-count-preserved g c =
       holds = λ told. subst (λ (bytes : List ℕ). HoldsAlone p 384 bytes (g.F.Source.outside.state c.append.new.self).held) (sym (ap (λ (r : PayloadReading). r.bytes) c.in-Ok.ensures.given))
           (alone_appended p c.loop-count.payload.bytes part (g.F.Source.outside.state c.loop-count.folder).held (g.F.Source.outside.state c.append.new.self).held (inv.holds told)
           (ap (λ (s : State). s.held) (c.in-Ok-append.ensures.done (inv.kind ∙ told))));
+      small = small_more c.loop-count.payload c.next.new.self c.in-Ok.count c.next.new.buf c.in-Ok.ensures.given c.in-Ok.ensures.within;
       moments = λ told. wrote_then g.F.Source.outside g.met.F.Source.sane (covers p) p (λ q off. off) c.args.folder.now c.loop-count.folder c.append.new.self _ c.append.result
           (inv.moments told) (inv.kind ∙ told) c.append.ensures;
     }

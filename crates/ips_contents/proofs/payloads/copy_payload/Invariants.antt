@@ -18,6 +18,7 @@ invariant-loop-count g l = record {
   faults : g.F.Source.outside.faults l.folder ≡ g.F.Source.outside.faults l.fn.folder;
   changes : g.F.Source.outside.changes l.fn.folder ≤ g.F.Source.outside.changes l.folder;
   holds : IsTrue (g.F.Source.outside.tells l.fn.folder) → HoldsAlone l.path.bytes 384 l.payload.bytes (g.F.Source.outside.state l.folder).held;
+  small : length l.payload.bytes ≤ l.payload.size;
   moments : IsTrue (g.F.Source.outside.tells l.fn.folder) → ChangesOnly g.F.Source.outside (covers l.path.bytes) nowhere l.fn.folder l.folder;
 }
 

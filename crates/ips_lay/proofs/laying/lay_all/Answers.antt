@@ -14,8 +14,8 @@ use Rattle.ips_contents.proofs.AllWritten.{cause_since}
 use Rattle.ips_lay.specs.declared.content.Content.{Content}
 use Rattle.ips_lay.specs.declared.content.LayFault.{LayFault}
 use Rattle.ips_lay.specs.Laid.{IsNotThere}
-use Rattle.ips_lay.specs.Lists.{SaysOfLay, names_of}
-use Rattle.ips_lay.proofs.Told.{source_to, source_from, folder_to, folder_from, says_of_lay}
+use Rattle.ips_lay.specs.Lists.{SaysOfLay, IsCounted, names_of}
+use Rattle.ips_lay.proofs.Told.{source_to, source_from, folder_to, folder_from, says_of_lay, counted_at}
 use Rattle.ips_lay.proofs.Unlaid.{stays_intact, parent_stays, lays_none, lays_then, name_in, names_are, all_intact, members_stay}
 use Rattle.ips_lay.proofs.laying.lay_all.Goals as goal
 
@@ -101,3 +101,8 @@ pub returns-clause-cause : goal.returns-clause-cause
 returns-clause-cause g c =
     let o = g.F.Source.outside in
     cause_since (o.faults c.args.folder.now) (o.faults c.loop-number.folder) (o.faults c.loop-number.folder) _ c.loop-number.invariant.faults (no_cause _ _ (λ is. cc))
+
+pub returns-in-Err-clause-counted : goal.returns-in-Err-clause-counted
+returns-in-Err-clause-counted g c =
+    subst (λ (e : Or LayFault). IfBad {X = Unit {0}} (Err e) (IsCounted (length c.args.contents.now))) (sym c.fault_at.ensures)
+    (counted_at c.loop-number.number (length c.args.contents.now) c.loop-number-test.true c.in-Err.fault)

@@ -6,10 +6,10 @@ use Rattle.ips_rehearse.proofs.Passing.{pass_none, pass_call, pass_then}
 use Rattle.ips_text.specs.Ancestry.{is_below, parent}
 use Rattle.ips_outside.specs.Image.{Dir, is_dir, File}
 use Rattle.ips_outside.specs.Change.{with_entry_at}
-use Rattle.ips_outside.specs.State.{State, nowhere}
+use Rattle.ips_outside.specs.State.{State, ChangedWithin, nowhere}
 use Rattle.ips_folder.specs.Calls.{CanMake}
-use Rattle.ips_folder.proofs.Runs.{begun, keeps_then}
-use Rattle.ips_rehearse.specs.Tried.{dir_name, inner_dir_name, inner_file_name, IsBusy, IsIdle, Passed, WasWorked}
+use Rattle.ips_folder.proofs.Runs.{begun, keeps_then, weaker}
+use Rattle.ips_rehearse.specs.Tried.{dir_name, inner_dir_name, inner_file_name, IsBusy, IsDirOf, IsIdle, Passed, WasWorked}
 use Rattle.ips_rehearse.proofs.Paths.{inner_dir_path, inner_file_path, inner_dir_parent, inner_file_parent, inner_apart}
 use Rattle.ips_rehearse.proofs.Trials.{wrote_in, off_child, can_make, can_make_beside, not_below_self}
 use Rattle.ips_rehearse.proofs.trying.work.Goals as goal
@@ -86,6 +86,7 @@ returns-clause-seen g c = λ told m is.
     let both : (o.state c.make_file.new.self).held ≡ with_both t =
     ap (λ (s : State). s.held) (c.in-Ok-make_file.ensures.done told_1) ∙ ap (λ (p : List ℕ). with_entry_at p (Some (File 384 [])) (o.state c.make_dir.new.self).held) (c.go-2.ensures.there ∙ inner_file_is)
     ∙ ap (with_entry_at inner_file_name (Some (File 384 []))) first in
+    let busy : IsBusy m (o.state c.make_file.new.self).held = subst (IsBusy m) (sym both) (is_busy m t is) in
     let before = pass_then o c.args.folder.now c.make_dir.new.self c.make_file.new.self (pass_call o c.args.folder.now c.make_dir.new.self _ c.make_dir.ensures.call) (pass_call o c.make_dir.new.self c.make_file.new.self _ c.make_file.ensures.call) in
     on_ok_to c.clear.result (Passed o c.args.folder.now c.clear.new.folder × (IsTrue c.args.is_worked → WasWorked o m c.args.folder.now c.clear.new.folder))
     (λ seen. (
@@ -93,13 +94,15 @@ returns-clause-seen g c = λ told m is.
       λ asked. record {
         at = c.make_file.new.self;
         since = before;
-        busy = subst (IsBusy m) (sym both) (is_busy m t is);
+        busy = busy;
         then = record {
           at = c.clear.new.folder;
           since = seen.0;
           until = pass_none o c.clear.new.folder;
           held = subst (IsIdle m) (sym (seen.1 ∙ ap without_both both)) (is_idle m t is (c.requires.empty told));
         };
+        still = weaker o c.make_file.new.self c.clear.new.folder (ChangedWithin (is_below dir_name) nowhere (o.state c.make_file.new.self)) (λ s. IsDirOf m s.held)
+            (λ s within. within.agrees.look dir_name (not_below_self dir_name) refl ∙ busy.dir) (c.clear.ensures.any_moment told_2).moments;
       },
     ))
     (c.clear.ensures.seen told_2)

@@ -4,7 +4,8 @@ use Rattle.ips_commit.proofs.Masked.{none_masked, told_alike, reads_with}
 use Rattle.ips_run.specs.Ending.{is_done, is_left, is_source_fault, is_spawn_fault, TellsAtMost}
 use Rattle.ips_run.specs.Comes.{Unready, Carried}
 use Rattle.ips_run.proofs.Said.{said_of_change}
-use Rattle.ips_run.proofs.Carried.{can_open, unmarked, asked_early, asked_ready}
+use Rattle.ips_commit.proofs.Staged.{can_open, unmarked}
+use Rattle.ips_run.proofs.Carried.{asked_early, asked_ready}
 use Rattle.ips_run.proofs.Told.{none_run, carried_as}
 use Rattle.ips_run.proofs.Performed.{left_fault}
 use Rattle.ips_run.proofs.Unbegun.{given_up_of, failed_refused}

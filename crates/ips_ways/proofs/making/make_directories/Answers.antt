@@ -2,7 +2,7 @@ use Rattle.std.proofs.Common.{◌≡◌, ◌⊎◌, Bool, true, false, ◌||◌,
 use Rattle.ips_outside.specs.Image.{Image, has_parent}
 use Rattle.ips_outside.specs.Children.{path_bytes}
 use Rattle.ips_outside.specs.State.{nowhere}
-use Rattle.ips_outside.proofs.Reading.{answered}
+use Rattle.ips_outside.proofs.Reading.{answered, elapses_then}
 use Rattle.ips_folder.specs.Calls.{ChangesOnly}
 use Rattle.ips_folder.proofs.Runs.{keeps_then, keeps_wider}
 use Rattle.ips_ways.specs.Ways.{HasBegun, is_dir_or_free, is_missing}
@@ -47,6 +47,10 @@ returns-else-made-2-clause-any_moment g c = λ told.
     (off_missing t (o.state c.loop-path.folder).held c.args.paths.now c.loop-path.path-index c.path-item.result c.loop-path-test.true c.path-item.is (inv.absent told)) (λ q off. off)
     (c.make_missing.ensures.any_moment (inv.kind ∙ told)))
 
+pub returns-else-made-2-clause-still : goal.returns-else-made-2-clause-still
+returns-else-made-2-clause-still g c = λ none.
+    elapses_then g.F.Source.outside c.args.folder.now c.loop-path.folder c.make_missing.new.folder (c.loop-path.invariant.still c.if-made-2.false) (c.in-Err.ensures.still none) (c.in-Err.ensures.kept none)
+
 pub loop-path-preserved : goal.loop-path-preserved
 loop-path-preserved g c =
     let o = g.F.Source.outside in
@@ -68,6 +72,7 @@ loop-path-preserved g c =
       changes = omega (arith, inv.changes, c.make_missing.ensures.changes);
       begun = subst (HasBegun (o.changes old) (o.changes new)) (sym same) (begun_then (o.changes old) (o.changes at) (o.changes new) c.loop-path.made c.in-Ok.more inv.begun c.in-Ok.ensures.begun inv.changes c.make_missing.ensures.changes);
       kept = λ none. let both = or_both c.loop-path.made c.in-Ok.more (sym same ∙ none) in c.in-Ok.ensures.kept both.1 ∙ inv.kept both.0;
+      still = λ none. let both = or_both c.loop-path.made c.in-Ok.more (sym same ∙ none) in elapses_then o old at new (inv.still both.0) (c.in-Ok.ensures.still both.1) (c.in-Ok.ensures.kept both.1);
       missing = λ told some. elim (or_either c.loop-path.made c.in-Ok.more (sym same ∙ some)) [
         | inl made ↦ inv.missing told made
         | inr more ↦ still_missing t (o.state at).held c.args.paths.now i p c.loop-path-test.true c.path-item.is (inv.absent told) (c.in-Ok.ensures.missing (inv.kind ∙ told) more)

@@ -1,6 +1,7 @@
 use Rattle.ips_steps.specs.Steps.{stage_name}
 use Rattle.ips_steps.specs.Private.{records_name, journal_name, gate_name}
-use Rattle.ips_contents.proofs.OwnPaths.{stage_is_path, journal_path, gate_path}
+use Rattle.ips_rehearse.proofs.Paths.{stage_is_path}
+use Rattle.ips_contents.proofs.OwnPaths.{journal_path, gate_path}
 use Rattle.ips_commit.proofs.names.OwnNames.new.Goals as goal
 use Rattle.ips_text.proofs.Fronts.{records_path}
 

@@ -4,7 +4,7 @@ use Rattle.ips_conflict.specs.declared.placed.Placed.{Placed}
 use Rattle.ips_meaning.specs.Taken.{AreAdmitted}
 use Rattle.ips_due.specs.outstanding.Parts.{due_record}
 use Rattle.ips_delivered.specs.delivered.Delivering.{delivered_with, first_unknown}
-use Rattle.ips_delivered.specs.delivered.Known.{ActionsDeliver}
+use Rattle.ips_delivered.specs.delivered.Kept.{ActionsDeliver}
 use Rattle.ips_delivered.proofs.delivered.Outcomes.{when_bad, when_ok}
 use Rattle.ips_delivered.proofs.delivered.Picked.{stems_of}
 use Rattle.ips_delivered.proofs.delivered.delivering.delivered.Goals as goal

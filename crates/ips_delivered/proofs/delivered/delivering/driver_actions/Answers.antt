@@ -2,7 +2,7 @@ use Rattle.std.proofs.Common.{◌≡◌, ◌∙◌, ◌∷◌, [], ◌++◌, ◌
 use Rattle.ips_text.proofs.Lists.{take_item}
 use Rattle.ips_action.specs.Action.{Fields}
 use Rattle.ips_conflict.specs.declared.placed.Placed.{Placed}
-use Rattle.ips_delivered.specs.delivered.Known.{is_driver}
+use Rattle.ips_delivered.specs.delivered.Kept.{is_driver}
 use Rattle.ips_delivered.proofs.delivered.Drivers.{actions_of, drivers_more, drivers_of}
 use Rattle.ips_delivered.proofs.delivered.delivering.driver_actions.Goals as goal
 

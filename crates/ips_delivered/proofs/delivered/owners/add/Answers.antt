@@ -3,7 +3,7 @@ use Rattle.std.specs.Prelude.{IfSome}
 use Rattle.ips_text.specs.Path.{IsPath}
 use Rattle.ips_conflict.specs.declared.placed.Placed.{Placed}
 use Rattle.ips_delivered.specs.delivered.Delivering.{owns}
-use Rattle.ips_delivered.specs.delivered.Known.{owner_at}
+use Rattle.ips_delivered.specs.delivered.Kept.{owner_at}
 use Rattle.ips_delivered.proofs.delivered.Owning.{HasOwnPath, owns_self, path_with}
 use Rattle.ips_delivered.proofs.delivered.owners.add.Goals as goal
 

@@ -1,7 +1,7 @@
 use Rattle.std.proofs.Common.{◌∙◌, ◌<◌, List, Option, take, take_all, length, sym, ap, arith, subst}
 use Rattle.ips_text.proofs.Lists.{take_item}
 use Rattle.ips_conflict.specs.declared.placed.Placed.{Placed}
-use Rattle.ips_delivered.specs.delivered.Known.{AreOwners, owner_with}
+use Rattle.ips_delivered.specs.delivered.Kept.{AreOwners, owner_with}
 use Rattle.ips_delivered.proofs.delivered.Owning.{one_more}
 use Rattle.ips_delivered.proofs.delivered.owners.owners.Goals as goal
 

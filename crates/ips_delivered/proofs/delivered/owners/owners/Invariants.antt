@@ -1,6 +1,6 @@
 use Rattle.std.proofs.Common.{ℕ, List, take}
 use Rattle.std.specs.Prelude.{IfSome}
-use Rattle.ips_delivered.specs.delivered.Known.{AreOwners, owner_at}
+use Rattle.ips_delivered.specs.delivered.Kept.{AreOwners, owner_at}
 use Rattle.ips_delivered.proofs.delivered.Owning.{HasOwnPath}
 use Rattle.ips_delivered.proofs.delivered.owners.owners.Given as goal
 

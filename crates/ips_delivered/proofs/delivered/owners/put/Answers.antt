@@ -2,7 +2,7 @@ use Rattle.std.proofs.Common.{◌≡◌, ◌∙◌, sym, ap, subst}
 use Rattle.std.specs.Option.{option_copied}
 use Rattle.ips_conflict.specs.declared.placed.Placed.{Placed}
 use Rattle.ips_conflict.proofs.Kept.{found_at}
-use Rattle.ips_delivered.specs.delivered.Known.{owner_at, owner_of_two}
+use Rattle.ips_delivered.specs.delivered.Kept.{owner_at, owner_of_two}
 use Rattle.ips_delivered.proofs.delivered.Owning.{IsOwnerPut, owner_kept, owner_put, two_first, two_without}
 use Rattle.ips_delivered.proofs.delivered.owners.put.Goals as goal
 use Rattle.ips_delivered.proofs.delivered.owners.put.Goals.{in-Some+else-not-comes_first, in_default}

@@ -1,7 +1,7 @@
 use Rattle.std.proofs.Common.{◌==◌, length, take, sym, subst, arith}
 use Rattle.ips_outside.specs.Outside.{readable, IsRead}
 use Rattle.ips_digest.specs.Digest.{Hashing}
-use Rattle.ips_repo.specs.Payload.{PayloadReading, given, IsFrontOf}
+use Rattle.ips_repo.specs.Payload.{PayloadReading, with_piece, IsFrontOf}
 use Rattle.ips_repo.proofs.Pieces.{part_of_cut, none_past, front_more}
 use Rattle.ips_repo.proofs.payload.Payload.next.Goals as goal
 use Rattle.ips_repo.proofs.payload.Payload.next.Goals.{then-self+in_ok-count, else-self}
@@ -24,4 +24,4 @@ returns-clause-front g c = λ told front.
     let read = returns-clause-found g c told in
     let more = front_more held c.args.self.now c.if-self.buf c.if-self.count (omega (arith, c.requires.room)) front read in
     subst (λ (h : Hashing). IsFrontOf held (record { name = inside.name; place = inside.place.bytes; size = inside.size; bytes = h.bytes; ended = c.if-self.count == 0 })) (sym c.update.ensures)
-    (subst (λ (r : PayloadReading). IsFrontOf held (given c.if-self.count c.if-self.buf r)) (sym c.self.view_is) more)
+    (subst (λ (r : PayloadReading). IsFrontOf held (with_piece c.if-self.count c.if-self.buf r)) (sym c.self.view_is) more)

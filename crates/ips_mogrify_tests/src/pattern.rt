@@ -1,4 +1,6 @@
-use super::*;
+//! Patterns.
+
+use ips_pattern::{NoPattern, Pattern};
 use ips_text::Or;
 use std::alloc::Global;
 use std::process::Abort;

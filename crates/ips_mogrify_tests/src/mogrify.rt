@@ -1,5 +1,7 @@
-use super::*;
+//! Manifests that rules make.
+
 use ips_manifest::{LineFault, ManifestFault};
+use ips_mogrify::{MogrifyOutcome, MogrifyStatus, mogrify};
 use ips_outside::{MemSink, MemSource, Tree};
 use ips_syntax::Why;
 use ips_text::RelPath;

@@ -1,4 +1,6 @@
-use super::*;
+//! Files of rules.
+
+use ips_rules::{Operation, RuleLine, Selector, read_rules};
 use ips_text::Or;
 use std::alloc::{AllocError, Global};
 use std::process::Abort;

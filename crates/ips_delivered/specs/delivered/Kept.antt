@@ -1,28 +1,18 @@
--- Numbers that were resolved, and the owners of paths, as they are kept while the records are made.
-use Rattle.std.specs.Prelude.{◌≡◌, ℕ, Bool, not, ◌&&◌, ◌==◌, cond, List, Option, Some, None, IfSome}
+-- The owners of paths, as they are kept while the records are made.
+use Rattle.std.specs.Prelude.{◌≡◌, ℕ, Bool, not, ◌&&◌, ◌==◌, cond, List, Option, Some, None}
 use Rattle.std.specs.Map.{lookup}
-use Rattle.std.specs.BTreeMap.{BTreeMap, get_by_text}
+use Rattle.std.specs.BTreeMap.{BTreeMap}
 use Rattle.std.specs.declared.alloc.Global.{Global}
-use Rattle.std.specs.declared.string.String.{String}
 use Rattle.std.specs.declared.vec.Vec.{Vec}
 use Rattle.ips_action.specs.Attrs.{is_same}
-use Rattle.ips_books.specs.Accounts.{Accounts, resolved}
+use Rattle.ips_books.specs.Accounts.{Accounts}
 use Rattle.ips_conflict.specs.declared.placed.Placed.{Placed}
 use Rattle.ips_action.specs.declared.kind.ActionKind.{ActionKind}
 use Rattle.ips_conflict.specs.Alike.{kind_place, takes_place}
-use Rattle.ips_delivered.specs.declared.delivered.known.Resolved.{Resolved}
 use Rattle.ips_delivered.specs.declared.delivered.unknown.Missing.{Missing}
 use Rattle.ips_metafiles.specs.declared.owner.OwnerRow.{OwnerRow}
 use Rattle.ips_due.specs.Due.{Content}
 use Rattle.ips_delivered.specs.delivered.Delivering.{AreDelivered, AreOwnerRows, first_unknown, owning, owns}
-
--- The numbers are those of the names beside them.
-abbrev pub AreNumbersOf : Accounts → Resolved → Type 0
-AreNumbersOf books n = n.numbers ≡ resolved books n.owner.now n.group.now
-
--- All numbers that are kept are right.
-abbrev pub AreKnown : Accounts → BTreeMap (String Global) Resolved → Type 0
-AreKnown books known = (key : List ℕ) → IfSome (get_by_text known key) (AreNumbersOf books)
 
 -- A path and an unknown name, as they are told.
 abbrev pub missing_told : Missing → List ℕ × List ℕ
