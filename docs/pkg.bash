@@ -17,6 +17,21 @@ _pkg_mogrify() {
   esac
 }
 
+# Behind send stand -s and the repository, -d and a folder, and then create with a publisher, or publish with a name and a file of that folder.
+_pkg_send() {
+  case ${#words[@]}:${words[6]:-} in
+    3:*) _pkg_take < <(echo -s) ;;
+    5:*) _pkg_take < <(echo -d) ;;
+    4:* | 6:*) _pkg_folders d ;;
+    7:*) _pkg_take < <(printf '%s\n' create publish) ;;
+    9:publish)
+      compopt -o filenames 2>/dev/null
+      local folder=${words[5]}
+      case $folder in '~/'*) folder=$HOME/${folder:2} ;; esac
+      mapfile -t COMPREPLY < <(cd -- "$folder" 2>/dev/null && compgen -f -- "$word") ;;
+  esac
+}
+
 # The options of a command.
 _pkg_options() {
   case $1 in
@@ -176,6 +191,7 @@ _pkg() {
   fi
   word=${words[-1]}
   [ ${#words[@]} -lt 3 ] || [ "${words[1]}" != mogrify ] || { _pkg_mogrify; return; }
+  [ ${#words[@]} -lt 3 ] || [ "${words[1]}" != send ] || { _pkg_send; return; }
   for ((i = 1; i < ${#words[@]} - 1; i++)); do
     one=${words[i]} before=
     if [ -z "$command" ]; then
@@ -207,7 +223,7 @@ _pkg() {
     options=($_pkg_commands)
     [[ " ${words[*]:1} " == *" -R "* ]] || options+=(-R)
     [[ " ${words[*]:1} " == *" -s "* ]] || options+=(-s)
-    [ ${#words[@]} -gt 2 ] || options+=(mogrify --help --version)
+    [ ${#words[@]} -gt 2 ] || options+=(mogrify send --help --version)
     _pkg_take < <(printf '%s\n' "${options[@]}")
     return
   fi

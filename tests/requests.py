@@ -530,6 +530,36 @@ class Trials:
             it.stopped = False
             yield it
 
+    def stopped(self, request, name, at, is_open):
+        """The same request, stopped before a call, behind the gate or not: what is tried is the fix that follows."""
+        it = Request()
+        it.__dict__.update(request.__dict__)
+        it.name, it.words, it.stopped, it.creates, it.repairs = request.name + "." + name, ["fix"], True, False, False
+        it.before, it.after = request.before + "." + name, request.after + "." + name
+        copy(request.before, it.before)
+        self.run(request.words, it.before, trace=it.before + ".log", inject="%s:signal=KILL:when=%d" % (at.name, at.number))
+        it.old = tree(it.before)
+        copy(it.before, it.after)
+        it.answer = self.run(["fix"], it.after, trace=it.after + ".log")
+        it.calls = it.answer.calls
+        if not is_open:
+            it.new, it.reports, it.idle = request.old, {"new": request.reports["old"]}, {"new": request.idle["old"]}
+        if it.answer.out != "recovered: %s\n" % ("new image" if is_open else "leftovers cleared") or tree(it.after) != it.new:
+            self.note(["the stopped request isn't brought to its end: %s" % it.answer.out], it.name)
+        self.place(it)
+        return it
+
+    def prepare_stopped(self):
+        """The requests, and behind some of them two halves, stopped at the gate and behind it."""
+        for it in self.prepare():
+            yield it
+            if it.name in ("install", "update", "uninstall", "format"):
+                gate = [call for call in it.calls if call.path == "IMAGE/var/pkg/gate" and not call.failed and (call.creates or call.name in ("unlink", "unlinkat"))]
+                laid = [call for call in it.calls if call.kept and call.name in changing and not call.failed and (call.name != "openat" or call.creates)]
+                between = laid[laid.index(gate[0]) + 2:laid.index(gate[-1]) + 1]
+                yield self.stopped(it, "half", between[len(between) // 2], True)
+                yield self.stopped(it, "staged", gate[0], False)
+
 
 class Request:
     def is_before(self, seen):

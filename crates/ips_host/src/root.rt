@@ -23,6 +23,10 @@ const MOST_KNOWN: usize = 4_096;
 /// Likewise so many paths at which nothing stands.
 const MOST_ABSENT: usize = 16_384;
 
+/// The longest root of an image: a path of the host has at most 4,095 bytes (`PATH_MAX` of Linux, with its end), and behind a root, in bytes, come `/`, a
+/// path of at most 1,023, and `/.`, by which its mount is asked for.
+const LONGEST_ROOT: usize = 3_069;
+
 /// A mode that nothing has: that of a directory isn't known.
 const NO_MODE: u16 = 0o10000;
 
@@ -495,9 +499,13 @@ fn enter<R: Files + Alloc>(
     yes(add(rt.alloc(), &mut ways.known, ways.below.as_bytes(), mode))
 }
 
-// Asks once for the root's device, where the directories are to be there.
+// Asks once for the root's device, where the directories are to be there. Below a root that is too long some path of an image couldn't be named, and a change
+// that has begun would come to no end.
 fn ask_device<R: Files + Alloc>(rt: &R, ways: &mut Ways<R::A>) -> Result<(), Refused> {
     if let Devices::OfRoot = ways.devices {
+        if ways.root.as_str().len() > LONGEST_ROOT {
+            return Err(Refused::System(libc::ENAMETOOLONG));
+        }
         ways.devices = Devices::One(device_behind(rt, ways.root.as_str())?);
     }
     Ok(())

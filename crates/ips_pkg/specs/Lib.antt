@@ -4,3 +4,4 @@ pub mod Ends
 pub mod Locking
 pub mod Mogrified
 pub mod Named
+pub mod Sent

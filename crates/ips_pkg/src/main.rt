@@ -1,13 +1,16 @@
 //! The program `pkg`: it locks the image's folder, makes the objects of the host and calls the top call, which does everything
-//! else. Where the first word is `mogrify`, it calls that of `ips_mogrify`.
+//! else. Where the first word is `mogrify`, it calls that of `ips_mogrify`; where it is `send`, it locks the repository and calls
+//! that of `ips_publish`.
 #![tactic(auto)]
 
 mod locking;
 mod mogrifying;
 mod objects;
+mod sending;
 mod working;
 
 use crate::mogrifying::{asks_to_mogrify, mogrified};
+use crate::sending::{asks_to_send, sent};
 use crate::working::answer;
 use std::process::ExitCode;
 use std::time::Clock;
@@ -22,7 +25,13 @@ fn main(rt: HostRuntime) -> ExitCode {
         return mogrified(rt, &words);
     }
     match rt.since_1970() {
-        Ok(since) => answer(rt, &words, since),
+        Ok(since) => {
+            if asks_to_send(&words) {
+                sent(rt, &words, since)
+            } else {
+                answer(rt, &words, since)
+            }
+        }
         Err(e) => failed(&rt, "the clock can't be read", e),
     }
 }

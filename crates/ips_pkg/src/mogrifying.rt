@@ -5,6 +5,7 @@ ghost use Rattle.std.specs.Process.{exit_status};
 ghost use Rattle.ips_host.specs.Roots.{repository_root};
 ghost use Rattle.ips_pkg.specs.Mogrified.{AsksToMogrify, IsThird, Mogrifies, MogrifiesWith};
 
+use crate::working::OUT_OF_MEMORY;
 use ips_action::ActionFault;
 use ips_host::{HostSink, HostSource};
 use ips_manifest::LineFault;
@@ -15,9 +16,6 @@ use ips_text::{RelPath, Text};
 use std::alloc::AllocError;
 use std::process::ExitCode;
 use std::str;
-
-/// The number of a run for which no memory is left.
-const OUT_OF_MEMORY: u8 = 99;
 
 /// The folder that holds both files, and where the manifest goes.
 #[derive(Drop)]
@@ -36,8 +34,8 @@ pub fn asks_to_mogrify(words: &[String]) -> bool
     }
 }
 
-// The first word, where there is one.
-fn first_word(words: &[String]) -> Option<&str>
+/// The first word, where there is one.
+pub fn first_word(words: &[String]) -> Option<&str>
     ensures some { IfSome result (λ word. slice_get (map string_bytes words.now) 0 ≡ Some word.now) }
     ensures none { IfNone result (slice_get (map string_bytes words.now) 0 ≡ None) }
 {
@@ -89,8 +87,8 @@ fn carry_out(rt: HostRuntime, words: &[String], places: &mut Places) -> u8
     status.number()
 }
 
-// The third word, and an empty one where there is none. For fewer words the call asks nothing of the source.
-fn third(words: &[String]) -> &str
+/// The third word, and an empty one where there is none. For fewer words the calls ask nothing of the folder that it names.
+pub fn third(words: &[String]) -> &str
     ensures { IsThird (map string_bytes words.now) result.now }
 {
     match words {

@@ -26,7 +26,7 @@ use std::process::ExitCode;
 use std::time::Duration;
 
 /// The number of a run for which no memory is left.
-const OUT_OF_MEMORY: u8 = 99;
+pub const OUT_OF_MEMORY: u8 = 99;
 
 /// The number of a program that does nothing, since another one is at work on the image.
 const BUSY: u8 = 7;
@@ -76,28 +76,28 @@ fn number_found(
             drop(held);
             number
         }
-        Err(why) => turned_away(&rt, image, why),
+        Err(why) => turned_away(&rt, "image", image, why),
     }
 }
 
-// Says why nothing is done, and answers the number for it.
-fn turned_away(rt: &HostRuntime, image: &str, why: Unlocked) -> u8
+/// Says why nothing is done with what the folder is, and answers the number for it.
+pub fn turned_away(rt: &HostRuntime, what: &str, folder: &str, why: Unlocked) -> u8
     ensures { result ≡ number_unlocked why }
 {
     match why {
         Unlocked::Busy => {
-            let _ = eprintln!(rt; "pkg: another pkg is at work on this image");
+            let _ = eprintln!(rt; "pkg: another pkg is at work on this {what}");
             BUSY
         }
         Unlocked::Failed(why) => {
-            let _ = eprintln!(rt; "pkg: lock {image}: {why}");
+            let _ = eprintln!(rt; "pkg: lock {folder}: {why}");
             NOT_LOCKED
         }
     }
 }
 
-// The second of a clock, and the last of the year 9998 behind that.
-fn moment_of(since: Duration) -> u64
+/// The second of a clock, and the last of the year 9998 behind that.
+pub fn moment_of(since: Duration) -> u64
     ensures { result ≡ moment_at (as_nanos since) }
 {
     let second = since.as_secs();

@@ -34,7 +34,7 @@ use Rattle.ips_listing.proofs.Puts.{lists_more, in_order_more, its_versions, oth
 use Rattle.ips_sends.specs.Whole.{Attempt, IsInCatalog, IsWhole, IsAtSame, AreWholeOrOut}
 use Rattle.ips_put.specs.Putting.{IsMeant}
 use Rattle.ips_put.specs.Two.{two_puts}
-use Rattle.ips_put.specs.Ready.{manifest_of, catalog_of, IsReadyToPut, AreApart}
+use Rattle.ips_put.specs.Ready.{manifest_of, place_of_catalog, IsReadyToPut, AreApart}
 use Rattle.ips_put.proofs.Pair.{first_put, second_put, others_kept}
 
 -- what compares as equal is the same version
@@ -137,12 +137,12 @@ module _ (t : Image) (x : Attempt) (xs : List Attempt) (mark : is_repository t �
   }
 
 module _ (t a : Image) (x : Attempt) (catalog : List Listed) (lines : List Line) (m c : Vec ℕ Global) (h : IsReadyToPut t x catalog lines m.items c.items) (staged : List Staged)
-    (meant : IsMeant (two_puts (manifest_of x) (catalog_of x)) staged t a) (first : slice_get staged 0 ≡ Some (Bytes m)) (second : slice_get staged 1 ≡ Some (Bytes c)) where
+    (meant : IsMeant (two_puts (manifest_of x) (place_of_catalog x)) staged t a) (first : slice_get staged 0 ≡ Some (Bytes m)) (second : slice_get staged 1 ≡ Some (Bytes c)) where
   abbrev more : List Listed
   more = with_version x.stem x.version catalog
 
-  kept : (r : List ℕ) → covers (manifest_of x) r ≡ false → covers (catalog_of x) r ≡ false → file_at a r ≡ file_at (visible t) r
-  kept r off out = ap file_bytes (others_kept t (manifest_of x) (catalog_of x) h.can staged a meant r off out)
+  kept : (r : List ℕ) → covers (manifest_of x) r ≡ false → covers (place_of_catalog x) r ≡ false → file_at a r ≡ file_at (visible t) r
+  kept r off out = ap file_bytes (others_kept t (manifest_of x) (place_of_catalog x) h.can staged a meant r off out)
 
   text_back : read_catalog x.publisher c.items ≡ Ok more
   text_back =
@@ -154,19 +154,19 @@ module _ (t a : Image) (x : Attempt) (catalog : List Listed) (lines : List Line)
   catalog_back = let back = text_back in let bytes = h.bytes_fit in let stems = h.stems_fit in let versions = h.versions_fit in rw (bytes, back, stems, versions) refl
 
   mark_after : is_repository a ≡ true
-  mark_after = ap is_mark_file (kept mark_place h.first_marked h.second_marked) ∙ marked (is_repository (visible t)) (catalog_in x.publisher (file_at (visible t) (catalog_of x))) catalog h.opened
+  mark_after = ap is_mark_file (kept mark_place h.first_marked h.second_marked) ∙ marked (is_repository (visible t)) (catalog_in x.publisher (file_at (visible t) (place_of_catalog x))) catalog h.opened
 
   pub open_after : opening x.publisher a ≡ Ok more
   open_after =
-      ap (λ (b : Bool). cond b (catalog_in x.publisher (file_at a (catalog_of x))) (Err fault.NoRepository)) mark_after
-      ∙ ap (catalog_in x.publisher) (ap file_bytes (second_put t (manifest_of x) (catalog_of x) h.can staged a meant c second))
+      ap (λ (b : Bool). cond b (catalog_in x.publisher (file_at a (place_of_catalog x))) (Err fault.NoRepository)) mark_after
+      ∙ ap (catalog_in x.publisher) (ap file_bytes (second_put t (manifest_of x) (place_of_catalog x) h.can staged a meant c second))
       ∙ catalog_back
 
   pub whole : IsWhole a x
   whole = record {
     listed = (more, open_after, subst (λ (vs : List Parts). Contains vs x.version) (sym (its_versions x.stem x.version catalog h.ordered.stems)) (inserted (versions_of catalog x.stem) x.version));
     text = m.items;
-    stands = ap file_bytes (first_put t (manifest_of x) (catalog_of x) h.can staged a meant m first);
+    stands = ap file_bytes (first_put t (manifest_of x) (place_of_catalog x) h.can staged a meant m first);
     lines = lines;
     means = h.means;
     has = h.has;
@@ -191,15 +191,15 @@ module _ (t a : Image) (x : Attempt) (catalog : List Listed) (lines : List Line)
     open_behind : (y : Attempt) → y.publisher ≡ x.publisher → opening y.publisher a ≡ Ok more
     open_behind y same = ap (λ (p : List ℕ). opening p a) same ∙ open_after
 
-    opening_same : (y : Attempt) → covers (manifest_of x) (catalog_of y) ≡ false → covers (catalog_of x) (catalog_of y) ≡ false → opening y.publisher a ≡ opening y.publisher (visible t)
+    opening_same : (y : Attempt) → covers (manifest_of x) (place_of_catalog y) ≡ false → covers (place_of_catalog x) (place_of_catalog y) ≡ false → opening y.publisher a ≡ opening y.publisher (visible t)
     opening_same y off out =
-        ap (λ (f : Option (List ℕ)). cond (is_mark_file f) (catalog_in y.publisher (file_at a (catalog_of y))) (Err fault.NoRepository)) (kept mark_place h.first_marked h.second_marked)
-        ∙ ap (λ (f : Option (List ℕ)). cond (is_mark_file (file_at (visible t) mark_place)) (catalog_in y.publisher f) (Err fault.NoRepository)) (kept (catalog_of y) off out)
+        ap (λ (f : Option (List ℕ)). cond (is_mark_file f) (catalog_in y.publisher (file_at a (place_of_catalog y))) (Err fault.NoRepository)) (kept mark_place h.first_marked h.second_marked)
+        ∙ ap (λ (f : Option (List ℕ)). cond (is_mark_file (file_at (visible t) mark_place)) (catalog_in y.publisher f) (Err fault.NoRepository)) (kept (place_of_catalog y) off out)
 
     still : (y : Attempt) → Contains xs y → IsInCatalog (visible t) y → IsInCatalog a y
     still y at (before, opened, lists) = by (apart.catalogs y at)
       where
-        by : (y.publisher ≡ x.publisher) ⊎ ((covers (manifest_of x) (catalog_of y) ≡ false) × (covers (catalog_of x) (catalog_of y) ≡ false)) → IsInCatalog a y
+        by : (y.publisher ≡ x.publisher) ⊎ ((covers (manifest_of x) (place_of_catalog y) ≡ false) × (covers (place_of_catalog x) (place_of_catalog y) ≡ false)) → IsInCatalog a y
         by (inl same) =
             let is : before ≡ catalog = same_ok (opening y.publisher (visible t)) before catalog opened (open_before y same) in
             (more, open_behind y same, stays y.stem y.version (subst (λ (l : List Listed). Contains (versions_of l y.stem) y.version) is lists))
@@ -216,7 +216,7 @@ module _ (t a : Image) (x : Attempt) (catalog : List Listed) (lines : List Line)
     whole_on : (z : Attempt) → Contains xs z → IsWhole (visible t) z → IsWhole a z
     whole_on z at is = by (apart.manifests z at)
       where
-        by : IsAtSame x z ⊎ ((covers (manifest_of x) (manifest_of z) ≡ false) × (covers (catalog_of x) (manifest_of z) ≡ false)) → IsWhole a z
+        by : IsAtSame x z ⊎ ((covers (manifest_of x) (manifest_of z) ≡ false) × (covers (place_of_catalog x) (manifest_of z) ≡ false)) → IsWhole a z
         by (inl same) = absurd (not_before z same is.listed)
         by (inr out) = record {
           listed = still z at is.listed;
@@ -246,7 +246,7 @@ module _ (t a : Image) (x : Attempt) (catalog : List Listed) (lines : List Line)
             by_version same stem (insert_cases (versions_of catalog x.stem) x.version y.version put)
         by_stem same has (inr other) = inr (catalog, open_before y same, subst (λ (vs : List Parts). Contains vs y.version) (other_versions x.stem y.stem x.version catalog other) has)
 
-        by : (y.publisher ≡ x.publisher) ⊎ ((covers (manifest_of x) (catalog_of y) ≡ false) × (covers (catalog_of x) (catalog_of y) ≡ false)) → IsAtSame x y ⊎ IsInCatalog (visible t) y
+        by : (y.publisher ≡ x.publisher) ⊎ ((covers (manifest_of x) (place_of_catalog y) ≡ false) × (covers (place_of_catalog x) (place_of_catalog y) ≡ false)) → IsAtSame x y ⊎ IsInCatalog (visible t) y
         by (inl same) =
             let is : now ≡ more = same_ok (opening y.publisher a) now more opened (open_behind y same) in
             by_stem same (subst (λ (l : List Listed). Contains (versions_of l y.stem) y.version) is lists) (same_stem y.stem x.stem)

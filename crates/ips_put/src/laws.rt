@@ -24,7 +24,7 @@ ghost use Rattle.ips_repo.specs.Mark.{is_repository};
 ghost use Rattle.ips_sends.specs.Whole.{Attempt, AreWholeOrOut, IsInCatalog, IsWhole};
 ghost use Rattle.ips_put.specs.Putting.{AreGiven, IsMeant, Puts};
 ghost use Rattle.ips_put.specs.Two.{two_puts, CanPutTwo};
-ghost use Rattle.ips_put.specs.Ready.{manifest_of, catalog_of, IsReadyToPut, AreApart};
+ghost use Rattle.ips_put.specs.Ready.{manifest_of, place_of_catalog, IsReadyToPut, AreApart};
 
 use ips_folder::Folder;
 use ips_outside::Source;
@@ -52,13 +52,13 @@ pub fn two_texts_are_put()
 /// intact.
 pub fn what_is_put_is_whole()
     ensures { (t a : Image) (x : Attempt) (catalog : List Listed) (lines : List Line) (manifest text : Vec ℕ Global) (staged : List declared.Staged) → IsReadyToPut t x catalog lines manifest.items text.items
-        → IsMeant (two_puts (manifest_of x) (catalog_of x)) staged t a → slice_get staged 0 ≡ Some (Bytes manifest) → slice_get staged 1 ≡ Some (Bytes text) → IsWhole a x }
+        → IsMeant (two_puts (manifest_of x) (place_of_catalog x)) staged t a → slice_get staged 0 ≡ Some (Bytes manifest) → slice_get staged 1 ≡ Some (Bytes text) → IsWhole a x }
 {}
 
 /// And where of each earlier attempt was said that it is whole or out, it is said of each, and of this one, in what is meant.
 pub fn all_stay_whole_or_out()
     ensures { (t a : Image) (x : Attempt) (xs : List Attempt) (catalog : List Listed) (lines : List Line) (manifest text : Vec ℕ Global) (staged : List declared.Staged) → IsReadyToPut t x catalog lines manifest.items text.items
-        → AreApart x catalog xs → IsMeant (two_puts (manifest_of x) (catalog_of x)) staged t a → slice_get staged 0 ≡ Some (Bytes manifest) → slice_get staged 1 ≡ Some (Bytes text)
+        → AreApart x catalog xs → IsMeant (two_puts (manifest_of x) (place_of_catalog x)) staged t a → slice_get staged 0 ≡ Some (Bytes manifest) → slice_get staged 1 ≡ Some (Bytes text)
         → AreWholeOrOut xs (visible t) → AreWholeOrOut (x ∷ xs) a }
 {}
 

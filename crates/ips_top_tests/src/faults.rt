@@ -212,8 +212,8 @@ const TOLD: [&str; 6] = [
     r#""part" file 644 "" file 644 "" true version 2 true "nothing to do\n" "nothing to do\n""#,
 ];
 
-// What a run reported, or `part`.
-fn report_of(run: &Run) -> &str {
+/// What a run reported, or `part`.
+pub fn report_of(run: &Run) -> &str {
     if run.is_told {
         return run.taken.as_str();
     }

@@ -4,10 +4,12 @@
 //! (`words`), what commands do (`cases`) and to which state they lead (`commands`), how each run may end (`outcomes`, `endings`), what is chosen (`choices`), what
 //! packages mean together (`meanings`) and where they conflict (`conflicts`), what becomes of paths (`paths`), of edits (`keep`) and of what would be lost (`salvage`),
 //! what lines of manifests, catalogs and indexes hold (`lines`) and records (`records`, `lists`), what rules say of settings, dependencies, mediators, accounts and
-//! actuators (`rules`), how steps are laid (`laying`), trials (`trials`), and a large image (`large`). Runs that are stopped or meet a fault are
-//! stories of `endings`, `faults` and `stops`, and one of `trials`.
+//! actuators (`rules`), how steps are laid (`laying`), and by which kinds (`kinds`), trials (`trials`), and a large image (`large`). Runs that are stopped or meet a
+//! fault are stories of `endings`, `faults`, `calls` and `stops`, and one of `trials`.
 #![tactic(auto)]
 
+#[cfg(test)]
+mod calls;
 #[cfg(test)]
 mod cases;
 #[cfg(test)]
@@ -22,6 +24,8 @@ mod endings;
 mod faults;
 #[cfg(test)]
 mod keep;
+#[cfg(test)]
+mod kinds;
 #[cfg(test)]
 mod large;
 #[cfg(test)]

@@ -26,8 +26,8 @@ const FORMATS: &str = r#"
 update-format | var/pkg/image | "a@1\n" file 644 "image 1\npublisher test\n" -> "a@1\n" file 644 "image 2\npublisher test\n"
 "#;
 
-// An image whose records are of the first format.
-const FIRST_FORMAT: &str = "
+/// An image whose records are of the first format.
+pub const FIRST_FORMAT: &str = "
 put | var/pkg/image | image 1%0apublisher test%0a ->
 put | var/pkg/installed | a@1%0a ->
 put | var/pkg/manifests/a | dir group=bin mode=0755 owner=root path=a%0a ->
@@ -39,8 +39,8 @@ put | var/pkg/owners | 0 2 root bin a%0a ->
 put | var/pkg/drivers | ->
 dir | a ->";
 
-// The report of a command.
-fn report(rt: &impl Abort, alloc: Global, world: &mut World, command: &str) -> String {
+/// The report of a command.
+pub fn report(rt: &impl Abort, alloc: Global, world: &mut World, command: &str) -> String {
     let line = format!(in alloc; "-R i -s r {command}").expect(rt, "memory");
     run_line(rt, alloc, world, line.as_str(), NONE).taken
 }

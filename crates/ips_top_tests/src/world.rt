@@ -15,7 +15,7 @@ use std::alloc::{AllocError, Global};
 use std::process::Abort;
 
 /// The moment of each run: 20240102T030405Z.
-const MOMENT: u64 = 1704164645;
+pub const MOMENT: u64 = 1704164645;
 
 /// What a repository and an image hold, how the next actuator ends, what the last run ran and how many steps it laid, and in which ways the runs ended: bit by bit, by
 /// the numbers of `outcomes`.
@@ -85,8 +85,8 @@ pub struct Run {
     pub taken: String,
 }
 
-// The words of a line, which blanks divide; `<empty>` is the word of no letters.
-fn words_of(rt: &impl Abort, alloc: Global, line: &str) -> Vec<String> {
+/// The words of a line, which blanks divide; `<empty>` is the word of no letters.
+pub fn words_of(rt: &impl Abort, alloc: Global, line: &str) -> Vec<String> {
     let mut words = Vec::new(alloc);
     if line.is_empty() {
         return words;

@@ -101,9 +101,13 @@ foot_text = codes "exit status: 0 done, 1 refused, failed or damaged, 2 bad word
 unfoldable pub mogrify_text : List ℕ
 mogrify_text = codes "  mogrify -d <folder> <rules> <manifest>\n      print what the rules make of the manifest, both files of the folder; these words stand alone, without -R and -s\n"
 
+-- The lines of `send`, which stands alone, without an image.
+unfoldable pub send_text : List ℕ
+send_text = codes "  send -s <repository> -d <folder> create <publisher>\n      make a repository of the publisher, without packages\n  send -s <repository> -d <folder> publish <name> <manifest>\n      publish the version that the name tells; its manifest and contents are in the folder; these words stand in just this order, without -R\n"
+
 -- The lines of one command, or of all.
 abbrev pub body_text : Option Verb → List ℕ
-body_text None = flat_map command_text all_verbs ++ mogrify_text
+body_text None = flat_map command_text all_verbs ++ mogrify_text ++ send_text
 body_text (Some v) = command_text v
 
 -- The help of one command, or of all.

@@ -64,7 +64,8 @@ fn push_all(out: &mut String) -> Result<(), AllocError>
     ensures { OnOk result (string_bytes out.new ≡ string_bytes out.old ++ page.body_text None) }
 {
     push_commands(out, &VERBS)?;
-    push_mogrify(out)
+    push_mogrify(out)?;
+    push_send(out)
 }
 
 // Writes the lines of `mogrify`.
@@ -74,6 +75,16 @@ fn push_mogrify(out: &mut String) -> Result<(), AllocError>
 {
     out.push_str(
         "  mogrify -d <folder> <rules> <manifest>\n      print what the rules make of the manifest, both files of the folder; these words stand alone, without -R and -s\n",
+    )
+}
+
+// Writes the lines of `send`.
+#[tactic(auto, unfolding(crate::specs::Help::send_text))]
+fn push_send(out: &mut String) -> Result<(), AllocError>
+    ensures { OnOk result (string_bytes out.new ≡ string_bytes out.old ++ page.send_text) }
+{
+    out.push_str(
+        "  send -s <repository> -d <folder> create <publisher>\n      make a repository of the publisher, without packages\n  send -s <repository> -d <folder> publish <name> <manifest>\n      publish the version that the name tells; its manifest and contents are in the folder; these words stand in just this order, without -R\n",
     )
 }
 

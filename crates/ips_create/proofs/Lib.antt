@@ -1,0 +1,4 @@
+pub mod Layouts
+pub mod Moments
+pub mod Phases
+pub mod Behind

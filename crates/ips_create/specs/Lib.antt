@@ -1,0 +1,4 @@
+pub mod Created
+pub mod Making
+pub mod Judging
+pub mod Ready

@@ -1,0 +1,4 @@
+pub mod Dues
+pub mod Versions
+pub mod Assembled
+pub mod Ends

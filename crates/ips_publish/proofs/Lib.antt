@@ -1,0 +1,11 @@
+pub mod Outcomes
+pub mod Causes
+pub mod Worded
+pub mod Sorted
+pub mod Stopping
+pub mod Promises
+pub mod Settlings
+pub mod Findings
+pub mod Sayings
+pub mod Starving
+pub mod Histories

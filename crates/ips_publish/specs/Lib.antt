@@ -1,0 +1,5 @@
+pub mod Told
+pub mod Comes
+pub mod Stops
+pub mod Sent
+pub mod Done

@@ -1,0 +1,12 @@
+pub mod Digests
+pub mod Heads
+pub mod Roads
+pub mod Missing
+pub mod Beside
+pub mod Texts
+pub mod Whole
+pub mod Given
+pub mod Lead
+pub mod Carried
+pub mod Later
+pub mod Faults

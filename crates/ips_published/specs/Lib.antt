@@ -1,0 +1,4 @@
+pub mod Ending
+pub mod Publishing
+pub mod Writing
+pub mod Answers
