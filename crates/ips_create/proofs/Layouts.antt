@@ -17,7 +17,7 @@ use Rattle.ips_repo.specs.Mark.{is_repository}
 use Rattle.ips_sends.proofs.Apart.{parent_joined}
 use Rattle.ips_sends.proofs.Free.{component_free}
 use Rattle.ips_ways.specs.Ways.{IsFree, with_dir}
-use Rattle.ips_ways.proofs.Stand.{In, HaveWay, CanStart, in_of, contains_of, are_free, can_have, stand, none_before, none_stays}
+use Rattle.ips_ways.proofs.Stand.{In, HaveWay, CanStart, in_of, contains_of, are_free, can_have, stand, none_stays, way_before}
 use Rattle.ips_lay.specs.Records.{record_dirs}
 use Rattle.ips_create.specs.Created.{layout_of, place_dirs, all_dirs}
 use Rattle.ips_create.specs.Ready.{IsLayout, IsReady}
@@ -170,6 +170,6 @@ module _ (p : Path) (is : IsPublisher p) where
           records = (can.0, (can.1.0, tt));
           places = can.1.1;
           stand = λ d has. (stand [] (all_dirs (layout_of p)) t all_start).1 d (in_of (all_dirs (layout_of p)) d has);
-          older = none_before [] record_dirs t records_start;
+          older = way_before [] record_dirs t records_start;
           shut_then = none_stays (codes "var/pkg") (with_dir (codes "var") t) gate_name refl (none_stays (codes "var") t gate_name refl shut);
         }

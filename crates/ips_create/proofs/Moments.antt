@@ -1,8 +1,7 @@
 -- What is so at a moment, and what is kept then.
-use Rattle.std.proofs.Common.{◌≡◌, inl, inr, ℕ, Bool, false, cond, ◌&&◌, ◌||◌, List, [], ◌∷◌, Option, Some, None, refl, ap, subst, ◌∙◌}
-use Rattle.std.specs.Prelude.{is_none}
+use Rattle.std.proofs.Common.{◌≡◌, inl, inr, ℕ, Bool, true, false, cond, ◌&&◌, ◌||◌, List, [], ◌∷◌, Option, Some, None, refl, ap, subst, ◌∙◌}
 use Rattle.std.specs.List.{Contains}
-use Rattle.std.proofs.lemmas.Bool.{or_parts, or_from}
+use Rattle.std.proofs.lemmas.Bool.{and_right, or_parts, or_from}
 use Rattle.ips_text.specs.Ancestry.{covers}
 use Rattle.ips_outside.specs.Image.{Entry, Image, is_dir, file_bytes}
 use Rattle.ips_outside.specs.State.{State, MayLeave, IsSettled, ChangedWithin}
@@ -13,7 +12,7 @@ use Rattle.ips_steps.proofs.Lists.{clash}
 use Rattle.ips_journal.specs.Text.{journal_text}
 use Rattle.ips_repo.specs.Places.{mark_place}
 use Rattle.ips_repo.specs.Mark.{is_repository, is_mark_file}
-use Rattle.ips_ways.specs.Ways.{is_missing}
+use Rattle.ips_ways.specs.Ways.{gives_way, is_missing}
 use Rattle.ips_ways.proofs.Stand.{In, contains_of}
 use Rattle.ips_lay.specs.Records.{record_dirs}
 use Rattle.ips_sends.specs.Keeps.{Keeps, Shut}
@@ -31,22 +30,22 @@ PathTest = List ℕ → Bool
 
 -- ---- which paths are changed
 
-less_missing : (e f : Option Entry) → (e ≡ None → f ≡ None) → (c : Bool) → (is_none f && c) ≡ false → (is_none e && c) ≡ false
-less_missing None f older c off = subst (λ (x : Option Entry). (is_none x && c) ≡ false) (older refl) off
-less_missing (Some x) f older c off = refl
+less_missing : (a b c : Bool) → (a ≡ true → b ≡ true) → (b && c) ≡ false → (a && c) ≡ false
+less_missing true b c older off = subst (λ (x : Bool). (x && c) ≡ false) (older refl) off
+less_missing false b c older off = refl
 
 -- a path that is below none of them
 pub not_missing : (t : Image) (paths : List Path) (q : Path) → ((d : Path) → In paths d → covers d q ≡ false) → is_missing t paths q ≡ false
 not_missing t [] q off = refl
-not_missing t (p ∷ paths) q off = or_from (is_none (t.look p) && covers p q) (is_missing t paths q) (less_missing (t.look p) None (λ free. refl) (covers p q) (off p (inl refl))) (not_missing t paths q (λ d has. off d (inr has)))
+not_missing t (p ∷ paths) q off = or_from (gives_way p (t.look p) && covers p q) (is_missing t paths q) (and_right (gives_way p (t.look p)) (covers p q) (off p (inl refl))) (not_missing t paths q (λ d has. off d (inr has)))
 
--- less is missing where more stands
-pub missing_less : (t u : Image) (paths : List Path) (q : Path) → ((r : Path) → u.look r ≡ None → t.look r ≡ None) → is_missing t paths q ≡ false → is_missing u paths q ≡ false
+-- less is missing where less gives way
+pub missing_less : (t u : Image) (paths : List Path) (q : Path) → ((r : Path) → gives_way r (u.look r) ≡ true → gives_way r (t.look r) ≡ true) → is_missing t paths q ≡ false → is_missing u paths q ≡ false
 missing_less t u [] q older off = refl
 missing_less t u (p ∷ paths) q older off =
-    let parts = or_parts (is_none (t.look p) && covers p q) (is_missing t paths q) off in
-    or_from (is_none (u.look p) && covers p q) (is_missing u paths q)
-    (less_missing (u.look p) (t.look p) (older p) (covers p q) parts.0)
+    let parts = or_parts (gives_way p (t.look p) && covers p q) (is_missing t paths q) off in
+    or_from (gives_way p (u.look p) && covers p q) (is_missing u paths q)
+    (less_missing (gives_way p (u.look p)) (gives_way p (t.look p)) (covers p q) (older p) parts.0)
     (missing_less t u paths q older parts.1)
 
 pub of_records : (l : Layout) (d : Path) → In record_dirs d → Contains (all_dirs l) d
@@ -70,7 +69,7 @@ module _ (l : Layout) (is : IsLayout l) (t : Image) where
       (or_from (covers l.catalog gate_name) (is_missing t l.dirs gate_name) is.catalog_shut (not_missing t l.dirs gate_name (λ d has. is.dirs_shut d (contains_of l.dirs d has))))
 
 -- the rest is among all that is laid
-pub put_laid : (l : Layout) (t u : Image) → ((r : Path) → u.look r ≡ None → t.look r ≡ None) → (q : Path) → is_laid l t q ≡ false → is_put l.catalog l.dirs u q ≡ false
+pub put_laid : (l : Layout) (t u : Image) → ((r : Path) → gives_way r (u.look r) ≡ true → gives_way r (t.look r) ≡ true) → (q : Path) → is_laid l t q ≡ false → is_put l.catalog l.dirs u q ≡ false
 put_laid l t u older q off =
     let parts = or_parts (covers mark_place q) (covers l.catalog q || is_missing t l.dirs q) off in
     let rest = or_parts (covers l.catalog q) (is_missing t l.dirs q) parts.1 in

@@ -13,7 +13,7 @@ use Rattle.ips_steps.specs.Private.{gate_name}
 use Rattle.ips_journal.specs.Text.{journal_text}
 use Rattle.ips_repo.specs.Places.{mark_place}
 use Rattle.ips_repo.specs.Mark.{is_repository}
-use Rattle.ips_ways.specs.Ways.{HasBegun, any_missing, is_missing, with_dirs}
+use Rattle.ips_ways.specs.Ways.{HasBegun, any_missing, gives_way, is_missing, with_dirs}
 use Rattle.ips_lay.specs.Records.{MakesInPart, record_dirs}
 use Rattle.ips_lay.proofs.Recorded.{makes_records}
 use Rattle.ips_sends.specs.Keeps.{Keeps}
@@ -112,8 +112,8 @@ module _ {F : Type 0} (o : Outside F) (sane : IsOutside o) (l : Layout) (is : Is
     abbrev put : List ℕ → Bool
     put = is_put l.catalog l.dirs u
 
-    older : (r : List ℕ) → u.look r ≡ None → t.look r ≡ None
-    older r none = ready.older r (sym (ap (λ (v : Image). v.look r) held) ∙ none)
+    older : (r : List ℕ) → gives_way r (u.look r) ≡ true → gives_way r (t.look r) ≡ true
+    older r way = ready.older r (sym (ap (λ (v : Image). gives_way r (v.look r)) held) ∙ way)
 
     pub rest_laid : (two : F) → ChangesOnly o put put one two → ChangesOnly o laid laid one two
     rest_laid two run = keeps_wider o put put laid laid one two (put_laid l t u older) (put_laid l t u older) run

@@ -40,7 +40,7 @@ abbrev pub mark_text : List ℕ
 mark_text = codes "version=4\n"
 
 -- It is made of an image that is no repository and has nothing in its way: the mark and the catalog are files of mode 0644 with their texts; its directories
--- stand, made where nothing stood; each other path is as it was; and nothing is touched.
+-- stand, made in place of what gives way to them; each other path is as it was; and nothing is touched.
 pub record IsMade (l : Layout) (t : Image) (s : State) : Type 0 where
   pub unmarked : IsFalse (is_repository t)
   pub free : IsFree t (all_dirs l)
@@ -56,7 +56,7 @@ IsCreated publisher t s = IsMade (layout_of publisher) t s
 
 -- ---- why it isn't made
 
--- Why it isn't made: a repository is there; or there is none, and this is the least path by bytes at which something else than a directory stands; or a call
+-- Why it isn't made: a repository is there; or there is none, and this is the least path by bytes at which something is in the way of a directory; or a call
 -- failed. A call that may change something is made only where neither is so.
 abbrev pub SaysOfMaking : Layout → Image → CreateFault → Type 0
 SaysOfMaking l t Exists = IsTrue (is_repository t)

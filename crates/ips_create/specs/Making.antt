@@ -34,7 +34,7 @@ pub record IsMarkedLast (l : Layout) (s : State) : Type 0 where
 
 -- ---- what is changed, and what is kept
 
--- the path is at or below the mark, the catalog, or a directory that is missing in the image
+-- the path is at or below the mark, the catalog, or a directory that is missing in the image: in its place stands nothing, or what gives way to it
 abbrev pub is_laid : Layout → Image → List ℕ → Bool
 is_laid l t q = covers mark_place q || (covers l.catalog q || is_missing t l.dirs q)
 

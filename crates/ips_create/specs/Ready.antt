@@ -6,7 +6,7 @@ use Rattle.ips_outside.specs.Image.{Image, is_dir}
 use Rattle.ips_steps.specs.Private.{gate_name}
 use Rattle.ips_repo.specs.Places.{mark_place}
 use Rattle.ips_repo.specs.Mark.{is_repository}
-use Rattle.ips_ways.specs.Ways.{CanHave, IsFree, is_missing, with_dirs}
+use Rattle.ips_ways.specs.Ways.{CanHave, IsFree, gives_way, is_missing, with_dirs}
 use Rattle.ips_ways.specs.declared.making.Unmade.{Unmade}
 use Rattle.ips_lay.specs.Records.{record_dirs}
 use Rattle.ips_create.specs.Created.{Layout, all_dirs, is_begun}
@@ -31,8 +31,8 @@ pub record IsLayout (l : Layout) : Type 0 where
   pub catalog_shut : IsFalse (covers l.catalog gate_name)
   pub dirs_shut : (d : List ℕ) → Contains l.dirs d → IsFalse (covers d gate_name)
 
--- An image is no repository, nothing stands at its gate, nothing is in the way, and the directories can be made one after the other; then they stand, and what is
--- absent then was so before.
+-- An image is no repository, nothing stands at its gate, nothing is in the way, and the directories can be made one after the other; then they stand, and what
+-- gives way to a directory then did so before.
 pub record IsReady (l : Layout) (t : Image) : Type 0 where
   pub unmarked : IsFalse (is_repository t)
   pub free : IsFree t (all_dirs l)
@@ -40,7 +40,7 @@ pub record IsReady (l : Layout) (t : Image) : Type 0 where
   pub records : CanHave t record_dirs
   pub places : CanHave (with_dirs record_dirs t) l.dirs
   pub stand : (d : List ℕ) → Contains (all_dirs l) d → IsTrue (is_dir ((with_dirs (all_dirs l) t).look d))
-  pub older : (q : List ℕ) → (with_dirs record_dirs t).look q ≡ None → t.look q ≡ None
+  pub older : (q : List ℕ) → IsTrue (gives_way q ((with_dirs record_dirs t).look q)) → IsTrue (gives_way q (t.look q))
   pub shut_then : (with_dirs record_dirs t).look gate_name ≡ None
 
 -- the path is at or below the catalog, or a directory that is missing in the image

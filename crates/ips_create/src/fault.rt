@@ -7,7 +7,7 @@ use ips_text::RelPath;
 pub enum CreateFault {
     /// One is there already.
     Exists,
-    /// Something else than a directory stands at the path of one of its directories.
+    /// Something that is no directory and gives way to none stands at the path of one of its directories.
     Blocked {
         /// The least such path, by bytes.
         path: RelPath,

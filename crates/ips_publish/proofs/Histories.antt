@@ -1,5 +1,6 @@
 -- How a history of runs goes on.
-use Rattle.std.proofs.Common.{◌⊎◌, inl, inr, ℕ, false, List, [], ◌∷◌}
+use Rattle.std.proofs.Common.{◌⊎◌, inl, inr, ℕ, Bool, false, List, [], ◌∷◌, subst}
+use Rattle.std.specs.List.{Contains}
 use Rattle.std.proofs.lemmas.List.Elements.{Contains-push}
 use Rattle.ips_outside.specs.Image.{Image}
 use Rattle.ips_outside.specs.Outside.{Outside}
@@ -13,7 +14,7 @@ use Rattle.ips_publish.specs.Told.{is_published}
 use Rattle.ips_publish.specs.Stops.{Stops, NoneBegun, OneBegun, MadeInPart, GoesOn, BreaksOff}
 
 module _ {F : Type 0} (o : Outside F) (proto : Image) (words : List (List ℕ)) (moment : ℕ) (old new : F) (xs : List Attempt) (sends : Sends journal_text o AreWholeOrOut xs (o.state old)) where
-  pub goes_on : (x : SendOutcome) → Stops o proto words moment old new x → GoesOn o xs new x ⊎ BreaksOff o old new x
+  pub goes_on : (x : SendOutcome) → Stops o proto words moment old new x → GoesOn o words moment xs new x ⊎ BreaksOff o old new x
   goes_on x (NoneBegun unpublished is) = inl (record {
     ended = [];
     sends = Finished [] [] old new is sends;
@@ -22,6 +23,6 @@ module _ {F : Type 0} (o : Outside F) (proto : Image) (words : List (List ℕ)) 
   goes_on x (OneBegun a is put at asks has judges send) = inl (record {
     ended = attempt a is put (is_published x) ∷ [];
     sends = Finished (attempt a is put false ∷ []) (attempt a is put (is_published x) ∷ []) old new send sends;
-    answered = λ yes. (attempt a is put (is_published x), Contains-push [] (attempt a is put (is_published x)), yes);
+    answered = λ yes. (a, is, put, asks, subst (λ (answered : Bool). Contains (attempt a is put (is_published x) ∷ []) (attempt a is put answered)) yes (Contains-push [] (attempt a is put (is_published x))));
   })
   goes_on x (MadeInPart at blames has makes) = inr (record { blames = blames; at = at; has = has; makes = makes })

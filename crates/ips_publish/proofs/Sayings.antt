@@ -18,7 +18,7 @@ use Rattle.ips_published.specs.Publishing.{HasPublished}
 use Rattle.ips_published.specs.Answers.{Ends, IsRefused, IsUnjudged, IsMadeInPart, IsUnput, IsUnfinished, IsPublished}
 use Rattle.ips_send_words.specs.Words.{Asks}
 use Rattle.ips_send_words.specs.declared.request.Request.{Request}
-use Rattle.ips_send_words.specs.declared.request.Request.TheVariants.{Create, Publish}
+use Rattle.ips_send_words.specs.declared.request.Request.TheVariants.{Create}
 use Rattle.ips_send_report.specs.declared.outcome.SendOutcome.{SendOutcome}
 use Rattle.ips_send_report.specs.declared.outcome.SendOutcome.TheVariants as outcome
 use Rattle.ips_publish.specs.Told.{IsFault, unsettled_as}
@@ -71,12 +71,12 @@ module _ {S F : Type 0} (q : Outside S) (o : Outside F) where
     does_make at request x (Makes publisher y ends) asks is tells = (publisher, asks, made_so y (IsCreated publisher (o.state at).held (o.state new)) is (ends tells).created)
     does_make at request x (Publishes a sane y ends) asks is tells = absurd (published_not_made a y is)
 
-    settled_so : (at : F) (mid : List Carrier) → IsSettledAt o old at before mid → (request : Request) (x : SendOutcome) → Asks moment words request → Does q o source at new request x → x ≡ outcome.Created → SaysCreated o words moment old new
+    settled_so : (at : F) (mid : List Carrier) → IsSettledAt o old at before mid → (request : Request) (x : SendOutcome) → Asks moment words request → Does q o source at new request x → x ≡ outcome.Created → SaysCreated o words moment old new before
     settled_so at mid settled request x asks does is =
         let says = does_make at request x does asks is (settled.same_kind ∙ told) in
-        record { publisher = says.0; asks = says.1; at = at; has = settled.has; created = says.2 }
+        record { publisher = says.0; asks = says.1; at = at; mid = mid; settled = settled; created = says.2 }
 
-    pub says_created : (x : SendOutcome) → Comes q o words moment source old new before now x → x ≡ outcome.Created → SaysCreated o words moment old new
+    pub says_created : (x : SendOutcome) → Comes q o words moment source old new before now x → x ≡ outcome.Created → SaysCreated o words moment old new before
     says_created x (Misworded place why usage same counted) is = absurd (usage_isnt place why outcome.Created is (λ fault. fault))
     says_created x (Starved same counted) is = absurd (starved_isnt outcome.Created is (λ fault. fault))
     says_created x (Unsettled request why asks how) is = absurd (unsettled_isnt why outcome.Created is (λ fault. fault))
@@ -86,7 +86,7 @@ module _ {S F : Type 0} (q : Outside S) (o : Outside F) where
     -- ---- a package
 
     module _ (fmri : List ℕ) (at : F) (mid : List Carrier) (settled : IsSettledAt o old at before mid) where
-      does_publish : (request : Request) (x : SendOutcome) → Does q o source at new request x → Asks moment words request → x ≡ outcome.Published fmri → IsTrue (q.tells source) → SaysPublished o (q.state source).held words moment old new fmri
+      does_publish : (request : Request) (x : SendOutcome) → Does q o source at new request x → Asks moment words request → x ≡ outcome.Published fmri → IsTrue (q.tells source) → SaysPublished o (q.state source).held words moment old new before fmri
       does_publish request x (Makes publisher y ends) asks is tells = absurd (made_not_published y fmri is)
       does_publish request x (Publishes a sane y ends) asks is tells =
           let so = published_so a y fmri is in
@@ -98,7 +98,8 @@ module _ {S F : Type 0} (q : Outside S) (o : Outside F) where
             asks = asks;
             named = so.1;
             at = at;
-            has = settled.has;
+            mid = mid;
+            settled = settled;
             put = ended.0;
             judged = ended.1;
             published = ended.2;
@@ -107,7 +108,7 @@ module _ {S F : Type 0} (q : Outside S) (o : Outside F) where
             opens = ap (λ (t : Image). opening a.publisher t) ended.2.committed.seen ∙ ended.2.published.opened opened.0 opened.1;
           }
 
-    pub says_published : (fmri : List ℕ) (x : SendOutcome) → Comes q o words moment source old new before now x → x ≡ outcome.Published fmri → IsTrue (q.tells source) → SaysPublished o (q.state source).held words moment old new fmri
+    pub says_published : (fmri : List ℕ) (x : SendOutcome) → Comes q o words moment source old new before now x → x ≡ outcome.Published fmri → IsTrue (q.tells source) → SaysPublished o (q.state source).held words moment old new before fmri
     says_published fmri x (Misworded place why usage same counted) is tells = absurd (usage_isnt place why (outcome.Published fmri) is (λ fault. fault))
     says_published fmri x (Starved same counted) is tells = absurd (starved_isnt (outcome.Published fmri) is (λ fault. fault))
     says_published fmri x (Unsettled request why asks how) is tells = absurd (unsettled_isnt why (outcome.Published fmri) is (λ fault. fault))

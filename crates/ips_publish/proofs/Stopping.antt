@@ -1,5 +1,5 @@
 -- What is so of attempts, wherever a run is stopped.
-use Rattle.std.proofs.Common.{◌≡◌, ◌⊎◌, ⊎_elim, ℕ, Bool, true, false, IsTrue, List, [], ◌∷◌, None, sym, subst}
+use Rattle.std.proofs.Common.{◌≡◌, ⊎_elim, ℕ, Bool, true, false, IsTrue, List, [], ◌∷◌, None, sym, subst}
 use Rattle.ips_outside.specs.Image.{Image}
 use Rattle.ips_outside.specs.State.{State, IsSettled}
 use Rattle.ips_outside.specs.Outside.{Outside, IsOutside}

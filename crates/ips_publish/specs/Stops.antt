@@ -1,5 +1,5 @@
 -- What a run of `send` does to what is said of the target, wherever it is stopped.
-use Rattle.std.specs.Prelude.{ℕ, false, IsTrue, IsFalse, List, [], ◌∷◌, ◌++◌}
+use Rattle.std.specs.Prelude.{ℕ, true, false, IsTrue, IsFalse, List, [], ◌∷◌, ◌++◌}
 use Rattle.std.specs.List.{Contains}
 use Rattle.ips_outside.specs.Image.{Image}
 use Rattle.ips_outside.specs.Outside.{Outside}
@@ -27,11 +27,11 @@ pub data Stops {F : Type 0} (o : Outside F) (proto : Image) (words : List (List 
       → Stops o proto words moment old new x
   MadeInPart : (at : F) → BlamesFolder x → HasSettled journal_text o AreWholeOrOut old at → MakesInPart o at new → Stops o proto words moment old new x
 
--- A history goes on with a run: of the attempts that it began some are known, as they ended; and where it is told as published, one of them was answered.
-pub record GoesOn {F : Type 0} (o : Outside F) (xs : List Attempt) (new : F) (x : SendOutcome) : Type 0 where
+-- A history goes on with a run: of the attempts that it began some are known, as they ended; and where it is told as published, that which the words ask for is one of them, and was answered.
+pub record GoesOn {F : Type 0} (o : Outside F) (words : List (List ℕ)) (moment : ℕ) (xs : List Attempt) (new : F) (x : SendOutcome) : Type 0 where
   pub ended : List Attempt
   pub sends : Sends journal_text o AreWholeOrOut (ended ++ xs) (o.state new)
-  pub answered : IsTrue (is_published x) → (a : Attempt) × Contains ended a × IsTrue a.answered
+  pub answered : IsTrue (is_published x) → (a : Asked) × (is : IsAsked a) × (put : Put) × Asks moment words (Publish a.publisher a.stem a.version a.path) × Contains ended (attempt a is put true)
 
 -- A call failed while directories of the records were made and not yet made safe: nothing is said of the history from there.
 pub record BreaksOff {F : Type 0} (o : Outside F) (old new : F) (x : SendOutcome) : Type 0 where

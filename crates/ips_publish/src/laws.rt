@@ -21,7 +21,7 @@ use ips_outside::Source;
 pub fn runs_go_on<S: Source, F: Folder>()
     ensures { (xs : List Attempt) (words : List (List ℕ)) (moment : ℕ) (source source_new : S) (old new : F) (before now : List Carrier) (x : told.SendOutcome) → IsTrue (S.outside.tells source) → IsTrue (F.outside.tells old)
         → Sends journal_text F.outside AreWholeOrOut xs (F.outside.state old) → IsSent S.outside F.outside words moment source source_new old new before now x
-        → GoesOn F.outside xs new x ⊎ BreaksOff F.outside old new x }
+        → GoesOn F.outside words moment xs new x ⊎ BreaksOff F.outside old new x }
 {}
 
 /// However runs were stopped, and however often, a later one whose outcome is no fault has found each attempt so far whole in the repository or not at all, and each whole of
@@ -37,13 +37,13 @@ pub fn later_runs_find<S: Source, F: Folder>()
 /// What is told as made or published is, over what was found once the target was settled.
 pub fn what_is_told_is_so<S: Source, F: Folder>()
     ensures created { (words : List (List ℕ)) (moment : ℕ) (source source_new : S) (old new : F) (before now : List Carrier) → IsTrue (F.outside.tells old)
-        → IsSent S.outside F.outside words moment source source_new old new before now outcome.Created → SaysCreated F.outside words moment old new }
+        → IsSent S.outside F.outside words moment source source_new old new before now outcome.Created → SaysCreated F.outside words moment old new before }
     ensures published { (words : List (List ℕ)) (moment : ℕ) (source source_new : S) (old new : F) (before now : List Carrier) (fmri : List ℕ) → IsTrue (S.outside.tells source) → IsTrue (F.outside.tells old)
-        → IsSent S.outside F.outside words moment source source_new old new before now (outcome.Published fmri) → SaysPublished F.outside (S.outside.state source).held words moment old new fmri }
+        → IsSent S.outside F.outside words moment source source_new old new before now (outcome.Published fmri) → SaysPublished F.outside (S.outside.state source).held words moment old new before fmri }
 {}
 
 /// Where memory ran out, the target is as a run found it, or the gate has stayed closed.
 pub fn memory_runs_out_early<S: Source, F: Folder>()
     ensures { (words : List (List ℕ)) (moment : ℕ) (source source_new : S) (old new : F) (before now : List Carrier) → IsTrue (S.outside.tells source) → IsTrue (F.outside.tells old)
-        → IsSent S.outside F.outside words moment source source_new old new before now outcome.OutOfMemory → StarvesEarly F.outside old new }
+        → IsSent S.outside F.outside words moment source source_new old new before now outcome.OutOfMemory → StarvesEarly F.outside old new before }
 {}

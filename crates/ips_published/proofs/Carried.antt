@@ -23,8 +23,8 @@ use Rattle.ips_repo.specs.Places.{catalog_place}
 use Rattle.ips_repo.specs.Mark.{is_repository}
 use Rattle.ips_repo.specs.Opening.{opening, catalog_in}
 use Rattle.ips_repo.specs.Payload.{HasIntact}
-use Rattle.ips_ways.specs.Ways.{is_missing, with_dirs}
-use Rattle.ips_ways.proofs.Stand.{CanStart, none_before}
+use Rattle.ips_ways.specs.Ways.{gives_way, is_missing, with_dirs}
+use Rattle.ips_ways.proofs.Stand.{CanStart, way_before}
 use Rattle.ips_lay.specs.Lists.{AreAllIntact}
 use Rattle.ips_lay.specs.Records.{record_dirs}
 use Rattle.ips_sends.specs.Whole.{Attempt, AreWholeOrOut, IsBeside}
@@ -47,7 +47,7 @@ use Rattle.ips_published.proofs.Beside.{is_beside, off_beside}
 use Rattle.ips_published.proofs.Given.{gate_shut}
 use Rattle.ips_published.proofs.Heads.{file_seen, opening_seen}
 use Rattle.ips_published.proofs.Lead.{Says, Leads, sent}
-use Rattle.ips_published.proofs.Missing.{missed, is_missed, dirs_file}
+use Rattle.ips_published.proofs.Missing.{missed, is_missed, dirs_file, records_elsewhere}
 use Rattle.ips_published.proofs.Roads.{records_among}
 use Rattle.ips_published.proofs.Texts.{IsSet}
 use Rattle.ips_published.proofs.Whole.{all_stay, published}
@@ -97,10 +97,10 @@ module _ {F : Type 0} (o : Outside F) (sane : IsOutside o) (proto : Image) (a : 
     t = (o.state mid).held
 
     alike : (q : List ℕ) → file_at t q ≡ file_at before q
-    alike q = ap (λ (u : Image). file_at u q) held ∙ dirs_file [] record_dirs before start q
+    alike q = ap (λ (u : Image). file_at u q) held ∙ dirs_file [] record_dirs before start records_elsewhere q
 
-    back : (q : List ℕ) → t.look q ≡ None → before.look q ≡ None
-    back q none = none_before [] record_dirs before start q (sym (ap (λ (u : Image). u.look q) held) ∙ none)
+    back : (q : List ℕ) → gives_way q (t.look q) ≡ true → gives_way q (before.look q) ≡ true
+    back q way = way_before [] record_dirs before start q (sym (ap (λ (u : Image). gives_way q (u.look q)) held) ∙ way)
 
     shut_mid : IsShut (o.state mid)
     shut_mid = gate_shut before t held shut
@@ -121,7 +121,7 @@ module _ {F : Type 0} (o : Outside F) (sane : IsOutside o) (proto : Image) (a : 
     records_off : (q : List ℕ) → (IsBesideAt a put before q → ⊥) → is_missing before record_dirs q ≡ false
     records_off q off = false_from_ne_true (is_missing before record_dirs q) (λ h.
         let m = missed before record_dirs q h in
-        off (inl (is_missed before roads q m.road (records_among a.publisher a.stem (names_put put) m.road m.among) m.absent m.over)))
+        off (inl (is_missed before roads q m.road (records_among a.publisher a.stem (names_put put) m.road m.among) m.room m.over)))
 
     -- ---- while all is written beside
 

@@ -1,15 +1,14 @@
 -- What is ready can be carried out.
-use Rattle.std.proofs.Common.{◌≡◌, inl, inr, ℕ, zero, suc, ◌≤◌, Bool, true, false, cond, ◌||◌, List, [], ◌∷◌, ◌++◌, length, map, take, slice_get, Option, Some, None, refl, sym, ap, subst, ◌∙◌, arith}
-use Rattle.std.specs.Prelude.{codes, is_none}
+use Rattle.std.proofs.Common.{◌≡◌, inl, inr, ℕ, zero, suc, ◌≤◌, true, false, ◌||◌, List, [], ◌∷◌, ◌++◌, length, map, take, slice_get, Option, Some, None, refl, sym, ap, subst, ◌∙◌, arith}
+use Rattle.std.specs.Prelude.{codes}
 use Rattle.std.specs.List.{AllByRecursion, Contains}
-use Rattle.std.proofs.lemmas.Bool.{cases_Bool, or_from, false_from_ne_true}
+use Rattle.std.proofs.lemmas.Bool.{or_from, false_from_ne_true}
 use Rattle.std.proofs.lemmas.Option.{slice_get_within}
 use Rattle.ips_text.specs.Ancestry.{same_path, covers, parent}
 use Rattle.ips_text.proofs.Ancestry.{covers-self, covers_trans, parent_covers}
 use Rattle.ips_text.specs.Kept.{Kept}
 use Rattle.ips_outside.specs.Children.{path_bytes}
-use Rattle.ips_outside.specs.Image.{Entry, Dir, Image, IsImage, is_dir, has_parent, dir_or_none}
-use Rattle.ips_outside.specs.Change.{with_entry_at}
+use Rattle.ips_outside.specs.Image.{Dir, Image, IsImage, is_dir, has_parent, dir_or_none}
 use Rattle.ips_outside.specs.Outside.{Outside}
 use Rattle.ips_steps.specs.Private.{records_name, gate_name, is_private}
 use Rattle.ips_steps.specs.Journal.{IsJournal}
@@ -26,7 +25,7 @@ use Rattle.ips_files.specs.Files.{file_at}
 use Rattle.ips_repo.specs.Places.{payload_place}
 use Rattle.ips_repo.specs.Payload.{payload_limit, digest_by}
 use Rattle.ips_ways.specs.Ways.{CanHave, IsFree, is_missing, with_dir, with_dirs}
-use Rattle.ips_ways.proofs.Stand.{In, CanStart, AreFree, are_free, can_have, stand, free_then, in_of, contains_of}
+use Rattle.ips_ways.proofs.Stand.{In, CanStart, AreFree, are_free, can_have, stand, free_then, none_stays, in_of, contains_of}
 use Rattle.ips_lay.specs.declared.content.Content.{Content}
 use Rattle.ips_lay.specs.Laid.{IsNotThere}
 use Rattle.ips_lay.specs.Lists.{AreNames, ArePlaced, names_of}
@@ -112,16 +111,6 @@ everywhere = record { look = λ q. Some (Dir 493 false); same = λ x y. false }
 
 -- ---- the gate, while directories of the records are made
 
-none_placed : (s c : Bool) (e : Option Entry) → s ≡ false → e ≡ None → cond s (Some (Dir 493 false)) (cond c None e) ≡ None
-none_placed s true e is none = rw is refl
-none_placed s false e is none = rw is none
-
-none_stays : (p q : List ℕ) (t : Image) → same_path p q ≡ false → t.look q ≡ None → (with_dir p t).look q ≡ None
-none_stays p q t apart none = elim (cases_Bool (is_none (t.look p))) [
-  | inl free ↦ ap (λ (b : Bool). (cond b (with_entry_at p (Some (Dir 493 false)) t) t).look q) free ∙ none_placed (same_path p q) (covers p q) (t.look q) apart none
-  | inr stands ↦ ap (λ (b : Bool). (cond b (with_entry_at p (Some (Dir 493 false)) t) t).look q) stands ∙ none
-]
-
 gate_apart : (same_path (codes "var") gate_name ≡ false) × (same_path (codes "var/pkg") gate_name ≡ false)
 unfolding gate_name
 gate_apart = (refl, refl)
@@ -129,7 +118,7 @@ gate_apart = (refl, refl)
 pub gate_shut : (t u : Image) → u ≡ with_dirs record_dirs t → t.look gate_name ≡ None → u.look gate_name ≡ None
 gate_shut t u held shut =
     ap (λ (v : Image). v.look gate_name) held
-    ∙ none_stays (codes "var/pkg") gate_name (with_dir (codes "var") t) gate_apart.1 (none_stays (codes "var") gate_name t gate_apart.0 shut)
+    ∙ none_stays (codes "var/pkg") (with_dir (codes "var") t) gate_name gate_apart.1 (none_stays (codes "var") t gate_name gate_apart.0 shut)
 
 -- ---- what is ready
 

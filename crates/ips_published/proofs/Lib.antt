@@ -1,6 +1,7 @@
 pub mod Digests
 pub mod Heads
 pub mod Roads
+pub mod NoRoads
 pub mod Missing
 pub mod Beside
 pub mod Texts

@@ -242,4 +242,4 @@ name_among publisher stem names = inr (inl refl)
 pub records_start : (t : Image) → IsImage t → (publisher stem : List ℕ) (names : List PayloadName) → IsFree t (ways publisher stem names) → CanStart [] record_dirs t
 records_start t formed publisher stem names clear =
     let all = are_free t (ways publisher stem names) clear in
-    record { formed = formed; dirs = λ d has. absurd has; free = (all.0, (subst (λ (q : List ℕ). is_dir_or_free (t.look q) ≡ true) (sym records_are) all.1.0, tt)); ways = record_ways }
+    record { formed = formed; dirs = λ d has. absurd has; free = (all.0, (subst (λ (q : List ℕ). is_dir_or_free q (t.look q) ≡ true) (sym records_are) all.1.0, tt)); ways = record_ways }

@@ -33,8 +33,8 @@ attempt a is put answered = record {
   answered = answered;
 }
 
--- The path is at or below a directory on the way that is missing in the image, or the place of one of the contents that isn't intact there: what is
--- written before the manifest and the catalog.
+-- The path is at or below a directory on the way that is missing in the image, in whose place nothing stands or what gives way to it, or at or below the
+-- place of one of the contents that isn't intact there: what is written before the manifest and the catalog.
 abbrev pub IsBesideAt : Asked → Put → Image → List ℕ → Type 0
 IsBesideAt a put t q = IsTrue (is_missing t (ways a.publisher a.stem (names_put put)) q) ⊎ IsAtUnlaid a.publisher t (names_put put) q
 

@@ -1,5 +1,5 @@
 -- The least of the paths that are in the way.
-use Rattle.std.proofs.Common.{◌≡◌, ◌≢◌, ℕ, zero, suc, ◌+◌, ◌<◌, ◌≤◌, Bool, true, false, not, ◌&&◌, ◌||◌, if◌then◌else◌, List, [], ◌∷◌, length, get_or, Option, Some, None, IfSome, refl, sym, ap, subst, ◌∙◌, inl, inr, ◌⊎◌, arith}
+use Rattle.std.proofs.Common.{◌≡◌, ◌≢◌, ℕ, zero, suc, ◌+◌, ◌<◌, ◌≤◌, Bool, true, false, not, ◌&&◌, if◌then◌else◌, List, [], ◌∷◌, length, get_or, Option, Some, None, IfSome, refl, sym, ap, subst, ◌∙◌, inl, inr, ◌⊎◌, arith}
 use Rattle.std.specs.Prelude.{IfNone, slice_get}
 use Rattle.std.specs.List.{Contains}
 use Rattle.std.proofs.lemmas.List.{get_or_default, length-map}
@@ -12,8 +12,8 @@ use Rattle.std.specs.declared.cmp.Ordering.{Ordering}
 use Rattle.std.specs.declared.cmp.Ordering.TheVariants.{Less, Equal, Greater}
 use Rattle.std.specs.Cmp.Lexicographic.{slice_cmp}
 use Rattle.std.proofs.lemmas.Cmp.{nat_list_cmp_total}
-use Rattle.std.proofs.lemmas.Bool.{cases_Bool}
-use Rattle.ips_outside.specs.Image.{Image, Entry, is_dir}
+use Rattle.std.proofs.lemmas.Bool.{cases_Bool, not-true}
+use Rattle.ips_outside.specs.Image.{Image}
 use Rattle.ips_ways.specs.Ways.{IsInTheWay, IsFirstInTheWay, IsFree, is_dir_or_free}
 use Rattle.ips_ways.specs.First.{is_before, next_first}
 
@@ -31,27 +31,15 @@ IsFirstOf t paths n (Some at) = (at < n) × IsInTheWay t (get_or paths at []) ×
 pub first_none : (t : Image) (paths : List Path) → IsFirstOf t paths 0 None
 first_none t paths k lt way = omega (arith, lt)
 
-way_blocked : (t : Image) (p : Path) → not (is_dir_or_free (t.look p)) ≡ true → IsInTheWay t p
-way_blocked t p h = go (t.look p) h
-  where
-    go : (e : Option Entry) → not (is_dir_or_free e) ≡ true → (e ≢ None) × (is_dir e ≡ false)
-    go None h = cc
-    go (Some x) h = (λ e. cc, off (is_dir (Some x)) h)
-      where
-        off : (b : Bool) → not (false || b) ≡ true → b ≡ false
-        off true h = cc
-        off false h = refl
+way_blocked : (t : Image) (p : Path) → not (is_dir_or_free p (t.look p)) ≡ true → IsInTheWay t p
+way_blocked t p h = not-true (is_dir_or_free p (t.look p)) h
 
-way_free : (t : Image) (p : Path) → not (is_dir_or_free (t.look p)) ≡ false → IsInTheWay t p → ⊥
-way_free t p h way = go (t.look p) h way.0 way.1
+way_free : (t : Image) (p : Path) → not (is_dir_or_free p (t.look p)) ≡ false → IsInTheWay t p → ⊥
+way_free t p h way = go (is_dir_or_free p (t.look p)) h way
   where
-    go : (e : Option Entry) → not (is_dir_or_free e) ≡ false → (e ≢ None) → is_dir e ≡ false → ⊥
-    go None h some off = some refl
-    go (Some x) h some off = on (is_dir (Some x)) h off
-      where
-        on : (b : Bool) → not (false || b) ≡ false → b ≡ false → ⊥
-        on true h e = cc
-        on false h e = cc
+    go : (b : Bool) → not b ≡ false → b ≡ false → ⊥
+    go true h e = cc
+    go false h e = cc
 
 not_self : (p : Path) → slice_cmp nat_cmp p p ≢ Less
 not_self p less = let back = nat_list_cmp_total.antisymm p p in go (slice_cmp nat_cmp p p) less back
@@ -77,7 +65,7 @@ below zero (suc n) lt = inl (omega arith)
 below (suc k) zero lt = absurd (omega (arith, lt))
 below (suc k) (suc n) lt = elim (below k n (omega (arith, lt))) [ inl l ↦ inl (omega (arith, l)) | inr e ↦ inr (ap suc e) ]
 
-pub first_more : (t : Image) (paths : List Path) (n : ℕ) (blocked : Bool) (first : Option ℕ) → blocked ≡ not (is_dir_or_free (t.look (get_or paths n []))) → IsFirstOf t paths n first → IsFirstOf t paths (n + 1) (next_first paths n blocked first)
+pub first_more : (t : Image) (paths : List Path) (n : ℕ) (blocked : Bool) (first : Option ℕ) → blocked ≡ not (is_dir_or_free (get_or paths n []) (t.look (get_or paths n []))) → IsFirstOf t paths n first → IsFirstOf t paths (n + 1) (next_first paths n blocked first)
 first_more t paths n false None is inv = λ k lt way. elim (below k n lt) [ inl l ↦ inv k l way | inr e ↦ way_free t (path paths n) (sym is) (subst (λ (j : ℕ). IsInTheWay t (path paths j)) e way) ]
 first_more t paths n false (Some at) is inv =
     (omega (arith, inv.0), inv.1, λ k lt way. elim (below k n lt) [ inl l ↦ inv.2 k l way | inr e ↦ absurd (way_free t (path paths n) (sym is) (subst (λ (j : ℕ). IsInTheWay t (path paths j)) e way)) ])

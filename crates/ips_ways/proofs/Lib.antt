@@ -1,3 +1,4 @@
+pub mod Giving
 pub mod Made
 pub mod First
 pub mod Stand

@@ -1,16 +1,17 @@
 -- Directories that are made one after the other stand then.
 use Rattle.std.proofs.Common.{◌≡◌, ◌⊎◌, inl, inr, ℕ, zero, suc, ◌<◌, Bool, true, false, cond, ◌||◌, List, [], ◌∷◌, length, Option, Some, None, refl, sym, ap, subst, ◌∙◌, arith}
-use Rattle.std.specs.Prelude.{is_none, is_some}
+use Rattle.std.specs.Prelude.{codes}
 use Rattle.std.specs.List.{Contains}
-use Rattle.std.proofs.lemmas.Bool.{cases_Bool, and_from, false≢true}
+use Rattle.std.proofs.lemmas.Bool.{cases_Bool, and_from, or_left, or_right, true_from_ne_false, false≢true}
 use Rattle.ips_text.specs.Ancestry.{same_path, covers, parent}
 use Rattle.ips_text.specs.Path.{IsPath}
-use Rattle.ips_outside.specs.Image.{Entry, Dir, File, Link, Other, Image, IsImage, is_dir, has_parent, dir_or_none}
+use Rattle.ips_outside.specs.Image.{Entry, Dir, Image, IsImage, is_dir, has_parent, dir_or_none}
 use Rattle.ips_outside.specs.Change.{with_entry_at}
 use Rattle.ips_outside.proofs.Placed.{look_placed}
 use Rattle.ips_outside.proofs.Formed.{placed_formed}
-use Rattle.ips_ways.specs.Ways.{CanHave, IsFree, is_dir_or_free, with_dir, with_dirs}
-use Rattle.ips_ways.proofs.Made.{kept_dir}
+use Rattle.ips_ways.specs.Ways.{CanHave, IsFree, gives_way, is_dir_or_free, with_dir, with_dirs}
+use Rattle.ips_ways.proofs.Giving.{gives, none_by, none_below}
+use Rattle.ips_ways.proofs.Made.{kept_dir, kept_way}
 
 abbrev Path : Type 0
 Path = List ℕ
@@ -25,10 +26,10 @@ abbrev pub HaveWay : List Path → List Path → Type 0
 HaveWay before [] = Unit {0}
 HaveWay before (p ∷ paths) = IsPath p × ((parent p ≡ None) ⊎ ((d : Path) × (parent p ≡ Some d) × In before d)) × HaveWay (p ∷ before) paths
 
--- a directory stands at each, or nothing
+-- a directory stands at each, or what gives way to one
 abbrev pub AreFree : Image → List Path → Type 0
 AreFree t [] = Unit {0}
-AreFree t (p ∷ paths) = (is_dir_or_free (t.look p) ≡ true) × AreFree t paths
+AreFree t (p ∷ paths) = (is_dir_or_free p (t.look p) ≡ true) × AreFree t paths
 
 -- each is a directory
 abbrev pub AreDirs : Image → List Path → Type 0
@@ -52,61 +53,48 @@ contains_of [] d has = absurd has
 contains_of (x ∷ xs) d (inl is) = subst (Contains (x ∷ xs)) is (contains_head x xs)
 contains_of (x ∷ xs) d (inr has) = contains_tail x xs d (contains_of xs d has)
 
-free_entry : (e : Option Entry) → ((e ≡ None → ⊥) → is_dir e ≡ false → ⊥) → is_dir_or_free e ≡ true
-free_entry None h = refl
-free_entry (Some (Dir m f)) h = refl
-free_entry (Some (File m b)) h = absurd (h (λ e. cc) refl)
-free_entry (Some (Link g)) h = absurd (h (λ e. cc) refl)
-free_entry (Some Other) h = absurd (h (λ e. cc) refl)
-
 pub are_free : (t : Image) (paths : List Path) → IsFree t paths → AreFree t paths
 are_free t [] h = tt
-are_free t (p ∷ paths) h = (free_entry (t.look p) (λ some other. h p (contains_head p paths) (some, other)), are_free t paths (λ q has way. h q (contains_tail p paths q has) way))
+are_free t (p ∷ paths) h = (true_from_ne_false (is_dir_or_free p (t.look p)) (h p (contains_head p paths)), are_free t paths (λ q has way. h q (contains_tail p paths q has) way))
 
 -- ---- one directory
 
 module _ (p : Path) (u : Image) where
-  made : is_none (u.look p) ≡ true → with_dir p u ≡ with_entry_at p (Some (Dir 493 false)) u
-  made free = ap (λ (b : Bool). cond b (with_entry_at p (Some (Dir 493 false)) u) u) free
+  made : gives_way p (u.look p) ≡ true → with_dir p u ≡ with_entry_at p (Some (Dir 493 false)) u
+  made room = ap (λ (b : Bool). cond b (with_entry_at p (Some (Dir 493 false)) u) u) room
 
-  stood : is_none (u.look p) ≡ false → with_dir p u ≡ u
+  stood : gives_way p (u.look p) ≡ false → with_dir p u ≡ u
   stood stands = ap (λ (b : Bool). cond b (with_entry_at p (Some (Dir 493 false)) u) u) stands
 
-  there : is_dir_or_free (u.look p) ≡ true → is_dir ((with_dir p u).look p) ≡ true
-  there h = elim (cases_Bool (is_none (u.look p))) [
-    | inl free ↦ ap (λ (v : Image). is_dir (v.look p)) (made free) ∙ ap is_dir (look_placed p (Some (Dir 493 false)) u)
+  there : is_dir_or_free p (u.look p) ≡ true → is_dir ((with_dir p u).look p) ≡ true
+  there h = elim (cases_Bool (gives_way p (u.look p))) [
+    | inl room ↦ ap (λ (v : Image). is_dir (v.look p)) (made room) ∙ ap is_dir (look_placed p (Some (Dir 493 false)) u)
     | inr stands ↦ ap (λ (v : Image). is_dir (v.look p)) (stood stands) ∙ subst (λ (b : Bool). (b || is_dir (u.look p)) ≡ true) stands h
   ]
 
-  no_dir : (e : Option Entry) → is_none e ≡ true → is_dir e ≡ true → ⊥
-  no_dir None n d = false≢true d
-  no_dir (Some x) n d = false≢true n
+  no_dir : (e : Option Entry) → e ≡ None → is_dir e ≡ true → ⊥
+  no_dir e none is = false≢true (sym (ap is_dir none) ∙ is)
 
-  dir_some : (e : Option Entry) → is_dir e ≡ true → is_none e ≡ false
-  dir_some None d = absurd (false≢true d)
-  dir_some (Some x) d = refl
-
-  placed_dir : IsImage u → is_none (u.look p) ≡ true → (d : Path) → is_dir (u.look d) ≡ true → (s c : Bool) → same_path p d ≡ s → covers p d ≡ c → is_dir (cond s (Some (Dir 493 false)) (cond c None (u.look d))) ≡ true
-  placed_dir formed free d is true c es ec = refl
-  placed_dir formed free d is false false es ec = is
-  placed_dir formed free d is false true es ec =
-      absurd (no_dir (u.look p) free (subst (λ (b : Bool). (b || is_dir (u.look p)) ≡ true) (dir_some (u.look d) is) (formed.below_dirs p d ec es)))
+  placed_dir : IsImage u → gives_way p (u.look p) ≡ true → (d : Path) → is_dir (u.look d) ≡ true → (s c : Bool) → same_path p d ≡ s → covers p d ≡ c → is_dir (cond s (Some (Dir 493 false)) (cond c None (u.look d))) ≡ true
+  placed_dir formed room d is true c es ec = refl
+  placed_dir formed room d is false false es ec = is
+  placed_dir formed room d is false true es ec = absurd (no_dir (u.look d) (none_below u p d formed room ec es) is)
 
   stays : IsImage u → (d : Path) → is_dir (u.look d) ≡ true → is_dir ((with_dir p u).look d) ≡ true
-  stays formed d is = elim (cases_Bool (is_none (u.look p))) [
-    | inl free ↦ ap (λ (v : Image). is_dir (v.look d)) (made free) ∙ placed_dir formed free d is (same_path p d) (covers p d) refl refl
+  stays formed d is = elim (cases_Bool (gives_way p (u.look p))) [
+    | inl room ↦ ap (λ (v : Image). is_dir (v.look d)) (made room) ∙ placed_dir formed room d is (same_path p d) (covers p d) refl refl
     | inr stands ↦ ap (λ (v : Image). is_dir (v.look d)) (stood stands) ∙ is
   ]
 
-  placed_free : (s c : Bool) (e : Option Entry) → is_dir_or_free e ≡ true → is_dir_or_free (cond s (Some (Dir 493 false)) (cond c None e)) ≡ true
-  placed_free true c e h = refl
-  placed_free false true e h = refl
-  placed_free false false e h = h
+  placed_free : (k s c : Bool) (e : Option Entry) → (gives k e || is_dir e) ≡ true → (gives k (cond s (Some (Dir 493 false)) (cond c None e)) || is_dir (cond s (Some (Dir 493 false)) (cond c None e))) ≡ true
+  placed_free k true c e h = or_right (gives k (Some (Dir 493 false))) true refl
+  placed_free k false true e h = or_left (gives k None) false (none_by k None refl)
+  placed_free k false false e h = h
 
-  free_stays : (q : Path) → is_dir_or_free (u.look q) ≡ true → is_dir_or_free ((with_dir p u).look q) ≡ true
-  free_stays q h = elim (cases_Bool (is_none (u.look p))) [
-    | inl free ↦ ap (λ (v : Image). is_dir_or_free (v.look q)) (made free) ∙ placed_free (same_path p q) (covers p q) (u.look q) h
-    | inr stands ↦ ap (λ (v : Image). is_dir_or_free (v.look q)) (stood stands) ∙ h
+  free_stays : (q : Path) → is_dir_or_free q (u.look q) ≡ true → is_dir_or_free q ((with_dir p u).look q) ≡ true
+  free_stays q h = elim (cases_Bool (gives_way p (u.look p))) [
+    | inl room ↦ ap (λ (v : Image). is_dir_or_free q (v.look q)) (made room) ∙ placed_free (covers (codes "publisher") q) (same_path p q) (covers p q) (u.look q) h
+    | inr stands ↦ ap (λ (v : Image). is_dir_or_free q (v.look q)) (stood stands) ∙ h
   ]
 
   all_free_stay : (paths : List Path) → AreFree u paths → AreFree (with_dir p u) paths
@@ -114,8 +102,8 @@ module _ (p : Path) (u : Image) where
   all_free_stay (q ∷ paths) h = (free_stays q h.0, all_free_stay paths h.1)
 
   formed_with : IsImage u → IsPath p → has_parent u p ≡ true → IsImage (with_dir p u)
-  formed_with formed path above = elim (cases_Bool (is_none (u.look p))) [
-    | inl free ↦ subst IsImage (sym (made free)) (placed_formed p (Some (Dir 493 false)) u formed (λ _. above) (λ _. path) refl)
+  formed_with formed path above = elim (cases_Bool (gives_way p (u.look p))) [
+    | inl room ↦ subst IsImage (sym (made room)) (placed_formed p (Some (Dir 493 false)) u formed (λ _. above) (λ _. path) refl)
     | inr stands ↦ subst IsImage (sym (stood stands)) formed
   ]
 
@@ -125,8 +113,8 @@ module _ (p : Path) (u : Image) where
   placed_none false false e es h = h
 
   pub none_stays : (q : Path) → same_path p q ≡ false → u.look q ≡ None → (with_dir p u).look q ≡ None
-  none_stays q apart h = elim (cases_Bool (is_none (u.look p))) [
-    | inl free ↦ ap (λ (v : Image). v.look q) (made free) ∙ placed_none (same_path p q) (covers p q) (u.look q) apart h
+  none_stays q apart h = elim (cases_Bool (gives_way p (u.look p))) [
+    | inl room ↦ ap (λ (v : Image). v.look q) (made room) ∙ placed_none (same_path p q) (covers p q) (u.look q) apart h
     | inr stands ↦ ap (λ (v : Image). v.look q) (stood stands) ∙ h
   ]
 
@@ -136,7 +124,7 @@ way_parent : (before : List Path) (u : Image) (p : Path) → AreDirs u before �
 way_parent before u p dirs (inl none) = ap (dir_or_none u) none
 way_parent before u p dirs (inr (d, is, has)) = ap (dir_or_none u) is ∙ dirs d has
 
-more_dirs : (before : List Path) (u : Image) (p : Path) → IsImage u → AreDirs u before → is_dir_or_free (u.look p) ≡ true → AreDirs (with_dir p u) (p ∷ before)
+more_dirs : (before : List Path) (u : Image) (p : Path) → IsImage u → AreDirs u before → is_dir_or_free p (u.look p) ≡ true → AreDirs (with_dir p u) (p ∷ before)
 more_dirs before u p formed dirs free d (inl is) = subst (λ (q : Path). is_dir ((with_dir p u).look q) ≡ true) is (there p u free)
 more_dirs before u p formed dirs free d (inr has) = stays p u formed d (dirs d has)
 
@@ -157,7 +145,7 @@ next before paths p u s = record {
 
 pub can_have : (before paths : List Path) (u : Image) → CanStart before paths u → CanHave u paths
 can_have before [] u s = tt
-can_have before (p ∷ paths) u s = (and_from (is_dir_or_free (u.look p)) (has_parent u p) s.free.0 (way_parent before u p s.dirs s.ways.1), can_have (p ∷ before) paths (with_dir p u) (next before paths p u s))
+can_have before (p ∷ paths) u s = (and_from (is_dir_or_free p (u.look p)) (has_parent u p) s.free.0 (way_parent before u p s.dirs s.ways.1), can_have (p ∷ before) paths (with_dir p u) (next before paths p u s))
 
 pub stand : (before paths : List Path) (u : Image) → CanStart before paths u → AreDirs (with_dirs paths u) before × AreDirs (with_dirs paths u) paths
 stand before [] u s = (s.dirs, λ d has. absurd has)
@@ -173,6 +161,11 @@ stand before (p ∷ paths) u s = go (stand (p ∷ before) paths (with_dir p u) (
 pub none_before : (before paths : List Path) (u : Image) → CanStart before paths u → (q : Path) → (with_dirs paths u).look q ≡ None → u.look q ≡ None
 none_before before [] u s q none = none
 none_before before (p ∷ paths) u s q none = kept_dir p q u (with_dir p u) s.formed refl (none_before (p ∷ before) paths (with_dir p u) (next before paths p u s) q none)
+
+-- what gives way then did so before
+pub way_before : (before paths : List Path) (u : Image) → CanStart before paths u → (q : Path) → gives_way q ((with_dirs paths u).look q) ≡ true → gives_way q (u.look q) ≡ true
+way_before before [] u s q way = way
+way_before before (p ∷ paths) u s q way = kept_way p q u (with_dir p u) s.formed refl (way_before (p ∷ before) paths (with_dir p u) (next before paths p u s) q way)
 
 pub formed_then : (before paths : List Path) (u : Image) → CanStart before paths u → IsImage (with_dirs paths u)
 formed_then before [] u s = s.formed

@@ -3,13 +3,16 @@
 ghost use Rattle.std.specs.Prelude.{◌≡◌, ◌<◌, List, ℕ, Some, IsTrue, IsErr, IfOk, IfNone, IfSome, length, slice_get, not};
 ghost use Rattle.ips_outside.specs.Children.{path_bytes};
 ghost use Rattle.ips_outside.specs.Outside.{Reads};
-ghost use Rattle.ips_ways.specs.Ways.{IsFirstInTheWay, IsFree, is_dir_or_free};
+ghost use Rattle.ips_ways.specs.Ways as way;
+ghost use Rattle.ips_ways.specs.Ways.{IsFirstInTheWay, IsFree};
 ghost use Rattle.ips_ways.specs.First.{is_before, next_first};
 
-use ips_outside::{Failed, Look, Source};
+use crate::room::is_dir_or_free;
+use ips_outside::{Failed, Source};
 use ips_text::RelPath;
 
-/// The place in the list of the first of the paths, by bytes, at which something else than a directory stands.
+/// The place in the list of the first of the paths, by bytes, at which something stands that is no directory and doesn't give way to
+/// one.
 pub fn first_in_the_way<S: Source>(
     source: &mut S,
     paths: &[RelPath],
@@ -55,13 +58,11 @@ fn goes_before(paths: &[RelPath], place: usize, first: Option<usize>) -> bool
     }
 }
 
-// Whether something else than a directory stands at the path.
+// Whether something stands at the path that is no directory and doesn't give way to one.
 fn is_in_the_way<S: Source>(source: &mut S, path: &RelPath) -> Result<bool, Failed>
-    ensures found { IsTrue (S.outside.tells source.old) → IfOk result (λ blocked. blocked ≡ not (is_dir_or_free ((S.outside.state source.old).held.look path.now.bytes))) }
+    ensures found { IsTrue (S.outside.tells source.old) → IfOk result (λ blocked. blocked ≡ not (way.is_dir_or_free path.now.bytes ((S.outside.state source.old).held.look path.now.bytes))) }
     ensures reads { Reads S.outside source.old source.new (IsErr result) }
 {
-    match source.look(path)? {
-        Look::Absent | Look::Dir { .. } => Ok(false),
-        Look::File { .. } | Look::Link | Look::Other => Ok(true),
-    }
+    let found = source.look(path)?;
+    Ok(!is_dir_or_free(path, found))
 }

@@ -22,8 +22,8 @@ loop-place-preserved g c =
       reads = reads_then o c.args.source.now c.loop-place.source c.is_in_the_way.new.source _ ⊥ inv.reads c.is_in_the_way.ensures.reads (answered c.is_in_the_way.result _ c.in-Ok.is) (λ f. absurd f);
       within = subst (λ (x : Option ℕ). IfSome x (λ at. at < length paths)) (sym c.first_with-first.ensures) (next_within (path_bytes paths) n (length paths) c.in-Ok.blocked c.loop-place.first c.loop-place-test.true inv.within);
       first = λ told.
-          let found : c.in-Ok.blocked ≡ not (is_dir_or_free (t.look (get_or (path_bytes paths) n []))) =
-          c.in-Ok.ensures.found (inv.reads.call.same_kind ∙ told) ∙ ap (λ (u : State). not (is_dir_or_free (u.held.look p.bytes))) inv.reads.kept ∙ sym (ap (λ (q : List ℕ). not (is_dir_or_free (t.look q))) here) in
+          let found : c.in-Ok.blocked ≡ not (is_dir_or_free (get_or (path_bytes paths) n []) (t.look (get_or (path_bytes paths) n []))) =
+          c.in-Ok.ensures.found (inv.reads.call.same_kind ∙ told) ∙ ap (λ (u : State). not (is_dir_or_free p.bytes (u.held.look p.bytes))) inv.reads.kept ∙ sym (ap (λ (q : List ℕ). not (is_dir_or_free q (t.look q))) here) in
           subst (IsFirstOf t (path_bytes paths) (n + 1)) (sym c.first_with-first.ensures) (first_more t (path_bytes paths) n c.in-Ok.blocked c.loop-place.first found (inv.first told));
     }
 
